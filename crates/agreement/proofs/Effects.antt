@@ -2,7 +2,7 @@
 use Rattle.std.proofs.Common.{◌≡◌, ℕ, List, [], ◌∷◌, ◌++◌, map, refl, ap}
 use Rattle.whole.specs.Messages.{Message, Body, Effect}
 use Rattle.whole.specs.Messages.Effect.{To, Out}
-use Rattle.whole.specs.Progress.{Progress}
+use Rattle.whole.specs.ballot_base.declared.status.Progress.{Progress}
 use Rattle.whole.specs.Losses.{Thinned}
 use Rattle.whole.specs.Losses.Thinned.{none, keeps, loses}
 use Rattle.whole.specs.Sending.{message_to_followed}

@@ -3,7 +3,7 @@ use Rattle.std.specs.Prelude.{ℕ, true, false, ◌≤◌, ◌≡◌, ◌==◌, 
 use Rattle.std.specs.Prelude.{length, if◌then◌else◌}
 use Rattle.machine.specs.Machine.{Rules}
 use Rattle.whole.specs.Applying.{outputs_between}
-use Rattle.whole.specs.Config.{Config}
+use Rattle.whole.specs.ballot_base.declared.config.Config.{Config}
 use Rattle.whole.specs.Replica.{ReplicaState, is_active}
 use Rattle.agreement.specs.MasterState.{MasterState}
 use Rattle.agreement.specs.Moments.{Learns, Moment, Moments}

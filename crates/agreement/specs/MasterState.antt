@@ -2,8 +2,8 @@
 pub use Rattle.machine.specs.Ballots.{max_ballot}
 use Rattle.std.specs.Prelude.{ℕ, Bool, true, ◌+◌, ◌==◌, List, Option, Some, None, if◌then◌else◌}
 use Rattle.std.specs.Prelude.{◌^◌, nat_le}
-use Rattle.whole.specs.Config.{Config}
-use Rattle.whole.specs.LawfulConfig.{is_lawful}
+use Rattle.whole.specs.ballot_base.declared.config.Config.{Config}
+use Rattle.whole.specs.ballot_base.LawfulConfig.{is_lawful}
 use Rattle.whole.specs.Messages.{Body}
 use Rattle.whole.specs.Messages.Body.{NewBallot, Activated, Superseded}
 

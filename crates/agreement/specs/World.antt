@@ -3,8 +3,8 @@ use Rattle.std.specs.Prelude.{Option, Some, None, ℕ, zero, suc, Bool, ◌+◌,
 use Rattle.std.specs.Prelude.{slice_set, ◌&&◌, nat_le}
 use Rattle.std.specs.List.{list_all}
 use Rattle.machine.specs.Machine.{Rules}
-use Rattle.whole.specs.LawfulConfig.{is_lawful, max_node}
-use Rattle.whole.specs.Config.{Config}
+use Rattle.whole.specs.ballot_base.LawfulConfig.{is_lawful, max_node}
+use Rattle.whole.specs.ballot_base.declared.config.Config.{Config}
 use Rattle.whole.specs.Messages.{Message, Effect}
 use Rattle.whole.specs.Messages.Effect.{To, Out}
 use Rattle.whole.specs.Replica.{ReplicaState, opening}

@@ -13,3 +13,4 @@ pub use Rattle.ballot_base.proofs.MessageRows
 pub use Rattle.ballot_base.proofs.StepRows
 pub use Rattle.ballot_base.proofs.ThinnedEffects
 pub use Rattle.ballot_base.proofs.of_lists as of_lists
+pub use Rattle.ballot_base.proofs as of_ballot_base

@@ -27,3 +27,5 @@ pub use Rattle.ballot_errors.specs.declared.error.OpeningError
 pub use Rattle.ballot_errors.specs.declared.error.ProposeError
 pub use Rattle.ballot_base.specs as ballot_base
 pub use Rattle.ballot_base.specs.lists as lists
+pub use Rattle.machine.specs as machine
+pub use Rattle.ballot_errors.specs as ballot_errors

@@ -2,7 +2,7 @@
 -- 4.3).
 use Rattle.std.specs.Prelude.{suc, Bool, not, if◌then◌else◌, List, [], ◌∷◌, ◌++◌, length, flat_map}
 use Rattle.std.specs.Prelude.{Option, Some, None}
-use Rattle.packet.specs.RefusalCode.TheVariants as refusals
+use Rattle.packet.specs.packet_base.declared.refusal_code.RefusalCode.TheVariants as refusals
 use Rattle.packet.specs.declared.connack.Connack.TheVariants as connacks
 use Rattle.packet.specs.declared.delivery.Delivery.{Delivery}
 use Rattle.packet.specs.declared.delivery.Delivery.TheVariants as deliveries

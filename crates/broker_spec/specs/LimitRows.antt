@@ -1,7 +1,7 @@
 -- Worked examples: the limits of a broker, and what is answered when one is reached (MQTT 3.1.4,
 -- 3.2.2.3, 3.9.3, 4.8).
 use Rattle.std.specs.Prelude.{◌≡◌, ℕ, true, false, List, [], ◌∷◌, codes}
-use Rattle.packet.specs.RefusalCode.TheVariants as refusals
+use Rattle.packet.specs.packet_base.declared.refusal_code.RefusalCode.TheVariants as refusals
 use Rattle.packet.specs.declared.connack.Connack.TheVariants as connacks
 use Rattle.retained.specs.packet_base.declared.qos.QoS.TheVariants as qualities
 use Rattle.packet.specs.declared.delivery.Delivery.TheVariants as deliveries

@@ -1,6 +1,6 @@
 -- What a client writes on each of its connections begins with a CONNECT that asks for its session to be kept.
 use Rattle.std.proofs.Common.{◌≡◌, ℕ, List, [], ◌∷◌, ◌++◌, map, refl, sym, ap, ◌∙◌, subst}
-use Rattle.node_group.specs.ballot.Config.{Config}
+use Rattle.node_group.specs.ballot_base.declared.config.Config.{Config}
 use Rattle.node_group.specs.broker_spec.Place.{Client}
 use Rattle.node_group.specs.client_base.Connected.{opens}
 use Rattle.node_group.specs.client_base.Keeper.{Written}

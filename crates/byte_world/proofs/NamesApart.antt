@@ -4,8 +4,8 @@ use Rattle.std.proofs.Common.{◌≡◌, ◌⊎◌, inl, inr, ℕ, List, [], ◌
 use Rattle.std.specs.List.{find}
 use Rattle.node_group.specs.lists.Lists.{In}
 use Rattle.node_group.specs.lists.Lists.In.{here, there}
-use Rattle.node_group.specs.ballot.Config.{Config}
-use Rattle.node_group.specs.ballot.Losses.{Thinned}
+use Rattle.node_group.specs.ballot_base.declared.config.Config.{Config}
+use Rattle.node_group.specs.ballot_base.Losses.{Thinned}
 use Rattle.node_group.specs.broker_base.State.{State}
 use Rattle.node_group.specs.broker_spec.declared.command.Command.{Command}
 use Rattle.node_group.specs.broker_spec.declared.command.Output.{Output}

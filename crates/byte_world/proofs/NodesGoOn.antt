@@ -2,8 +2,8 @@
 -- says it.
 use Rattle.std.proofs.Common.{◌≡◌, ◌⊎◌, inl, inr, ℕ, zero, suc, true, false, List, [], ◌∷◌, Option, Some, None, slice_get, slice_set, refl, sym, ap, ◌∙◌, subst}
 use Rattle.std.proofs.lemmas.Bool.{both_ways}
-use Rattle.node_group.specs.ballot.Config.{Config}
-use Rattle.node_group.specs.ballot.Effect.{Effect}
+use Rattle.node_group.specs.ballot_base.declared.config.Config.{Config}
+use Rattle.node_group.specs.ballot_base.declared.message.Effect.{Effect}
 use Rattle.node_group.specs.broker_spec.declared.command.Command.{Command}
 use Rattle.node_group.specs.broker_spec.declared.command.Output.{Output}
 use Rattle.node_group.specs.broker_spec.Connection.{ConnectionName}

@@ -1,6 +1,6 @@
 -- No Connect in a list on which the nodes of a world agree is clean: a client wrote it, as the first packet of a connection.
 use Rattle.std.proofs.Common.{◌≡◌, ◌⊎◌, inl, inr, ℕ, suc, Bool, true, false, if◌then◌else◌, List, [], ◌∷◌, ◌++◌, filter, refl, sym, ap, ◌∙◌, subst}
-use Rattle.node_group.specs.ballot.Config.{Config}
+use Rattle.node_group.specs.ballot_base.declared.config.Config.{Config}
 use Rattle.node_group.specs.broker_spec.declared.command.Command.{Command}
 use Rattle.node_group.specs.broker_spec.declared.command.Command.TheVariants as commands
 use Rattle.node_group.specs.broker_spec.Connection.{ConnectionName}

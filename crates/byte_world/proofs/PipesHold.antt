@@ -5,7 +5,7 @@ use Rattle.std.proofs.lemmas.Bool.{both_ways}
 use Rattle.std.proofs.lemmas.List.{append-nil}
 use Rattle.node_group.specs.packet.Spelling.{IsPacket}
 use Rattle.node_group.specs.packet.declared.packet.Packet.{Packet}
-use Rattle.node_group.specs.ballot.Config.{Config}
+use Rattle.node_group.specs.ballot_base.declared.config.Config.{Config}
 use Rattle.node_group.specs.broker_spec.Connection.{ConnectionName, same_connection}
 use Rattle.node_group.proofs.of_broker_spec.ConnectionNames.{same_name}
 use Rattle.node_group.specs.lists.Lists.{Each, In}
@@ -17,7 +17,7 @@ use Rattle.node_group.proofs.of_exactly_once.Takes.{same_name_self}
 use Rattle.node_group.specs.world_base.declared.Connection.{Connection as NodesEnd}
 use Rattle.node_group.specs.world_base.declared.item.Item.TheVariants.{Peer, Tick, Opened, Bytes, Ended, Expel, Cut, Crash}
 use Rattle.node_group.specs.world_base.declared.Port.{Port}
-use Rattle.node_group.specs.world_base.Connections.{is_at, is_open_at}
+use Rattle.node_group.specs.node_connections.Connections.{is_at, is_open_at}
 use Rattle.node_group.specs.world_base.Core.{CoreState}
 use Rattle.node_group.specs.world_base.Handing.{listed_at}
 use Rattle.node_group.specs.world_base.Reading.{open_at}

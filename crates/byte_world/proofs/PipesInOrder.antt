@@ -1,6 +1,6 @@
 -- The pipes of a world carry in order.
 use Rattle.std.proofs.Common.{◌≡◌, inl, ℕ, zero, suc, List, [], ◌∷◌, ◌++◌, map, Option, Some, slice_get, refl, sym, ap, ◌∙◌, subst}
-use Rattle.node_group.specs.ballot.Config.{Config}
+use Rattle.node_group.specs.ballot_base.declared.config.Config.{Config}
 use Rattle.node_group.specs.broker_spec.declared.command.Command.{Command}
 use Rattle.node_group.specs.broker_spec.Place.{Client}
 use Rattle.node_group.specs.lists.Lists.{In, IsPrefixOf}

@@ -2,17 +2,17 @@
 use Rattle.std.proofs.Common.{◌≡◌, ◌⊎◌, inl, inr, ℕ, zero, suc, Bool, true, false, not, ◌&&◌, ◌+◌, nat_le, length, if◌then◌else◌, List, [], ◌∷◌, ◌++◌, Option, Some, None, Result, Ok, Err, refl, ap, ◌∙◌}
 use Rattle.std.specs.List.{fold, list_any}
 use Rattle.std.proofs.lemmas.Bool.{both_ways}
-use Rattle.node_group.specs.packet.Stop.{Stop}
-use Rattle.node_group.specs.packet.Stop.TheVariants as stops
-use Rattle.node_group.specs.packet.RefusalCode.{RefusalCode}
+use Rattle.node_group.specs.packet_base.declared.stop.Stop.{Stop}
+use Rattle.node_group.specs.packet_base.declared.stop.Stop.TheVariants as stops
+use Rattle.node_group.specs.packet_base.declared.refusal_code.RefusalCode.{RefusalCode}
 use Rattle.node_group.specs.packet.Spelling.{spelling}
 use Rattle.node_group.specs.packet.Verdict.{verdict}
 use Rattle.node_group.specs.packet.declared.packet.Packet.{Packet}
 use Rattle.node_group.specs.packet.declared.packet.Packet.TheVariants as packets
-use Rattle.node_group.specs.ballot.Effect.{Effect}
-use Rattle.node_group.specs.ballot.Effect.TheVariants.{To, Out}
-use Rattle.node_group.specs.ballot.Protocol.{Input}
-use Rattle.node_group.specs.ballot.Protocol.Input.{Receives, Ticks}
+use Rattle.node_group.specs.ballot_base.declared.message.Effect.{Effect}
+use Rattle.node_group.specs.ballot_base.declared.message.Effect.TheVariants.{To, Out}
+use Rattle.node_group.specs.ballot_base.Protocol.{Input}
+use Rattle.node_group.specs.ballot_base.Protocol.Input.{Receives, Ticks}
 use Rattle.node_group.specs.broker_spec.declared.command.Command.{Command}
 use Rattle.node_group.specs.broker_spec.declared.command.Command.TheVariants as commands
 use Rattle.node_group.specs.broker_spec.Connection.{ConnectionName, is_connection_name}
@@ -23,11 +23,11 @@ use Rattle.node_group.specs.lists.Lists.In.{here, there}
 use Rattle.node_group.proofs.of_lists.OfEach.{each_append, each_then}
 use Rattle.node_group.specs.world_base.declared.Connection.{Connection}
 use Rattle.node_group.specs.world_base.declared.item.Item.{Item}
-use Rattle.node_group.specs.ballot.Cutting.{can_cut}
+use Rattle.node_group.specs.ballot_base.Cutting.{can_cut}
 use Rattle.node_group.specs.world_base.declared.item.Item.TheVariants.{Peer, Tick, Opened, Bytes, Ended, Expel, Cut, Crash}
 use Rattle.node_group.specs.world_base.declared.Port.{Port}
-use Rattle.node_group.specs.world_base.Connections.{fresh, is_at, is_first, is_listed, is_open_at, is_open_named, is_proposed}
-use Rattle.node_group.specs.world_base.ConnectionChanges.{noted_proposed, changed, closed, failing, handed, holding, left_with, max_pending, put_out, putting}
+use Rattle.node_group.specs.node_connections.Connections.{fresh, is_at, is_first, is_listed, is_open_at, is_open_named, is_proposed}
+use Rattle.node_group.specs.node_connections.ConnectionChanges.{noted_proposed, changed, closed, failing, handed, holding, left_with, max_pending, put_out, putting}
 use Rattle.node_group.specs.world_base.Core.{CoreState, StepOutcome, serves}
 use Rattle.node_group.specs.world_base.Handing.{hands_over, left_by, listed_at}
 use Rattle.node_group.specs.world_base.KeepAlive.{ends_if, ends_silent, lowest_silent}

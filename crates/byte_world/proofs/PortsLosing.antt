@@ -4,9 +4,9 @@ use Rattle.std.proofs.lemmas.Bool.{both_ways}
 use Rattle.node_group.specs.packet.Spelling.{spelling}
 use Rattle.node_group.specs.packet.declared.packet.Packet.{Packet}
 use Rattle.node_group.specs.packet.declared.packet.Packet.TheVariants as packets
-use Rattle.node_group.specs.ballot.Effect.{Effect}
-use Rattle.node_group.specs.ballot.Protocol.{Input}
-use Rattle.node_group.specs.ballot.Protocol.Input.{Receives, Ticks}
+use Rattle.node_group.specs.ballot_base.declared.message.Effect.{Effect}
+use Rattle.node_group.specs.ballot_base.Protocol.{Input}
+use Rattle.node_group.specs.ballot_base.Protocol.Input.{Receives, Ticks}
 use Rattle.node_group.specs.broker_spec.declared.command.Command.{Command}
 use Rattle.node_group.specs.broker_spec.declared.command.Command.TheVariants as commands
 use Rattle.node_group.specs.broker_spec.Connection.{ConnectionName}
@@ -19,8 +19,8 @@ use Rattle.node_group.specs.world_base.declared.item.Item.{Item}
 use Rattle.node_group.specs.world_base.LossyStep.Cuts.{nothing_to_cut, cuts_log, forgets_cut}
 use Rattle.node_group.specs.world_base.declared.item.Item.TheVariants.{Peer, Tick, Opened, Bytes, Ended, Expel, Cut, Crash}
 use Rattle.node_group.specs.world_base.declared.Port.{Port}
-use Rattle.node_group.specs.world_base.Connections.{has_failed, is_at}
-use Rattle.node_group.specs.world_base.ConnectionChanges.{noted_proposed, closed, failing, holding, left_with, put_out}
+use Rattle.node_group.specs.node_connections.Connections.{has_failed, is_at}
+use Rattle.node_group.specs.node_connections.ConnectionChanges.{noted_proposed, closed, failing, holding, left_with, put_out}
 use Rattle.node_group.specs.world_base.Core.{CoreState}
 use Rattle.node_group.specs.world_base.Failing.{closes_failed}
 use Rattle.node_group.specs.world_base.Lossy.{Account, HandlesAll, Drives, Repeated, Performs, TakesCommand, Then, without_effects}

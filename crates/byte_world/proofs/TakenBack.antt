@@ -2,14 +2,14 @@
 -- connections is kept.
 use Rattle.std.proofs.Common.{◌≡◌, ◌⊎◌, inl, inr, ℕ, false, Option, Some, None, slice_get, refl, sym, ap, ◌∙◌, subst}
 use Rattle.std.proofs.lemmas.Bool.{both_ways}
-use Rattle.node_group.specs.ballot.Config.{Config}
+use Rattle.node_group.specs.ballot_base.declared.config.Config.{Config}
 use Rattle.node_group.specs.broker_spec.Connection.{ConnectionName}
 use Rattle.node_group.specs.lists.Lists.{In}
 use Rattle.node_group.specs.world_base.declared.Connection.{Connection as NodesEnd}
 use Rattle.node_group.specs.world_base.declared.item.Item.TheVariants.{Opened}
 use Rattle.node_group.specs.world_base.declared.Port.{Port}
 use Rattle.node_group.specs.world_base.Core.{CoreState}
-use Rattle.node_group.specs.world_base.Connections.{is_at}
+use Rattle.node_group.specs.node_connections.Connections.{is_at}
 use Rattle.node_group.specs.world_base.Handing.{listed_at}
 use Rattle.node_group.specs.node_moves.Moves.NodeCall.{takes}
 use Rattle.node_group.specs.Steps.{GroupTrace}

@@ -1,7 +1,7 @@
 -- What the nodes of a world keep of connections: each was opened by a client, and its name was
 -- given in a ballot that its node had joined.
 use Rattle.std.specs.Prelude.{◌≡◌, ℕ, List, slice_get, Some}
-use Rattle.node_group.specs.ballot.Config.{Config}
+use Rattle.node_group.specs.ballot_base.declared.config.Config.{Config}
 use Rattle.node_group.specs.broker_spec.Place.{Client}
 use Rattle.node_group.specs.lists.Lists.{In}
 use Rattle.node_group.specs.exactly_once.Sides.{ClientConnection}

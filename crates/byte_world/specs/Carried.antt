@@ -1,6 +1,6 @@
 -- What a world's steps are in its group.
 use Rattle.std.specs.Prelude.{ℕ, List}
-use Rattle.node_group.specs.ballot.Config.{Config}
+use Rattle.node_group.specs.ballot_base.declared.config.Config.{Config}
 use Rattle.node_group.specs.broker_spec.Place.{Client}
 use Rattle.node_group.specs.Steps.{GroupTrace}
 use Rattle.node_group.specs.Steps.GroupTrace.{opened, then_went}

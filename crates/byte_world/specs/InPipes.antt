@@ -3,7 +3,7 @@
 use Rattle.std.specs.Prelude.{◌≡◌, ℕ, false, List, ◌∷◌, ◌++◌, length}
 use Rattle.node_group.specs.packet.declared.packet.Packet.{Packet}
 use Rattle.node_group.specs.packet.Spelling.{IsPacket}
-use Rattle.node_group.specs.ballot.Config.{Config}
+use Rattle.node_group.specs.ballot_base.declared.config.Config.{Config}
 use Rattle.node_group.specs.broker_spec.declared.command.Command.{Command}
 use Rattle.node_group.specs.broker_spec.Place.{Client}
 use Rattle.node_group.specs.lists.Lists.{Each, IsPrefixOf}

@@ -1,7 +1,7 @@
 -- The sessions of a world's clients are kept: no Connect in the list on which its nodes agree asks
 -- for a clean session (MQTT 3.1.2.4).
 use Rattle.std.specs.Prelude.{◌≡◌, Bool, false, ℕ, List, ◌∷◌, Some}
-use Rattle.node_group.specs.ballot.Config.{Config}
+use Rattle.node_group.specs.ballot_base.declared.config.Config.{Config}
 use Rattle.node_group.specs.lists.Lists.{In, IsPrefixOf}
 use Rattle.node_group.specs.broker_spec.declared.command.Command.{Command}
 use Rattle.node_group.specs.broker_spec.declared.command.Command.TheVariants as commands

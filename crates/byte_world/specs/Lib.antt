@@ -11,7 +11,6 @@ pub mod AtNodes
 pub mod Kept
 pub mod NodeCalls
 pub use Rattle.node_group.specs.agreement as agreement
-pub use Rattle.node_group.specs.ballot as ballot
 pub use Rattle.node_group.specs.broker_base as broker_base
 pub use Rattle.node_group.specs.broker_form as broker_form
 pub use Rattle.node_group.specs.broker_spec as broker_spec
@@ -29,3 +28,5 @@ pub use Rattle.node_group.specs.session_base as session_base
 pub use Rattle.node_group.specs.snapshots as snapshots
 pub use Rattle.node_group.specs.whole as whole
 pub use Rattle.node_group.specs.world_base as world_base
+pub use Rattle.node_group.specs.ballot_base as ballot_base
+pub use Rattle.node_group.specs.node_connections as node_connections

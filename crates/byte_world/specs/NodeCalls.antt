@@ -1,11 +1,11 @@
 -- A world can continue: each call of a node has moves that carry just its bytes.
 use Rattle.std.specs.Prelude.{◌≡◌, ℕ, ◌+◌, true, if◌then◌else◌, List, slice_get, Some}
 use Rattle.node_group.specs.lists.Lists.{In}
-use Rattle.node_group.specs.ballot.Effect.{Effect}
+use Rattle.node_group.specs.ballot_base.declared.message.Effect.{Effect}
 use Rattle.node_group.specs.broker_spec.declared.command.Command.{Command}
 use Rattle.node_group.specs.broker_spec.declared.command.Output.{Output}
 use Rattle.node_group.specs.world_base.declared.item.Item.TheVariants.{Peer, Cut}
-use Rattle.node_group.specs.ballot.Cutting.{can_cut}
+use Rattle.node_group.specs.ballot_base.Cutting.{can_cut}
 use Rattle.node_group.specs.world_base.Core.{CoreState, StepOutcome, rules}
 use Rattle.node_group.specs.node_moves.Hearing.{HearsAtFirst}
 use Rattle.node_group.specs.node_moves.Moves.{NodeCall, Runs, done}

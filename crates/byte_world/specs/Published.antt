@@ -1,6 +1,6 @@
 -- What clients publish in a world, step by step.
 use Rattle.std.specs.Prelude.{ℕ, ◌==◌, if◌then◌else◌, List, [], ◌∷◌, ◌++◌, map}
-use Rattle.node_group.specs.ballot.Config.{Config}
+use Rattle.node_group.specs.ballot_base.declared.config.Config.{Config}
 use Rattle.node_group.specs.broker_spec.Place.{Client, Limits}
 use Rattle.node_group.specs.session_base.declared.publication.Publication.{Publication}
 use Rattle.node_group.specs.exactly_once.Story.{Story, StoryStep}

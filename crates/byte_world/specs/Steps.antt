@@ -4,7 +4,7 @@ use Rattle.node_group.specs.packet.Spelling.{IsPacket}
 use Rattle.node_group.specs.packet.declared.packet.Packet.{Packet}
 use Rattle.node_group.specs.packet.declared.packet.Packet.TheVariants as packets
 use Rattle.node_group.specs.cutter.Stream.{Stream, Takes}
-use Rattle.node_group.specs.ballot.Config.{Config}
+use Rattle.node_group.specs.ballot_base.declared.config.Config.{Config}
 use Rattle.node_group.specs.agreement.World.{can_open}
 use Rattle.node_group.specs.broker_spec.Commands.{usual_limits}
 use Rattle.node_group.specs.broker_spec.Place.{Client}

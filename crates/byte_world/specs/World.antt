@@ -3,7 +3,7 @@ use Rattle.std.specs.Prelude.{◌≡◌, ℕ, ◌==◌, Bool, ◌&&◌, List, []
 use Rattle.std.specs.List.{list_any}
 use Rattle.node_group.specs.packet.declared.packet.Packet.{Packet}
 use Rattle.node_group.specs.cutter.Stream.{Stream}
-use Rattle.node_group.specs.ballot.Config.{Config}
+use Rattle.node_group.specs.ballot_base.declared.config.Config.{Config}
 use Rattle.node_group.specs.broker_spec.Place.{Client}
 use Rattle.node_group.specs.client_base.Keeper.{Keeper, Written, new_keeper}
 use Rattle.node_group.specs.exactly_once.Sides.{ClientConnection}

@@ -3,4 +3,4 @@ pub mod Program
 pub mod Jobs
 pub mod Tables
 pub mod Inside
-pub use Rattle.packet.specs as packet
+pub use Rattle.packet.specs.packet_base as packet_base

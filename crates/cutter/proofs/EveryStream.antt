@@ -2,7 +2,7 @@
 -- given.
 use Rattle.std.proofs.Common.{◌≡◌, ◌≤◌, ℕ, zero, suc, List, [], ◌∷◌, ◌++◌, length, Result, Ok, Err, refl, sym, ap, ◌∙◌, subst, arith, length-append}
 use Rattle.std.specs.Prelude.{IfOk}
-use Rattle.packet.specs.Stop.{Stop}
+use Rattle.packet.specs.packet_base.declared.stop.Stop.{Stop}
 use Rattle.packet.specs.declared.packet.Packet.{Packet}
 use Rattle.packet.specs.Laws.{NoneBeginsAnother}
 use Rattle.packet.specs.Spelling.{Spells}

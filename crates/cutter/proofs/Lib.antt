@@ -3,5 +3,4 @@ pub mod Taking
 pub mod EveryStream
 pub mod PacketsComeOut
 mod Spelled
-pub use Rattle.packet.proofs as of_packet
 pub use Rattle.packet.proofs.of_packet_base as of_packet_base

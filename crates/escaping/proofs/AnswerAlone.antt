@@ -6,19 +6,19 @@ use Rattle.std.specs.List.{find, fold}
 use Rattle.std.proofs.lemmas.Bool.{and_parts}
 use Rattle.packet_world.specs.lists.Lists.{IsPrefixOf}
 use Rattle.packet_world.proofs.of_lists.Prefixes.{prefix_then}
-use Rattle.packet_world.specs.packet.RefusalCode.{RefusalCode}
+use Rattle.packet_world.specs.packet_base.declared.refusal_code.RefusalCode.{RefusalCode}
 use Rattle.packet_world.specs.packet.Spelling.{spelling}
-use Rattle.packet_world.specs.packet.Stop.{Stop}
-use Rattle.packet_world.specs.packet.Stop.TheVariants as stops
+use Rattle.packet_world.specs.packet_base.declared.stop.Stop.{Stop}
+use Rattle.packet_world.specs.packet_base.declared.stop.Stop.TheVariants as stops
 use Rattle.packet_world.specs.packet.declared.connack.Connack.TheVariants as connacks
 use Rattle.packet_world.specs.packet.declared.connect.Connect.{Connect}
 use Rattle.packet_world.specs.packet.declared.packet.Packet.{Packet}
 use Rattle.packet_world.specs.packet.declared.packet.Packet.TheVariants as packets
 use Rattle.packet_world.specs.packet.Verdict.{verdict}
-use Rattle.node_moves.specs.ballot.Effect.{Effect}
-use Rattle.node_moves.specs.ballot.Effect.TheVariants.{Out}
-use Rattle.node_moves.specs.ballot.Logs.{places}
-use Rattle.node_moves.specs.ballot.Serving.{max_places, proposed}
+use Rattle.node_moves.specs.ballot_base.declared.message.Effect.{Effect}
+use Rattle.node_moves.specs.ballot_base.declared.message.Effect.TheVariants.{Out}
+use Rattle.node_moves.specs.ballot_base.Logs.{places}
+use Rattle.node_moves.specs.ballot_base.Serving.{max_places, proposed}
 use Rattle.packet_world.specs.broker_spec.declared.command.Command.{Command}
 use Rattle.packet_world.specs.broker_spec.declared.command.Command.TheVariants as commands
 use Rattle.packet_world.specs.broker_spec.Connection.{ConnectionName}
@@ -27,8 +27,8 @@ use Rattle.packet_world.specs.broker_spec.declared.command.Output.TheVariants as
 use Rattle.node_moves.specs.world_base.declared.Connection.{Connection}
 use Rattle.node_moves.specs.world_base.declared.item.Item.TheVariants.{Bytes}
 use Rattle.node_moves.specs.world_base.declared.Port.{Port}
-use Rattle.node_moves.specs.world_base.Connections.{is_at, is_first, is_open_at, is_open_named, is_closed, is_proposed}
-use Rattle.node_moves.specs.world_base.ConnectionChanges.{noted_proposed, changed, closed, holding, left_with, max_pending}
+use Rattle.node_moves.specs.node_connections.Connections.{is_at, is_first, is_open_at, is_open_named, is_closed, is_proposed}
+use Rattle.node_moves.specs.node_connections.ConnectionChanges.{noted_proposed, changed, closed, holding, left_with, max_pending}
 use Rattle.node_moves.specs.world_base.Core.{CoreState, StepOutcome, rules, serves}
 use Rattle.node_moves.specs.world_base.Handing.{listed_at}
 use Rattle.node_moves.specs.world_base.Reading.{takes_first_packet, changes, loses, open_at, reads, reads_all, reads_next, reads_of, refused, proposes_packet, unread_of}

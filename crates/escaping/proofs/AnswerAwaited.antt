@@ -3,13 +3,13 @@ use Rattle.std.proofs.Common.{◌≡◌, ℕ, Bool, true, false, if◌then◌els
 use Rattle.std.specs.Prelude.{◌&&◌, ◌||◌, ◌==◌}
 use Rattle.std.specs.List.{find, list_any}
 use Rattle.std.proofs.lemmas.Bool.{and_parts, and_right, eq-eqb, or_parts}
-use Rattle.node_moves.specs.ballot.Replica.{is_active}
+use Rattle.node_moves.specs.ballot_base.Replica.{is_active}
 use Rattle.packet_world.specs.broker_spec.Connection.{ConnectionName, same_connection}
 use Rattle.node_moves.specs.world_base.declared.Connection.{Connection}
 use Rattle.node_moves.specs.world_base.declared.item.Item.TheVariants.{Peer}
 use Rattle.node_moves.specs.world_base.declared.Port.{Port}
-use Rattle.node_moves.specs.world_base.Connections.{fresh, is_at, is_listed, is_open_at, is_open_named, is_closed}
-use Rattle.node_moves.specs.world_base.ConnectionChanges.{changed, closed, handed}
+use Rattle.node_moves.specs.node_connections.Connections.{fresh, is_at, is_listed, is_open_at, is_open_named, is_closed}
+use Rattle.node_moves.specs.node_connections.ConnectionChanges.{changed, closed, handed}
 use Rattle.node_moves.specs.world_base.Core.{CoreState, StepOutcome, serves}
 use Rattle.node_moves.specs.world_base.Failing.{loses_all_failed}
 use Rattle.node_moves.specs.world_base.Handing.{hands_over, left_by, listed_at}

@@ -7,10 +7,10 @@ use Rattle.packet_world.specs.lists.Lists.{IsPrefixOf}
 use Rattle.packet_world.proofs.of_lists.Prefixes.{prefix_length, prefix_same, prefix_then}
 use Rattle.packet_world.specs.packet.declared.packet.Packet.{Packet}
 use Rattle.packet_world.specs.packet.Spelling.{spelling}
-use Rattle.node_moves.specs.ballot.Effect.{Effect}
-use Rattle.node_moves.specs.ballot.Effect.TheVariants.{To, Out}
-use Rattle.node_moves.specs.ballot.Protocol.Input.{Receives}
-use Rattle.node_moves.specs.ballot.Serving.{proposed}
+use Rattle.node_moves.specs.ballot_base.declared.message.Effect.{Effect}
+use Rattle.node_moves.specs.ballot_base.declared.message.Effect.TheVariants.{To, Out}
+use Rattle.node_moves.specs.ballot_base.Protocol.Input.{Receives}
+use Rattle.node_moves.specs.ballot_base.Serving.{proposed}
 use Rattle.packet_world.specs.broker_spec.declared.command.Command.{Command}
 use Rattle.packet_world.specs.broker_spec.declared.command.Command.TheVariants as commands
 use Rattle.packet_world.specs.broker_spec.Connection.{ConnectionName}
@@ -19,8 +19,8 @@ use Rattle.packet_world.specs.broker_spec.declared.command.Output.TheVariants as
 use Rattle.node_moves.specs.world_base.declared.Connection.{Connection}
 use Rattle.node_moves.specs.world_base.declared.item.Item.TheVariants.{Peer}
 use Rattle.node_moves.specs.world_base.declared.Port.{Port}
-use Rattle.node_moves.specs.world_base.Connections.{has_failed, is_at, is_listed, is_open_named, is_closed}
-use Rattle.node_moves.specs.world_base.ConnectionChanges.{changed, closed, failing, max_pending, put_out, putting}
+use Rattle.node_moves.specs.node_connections.Connections.{has_failed, is_at, is_listed, is_open_named, is_closed}
+use Rattle.node_moves.specs.node_connections.ConnectionChanges.{changed, closed, failing, max_pending, put_out, putting}
 use Rattle.node_moves.specs.world_base.Core.{CoreState, StepOutcome, rules, serves}
 use Rattle.node_moves.specs.world_base.Failing.{closes_failed, loses_all_failed, loses_failed, loses_if}
 use Rattle.node_moves.specs.world_base.Handing.{listed_at}

@@ -6,7 +6,7 @@ use Rattle.packet_world.proofs.of_lists.OfEach.{each_append}
 use Rattle.packet_world.specs.packet.declared.packet.Packet.TheVariants as packets
 use Rattle.packet_world.specs.broker_spec.Answers.{closed, connect_answers, welcome}
 use Rattle.packet_world.specs.broker_spec.AnswersInOrder.{answers_of}
-use Rattle.node_moves.specs.ballot.Machine.{replay}
+use Rattle.node_moves.specs.machine.Machine.{replay}
 use Rattle.packet_world.specs.broker_spec.declared.command.Command.{Command}
 use Rattle.packet_world.specs.broker_spec.declared.command.Command.TheVariants as commands
 use Rattle.packet_world.specs.broker_spec.Commands.{past_of, place_of, usual_limits}
@@ -21,7 +21,7 @@ use Rattle.packet_world.specs.broker_spec.Place.{Client, Limits, Mark, Past, Pla
 use Rattle.packet_world.specs.broker_spec.Readings.{released_below}
 use Rattle.packet_world.specs.broker_spec.Sends.{all_started, publish, resent, sent_again, sent_first}
 use Rattle.packet_world.specs.broker_spec.Times.{entries_of}
-use Rattle.packet_world.proofs.of_broker_base.ClientsInOrder.{same_self}
+use Rattle.packet_world.proofs.of_broker_spec.ClientsInOrder.{same_self}
 use Rattle.node_moves.specs.world_base.Core.{rules}
 use Rattle.packet_world.proofs.Answers.{past_push}
 use Rattle.packet_world.proofs.BrokerRules.{gives_answers}

@@ -4,18 +4,18 @@ use Rattle.std.specs.Prelude.{◌&&◌, nat_lt}
 use Rattle.std.specs.List.{find, fold}
 use Rattle.std.proofs.lemmas.Bool.{and_parts, cases_lt}
 use Rattle.std.proofs.lemmas.List.{append-nil}
-use Rattle.packet_world.specs.packet.Stop.{Stop}
-use Rattle.packet_world.specs.packet.Stop.TheVariants as stops
+use Rattle.packet_world.specs.packet_base.declared.stop.Stop.{Stop}
+use Rattle.packet_world.specs.packet_base.declared.stop.Stop.TheVariants as stops
 use Rattle.packet_world.specs.packet.declared.connect.Connect.{Connect}
 use Rattle.packet_world.specs.packet.declared.packet.Packet.TheVariants as packets
 use Rattle.packet_world.specs.packet.Verdict.{verdict}
-use Rattle.node_moves.specs.ballot.Effect.{Effect}
-use Rattle.node_moves.specs.ballot.Logs.{places, pushed}
-use Rattle.node_moves.specs.ballot.Replica.{CountedReplica, ReplicaState, is_active}
-use Rattle.node_moves.specs.ballot.Sending.{Outcome, message_to_followed, sent_first}
-use Rattle.node_moves.specs.ballot.Body.TheVariants.{Append}
-use Rattle.node_moves.specs.ballot.Serving.{added, least, max_places, proposed}
-use Rattle.node_moves.proofs.of_ballot.StepRows.{added-is, commit_at-goes, commit_at-stays}
+use Rattle.node_moves.specs.ballot_base.declared.message.Effect.{Effect}
+use Rattle.node_moves.specs.ballot_base.Logs.{places, pushed}
+use Rattle.node_moves.specs.ballot_base.Replica.{CountedReplica, ReplicaState, is_active}
+use Rattle.node_moves.specs.ballot_base.Sending.{Outcome, message_to_followed, sent_first}
+use Rattle.node_moves.specs.ballot_base.declared.message.Body.TheVariants.{Append}
+use Rattle.node_moves.specs.ballot_base.Serving.{added, least, max_places, proposed}
+use Rattle.node_moves.proofs.of_ballot_base.StepRows.{added-is, commit_at-goes, commit_at-stays}
 use Rattle.packet_world.specs.snapshots.World.{outputs}
 use Rattle.packet_world.specs.broker_spec.declared.command.Command.{Command}
 use Rattle.packet_world.specs.broker_spec.declared.command.Command.TheVariants as commands
@@ -24,8 +24,8 @@ use Rattle.packet_world.specs.broker_base.State.{State}
 use Rattle.node_moves.specs.world_base.declared.Connection.{Connection}
 use Rattle.node_moves.specs.world_base.declared.item.Item.TheVariants.{Bytes}
 use Rattle.node_moves.specs.world_base.declared.Port.{Port}
-use Rattle.node_moves.specs.world_base.Connections.{has_failed, is_at, is_first, is_listed, is_open_at, is_closed}
-use Rattle.node_moves.specs.world_base.ConnectionChanges.{noted_proposed, changed, closed, holding, left_with}
+use Rattle.node_moves.specs.node_connections.Connections.{has_failed, is_at, is_first, is_listed, is_open_at, is_closed}
+use Rattle.node_moves.specs.node_connections.ConnectionChanges.{noted_proposed, changed, closed, holding, left_with}
 use Rattle.node_moves.specs.world_base.Core.{CoreState, StepOutcome, rules, serves}
 use Rattle.node_moves.specs.world_base.Failing.{loses_all_failed}
 use Rattle.node_moves.specs.world_base.Reading.{changes, open_at, reads, reads_all, reads_next, reads_of, unread_of}

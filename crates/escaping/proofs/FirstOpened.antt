@@ -8,8 +8,8 @@ use Rattle.packet_world.proofs.of_lists.OfEach.{each_append}
 use Rattle.packet_world.specs.broker_spec.Connection.{ConnectionName, is_connection_name}
 use Rattle.node_moves.specs.world_base.declared.Connection.{Connection}
 use Rattle.node_moves.specs.world_base.declared.Port.{Port}
-use Rattle.node_moves.specs.world_base.Connections.{fresh, has_failed, is_at, is_listed}
-use Rattle.node_moves.specs.world_base.ConnectionChanges.{closed}
+use Rattle.node_moves.specs.node_connections.Connections.{fresh, has_failed, is_at, is_listed}
+use Rattle.node_moves.specs.node_connections.ConnectionChanges.{closed}
 use Rattle.node_moves.specs.world_base.Core.{CoreState, StepOutcome, serves}
 use Rattle.node_moves.specs.world_base.Failing.{loses_all_failed}
 use Rattle.node_moves.specs.world_base.Step.{next_name, opens, settled}

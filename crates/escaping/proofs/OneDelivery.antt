@@ -4,19 +4,19 @@ use Rattle.std.specs.Prelude.{◌&&◌}
 use Rattle.std.specs.List.{find, fold}
 use Rattle.std.proofs.lemmas.List.{append-nil}
 use Rattle.packet_world.specs.lists.Lists.{Each}
-use Rattle.node_moves.specs.ballot.Effect.{Effect}
-use Rattle.node_moves.specs.ballot.Effect.TheVariants.{To, Out}
-use Rattle.node_moves.specs.ballot.Message.{Message}
-use Rattle.node_moves.specs.ballot.Protocol.Input.{Receives}
-use Rattle.node_moves.specs.ballot.Replica.{CountedReplica, ReplicaState, is_active}
-use Rattle.node_moves.specs.ballot.Sending.{Outcome}
+use Rattle.node_moves.specs.ballot_base.declared.message.Effect.{Effect}
+use Rattle.node_moves.specs.ballot_base.declared.message.Effect.TheVariants.{To, Out}
+use Rattle.node_moves.specs.ballot_base.declared.message.Message.{Message}
+use Rattle.node_moves.specs.ballot_base.Protocol.Input.{Receives}
+use Rattle.node_moves.specs.ballot_base.Replica.{CountedReplica, ReplicaState, is_active}
+use Rattle.node_moves.specs.ballot_base.Sending.{Outcome}
 use Rattle.packet_world.specs.snapshots.World.{outputs}
 use Rattle.packet_world.specs.broker_spec.declared.command.Command.{Command}
 use Rattle.packet_world.specs.broker_spec.declared.command.Output.{Output}
 use Rattle.packet_world.specs.broker_base.State.{State}
 use Rattle.node_moves.specs.world_base.declared.Connection.{Connection}
 use Rattle.node_moves.specs.world_base.declared.item.Item.TheVariants.{Peer}
-use Rattle.node_moves.specs.world_base.Connections.{has_failed}
+use Rattle.node_moves.specs.node_connections.Connections.{has_failed}
 use Rattle.node_moves.specs.world_base.Core.{CoreState, StepOutcome, serves}
 use Rattle.node_moves.specs.world_base.Failing.{closes_failed, loses_all_failed, loses_failed, loses_if}
 use Rattle.node_moves.specs.world_base.Step.{node_step, settled}

@@ -8,9 +8,9 @@ use Rattle.packet_world.specs.packet.declared.packet.Packet.{Packet}
 use Rattle.packet_world.specs.packet.declared.packet.Packet.TheVariants as packets
 use Rattle.packet_world.specs.packet.Spelling.{spelling}
 use Rattle.packet_world.specs.packet.Verdict.{verdict}
-use Rattle.node_moves.specs.ballot.Effect.{Effect}
-use Rattle.node_moves.specs.ballot.Effect.TheVariants.{Out}
-use Rattle.node_moves.specs.ballot.Message.{Message}
+use Rattle.node_moves.specs.ballot_base.declared.message.Effect.{Effect}
+use Rattle.node_moves.specs.ballot_base.declared.message.Effect.TheVariants.{Out}
+use Rattle.node_moves.specs.ballot_base.declared.message.Message.{Message}
 use Rattle.packet_world.specs.broker_spec.declared.command.Command.{Command}
 use Rattle.packet_world.specs.broker_spec.declared.command.Command.TheVariants as commands
 use Rattle.packet_world.specs.broker_spec.Connection.{ConnectionName}
@@ -19,8 +19,8 @@ use Rattle.packet_world.specs.broker_spec.declared.command.Output.TheVariants.{S
 use Rattle.node_moves.specs.world_base.declared.Connection.{Connection}
 use Rattle.node_moves.specs.world_base.declared.item.Item.TheVariants.{Bytes, Peer}
 use Rattle.node_moves.specs.world_base.declared.Port.{Port}
-use Rattle.node_moves.specs.world_base.Connections.{is_first, is_open_named}
-use Rattle.node_moves.specs.world_base.ConnectionChanges.{max_pending}
+use Rattle.node_moves.specs.node_connections.Connections.{is_first, is_open_named}
+use Rattle.node_moves.specs.node_connections.ConnectionChanges.{max_pending}
 use Rattle.node_moves.specs.world_base.Core.{CoreState}
 use Rattle.node_moves.specs.world_base.Handing.{listed_at}
 use Rattle.node_moves.specs.world_base.Reading.{open_at}

@@ -3,8 +3,8 @@ use Rattle.std.specs.Prelude.{◌≡◌, ℕ, true, List, [], filter, Some, Ok}
 use Rattle.packet_world.specs.packet.declared.connect.Connect.{Connect}
 use Rattle.packet_world.specs.packet.declared.packet.Packet.TheVariants as packets
 use Rattle.packet_world.specs.packet.Verdict.{verdict}
-use Rattle.node_moves.specs.ballot.Sending.{Outcome}
-use Rattle.node_moves.specs.ballot.Serving.{proposed}
+use Rattle.node_moves.specs.ballot_base.Sending.{Outcome}
+use Rattle.node_moves.specs.ballot_base.Serving.{proposed}
 use Rattle.packet_world.specs.snapshots.World.{outputs}
 use Rattle.packet_world.specs.broker_spec.declared.command.Command.{Command}
 use Rattle.packet_world.specs.broker_spec.declared.command.Command.TheVariants as commands
@@ -14,8 +14,8 @@ use Rattle.node_moves.specs.world_base.declared.Connection.{Connection}
 use Rattle.node_moves.specs.world_base.declared.ConnectionStage.TheVariants.{Proposed}
 use Rattle.node_moves.specs.world_base.declared.item.Item.TheVariants.{Bytes}
 use Rattle.node_moves.specs.world_base.declared.Port.{Port}
-use Rattle.node_moves.specs.world_base.Connections.{is_first, is_listed, is_open_at}
-use Rattle.node_moves.specs.world_base.ConnectionChanges.{changed}
+use Rattle.node_moves.specs.node_connections.Connections.{is_first, is_listed, is_open_at}
+use Rattle.node_moves.specs.node_connections.ConnectionChanges.{changed}
 use Rattle.node_moves.specs.world_base.Core.{CoreState, rules}
 use Rattle.node_moves.specs.world_base.Reading.{open_at}
 use Rattle.node_moves.specs.world_base.Step.{node_step}

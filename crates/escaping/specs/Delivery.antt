@@ -1,17 +1,17 @@
 -- One step of a node on a message for which its replica has no output.
 use Rattle.std.specs.Prelude.{◌≡◌, ◌⊎◌, false, []}
 use Rattle.packet_world.specs.lists.Lists.{Each}
-use Rattle.node_moves.specs.ballot.Message.{Message}
-use Rattle.node_moves.specs.ballot.Protocol.{received}
-use Rattle.node_moves.specs.ballot.Replica.{is_active}
-use Rattle.node_moves.specs.ballot.Sending.{Outcome}
+use Rattle.node_moves.specs.ballot_base.declared.message.Message.{Message}
+use Rattle.node_moves.specs.ballot_base.Protocol.{received}
+use Rattle.node_moves.specs.ballot_base.Replica.{is_active}
+use Rattle.node_moves.specs.ballot_base.Sending.{Outcome}
 use Rattle.packet_world.specs.snapshots.World.{outputs}
 use Rattle.packet_world.specs.broker_spec.declared.command.Command.{Command}
 use Rattle.packet_world.specs.broker_spec.declared.command.Output.{Output}
 use Rattle.packet_world.specs.broker_base.State.{State}
 use Rattle.node_moves.specs.world_base.declared.Connection.{Connection}
 use Rattle.node_moves.specs.world_base.declared.item.Item.TheVariants.{Peer}
-use Rattle.node_moves.specs.world_base.Connections.{has_failed}
+use Rattle.node_moves.specs.node_connections.Connections.{has_failed}
 use Rattle.node_moves.specs.world_base.Core.{CoreState, StepOutcome, rules}
 use Rattle.node_moves.specs.world_base.Step.{node_step}
 

@@ -3,15 +3,15 @@
 use Rattle.std.specs.Prelude.{◌≡◌, ℕ, true, false, [], None, Some}
 use Rattle.std.specs.List.{find, list_any}
 use Rattle.packet_world.specs.packet.declared.connect.Connect.{Connect}
-use Rattle.node_moves.specs.ballot.Message.{Message}
-use Rattle.node_moves.specs.ballot.Replica.{is_active}
+use Rattle.node_moves.specs.ballot_base.declared.message.Message.{Message}
+use Rattle.node_moves.specs.ballot_base.Replica.{is_active}
 use Rattle.packet_world.specs.broker_spec.declared.command.Command.{Command}
 use Rattle.packet_world.specs.broker_spec.Connection.{ConnectionName}
 use Rattle.packet_world.specs.snapshots.World.{outputs}
 use Rattle.node_moves.specs.world_base.declared.Connection.{Connection}
 use Rattle.node_moves.specs.world_base.declared.item.Item.TheVariants.{Peer}
 use Rattle.node_moves.specs.world_base.declared.Port.{Port}
-use Rattle.node_moves.specs.world_base.Connections.{is_at, is_first, is_open_named}
+use Rattle.node_moves.specs.node_connections.Connections.{is_at, is_first, is_open_named}
 use Rattle.node_moves.specs.world_base.Core.{CoreState}
 use Rattle.node_moves.specs.world_base.Handing.{hands_over, listed_at}
 use Rattle.node_moves.specs.world_base.Reading.{open_at}

@@ -2,7 +2,7 @@
 -- its connection is not closed (MQTT 3.1.2.4, 3.2.2.2).
 use Rattle.std.specs.Prelude.{◌≡◌, ℕ, true, false, List, [], ◌∷◌, ◌++◌, Some}
 use Rattle.packet_world.specs.lists.Lists.{Each}
-use Rattle.node_moves.specs.ballot.Machine.{replay}
+use Rattle.node_moves.specs.machine.Machine.{replay}
 use Rattle.packet_world.specs.broker_spec.Answers.{welcome}
 use Rattle.packet_world.specs.broker_spec.declared.command.Command.{Command}
 use Rattle.packet_world.specs.broker_spec.declared.command.Command.TheVariants as commands

@@ -3,16 +3,16 @@ use Rattle.std.proofs.Common.{◌≡◌, ◌⊎◌, inl, inr, ℕ, true, List, [
 use Rattle.client.specs.Core.{Core, nothing_read}
 use Rattle.client.specs.Reading.{EndsWith, Handles, OnBytes, ReadsPacket, StopsFor, fed, outcome_of}
 use Rattle.client.specs.Reading.Handles.{none, more}
-use Rattle.client.specs.Answered.{ClientOutcome}
-use Rattle.client.specs.Calls.{received}
-use Rattle.client.specs.State.{ClientState, is_online}
-use Rattle.client.specs.ClientError.{ClientError}
-use Rattle.client.specs.ClientError.TheVariants as errors
-use Rattle.client.specs.Stage.{Stage}
-use Rattle.client.specs.Stage.TheVariants as stages
+use Rattle.client.specs.client_base.Answered.{ClientOutcome}
+use Rattle.client.specs.client_base.Calls.{received}
+use Rattle.client.specs.client_base.State.{ClientState, is_online}
+use Rattle.client.specs.client_base.declared.error.ClientError.{ClientError}
+use Rattle.client.specs.client_base.declared.error.ClientError.TheVariants as errors
+use Rattle.client.specs.client_base.declared.stage.Stage.{Stage}
+use Rattle.client.specs.client_base.declared.stage.Stage.TheVariants as stages
 use Rattle.client.specs.cutter.Stream.{IsFault, Stream}
-use Rattle.client.specs.packet.Stop.{Stop}
-use Rattle.client.specs.packet.Stop.TheVariants as stops
+use Rattle.client.specs.packet_base.declared.stop.Stop.{Stop}
+use Rattle.client.specs.packet_base.declared.stop.Stop.TheVariants as stops
 use Rattle.client.specs.packet.Verdict.{verdict}
 use Rattle.client.specs.packet.declared.connack.Connack.TheVariants as connacks
 use Rattle.client.specs.packet.declared.error.DecodeFault.{DecodeFault}

@@ -2,10 +2,10 @@
 use Rattle.std.specs.Prelude.{◌≡◌, ℕ, true, List, [], Result, Ok, Err}
 use Rattle.client.specs.Core.{Core, nothing_read}
 use Rattle.client.specs.Reading.{OnBytes}
-use Rattle.client.specs.State.{is_online}
-use Rattle.client.specs.ClientError.{ClientError}
-use Rattle.client.specs.ClientError.TheVariants as errors
-use Rattle.client.specs.Stage.TheVariants as stages
+use Rattle.client.specs.client_base.State.{is_online}
+use Rattle.client.specs.client_base.declared.error.ClientError.{ClientError}
+use Rattle.client.specs.client_base.declared.error.ClientError.TheVariants as errors
+use Rattle.client.specs.client_base.declared.stage.Stage.TheVariants as stages
 use Rattle.client.specs.packet.Verdict.{verdict}
 use Rattle.client.specs.packet.declared.connack.Connack.TheVariants as connacks
 use Rattle.client.specs.packet.declared.packet.Packet.TheVariants as packets

@@ -4,15 +4,15 @@ use Rattle.std.specs.Prelude.{nat_lt, slice_get, slice_set, ◌&&◌}
 use Rattle.std.specs.List.{find}
 use Rattle.std.proofs.lemmas.Bool.{and_from, cases_eq, lt-ltb}
 use Rattle.ways_out.proofs.of_lists.Places.{get_set, get_set_other}
-use Rattle.escaping.specs.ballot.Effect.{Effect}
-use Rattle.escaping.specs.ballot.Logs.{places}
-use Rattle.escaping.specs.ballot.Machine.{replay}
-use Rattle.escaping.specs.ballot.Message.{Message}
-use Rattle.escaping.specs.ballot.Protocol.{received, replica_step}
-use Rattle.escaping.specs.ballot.Protocol.Input.{Proposes}
-use Rattle.escaping.specs.ballot.Replica.{CountedReplica, ReplicaState, is_active}
-use Rattle.escaping.specs.ballot.Sending.{Outcome}
-use Rattle.escaping.specs.ballot.Serving.{max_places}
+use Rattle.escaping.specs.ballot_base.declared.message.Effect.{Effect}
+use Rattle.escaping.specs.ballot_base.Logs.{places}
+use Rattle.escaping.specs.machine.Machine.{replay}
+use Rattle.escaping.specs.ballot_base.declared.message.Message.{Message}
+use Rattle.escaping.specs.ballot_base.Protocol.{received, replica_step}
+use Rattle.escaping.specs.ballot_base.Protocol.Input.{Proposes}
+use Rattle.escaping.specs.ballot_base.Replica.{CountedReplica, ReplicaState, is_active}
+use Rattle.escaping.specs.ballot_base.Sending.{Outcome}
+use Rattle.escaping.specs.ballot_base.Serving.{max_places}
 use Rattle.escaping.specs.packet.declared.connect.Connect.{Connect}
 use Rattle.escaping.specs.packet.Spelling.{spelling}
 use Rattle.escaping.specs.broker_spec.declared.command.Command.{Command}
@@ -20,9 +20,9 @@ use Rattle.escaping.specs.broker_spec.declared.command.Command.TheVariants as co
 use Rattle.escaping.specs.broker_spec.Connection.{ConnectionName}
 use Rattle.escaping.specs.broker_spec.declared.command.Output.{Output}
 use Rattle.escaping.specs.broker_spec.declared.command.Output.TheVariants.{Send}
-use Rattle.escaping.specs.ballot.Effect.TheVariants.{Out}
+use Rattle.escaping.specs.ballot_base.declared.message.Effect.TheVariants.{Out}
 use Rattle.escaping.specs.broker_base.State.{State}
-use Rattle.escaping.specs.ballot.Config.{Config}
+use Rattle.escaping.specs.ballot_base.declared.config.Config.{Config}
 use Rattle.escaping.specs.Answering.{PutsOutFirst}
 use Rattle.escaping.specs.Asking.{proposal_at, with_asked}
 use Rattle.escaping.specs.Delivery.{ReportsItsLosses, heard_by}
@@ -35,8 +35,8 @@ use Rattle.ways_out.specs.snapshots.World.{messages, outputs}
 use Rattle.escaping.specs.world_base.declared.Connection.{Connection}
 use Rattle.escaping.specs.world_base.declared.item.Item.TheVariants.{Bytes, Peer}
 use Rattle.escaping.specs.world_base.declared.Port.{Port}
-use Rattle.escaping.specs.world_base.Connections.{is_open_named}
-use Rattle.escaping.specs.world_base.ConnectionChanges.{max_pending}
+use Rattle.escaping.specs.node_connections.Connections.{is_open_named}
+use Rattle.escaping.specs.node_connections.ConnectionChanges.{max_pending}
 use Rattle.escaping.specs.world_base.Core.{CoreState, CountedCore, StepOutcome, rules, serves}
 use Rattle.escaping.specs.world_base.Handing.{hands_over}
 use Rattle.escaping.specs.world_base.Step.{node_step}

@@ -3,19 +3,19 @@ use Rattle.std.proofs.Common.{◌≡◌, ◌<◌, ◌≤◌, ◌⊎◌, inl, inr
 use Rattle.std.specs.Prelude.{nat_le, nat_lt, ◌&&◌, ◌||◌, ◌==◌}
 use Rattle.std.specs.List.{list_any}
 use Rattle.std.proofs.lemmas.Bool.{and_parts, both_ways, cases_lt, ltb-true, or_cases}
-use Rattle.escaping.specs.ballot.Body.{Body}
-use Rattle.escaping.specs.ballot.Body.TheVariants.{NewBallot, Join, State, Install, Installed, Activate, Activated, Superseded, Append, Held, Commit}
-use Rattle.escaping.specs.ballot.Changing.{answers_installed, lacks, waits_for, on_install, on_join, on_new_ballot, on_state}
-use Rattle.escaping.specs.ballot.Activating.{on_activated, on_installed, on_superseded}
-use Rattle.escaping.specs.ballot.Logs.{Log, places, pushed}
-use Rattle.escaping.specs.ballot.Machine.{Rules}
-use Rattle.escaping.specs.ballot.Protocol.{received}
-use Rattle.escaping.specs.ballot.Replica.{ReplicaState, is_active, is_backup, is_fetching, is_installing}
-use Rattle.escaping.specs.ballot.Role.TheVariants.{Active, Backup}
-use Rattle.escaping.specs.ballot.Sending.{Outcome, message_to, nothing_done}
-use Rattle.escaping.specs.ballot.Taking.{taken}
-use Rattle.escaping.specs.ballot.Serving.{added, commit, commit_at, follows, leads, least, max_places, on_append, on_commit, on_held, proposed, raised}
-use Rattle.escaping.proofs.of_ballot.StepRows.{commit_at-goes, commit_at-stays}
+use Rattle.escaping.specs.ballot_base.declared.message.Body.{Body}
+use Rattle.escaping.specs.ballot_base.declared.message.Body.TheVariants.{NewBallot, Join, State, Install, Installed, Activate, Activated, Superseded, Append, Held, Commit}
+use Rattle.escaping.specs.ballot_base.Changing.{answers_installed, lacks, waits_for, on_install, on_join, on_new_ballot, on_state}
+use Rattle.escaping.specs.ballot_base.Activating.{on_activated, on_installed, on_superseded}
+use Rattle.escaping.specs.ballot_base.Logs.{Log, places, pushed}
+use Rattle.escaping.specs.machine.Machine.{Rules}
+use Rattle.escaping.specs.ballot_base.Protocol.{received}
+use Rattle.escaping.specs.ballot_base.Replica.{ReplicaState, is_active, is_backup, is_fetching, is_installing}
+use Rattle.escaping.specs.ballot_base.declared.status.Role.TheVariants.{Active, Backup}
+use Rattle.escaping.specs.ballot_base.Sending.{Outcome, message_to, nothing_done}
+use Rattle.escaping.specs.ballot_base.Taking.{taken}
+use Rattle.escaping.specs.ballot_base.Serving.{added, commit, commit_at, follows, leads, least, max_places, on_append, on_commit, on_held, proposed, raised}
+use Rattle.escaping.proofs.of_ballot_base.StepRows.{commit_at-goes, commit_at-stays}
 
 -- it is the active primary of this ballot, in which its log was installed, and it runs
 pub record LeadsAt {S C : Type 0} (ballot : ℕ) (r : ReplicaState S C) : Type 0 where

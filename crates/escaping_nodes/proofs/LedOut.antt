@@ -1,8 +1,8 @@
 -- Nodes are led out by an Assign and the messages of a way out.
 use Rattle.std.proofs.Common.{◌≡◌, inr, ◌<◌, ℕ, ◌+◌, ◌-◌, List, [], ◌∷◌, ◌++◌, length, Some, refl, sym, ap, ◌∙◌, subst}
 use Rattle.std.specs.Prelude.{slice_get}
-use Rattle.escaping.specs.ballot.Config.{Config}
-use Rattle.escaping.specs.ballot.Message.{Message}
+use Rattle.escaping.specs.ballot_base.declared.config.Config.{Config}
+use Rattle.escaping.specs.ballot_base.declared.message.Message.{Message}
 use Rattle.escaping.specs.broker_spec.declared.command.Command.{Command}
 use Rattle.escaping.specs.broker_spec.declared.command.Output.{Output}
 use Rattle.escaping.specs.broker_base.State.{State}

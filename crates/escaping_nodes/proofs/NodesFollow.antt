@@ -4,14 +4,14 @@ use Rattle.std.specs.Prelude.{slice_get, slice_set}
 use Rattle.std.proofs.lemmas.Bool.{cases_eq}
 use Rattle.std.proofs.lemmas.List.{append-nil}
 use Rattle.ways_out.proofs.of_lists.Places.{get_set, get_set_other}
-use Rattle.escaping.specs.ballot.Body.{Body}
-use Rattle.escaping.specs.ballot.Body.TheVariants.{Activate}
-use Rattle.escaping.specs.ballot.Effect.{Effect}
-use Rattle.escaping.specs.ballot.Message.{Message}
-use Rattle.escaping.specs.ballot.Protocol.{received}
-use Rattle.escaping.specs.ballot.Protocol.Input.{Receives}
-use Rattle.escaping.specs.ballot.Replica.{CountedReplica, ReplicaState, is_active}
-use Rattle.escaping.specs.ballot.Sending.{Outcome}
+use Rattle.escaping.specs.ballot_base.declared.message.Body.{Body}
+use Rattle.escaping.specs.ballot_base.declared.message.Body.TheVariants.{Activate}
+use Rattle.escaping.specs.ballot_base.declared.message.Effect.{Effect}
+use Rattle.escaping.specs.ballot_base.declared.message.Message.{Message}
+use Rattle.escaping.specs.ballot_base.Protocol.{received}
+use Rattle.escaping.specs.ballot_base.Protocol.Input.{Receives}
+use Rattle.escaping.specs.ballot_base.Replica.{CountedReplica, ReplicaState, is_active}
+use Rattle.escaping.specs.ballot_base.Sending.{Outcome}
 use Rattle.escaping.specs.broker_spec.declared.command.Command.{Command}
 use Rattle.escaping.specs.broker_spec.declared.command.Output.{Output}
 use Rattle.escaping.specs.broker_base.State.{State}
@@ -25,8 +25,8 @@ use Rattle.ways_out.specs.snapshots.World.{messages, outputs}
 use Rattle.escaping.specs.world_base.declared.Connection.{Connection}
 use Rattle.escaping.specs.world_base.declared.item.Item.TheVariants.{Peer}
 use Rattle.escaping.specs.world_base.declared.Port.{Port}
-use Rattle.escaping.specs.world_base.Connections.{has_failed, is_at, is_listed}
-use Rattle.escaping.specs.world_base.ConnectionChanges.{changed, handed}
+use Rattle.escaping.specs.node_connections.Connections.{has_failed, is_at, is_listed}
+use Rattle.escaping.specs.node_connections.ConnectionChanges.{changed, handed}
 use Rattle.escaping.specs.world_base.Core.{CoreState, CountedCore, rules}
 use Rattle.escaping.specs.world_base.Handing.{hands_over, left_by, listed_at}
 use Rattle.escaping.specs.world_base.Step.{node_step}

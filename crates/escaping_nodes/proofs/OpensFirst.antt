@@ -5,7 +5,7 @@ use Rattle.std.specs.List.{find}
 use Rattle.std.proofs.lemmas.Bool.{cases_eq}
 use Rattle.std.proofs.lemmas.List.{append-nil}
 use Rattle.ways_out.proofs.of_lists.Places.{get_set, get_set_other}
-use Rattle.escaping.specs.ballot.Replica.{CountedReplica, is_active}
+use Rattle.escaping.specs.ballot_base.Replica.{CountedReplica, is_active}
 use Rattle.escaping.specs.broker_spec.declared.command.Command.{Command}
 use Rattle.escaping.specs.broker_spec.Connection.{ConnectionName}
 use Rattle.escaping.specs.broker_spec.declared.command.Output.{Output}
@@ -20,7 +20,7 @@ use Rattle.ways_out.specs.snapshots.Whole.{whole}
 use Rattle.ways_out.specs.snapshots.World.{messages}
 use Rattle.escaping.specs.world_base.declared.item.Item.TheVariants.{Opened}
 use Rattle.escaping.specs.world_base.declared.Port.{Port}
-use Rattle.escaping.specs.world_base.Connections.{is_open_named}
+use Rattle.escaping.specs.node_connections.Connections.{is_open_named}
 use Rattle.escaping.specs.world_base.Core.{CoreState, CountedCore, StepOutcome, serves}
 use Rattle.escaping.specs.world_base.Handing.{hands_over}
 use Rattle.escaping.specs.world_base.Step.{node_step}

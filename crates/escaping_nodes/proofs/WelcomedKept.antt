@@ -13,7 +13,7 @@ use Rattle.escaping.specs.broker_spec.Past.{begins_session, current_connection, 
 use Rattle.escaping.specs.broker_spec.Place.{Client, Limits, Mark, Past, only_if, same_client}
 use Rattle.escaping.specs.broker_spec.Sends.{resent}
 use Rattle.escaping.specs.broker_spec.Times.{entries_of}
-use Rattle.escaping.proofs.of_broker_base.ClientsInOrder.{same_self}
+use Rattle.escaping.proofs.of_broker_spec.ClientsInOrder.{same_self}
 use Rattle.escaping.proofs.ComesBack.{at_connect, gives_after, nobody_owns, none_current}
 use Rattle.world_nodes.specs.Asking.{first_connection, is_welcome, welcomes_back}
 use Rattle.escaping_nodes.specs.Opened.{WelcomedAreKept}

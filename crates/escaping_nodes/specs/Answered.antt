@@ -1,10 +1,10 @@
 -- A client that comes back at the new primary: its CONNECT, and the answer to it.
 use Rattle.std.specs.Prelude.{◌≡◌, ◌<◌, ℕ, ◌+◌, ◌*◌, true, false, List, [], ◌∷◌, ◌++◌, length, slice_get, Some, Ok}
 use Rattle.ways_out.specs.lists.Lists.{In}
-use Rattle.escaping.specs.ballot.Body.TheVariants.{Held}
-use Rattle.escaping.specs.ballot.Config.{Config}
-use Rattle.escaping.specs.ballot.Message.{Message}
-use Rattle.escaping.specs.ballot.Serving.{max_places}
+use Rattle.escaping.specs.ballot_base.declared.message.Body.TheVariants.{Held}
+use Rattle.escaping.specs.ballot_base.declared.config.Config.{Config}
+use Rattle.escaping.specs.ballot_base.declared.message.Message.{Message}
+use Rattle.escaping.specs.ballot_base.Serving.{max_places}
 use Rattle.escaping.specs.packet.declared.connack.Connack.TheVariants as connacks
 use Rattle.escaping.specs.packet.declared.connect.Connect.{Connect}
 use Rattle.escaping.specs.packet.declared.packet.Packet.{Packet}

@@ -1,8 +1,8 @@
 -- Messages that reach nodes with connections, each by its number and without losses, and what they
 -- do to the replicas.
 use Rattle.std.specs.Prelude.{◌≡◌, ◌⊎◌, ◌<◌, ℕ, ◌+◌, false, List, [], ◌∷◌, map, Some, slice_get}
-use Rattle.escaping.specs.ballot.Body.TheVariants.{Activate}
-use Rattle.escaping.specs.ballot.Message.{Message}
+use Rattle.escaping.specs.ballot_base.declared.message.Body.TheVariants.{Activate}
+use Rattle.escaping.specs.ballot_base.declared.message.Message.{Message}
 use Rattle.escaping.specs.broker_spec.declared.command.Command.{Command}
 use Rattle.escaping.specs.broker_spec.declared.command.Output.{Output}
 use Rattle.escaping.specs.broker_base.State.{State}

@@ -1,6 +1,6 @@
 -- Nodes that are led out: an Assign, and the messages of a way out, by their numbers.
 use Rattle.std.specs.Prelude.{ℕ, ◌+◌, ◌-◌, List, ◌∷◌, length}
-use Rattle.escaping.specs.ballot.Config.{Config}
+use Rattle.escaping.specs.ballot_base.declared.config.Config.{Config}
 use Rattle.escaping.specs.broker_spec.declared.command.Command.{Command}
 use Rattle.escaping.specs.broker_spec.declared.command.Output.{Output}
 use Rattle.escaping.specs.broker_base.State.{State}

@@ -15,7 +15,7 @@ use Rattle.ways_out.specs.snapshots.Moments.{Moment}
 use Rattle.ways_out.specs.snapshots.Whole.{whole}
 use Rattle.escaping.specs.world_base.declared.item.Item.TheVariants.{Opened}
 use Rattle.escaping.specs.world_base.declared.Port.{Port}
-use Rattle.escaping.specs.world_base.Connections.{is_at, is_open_named}
+use Rattle.escaping.specs.node_connections.Connections.{is_at, is_open_named}
 use Rattle.escaping.specs.world_base.Core.{CountedCore}
 use Rattle.world_nodes.specs.Asking.{welcomes_back}
 use Rattle.world_nodes.specs.ExactSteps.{after_node_call}

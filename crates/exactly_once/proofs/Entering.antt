@@ -12,10 +12,10 @@ use Rattle.broker_base.specs.broker_spec.Connection.{ConnectionName}
 use Rattle.broker_base.specs.broker_spec.Readings.{publication_in}
 use Rattle.broker_base.specs.broker_spec.TakenLaws.{queued_at}
 use Rattle.client_base.specs.packet.declared.publish.Publish.{Publish}
-use Rattle.broker_base.proofs.EntersAsPublished.{enters_as_published}
+use Rattle.broker_base.proofs.of_broker_spec.EntersAsPublished.{enters_as_published}
 use Rattle.broker_base.specs.broker_spec.Subscriptions.{effective_qos}
 use Rattle.broker_base.specs.broker_spec.Times.{entries_of}
-use Rattle.broker_base.proofs.PublicationEnters.{publication_enters}
+use Rattle.broker_base.proofs.of_broker_spec.PublicationEnters.{publication_enters}
 use Rattle.exactly_once.specs.Laws.{StoriesEnter}
 
 pub entering : StoriesEnter

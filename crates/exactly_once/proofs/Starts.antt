@@ -7,7 +7,7 @@ use Rattle.client_base.specs.session_base.Identifiers.{least_free}
 use Rattle.broker_base.specs.broker_spec.Entries.{Entry}
 use Rattle.broker_base.specs.broker_spec.Times.{start_all}
 use Rattle.broker_base.specs.broker_spec.IdentifierLaws.{WaitsLast, IsWaiting}
-use Rattle.broker_base.proofs.LeastFree.{least-is-free}
+use Rattle.broker_base.proofs.of_broker_spec.LeastFree.{least-is-free}
 use Rattle.exactly_once.specs.Items.{SenderItem, busy, start_first, first_waiting}
 use Rattle.exactly_once.specs.Handshake.{sending, with_items, Forward, Transit, Handshake}
 use Rattle.exactly_once.specs.HandshakeSteps.{HandshakeRun}

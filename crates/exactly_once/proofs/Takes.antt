@@ -17,7 +17,7 @@ use Rattle.broker_base.specs.broker_spec.Received.{receives, received_of, is_exa
 use Rattle.broker_base.specs.broker_spec.Sends.{deliveries_to}
 use Rattle.broker_base.specs.broker_spec.Answers.{acknowledged}
 use Rattle.broker_base.specs.broker_spec.AnswersInOrder.{answers_at}
-use Rattle.broker_base.proofs.ClientsInOrder.{same_self}
+use Rattle.broker_base.proofs.of_broker_spec.ClientsInOrder.{same_self}
 use Rattle.exactly_once.specs.Handshake.{Forward, Backward, Transit, Handshake, answer, taking, accepting}
 use Rattle.exactly_once.specs.HandshakeSteps.Advances.{takes}
 use Rattle.exactly_once.specs.HandshakeSteps.HandshakeRun.{stays, goes_on}

@@ -1,6 +1,6 @@
 -- Beside every world that is reached goes one of `model`.
 use Rattle.std.proofs.Common.{◌≡◌, ℕ, List, [], ◌++◌, true, map, refl, sym, ◌∙◌}
-use Rattle.byte_world.specs.ballot.Config.{Config}
+use Rattle.byte_world.specs.ballot_base.declared.config.Config.{Config}
 use Rattle.byte_world.specs.broker_spec.Place.{Client}
 use Rattle.byte_world.specs.lists.Lists.{Each}
 use Rattle.byte_world.specs.agreement.World.{can_open}

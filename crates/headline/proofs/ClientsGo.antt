@@ -6,7 +6,7 @@ use Rattle.std.proofs.lemmas.Bool.{both_ways, cases_Bool}
 use Rattle.byte_world.specs.packet.Spelling.{IsPacket}
 use Rattle.byte_world.specs.packet.declared.packet.Packet.{Packet}
 use Rattle.byte_world.specs.cutter.Stream.{Stream, Takes}
-use Rattle.byte_world.specs.ballot.Config.{Config}
+use Rattle.byte_world.specs.ballot_base.declared.config.Config.{Config}
 use Rattle.byte_world.specs.broker_spec.declared.command.Command.{Command}
 use Rattle.byte_world.specs.broker_spec.Commands.{past_of, usual_limits}
 use Rattle.byte_world.specs.broker_spec.Connection.{ConnectionName, same_connection}

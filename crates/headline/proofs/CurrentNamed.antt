@@ -8,7 +8,7 @@ use Rattle.byte_world.specs.broker_spec.Commands.{place_of}
 use Rattle.byte_world.specs.broker_spec.Connection.{ConnectionName, same_connection}
 use Rattle.byte_world.specs.broker_spec.Past.{accepts, current_connection}
 use Rattle.byte_world.specs.broker_spec.Place.{Client, Limits, Mark, Past, Place}
-use Rattle.byte_world.proofs.of_broker_base.ClientsInOrder.{same_self}
+use Rattle.byte_world.proofs.of_broker_spec.ClientsInOrder.{same_self}
 use Rattle.byte_world.specs.exactly_once.Sides.{ClientConnection}
 use Rattle.byte_world.specs.exactly_once.StoryCommands.{any_named, counted_at}
 use Rattle.byte_world.proofs.of_exactly_once.places.After.{current_opens}

@@ -4,7 +4,7 @@ use Rattle.std.specs.Prelude.{slice_get}
 use Rattle.std.proofs.lemmas.List.{map-append}
 use Rattle.byte_world.specs.session_base.declared.publication.Publication.{Publication}
 use Rattle.byte_world.specs.broker_spec.Commands.{usual_limits}
-use Rattle.byte_world.proofs.of_broker_base.PacketOfNobody.{window_is_steady}
+use Rattle.byte_world.proofs.of_broker_spec.PacketOfNobody.{window_is_steady}
 use Rattle.byte_world.specs.client_base.History as history
 use Rattle.byte_world.specs.client_base.Keeper.{Own, all_own}
 use Rattle.byte_world.specs.client_base.State.{ClientState}

@@ -10,7 +10,7 @@ use Rattle.byte_world.specs.broker_base.ClientSession.{ClientSession}
 use Rattle.byte_world.specs.broker_base.SessionStep.{kept_after}
 use Rattle.byte_world.specs.broker_base.State.{Sessions, State, keyed}
 use Rattle.byte_world.specs.broker_base.Step.{sessions_left, step}
-use Rattle.byte_world.proofs.of_broker_base.ConnectionNames.{same_name}
+use Rattle.byte_world.proofs.of_broker_spec.ConnectionNames.{same_name}
 use Rattle.byte_world.specs.broker_spec.Past.{any_connection}
 use Rattle.byte_world.specs.broker_form.InRange.{IsBrokerState, IsNamed, IsSession}
 use Rattle.byte_world.proofs.of_broker_form.States.{stays_in_range}

@@ -1,8 +1,8 @@
 -- Each name that a node of a group gives is one that a connection may have.
 use Rattle.std.proofs.Common.{◌≡◌, Bool, true, false, not, ◌&&◌, if◌then◌else◌, ℕ, List, [], ◌∷◌, ◌++◌, length, refl, sym, subst}
 use Rattle.std.specs.List.{list_any}
-use Rattle.byte_world.specs.ballot.Config.{Config}
-use Rattle.byte_world.specs.ballot.Effect.{Effect}
+use Rattle.byte_world.specs.ballot_base.declared.config.Config.{Config}
+use Rattle.byte_world.specs.ballot_base.declared.message.Effect.{Effect}
 use Rattle.byte_world.specs.broker_spec.declared.command.Command.{Command}
 use Rattle.byte_world.specs.broker_spec.declared.command.Output.{Output}
 use Rattle.byte_world.specs.broker_spec.Connection.{ConnectionName, IsConnectionName, is_connection_name}
@@ -16,7 +16,7 @@ use Rattle.byte_world.specs.world_base.declared.Connection.{Connection}
 use Rattle.byte_world.specs.world_base.declared.item.Item.{Item}
 use Rattle.byte_world.specs.world_base.declared.item.Item.TheVariants.{Peer, Tick, Opened, Bytes, Ended, Expel, Cut, Crash}
 use Rattle.byte_world.specs.world_base.declared.Port.{Port}
-use Rattle.byte_world.specs.world_base.Connections.{fresh, is_at}
+use Rattle.byte_world.specs.node_connections.Connections.{fresh, is_at}
 use Rattle.byte_world.specs.world_base.Core.{CoreState, StepOutcome, serves}
 use Rattle.byte_world.specs.world_base.LossyStep.{RunsOn}
 use Rattle.byte_world.specs.world_base.Step.{acts_on, next_name, opens, does_item}

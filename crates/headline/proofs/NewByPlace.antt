@@ -14,8 +14,8 @@ use Rattle.byte_world.specs.broker_spec.Marks.{is_refused, mark_of, packet_mark_
 use Rattle.byte_world.specs.broker_spec.Owner.{owner_of}
 use Rattle.byte_world.specs.broker_spec.Place.{Client, Limits, Mark, Past, same_client}
 use Rattle.byte_world.specs.broker_spec.Received.{is_exactly_once, is_new, is_repeat}
-use Rattle.byte_world.proofs.of_broker_base.ClientsInOrder.{same_is, same_self}
-use Rattle.byte_world.proofs.of_broker_base.MarksOfPlaces.{AreMarked}
+use Rattle.byte_world.proofs.of_broker_spec.ClientsInOrder.{same_is, same_self}
+use Rattle.byte_world.proofs.of_broker_spec.MarksOfPlaces.{AreMarked}
 use Rattle.byte_world.specs.exactly_once.Carried.{carries, more_by, new_numbers}
 use Rattle.byte_world.specs.exactly_once.Sides.{ClientConnection}
 use Rattle.byte_world.proofs.of_exactly_once.carrying.PlacesSay.{PlacesSay, Says}

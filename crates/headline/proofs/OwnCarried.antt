@@ -13,7 +13,7 @@ use Rattle.byte_world.specs.broker_spec.EndingLaws.{StandsAt}
 use Rattle.byte_world.specs.broker_spec.Owner.{owner_of}
 use Rattle.byte_world.specs.broker_spec.Past.{current_connection}
 use Rattle.byte_world.specs.broker_spec.Place.{Client, Limits, Mark, Past, Place, same_client}
-use Rattle.byte_world.proofs.of_broker_base.ClientsInOrder.{same_self}
+use Rattle.byte_world.proofs.of_broker_spec.ClientsInOrder.{same_self}
 use Rattle.byte_world.specs.client_base.Called.{written_for}
 use Rattle.byte_world.specs.client_base.Keeper.{Written}
 use Rattle.byte_world.specs.client_base.Written.{plain, writes_first}

@@ -7,7 +7,7 @@ use Rattle.byte_world.specs.packet.declared.packet.Packet.{Packet}
 use Rattle.byte_world.specs.session_base.Identifiers.{least_free}
 use Rattle.byte_world.specs.session_base.Publication.{is_answered}
 use Rattle.byte_world.specs.session_base.declared.publication.Publication.{Publication}
-use Rattle.byte_world.specs.ballot.Config.{Config}
+use Rattle.byte_world.specs.ballot_base.declared.config.Config.{Config}
 use Rattle.byte_world.proofs.of_snapshots.PastsAgree.{has_agreed}
 use Rattle.byte_world.specs.broker_spec.Commands.{usual_limits}
 use Rattle.byte_world.specs.broker_spec.Place.{Client}

@@ -22,10 +22,10 @@ use Rattle.byte_world.specs.broker_spec.Readings.{publication_in}
 use Rattle.byte_world.specs.broker_spec.Received.{is_exactly_once, is_new}
 use Rattle.byte_world.specs.broker_spec.TakenLaws.{takes_publication}
 use Rattle.byte_world.specs.broker_spec.Times.{entries_of}
-use Rattle.byte_world.proofs.of_broker_base.EntersOnce.{enters_once}
-use Rattle.byte_world.proofs.of_broker_base.EntersWhereTaken.{enters_where_taken}
-use Rattle.byte_world.proofs.of_broker_base.MarksOfPlaces.{AreMarked}
-use Rattle.byte_world.proofs.of_broker_base.PacketOfNobody.{window_is_steady}
+use Rattle.byte_world.proofs.of_broker_spec.EntersOnce.{enters_once}
+use Rattle.byte_world.proofs.of_broker_spec.EntersWhereTaken.{enters_where_taken}
+use Rattle.byte_world.proofs.of_broker_spec.MarksOfPlaces.{AreMarked}
+use Rattle.byte_world.proofs.of_broker_spec.PacketOfNobody.{window_is_steady}
 use Rattle.byte_world.specs.client_base.History as history
 use Rattle.byte_world.specs.client_base.Keeper.{all_own}
 use Rattle.byte_world.specs.client_base.State.{ClientState}

@@ -19,13 +19,13 @@ use Rattle.byte_world.specs.packet_base.Lists.{items_of}
 use Rattle.byte_world.specs.packet_base.Reading.{id_at, length_at, number_at, text_at}
 use Rattle.byte_world.specs.packet_base.TopicFields.{filter_at, topic_at}
 use Rattle.byte_world.specs.session_base.Publication.{publish_of}
-use Rattle.byte_world.specs.ballot.Serving.{added, commit, commit_at, proposed}
+use Rattle.byte_world.specs.ballot_base.Serving.{added, commit, commit_at, proposed}
 use Rattle.byte_world.specs.machine.Machine.{replay}
 use Rattle.byte_world.specs.broker_spec.declared.command.Command.{Command}
 use Rattle.byte_world.specs.broker_spec.declared.command.Command.TheVariants as commands
 use Rattle.byte_world.specs.world_base.declared.ConnectionStage.TheVariants.{Proposed}
 use Rattle.byte_world.specs.world_base.declared.item.Item.TheVariants.{Opened, Bytes}
-use Rattle.byte_world.specs.world_base.Connections.{fresh}
+use Rattle.byte_world.specs.node_connections.Connections.{fresh}
 use Rattle.byte_world.specs.world_base.Core.{CoreState, opening_core, rules}
 use Rattle.byte_world.specs.world_base.Failing.{loses_failed}
 use Rattle.byte_world.specs.world_base.Handing.{hands_over}

@@ -2,7 +2,7 @@
 use Rattle.std.proofs.Common.{◌≡◌, ◌≤◌, ℕ, List, Some, sym, ap, ◌∙◌, subst}
 use Rattle.std.specs.Prelude.{slice_get}
 use Rattle.byte_world.specs.session_base.declared.publication.Publication.{Publication}
-use Rattle.byte_world.specs.ballot.Config.{Config}
+use Rattle.byte_world.specs.ballot_base.declared.config.Config.{Config}
 use Rattle.byte_world.specs.broker_spec.declared.command.Command.{Command}
 use Rattle.byte_world.specs.broker_spec.Commands.{past_of, usual_limits}
 use Rattle.byte_world.specs.broker_spec.EndingLaws.{EndsWithTheSession, connects_of}

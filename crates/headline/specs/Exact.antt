@@ -2,7 +2,7 @@
 -- list on which the nodes agree.
 use Rattle.std.specs.Prelude.{◌≡◌, ◌≤◌, ℕ, List, ◌∷◌, Some, slice_get}
 use Rattle.byte_world.specs.lists.Lists.{Each}
-use Rattle.byte_world.specs.ballot.Config.{Config}
+use Rattle.byte_world.specs.ballot_base.declared.config.Config.{Config}
 use Rattle.byte_world.specs.broker_spec.declared.command.Command.{Command}
 use Rattle.byte_world.specs.broker_spec.Commands.{past_of, usual_limits}
 use Rattle.byte_world.specs.broker_spec.Connection.{ConnectionName}

@@ -4,7 +4,6 @@ pub mod OneSession
 pub mod Exact
 pub mod Rows
 pub use Rattle.byte_world.specs.agreement as agreement
-pub use Rattle.byte_world.specs.ballot as ballot
 pub use Rattle.byte_world.specs.broker_base as broker_base
 pub use Rattle.byte_world.specs.broker_spec as broker_spec
 pub use Rattle.byte_world.specs as byte_world
@@ -14,4 +13,5 @@ pub use Rattle.byte_world.specs.node_moves as node_moves
 pub use Rattle.byte_world.specs.packet_world as packet_world
 pub use Rattle.byte_world.specs.snapshots as snapshots
 pub use Rattle.byte_world.specs.whole as whole
-pub use Rattle.byte_world.specs.world_base as world_base
+pub use Rattle.byte_world.specs.ballot_base as ballot_base
+pub use Rattle.byte_world.specs.node_connections as node_connections

@@ -3,7 +3,7 @@
 use Rattle.std.specs.Prelude.{◌≡◌, Bool, true, false, List, [], ◌∷◌, map, slice_get, Some}
 use Rattle.byte_world.specs.packet.declared.packet.Packet.{Packet}
 use Rattle.byte_world.specs.packet.declared.packet.Packet.TheVariants as packets
-use Rattle.byte_world.specs.ballot.Config.{Config}
+use Rattle.byte_world.specs.ballot_base.declared.config.Config.{Config}
 use Rattle.byte_world.specs.broker_spec.declared.command.Command.{Command}
 use Rattle.byte_world.specs.broker_spec.declared.command.Command.TheVariants as commands
 use Rattle.byte_world.specs.client_base.Keeper.{Own}

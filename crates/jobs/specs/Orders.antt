@@ -7,7 +7,7 @@ use Rattle.script.specs.ballot_base.declared.config.Config.{Config}
 use Rattle.script.specs.ballot_base.declared.status.Role.{Role}
 use Rattle.script.specs.ballot_base.declared.status.Role.TheVariants as roles
 use Rattle.script.specs.ballot_base.declared.status.Status.{Status}
-use Rattle.command_line.specs.packet.ClientId.{client_fault}
+use Rattle.command_line.specs.packet_base.ClientId.{client_fault}
 use Rattle.topics.specs.Refusals.{number_of}
 use Rattle.topics.specs.declared.malformed.MalformedKind.{MalformedKind}
 use Rattle.topics.specs.declared.malformed.MalformedKind.TheVariants as kinds

@@ -1,7 +1,7 @@
 // Orders to the nodes of a server: lines of its input.
 
 ghost use Rattle.std.specs.Prelude.{◌≡◌, Some, None, IfErr, IfOk, OnOk};
-ghost use Rattle.command_line.specs.packet.ClientId.{client_fault};
+ghost use Rattle.command_line.specs.packet_base.ClientId.{client_fault};
 ghost use Rattle.std.specs.Char.{is_ascii_digit};
 ghost use Rattle.std.specs.List.{list_all};
 ghost use Rattle.script.specs.Fields.{is_decimal};

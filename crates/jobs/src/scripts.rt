@@ -4,7 +4,7 @@ ghost use Rattle.std.specs.Prelude.{◌≡◌, ◌<◌, ℕ, None, IfErr, IfOk, 
 ghost use Rattle.std.specs.Io.KnownBytes.{Appends};
 ghost use Rattle.script.specs.Scripts.{Refuses, lines_of};
 ghost use Rattle.script.specs.declared.error.ScriptFault.TheVariants.{Line};
-ghost use Rattle.command_line.specs.packet.ClientId.{client_fault};
+ghost use Rattle.command_line.specs.packet_base.ClientId.{client_fault};
 ghost use Rattle.play.specs.Ways.{HasNoWay};
 ghost use Rattle.jobs.specs.Orders.{IsRefusedBy};
 ghost use Rattle.jobs.specs.Transcripts.{Prints, PrintsWay};

@@ -7,8 +7,8 @@ use Rattle.machine.specs.Machine.{Rules}
 use Rattle.ballot.specs.lists.Lists.{In, IsPrefixOf}
 use Rattle.ballot.specs.lists.Lists.In.{here, there}
 use Rattle.ballot.proofs.of_lists.Prefixes.{prefix_length, prefix_then, take_prefix}
-use Rattle.ballot.specs.Config.{Config}
-use Rattle.ballot.specs.LawfulConfig.{are_rising}
+use Rattle.ballot.specs.ballot_base.declared.config.Config.{Config}
+use Rattle.ballot.specs.ballot_base.LawfulConfig.{are_rising}
 use Rattle.snapshots.specs.whole.Messages.{Message}
 use Rattle.snapshots.specs.whole.Messages.{Body}
 use Rattle.snapshots.specs.whole.Messages.Body.{NewBallot, Join, State, Install, Installed, Activate, Activated, Superseded, Append, Held, Commit}

@@ -3,8 +3,8 @@ use Rattle.std.proofs.Common.{◌≡◌, ℕ, zero, suc, ◌+◌, ◌-◌, ◌<�
 use Rattle.std.proofs.lemmas.List.{append-nil, drop-take}
 use Rattle.ballot.specs.lists.Lists.{IsPrefixOf}
 use Rattle.ballot.proofs.of_lists.Prefixes.{take_prefix}
-use Rattle.ballot.specs.Logs.{Log, part, places}
-use Rattle.ballot.specs.Replica.{ReplicaState}
+use Rattle.ballot.specs.ballot_base.Logs.{Log, part, places}
+use Rattle.ballot.specs.ballot_base.Replica.{ReplicaState}
 use Rattle.snapshots.specs.Whole.{whole_log}
 use Rattle.snapshots.specs.World.{recorded}
 use Rattle.snapshots.proofs.Fronts.{whole_part}

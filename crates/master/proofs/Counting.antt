@@ -3,28 +3,28 @@ use Rattle.std.proofs.Common.{◌≡◌, ℕ, zero, suc, get_or, ◌+◌, ◌-�
 use Rattle.std.specs.Prelude.{slice_get, nat_lt, ◌&&◌}
 use Rattle.std.proofs.lemmas.Bool.{le-ltb, lt-ltb}
 use Rattle.machine.specs.Machine.{Rules}
-use Rattle.ballot.specs.Message.{Message}
-use Rattle.ballot.specs.Effect.{Effect}
-use Rattle.ballot.specs.Status.{Status}
-use Rattle.ballot.specs.Losses.{Loses, halted, one_more}
-use Rattle.ballot.specs.Protocol.{Input, replica_step}
-use Rattle.ballot.specs.Protocol.Input.{Receives, Proposes}
-use Rattle.ballot.specs.Replica.{ReplicaState, is_active, status_of}
-use Rattle.ballot.specs.Serving.{max_places}
-use Rattle.ballot.specs.Cutting.{can_cut}
-use Rattle.ballot.specs.Logs.{places}
+use Rattle.ballot.specs.ballot_base.declared.message.Message.{Message}
+use Rattle.ballot.specs.ballot_base.declared.message.Effect.{Effect}
+use Rattle.ballot.specs.ballot_base.declared.status.Status.{Status}
+use Rattle.ballot.specs.ballot_base.Losses.{Loses, halted, one_more}
+use Rattle.ballot.specs.ballot_base.Protocol.{Input, replica_step}
+use Rattle.ballot.specs.ballot_base.Protocol.Input.{Receives, Proposes}
+use Rattle.ballot.specs.ballot_base.Replica.{ReplicaState, is_active, status_of}
+use Rattle.ballot.specs.ballot_base.Serving.{max_places}
+use Rattle.ballot.specs.ballot_base.Cutting.{can_cut}
+use Rattle.ballot.specs.ballot_base.Logs.{places}
 use Rattle.master.specs.declared.event.Event.{Event}
 use Rattle.master.specs.declared.event.Event.TheVariants.{Assign, Deliver}
 use Rattle.snapshots.specs.World.{World, moved}
 use Rattle.snapshots.specs.Moments.{Moment}
-use Rattle.ballot.specs.Config.{Config}
+use Rattle.ballot.specs.ballot_base.declared.config.Config.{Config}
 use Rattle.ballot.specs.lists.Lists.{In}
 use Rattle.ballot.proofs.of_lists.Members.{in_at}
 use Rattle.snapshots.specs.Steps.{sends_from_master}
 use Rattle.snapshots.specs.Masters.{MasterOutcome, activated, assigned}
 use Rattle.snapshots.specs.agreement.MasterState.{MasterState, refusal}
-use Rattle.ballot.specs.Body.{Body}
-use Rattle.ballot.specs.Body.TheVariants.{NewBallot, Join, State, Install, Installed, Activate, Activated, Superseded, Append, Held, Commit}
+use Rattle.ballot.specs.ballot_base.declared.message.Body.{Body}
+use Rattle.ballot.specs.ballot_base.declared.message.Body.TheVariants.{NewBallot, Join, State, Install, Installed, Activate, Activated, Superseded, Append, Held, Commit}
 use Rattle.master.specs.Outcomes.EventOutcome.{by_node, by_cut, by_master, unheeded}
 use Rattle.master.specs.Group.{GroupState}
 use Rattle.master.specs.Exact.{takes, hears, comes, gives, outcome_of, after, group_step}

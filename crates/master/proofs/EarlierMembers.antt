@@ -6,22 +6,22 @@ use Rattle.std.specs.Prelude.{◌==◌, ◌&&◌}
 use Rattle.std.proofs.lemmas.Bool.{cases_Bool, cases_lt}
 use Rattle.machine.specs.Machine.{Rules}
 use Rattle.ballot.specs.lists.Lists.{In}
-use Rattle.ballot.specs.Body.{Body}
-use Rattle.ballot.specs.Body.TheVariants.{NewBallot, Join, State, Install, Installed, Activate, Activated, Superseded, Append, Held, Commit}
-use Rattle.ballot.specs.Changing.{installs, lacks, on_install, on_new_ballot, on_state, waits_for}
-use Rattle.ballot.specs.Config.{Config}
-use Rattle.ballot.specs.Effect.{Effect}
-use Rattle.ballot.specs.Logs.{Log, places}
-use Rattle.ballot.specs.Losses.{SendsAndAddsNothing}
-use Rattle.ballot.specs.Message.{Message}
-use Rattle.ballot.specs.Protocol.{received}
-use Rattle.ballot.specs.Replica.{ReplicaState, others}
-use Rattle.ballot.specs.Role.TheVariants.{Installing}
-use Rattle.ballot.specs.Sending.{Outcome, message_to_each, nothing_done}
-use Rattle.ballot.specs.Serving.{follows, on_append}
-use Rattle.ballot.specs.Taking.{taken}
-use Rattle.ballot.proofs.ChangeRows.{on_install-answers, on_install-stays, on_install-takes, on_install-unread, on_new_ballot-joins, on_new_ballot-stays, on_state-stays, on_state-takes, on_state-unread}
-use Rattle.ballot.proofs.MessageRows.{on_append-elsewhere, on_append-gap, on_append-takes}
+use Rattle.ballot.specs.ballot_base.declared.message.Body.{Body}
+use Rattle.ballot.specs.ballot_base.declared.message.Body.TheVariants.{NewBallot, Join, State, Install, Installed, Activate, Activated, Superseded, Append, Held, Commit}
+use Rattle.ballot.specs.ballot_base.Changing.{installs, lacks, on_install, on_new_ballot, on_state, waits_for}
+use Rattle.ballot.specs.ballot_base.declared.config.Config.{Config}
+use Rattle.ballot.specs.ballot_base.declared.message.Effect.{Effect}
+use Rattle.ballot.specs.ballot_base.Logs.{Log, places}
+use Rattle.ballot.specs.ballot_base.Losses.{SendsAndAddsNothing}
+use Rattle.ballot.specs.ballot_base.declared.message.Message.{Message}
+use Rattle.ballot.specs.ballot_base.Protocol.{received}
+use Rattle.ballot.specs.ballot_base.Replica.{ReplicaState, others}
+use Rattle.ballot.specs.ballot_base.declared.status.Role.TheVariants.{Installing}
+use Rattle.ballot.specs.ballot_base.Sending.{Outcome, message_to_each, nothing_done}
+use Rattle.ballot.specs.ballot_base.Serving.{follows, on_append}
+use Rattle.ballot.specs.ballot_base.Taking.{taken}
+use Rattle.ballot.proofs.of_ballot_base.ChangeRows.{on_install-answers, on_install-stays, on_install-takes, on_install-unread, on_new_ballot-joins, on_new_ballot-stays, on_state-stays, on_state-takes, on_state-unread}
+use Rattle.ballot.proofs.of_ballot_base.MessageRows.{on_append-elsewhere, on_append-gap, on_append-takes}
 use Rattle.snapshots.specs.agreement.Inside.Ballots.{Given, History}
 use Rattle.snapshots.specs.agreement.Inside.Saying.{IsOf, SpeaksTruth}
 use Rattle.snapshots.specs.agreement.Moments.{Moment as WholeMoment, Moments as WholeMoments}

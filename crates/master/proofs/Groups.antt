@@ -8,12 +8,12 @@ use Rattle.machine.specs.Machine.{Rules}
 use Rattle.ballot.specs.lists.Lists.{In}
 use Rattle.ballot.specs.lists.Lists.In.{here, there}
 use Rattle.ballot.proofs.of_lists.Members.{in_append}
-use Rattle.ballot.specs.Config.{Config}
-use Rattle.ballot.specs.Message.{Message}
-use Rattle.ballot.specs.Body.{Body}
-use Rattle.ballot.specs.Body.TheVariants.{NewBallot, Join, State, Install, Installed, Activate, Activated, Superseded, Append, Held, Commit}
-use Rattle.ballot.specs.Effect.{Effect}
-use Rattle.ballot.specs.Replica.{ReplicaState, CountedReplica}
+use Rattle.ballot.specs.ballot_base.declared.config.Config.{Config}
+use Rattle.ballot.specs.ballot_base.declared.message.Message.{Message}
+use Rattle.ballot.specs.ballot_base.declared.message.Body.{Body}
+use Rattle.ballot.specs.ballot_base.declared.message.Body.TheVariants.{NewBallot, Join, State, Install, Installed, Activate, Activated, Superseded, Append, Held, Commit}
+use Rattle.ballot.specs.ballot_base.declared.message.Effect.{Effect}
+use Rattle.ballot.specs.ballot_base.Replica.{ReplicaState, CountedReplica}
 use Rattle.snapshots.specs.World.{World, messages, moved, outputs}
 use Rattle.snapshots.specs.agreement.World.{can_open}
 use Rattle.snapshots.specs.agreement.MasterState.{MasterState, assigning, activating, refusal}
@@ -27,10 +27,10 @@ use Rattle.master.proofs.WholeTold.{max_told_whole}
 use Rattle.snapshots.specs.Moments.{whole_moment}
 use Rattle.snapshots.proofs.PastsKept.{past_stands}
 use Rattle.std.specs.Bool.{OnTrue, OnFalse}
-use Rattle.ballot.specs.Losses.{Loses, Thinned, halted, one_more}
-use Rattle.ballot.specs.Sending.{Outcome}
-use Rattle.ballot.specs.Protocol.{Input, replica_step}
-use Rattle.ballot.proofs.ThinnedEffects.{Thinned-same}
+use Rattle.ballot.specs.ballot_base.Losses.{Loses, Thinned, halted, one_more}
+use Rattle.ballot.specs.ballot_base.Sending.{Outcome}
+use Rattle.ballot.specs.ballot_base.Protocol.{Input, replica_step}
+use Rattle.ballot.proofs.of_ballot_base.ThinnedEffects.{Thinned-same}
 use Rattle.snapshots.specs.World.{MayTake}
 use Rattle.master.specs.Group.{GroupState}
 use Rattle.snapshots.specs.Masters.{MasterOutcome}
@@ -42,7 +42,7 @@ use Rattle.master.specs.Exact.{after}
 use Rattle.master.specs.Outcomes.{cut_outcome}
 use Rattle.master.specs.Outcomes.EventOutcome.{by_cut}
 use Rattle.master.specs.Steps.{Freezes}
-use Rattle.ballot.specs.Cutting.{can_cut}
+use Rattle.ballot.specs.ballot_base.Cutting.{can_cut}
 use Rattle.master.proofs.Happening.{MayGo, IsMasterTurn, cut_may, master_may, master_turn_lost, node_may}
 use Rattle.master.proofs.Happening.IsTurn.{it_takes, it_stops}
 use Rattle.master.proofs.Happening.IsMasterTurn.{it_gives, it_answers}

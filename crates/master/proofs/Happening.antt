@@ -4,17 +4,17 @@ use Rattle.std.specs.Prelude.{slice_get, nat_lt, not, ◌<◌}
 use Rattle.machine.specs.Machine.{Rules}
 use Rattle.ballot.specs.lists.Lists.{In}
 use Rattle.ballot.proofs.of_lists.Members.{in_at}
-use Rattle.ballot.specs.Config.{Config}
-use Rattle.ballot.specs.Message.{Message}
-use Rattle.ballot.specs.Body.{Body}
-use Rattle.ballot.specs.Body.TheVariants.{NewBallot, Join, State, Install, Installed, Activate, Activated, Superseded, Append, Held, Commit}
-use Rattle.ballot.specs.Effect.{Effect}
-use Rattle.ballot.specs.Losses.{Loses, Thinned, halted}
-use Rattle.ballot.specs.Protocol.{Input, replica_step}
-use Rattle.ballot.specs.Protocol.Input.{Receives, Proposes, Ticks}
-use Rattle.ballot.specs.Replica.{ReplicaState}
-use Rattle.ballot.specs.Sending.{Outcome}
-use Rattle.ballot.proofs.ThinnedEffects.{Thinned-same}
+use Rattle.ballot.specs.ballot_base.declared.config.Config.{Config}
+use Rattle.ballot.specs.ballot_base.declared.message.Message.{Message}
+use Rattle.ballot.specs.ballot_base.declared.message.Body.{Body}
+use Rattle.ballot.specs.ballot_base.declared.message.Body.TheVariants.{NewBallot, Join, State, Install, Installed, Activate, Activated, Superseded, Append, Held, Commit}
+use Rattle.ballot.specs.ballot_base.declared.message.Effect.{Effect}
+use Rattle.ballot.specs.ballot_base.Losses.{Loses, Thinned, halted}
+use Rattle.ballot.specs.ballot_base.Protocol.{Input, replica_step}
+use Rattle.ballot.specs.ballot_base.Protocol.Input.{Receives, Proposes, Ticks}
+use Rattle.ballot.specs.ballot_base.Replica.{ReplicaState}
+use Rattle.ballot.specs.ballot_base.Sending.{Outcome}
+use Rattle.ballot.proofs.of_ballot_base.ThinnedEffects.{Thinned-same}
 use Rattle.snapshots.specs.agreement.MasterState.{AssignRefusal, MasterState, refusal, master_after}
 use Rattle.snapshots.specs.Masters.{MasterOutcome, activated, assigned}
 use Rattle.snapshots.specs.Moments.{Moment}
@@ -23,7 +23,7 @@ use Rattle.snapshots.specs.World.{MayTake}
 use Rattle.snapshots.specs.Steps.MayHappen.{node_goes as node_moves, master_assigns, master_hears, assignment_lost, answer_lost}
 use Rattle.snapshots.specs.World.{World, moved, recorded}
 use Rattle.snapshots.specs.World.{NodeGoes as goes}
-use Rattle.ballot.specs.Cutting.{can_cut, cut}
+use Rattle.ballot.specs.ballot_base.Cutting.{can_cut, cut}
 use Rattle.std.proofs.lemmas.Bool.{and_parts, ltb-true}
 use Rattle.master.specs.declared.event.Event.{Event}
 use Rattle.master.specs.declared.event.Event.TheVariants.{Propose, Assign, Deliver, Tick, Cut, Crash}
@@ -33,7 +33,7 @@ use Rattle.master.specs.Outcomes.{NodeOutcome, EventOutcome, running, unless_sto
 use Rattle.master.specs.Outcomes.EventOutcome.{by_node, by_cut, by_master, unheeded}
 use Rattle.master.specs.Steps.{Freezes, Happens, StepsBy}
 use Rattle.master.specs.Steps.Happens.{nothing_happens, node_goes, master_goes}
-use Rattle.ballot.specs.Losses.{one_more}
+use Rattle.ballot.specs.ballot_base.Losses.{one_more}
 
 -- what may happen between two moments
 abbrev pub MayGo : {S C O : Type 0} → Rules S C O → Moment S C O → Moment S C O → Type 0

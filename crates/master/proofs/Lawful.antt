@@ -6,8 +6,8 @@ use Rattle.std.proofs.lemmas.Bool.{and_parts, cases_Bool, leb-true, ltb-true}
 use Rattle.machine.specs.Machine.{Rules}
 use Rattle.ballot.specs.lists.Lists.{In}
 use Rattle.ballot.specs.lists.Lists.In.{here, there}
-use Rattle.ballot.specs.Config.{Config}
-use Rattle.ballot.specs.LawfulConfig.{are_rising, is_lawful}
+use Rattle.ballot.specs.ballot_base.declared.config.Config.{Config}
+use Rattle.ballot.specs.ballot_base.LawfulConfig.{are_rising, is_lawful}
 use Rattle.snapshots.specs.agreement.MasterState.{AssignRefusal, MasterState, activated, refusal, master_after}
 use Rattle.snapshots.specs.agreement.Moments.{Moment, Moments}
 use Rattle.snapshots.specs.agreement.Moments.Moments.{began, went_on, learned}

@@ -4,11 +4,11 @@ use Rattle.std.specs.Prelude.{◌&&◌}
 use Rattle.std.proofs.lemmas.Bool.{cases_lt}
 use Rattle.machine.specs.Machine.{Rules}
 use Rattle.ballot.proofs.of_lists.OfEach.{each_append, each_then}
-use Rattle.ballot.specs.Cutting.{can_cut}
-use Rattle.ballot.specs.Effect.{Effect}
-use Rattle.ballot.specs.Losses.{one_more}
-use Rattle.ballot.specs.Protocol.{Input}
-use Rattle.ballot.specs.Replica.{CountedReplica, ReplicaState}
+use Rattle.ballot.specs.ballot_base.Cutting.{can_cut}
+use Rattle.ballot.specs.ballot_base.declared.message.Effect.{Effect}
+use Rattle.ballot.specs.ballot_base.Losses.{one_more}
+use Rattle.ballot.specs.ballot_base.Protocol.{Input}
+use Rattle.ballot.specs.ballot_base.Replica.{CountedReplica, ReplicaState}
 use Rattle.master.specs.Inside.{CountsAtMost}
 use Rattle.master.specs.Inside.Losing.{TookIn}
 

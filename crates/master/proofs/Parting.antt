@@ -3,11 +3,11 @@ use Rattle.std.proofs.Common.{◌≡◌, ℕ, ◌+◌, ◌≤◌, ◌<◌, Bool,
 use Rattle.std.specs.List.{remove}
 use Rattle.std.proofs.lemmas.List.{append-nil, take-append-drop, take_more, drop_more, drop-append-le, length-append, length-drop, length-take-le, get_or_default}
 use Rattle.std.proofs.Math.Seq.{drop-length, take-length}
-use Rattle.ballot.specs.Message.{Message}
-use Rattle.ballot.specs.Effect.{Effect}
-use Rattle.ballot.specs.Effect.TheVariants.{To, Out}
-use Rattle.ballot.specs.Losses.{Thinned}
-use Rattle.ballot.specs.Losses.Thinned.{none, keeps, loses}
+use Rattle.ballot.specs.ballot_base.declared.message.Message.{Message}
+use Rattle.ballot.specs.ballot_base.declared.message.Effect.{Effect}
+use Rattle.ballot.specs.ballot_base.declared.message.Effect.TheVariants.{To, Out}
+use Rattle.ballot.specs.ballot_base.Losses.{Thinned}
+use Rattle.ballot.specs.ballot_base.Losses.Thinned.{none, keeps, loses}
 use Rattle.snapshots.specs.World.{messages, outputs}
 use Rattle.master.specs.Inside.Losing.{Parted, is_message}
 use Rattle.snapshots.proofs.Effects.{messages-append, outputs-append}

@@ -4,16 +4,16 @@ use Rattle.std.specs.Prelude.{IsOk, Result, Ok, Err, slice_get, nat_lt, ◌&&◌
 use Rattle.std.proofs.lemmas.Bool.{and_parts, both_ways, cases_Bool, ltb-true}
 use Rattle.std.proofs.lemmas.List.{append-nil}
 use Rattle.machine.specs.Machine.{Rules}
-use Rattle.ballot.specs.Config.{Config}
-use Rattle.ballot.specs.Logs.{places}
-use Rattle.ballot.specs.Effect.{Effect}
-use Rattle.ballot.specs.Message.{Message}
-use Rattle.ballot.specs.Losses.{SendsAndAddsNothing, halted}
-use Rattle.ballot.specs.Protocol.{Input, replica_step}
-use Rattle.ballot.specs.Protocol.Input.{Receives, Proposes, Ticks}
-use Rattle.ballot.specs.Replica.{ReplicaState, is_active}
-use Rattle.ballot.specs.Sending.{Outcome, nothing_done}
-use Rattle.ballot.specs.Serving.{max_places}
+use Rattle.ballot.specs.ballot_base.declared.config.Config.{Config}
+use Rattle.ballot.specs.ballot_base.Logs.{places}
+use Rattle.ballot.specs.ballot_base.declared.message.Effect.{Effect}
+use Rattle.ballot.specs.ballot_base.declared.message.Message.{Message}
+use Rattle.ballot.specs.ballot_base.Losses.{SendsAndAddsNothing, halted}
+use Rattle.ballot.specs.ballot_base.Protocol.{Input, replica_step}
+use Rattle.ballot.specs.ballot_base.Protocol.Input.{Receives, Proposes, Ticks}
+use Rattle.ballot.specs.ballot_base.Replica.{ReplicaState, is_active}
+use Rattle.ballot.specs.ballot_base.Sending.{Outcome, nothing_done}
+use Rattle.ballot.specs.ballot_base.Serving.{max_places}
 use Rattle.ballot.proofs.TicksTaken.{ticked-state}
 use Rattle.snapshots.specs.agreement.MasterState.{AssignRefusal, refusal}
 use Rattle.snapshots.specs.Masters.{MasterOutcome}

@@ -2,8 +2,8 @@
 use Rattle.std.proofs.Common.{◌≡◌, ℕ, ◌+◌, ◌-◌, ◌^◌, ◌<◌, ◌≤◌, ◌⊎◌, inl, inr, min, List, [], ◌∷◌, ◌++◌, length, map, take, get_or, refl, ap, sym, ◌∙◌, subst, append_assoc, arith}
 use Rattle.std.proofs.lemmas.List.{take_more}
 use Rattle.machine.specs.Machine.{Rules}
-use Rattle.ballot.specs.Config.{Config}
-use Rattle.ballot.specs.Losses.{one_more}
+use Rattle.ballot.specs.ballot_base.declared.config.Config.{Config}
+use Rattle.ballot.specs.ballot_base.Losses.{one_more}
 use Rattle.ballot.specs.lists.Lists.{IsPrefixOf}
 use Rattle.ballot.proofs.of_lists.Prefixes.{prefix_then}
 use Rattle.snapshots.specs.Moments.{Moment, Moments, whole_moment}

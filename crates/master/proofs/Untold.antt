@@ -5,7 +5,7 @@ use Rattle.std.proofs.lemmas.Bool.{cases_Bool, ne_eqb}
 use Rattle.machine.specs.Machine.{Rules}
 use Rattle.ballot.specs.lists.Lists.{In}
 use Rattle.ballot.specs.lists.Lists.In.{here, there}
-use Rattle.ballot.specs.Config.{Config}
+use Rattle.ballot.specs.ballot_base.declared.config.Config.{Config}
 use Rattle.snapshots.specs.whole.Messages.{Body, Message}
 use Rattle.snapshots.specs.whole.Messages.Body.{NewBallot, Join, State, Install, Installed, Activate, Activated, Superseded, Append, Held, Commit}
 use Rattle.snapshots.specs.agreement.Inside.Ballots.{Given, History}

@@ -5,14 +5,14 @@ use Rattle.std.specs.Prelude.{slice_get}
 use Rattle.std.proofs.lemmas.List.{append-nil, length-take-le, take-append-le, take-take}
 use Rattle.machine.specs.Machine.{Rules}
 use Rattle.ballot.specs.lists.Lists.{In}
-use Rattle.ballot.specs.Config.{Config}
-use Rattle.ballot.specs.Logs.{Log, places}
-use Rattle.ballot.specs.Message.{Message}
-use Rattle.ballot.specs.Protocol.{Input, replica_step}
-use Rattle.ballot.specs.Protocol.Input.{Receives, Proposes, Ticks}
-use Rattle.ballot.specs.Sending.{nothing_done}
-use Rattle.ballot.specs.Unread.{is_unread}
-use Rattle.ballot.specs.Replica.{ReplicaState}
+use Rattle.ballot.specs.ballot_base.declared.config.Config.{Config}
+use Rattle.ballot.specs.ballot_base.Logs.{Log, places}
+use Rattle.ballot.specs.ballot_base.declared.message.Message.{Message}
+use Rattle.ballot.specs.ballot_base.Protocol.{Input, replica_step}
+use Rattle.ballot.specs.ballot_base.Protocol.Input.{Receives, Proposes, Ticks}
+use Rattle.ballot.specs.ballot_base.Sending.{nothing_done}
+use Rattle.ballot.specs.ballot_base.Unread.{is_unread}
+use Rattle.ballot.specs.ballot_base.Replica.{ReplicaState}
 use Rattle.snapshots.specs.whole.Replica.{ReplicaState as WholeState}
 use Rattle.snapshots.specs.agreement.Moments.{IsAgreed}
 use Rattle.snapshots.specs.agreement.World.{log_of}

@@ -2,9 +2,9 @@
 -- those on whole logs.
 use Rattle.std.proofs.Common.{◌≡◌, ℕ, ◌<◌, cond, max, List, [], ◌∷◌, map, get_or, refl, ap, ap₂, ◌∙◌}
 use Rattle.std.specs.Prelude.{◌==◌}
-use Rattle.ballot.specs.Body.{Body}
-use Rattle.ballot.specs.Body.TheVariants.{NewBallot, Join, State, Install, Installed, Activate, Activated, Superseded, Append, Held, Commit}
-use Rattle.ballot.specs.Message.{Message}
+use Rattle.ballot.specs.ballot_base.declared.message.Body.{Body}
+use Rattle.ballot.specs.ballot_base.declared.message.Body.TheVariants.{NewBallot, Join, State, Install, Installed, Activate, Activated, Superseded, Append, Held, Commit}
+use Rattle.ballot.specs.ballot_base.declared.message.Message.{Message}
 use Rattle.snapshots.specs.agreement.Inside.ToldLengths.{max_told as whole_most, told_by as whole_by}
 use Rattle.snapshots.specs.Whole.{whole_body}
 use Rattle.snapshots.specs.World.{whole_sent}

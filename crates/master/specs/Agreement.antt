@@ -2,7 +2,7 @@
 use Rattle.std.specs.Prelude.{◌≡◌, List, ◌∷◌, ◌++◌}
 use Rattle.machine.specs.Machine.{Rules}
 use Rattle.ballot.specs.lists.Lists.{IsPrefixOf}
-use Rattle.ballot.specs.Config.{Config}
+use Rattle.ballot.specs.ballot_base.declared.config.Config.{Config}
 use Rattle.snapshots.specs.Agreeing.{Agrees, Holds, LeftInOrder}
 use Rattle.snapshots.specs.Moments.{IsAgreed, Moment, Moments}
 

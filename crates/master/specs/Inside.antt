@@ -3,14 +3,14 @@ pub mod Losing
 use Rattle.std.specs.Prelude.{ℕ, false, ◌-◌, ◌<◌, ◌≤◌, ◌≡◌, List, [], ◌∷◌, length, map, min, get_or}
 use Rattle.std.specs.Prelude.{slice_get, Option, Some, None, nat_lt, if◌then◌else◌}
 use Rattle.machine.specs.Machine.{Rules}
-use Rattle.ballot.specs.Body.{Body}
-use Rattle.ballot.specs.Body.TheVariants.{Activate, Activated, Superseded}
-use Rattle.ballot.specs.Config.{Config}
-use Rattle.ballot.specs.Message.{Message}
-use Rattle.ballot.specs.Effect.{Effect}
-use Rattle.ballot.specs.Logs.{places}
+use Rattle.ballot.specs.ballot_base.declared.message.Body.{Body}
+use Rattle.ballot.specs.ballot_base.declared.message.Body.TheVariants.{Activate, Activated, Superseded}
+use Rattle.ballot.specs.ballot_base.declared.config.Config.{Config}
+use Rattle.ballot.specs.ballot_base.declared.message.Message.{Message}
+use Rattle.ballot.specs.ballot_base.declared.message.Effect.{Effect}
+use Rattle.ballot.specs.ballot_base.Logs.{places}
 use Rattle.ballot.specs.lists.Lists.{Each, In}
-use Rattle.ballot.specs.Replica.{ReplicaState, CountedReplica}
+use Rattle.ballot.specs.ballot_base.Replica.{ReplicaState, CountedReplica}
 use Rattle.master.specs.declared.activation.Activation.{Activation}
 use Rattle.master.specs.declared.activation.Activation.TheVariants as activation
 use Rattle.master.specs.ToldLengths.{max_told}

@@ -2,14 +2,14 @@
 use Rattle.std.specs.Prelude.{ℕ, zero, suc, Bool, true, List, [], slice_get, Option, Some, None}
 use Rattle.std.specs.Prelude.{◌&&◌, nat_lt, if◌then◌else◌}
 use Rattle.machine.specs.Machine.{Rules}
-use Rattle.ballot.specs.Cutting.{can_cut, cut}
-use Rattle.ballot.specs.Logs.{places}
-use Rattle.ballot.specs.Losses.{halted}
-use Rattle.ballot.specs.Protocol.{Input, replica_step}
-use Rattle.ballot.specs.Protocol.Input.{Receives, Proposes, Ticks}
-use Rattle.ballot.specs.Replica.{ReplicaState, is_active}
-use Rattle.ballot.specs.Sending.{Outcome}
-use Rattle.ballot.specs.Serving.{max_places}
+use Rattle.ballot.specs.ballot_base.Cutting.{can_cut, cut}
+use Rattle.ballot.specs.ballot_base.Logs.{places}
+use Rattle.ballot.specs.ballot_base.Losses.{halted}
+use Rattle.ballot.specs.ballot_base.Protocol.{Input, replica_step}
+use Rattle.ballot.specs.ballot_base.Protocol.Input.{Receives, Proposes, Ticks}
+use Rattle.ballot.specs.ballot_base.Replica.{ReplicaState, is_active}
+use Rattle.ballot.specs.ballot_base.Sending.{Outcome}
+use Rattle.ballot.specs.ballot_base.Serving.{max_places}
 use Rattle.snapshots.specs.Masters.{MasterOutcome}
 
 -- the node of a number, if it exists and has not stopped

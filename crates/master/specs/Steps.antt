@@ -1,9 +1,9 @@
 -- Steps of a group in which memory may have run out, and how these are counted.
 use Rattle.std.specs.Prelude.{◌<◌, ◌≡◌, ◌⊎◌, ℕ, List, [], ◌∷◌, Option, Some, None}
 use Rattle.machine.specs.Machine.{Rules}
-use Rattle.ballot.specs.Effect.{Effect}
-use Rattle.ballot.specs.Losses.{SendsAndAddsNothing, Loses, greatest_count, one_more}
-use Rattle.ballot.specs.Replica.{ReplicaState}
+use Rattle.ballot.specs.ballot_base.declared.message.Effect.{Effect}
+use Rattle.ballot.specs.ballot_base.Losses.{SendsAndAddsNothing, Loses, greatest_count, one_more}
+use Rattle.ballot.specs.ballot_base.Replica.{ReplicaState}
 use Rattle.snapshots.specs.Masters.{MasterOutcome}
 use Rattle.snapshots.specs.Moments.{Moment}
 use Rattle.snapshots.specs.World.{moved}

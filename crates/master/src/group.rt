@@ -3,11 +3,11 @@
 ghost use Rattle.std.specs.Prelude.{ℕ, ◌-◌, ◌≡◌, ◌<◌, ◌↔◌, true, false, None, Some, [], length};
 ghost use Rattle.std.specs.Prelude.{slice_get, map, List, ◌∷◌, ◌++◌, IfOk, IfSome, OnErr};
 ghost use Rattle.std.specs.Prelude.{IsErr, IsErrOf};
-ghost use Rattle.ballot.specs.Protocol.{replica_step};
-ghost use Rattle.ballot.specs.Protocol.Input.{Receives};
-ghost use Rattle.ballot.specs.Sending.{nothing_done};
-ghost use Rattle.ballot.specs.Losses.{SendsAndAddsNothing, one_more};
-ghost use Rattle.ballot.specs.Replica.{ReplicaState};
+ghost use Rattle.ballot.specs.ballot_base.Protocol.{replica_step};
+ghost use Rattle.ballot.specs.ballot_base.Protocol.Input.{Receives};
+ghost use Rattle.ballot.specs.ballot_base.Sending.{nothing_done};
+ghost use Rattle.ballot.specs.ballot_base.Losses.{SendsAndAddsNothing, one_more};
+ghost use Rattle.ballot.specs.ballot_base.Replica.{ReplicaState};
 ghost use Rattle.ballot.specs.lists.Lists.{In};
 ghost use Rattle.snapshots.specs.Moments.{IsAgreed, Moment, Moments, opening_moment};
 ghost use Rattle.snapshots.specs.World.{MayTake};

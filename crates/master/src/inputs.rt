@@ -2,7 +2,7 @@
 
 ghost use Rattle.std.specs.Prelude.{◌≡◌, ◌≤◌, false, [], ◌∷◌, ◌++◌, length, take, drop};
 ghost use Rattle.std.specs.Prelude.{◌&&◌, if◌then◌else◌};
-ghost use Rattle.ballot.specs.Losses.{one_more};
+ghost use Rattle.ballot.specs.ballot_base.Losses.{one_more};
 ghost use Rattle.std.specs.Bool.{OnTrue, OnFalse};
 ghost use Rattle.snapshots.specs.World.{messages};
 ghost use Rattle.master.specs.Inside.Losing.{Parted, TookIn, input_of, is_message};

@@ -5,7 +5,7 @@ ghost use Rattle.std.specs.Prelude.{IsErrOf, if◌then◌else◌};
 ghost use Rattle.snapshots.specs.agreement.MasterState.{activating, assigning, is_granted};
 ghost use Rattle.snapshots.specs.agreement.MasterState.{master_after, opening_master, refusal};
 ghost use Rattle.snapshots.specs.agreement.MasterState.AssignRefusal.{bad_members, ballots_spent};
-ghost use Rattle.ballot.specs.LawfulConfig.{is_lawful};
+ghost use Rattle.ballot.specs.ballot_base.LawfulConfig.{is_lawful};
 
 use crate::activation::Activation;
 use crate::error::AssignError;

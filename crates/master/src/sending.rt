@@ -2,7 +2,7 @@
 
 ghost use Rattle.std.specs.Prelude.{◌≡◌, ◌++◌, ◌∷◌, []};
 ghost use Rattle.std.specs.Bool.{OnTrue, OnFalse};
-ghost use Rattle.ballot.specs.Sending.{master};
+ghost use Rattle.ballot.specs.ballot_base.Sending.{master};
 ghost use Rattle.master.specs.Inside.{answer_of, asks_for};
 
 use crate::activation::Activation;

@@ -1,7 +1,7 @@
 -- How many ballots a master can give, and how many places a log can have: rows at both edges.
 use Rattle.std.specs.Prelude.{◌≡◌, true, Some, None}
-use Rattle.master.specs.ballot.Config.{Config}
-use Rattle.master.specs.ballot.LawfulConfig.{is_lawful}
+use Rattle.master.specs.ballot_base.declared.config.Config.{Config}
+use Rattle.master.specs.ballot_base.LawfulConfig.{is_lawful}
 use Rattle.master.specs.ballot_base.Serving.{max_places}
 use Rattle.master.specs.agreement.MasterState.{MasterState, refusal, ballots_spent}
 

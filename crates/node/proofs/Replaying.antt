@@ -2,9 +2,9 @@
 use Rattle.std.proofs.Common.{◌≡◌, ℕ, List, [], ◌∷◌, ◌++◌, Ok, Err, OnOk, OnErr, sym, subst}
 use Rattle.std.specs.Prelude.{Result}
 use Rattle.mailbox.specs.Ends.{Taker}
-use Rattle.world_base.specs.Command.{Command}
-use Rattle.world_base.specs.Output.{Output}
-use Rattle.world_base.specs.Effect.{Effect}
+use Rattle.world_base.specs.broker_spec.declared.command.Command.{Command}
+use Rattle.world_base.specs.broker_spec.declared.command.Output.{Output}
+use Rattle.world_base.specs.ballot_base.declared.message.Effect.{Effect}
 use Rattle.world_base.specs.declared.Handed.{Handed}
 use Rattle.world_base.specs.declared.item.Item.{Item}
 use Rattle.world_base.specs.declared.Port.{Port}

@@ -4,8 +4,8 @@ use Rattle.std.specs.Prelude.{ℕ, ◌+◌, ◌*◌, ◌-◌, ◌^◌, Bool, ◌
 use Rattle.packet.specs.declared.packet.Packet.{Packet}
 use Rattle.packet.specs.declared.packet.Packet.TheVariants as packets
 use Rattle.packet.specs.declared.subscribe.Subscription.{Subscription}
-use Rattle.world_base.specs.Command.{Command}
-use Rattle.world_base.specs.Command.TheVariants as commands
+use Rattle.world_base.specs.broker_spec.declared.command.Command.{Command}
+use Rattle.world_base.specs.broker_spec.declared.command.Command.TheVariants as commands
 use Rattle.world_base.specs.Core.{CoreState}
 use Rattle.world_base.specs.declared.Body.{Body}
 use Rattle.world_base.specs.declared.Body.TheVariants.{Append, State, Install}

@@ -19,3 +19,8 @@ pub use Rattle.world_base.specs.LawfulConfig
 pub use Rattle.world_base.specs.Replica
 pub use Rattle.world_base.specs.declared.item.Item
 pub use Rattle.world_base.specs.lists.Lists
+pub use Rattle.world_base.specs.broker_spec as broker_spec
+pub use Rattle.world_base.specs as world_base
+pub use Rattle.world_base.specs.ballot_base as ballot_base
+pub use Rattle.world_base.specs.lists as lists
+pub use Rattle.world_base.specs.node_connections as node_connections

@@ -1,9 +1,9 @@
 -- A node and the items that it took.
 use Rattle.std.specs.Prelude.{◌≡◌, ℕ, ◌+◌, ◌-◌, ◌^◌, [], List, ◌∷◌, ◌++◌, min}
 use Rattle.mailbox.specs.Ends.{Taker}
-use Rattle.world_base.specs.Command.{Command}
-use Rattle.world_base.specs.Output.{Output}
-use Rattle.world_base.specs.Effect.{Effect}
+use Rattle.world_base.specs.broker_spec.declared.command.Command.{Command}
+use Rattle.world_base.specs.broker_spec.declared.command.Output.{Output}
+use Rattle.world_base.specs.ballot_base.declared.message.Effect.{Effect}
 use Rattle.world_base.specs.declared.item.Item.{Item}
 use Rattle.world_base.specs.declared.Port.{Port}
 use Rattle.world_base.specs.Core.{CountedCore, opening_core}

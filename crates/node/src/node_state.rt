@@ -4,9 +4,9 @@ ghost use Rattle.std.specs.Prelude.{◌≡◌, ◌≤◌, ◌++◌, ◌*◌, ◌
 ghost use Rattle.mailbox.specs.Delivery.{items_of, nothing};
 ghost use Rattle.mailbox.specs.Ends.{AreAllLanes, HasArrived, WasEmpty, unmet};
 ghost use Rattle.mailbox.specs.declared.lane.TheConstants.{MAX_SENT};
-ghost use Rattle.world_base.specs.Replica.{status_of};
+ghost use Rattle.world_base.specs.ballot_base.Replica.{status_of};
 ghost use Rattle.world_base.specs.lists.Lists.{IsPrefixOf};
-ghost use Rattle.world_base.specs.Stands.{standing_of};
+ghost use Rattle.world_base.specs.node_connections.Stands.{standing_of};
 ghost use Rattle.world_base.specs.Handing.{answer_of, bytes_of, hands_over, idle_ports, listed_at};
 ghost use Rattle.node.specs.Growth.{wants_cut};
 ghost use Rattle.node.specs.Report.{CountsTaken, HasCapacity, ReportsWhole};

@@ -1,9 +1,9 @@
 -- What is at the front of a connection's bytes, and what reading it does.
 use Rattle.std.specs.Prelude.{◌≡◌, ◌⊎◌, true, false, if◌then◌else◌, List, ℕ, Result, Ok, Err}
-use Rattle.cutter.specs.packet.Stop.{Stop}
-use Rattle.cutter.specs.packet.Stop.TheVariants as stops
+use Rattle.cutter.specs.packet_base.declared.stop.Stop.{Stop}
+use Rattle.cutter.specs.packet_base.declared.stop.Stop.TheVariants as stops
 use Rattle.packet.specs.declared.packet.Packet.{Packet}
-use Rattle.cutter.specs.packet.RefusalCode.{RefusalCode}
+use Rattle.cutter.specs.packet_base.declared.refusal_code.RefusalCode.{RefusalCode}
 use Rattle.packet.specs.Verdict.{verdict, MayNeedMemory}
 use Rattle.broker_spec.specs.Sized.{IsSized}
 use Rattle.node_connections.specs.declared.connection.Connection.{Connection}

@@ -6,4 +6,4 @@ pub mod Refusing
 pub mod Silent
 pub mod Stands
 pub use Rattle.cutter.specs as cutter
-pub use Rattle.cutter.specs.packet as packet
+pub use Rattle.cutter.specs.packet_base as packet_base

@@ -1,5 +1,5 @@
 -- What happens to a connection whose CONNECT is refused with a code.
-use Rattle.cutter.specs.packet.RefusalCode.{RefusalCode}
+use Rattle.cutter.specs.packet_base.declared.refusal_code.RefusalCode.{RefusalCode}
 use Rattle.packet.specs.declared.packet.Packet.TheVariants as packets
 use Rattle.packet.specs.declared.connack.Connack.TheVariants as connacks
 use Rattle.packet.specs.Spelling.{spelling}

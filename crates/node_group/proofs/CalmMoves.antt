@@ -1,11 +1,11 @@
 -- A move in which a replica receives nothing leaves it in its role, also one in which something is
 -- lost.
 use Rattle.std.proofs.Common.{◌≡◌, false, refl, ap, ◌∙◌}
-use Rattle.node_moves.specs.ballot.Replica.{ReplicaState}
+use Rattle.node_moves.specs.ballot_base.Replica.{ReplicaState}
 use Rattle.packet_world.specs.broker_base.State.{State}
 use Rattle.packet_world.specs.broker_spec.declared.command.Command.{Command}
 use Rattle.packet_world.specs.broker_spec.declared.command.Command.TheVariants as commands
-use Rattle.node_moves.specs.world_base.ConnectionChanges.{noted_proposed, closed, failing, left_with}
+use Rattle.node_moves.specs.node_connections.ConnectionChanges.{noted_proposed, closed, failing, left_with}
 use Rattle.node_moves.specs.world_base.Core.{CoreState, StepOutcome, rules}
 use Rattle.node_moves.specs.world_base.Lossy.{Account, TakesCommand}
 use Rattle.node_moves.specs.world_base.Reading.{changes}

@@ -2,7 +2,7 @@
 use Rattle.std.proofs.Common.{◌≡◌, ◌≤◌, ℕ, Bool, true, false, List, [], ◌++◌, length, take, Option, Some, None, refl, ap, sym, ◌∙◌, subst, append_assoc, arith}
 use Rattle.std.proofs.lemmas.Bool.{both_ways}
 use Rattle.std.proofs.lemmas.List.{append-nil}
-use Rattle.node_moves.specs.ballot.Replica.{ReplicaState, is_active}
+use Rattle.node_moves.specs.ballot_base.Replica.{ReplicaState, is_active}
 use Rattle.packet_world.specs.broker_spec.declared.command.Command.{Command}
 use Rattle.packet_world.specs.broker_spec.Connection.{ConnectionName}
 use Rattle.packet_world.specs.broker_base.State.{State}

@@ -1,7 +1,7 @@
 -- What a move of a node is for a name under which it has no open connection; and that a name that was given stays so.
 use Rattle.std.proofs.Common.{◌≡◌, ℕ, Bool, true, false, if◌then◌else◌, List, [], ◌∷◌, ◌++◌, Option, Some, None, Err, refl, sym, ap, ◌∙◌, subst}
-use Rattle.packet_world.specs.packet.RefusalCode.{RefusalCode}
-use Rattle.packet_world.specs.packet.Stop.TheVariants as stops
+use Rattle.packet_world.specs.packet_base.declared.refusal_code.RefusalCode.{RefusalCode}
+use Rattle.packet_world.specs.packet_base.declared.stop.Stop.TheVariants as stops
 use Rattle.packet_world.specs.packet.Verdict.{verdict}
 use Rattle.packet_world.specs.packet.declared.packet.Packet.{Packet}
 use Rattle.packet_world.proofs.of_packet.MoreBytes.{faults_stay_so}

@@ -8,8 +8,8 @@ use Rattle.packet_world.specs.lists.Lists.{IsPrefixOf}
 use Rattle.packet_world.proofs.of_lists.Prefixes.{prefix_same}
 use Rattle.node_moves.specs.world_base.declared.Port.{Port}
 use Rattle.node_moves.specs.world_base.declared.Connection.{Connection}
-use Rattle.node_moves.specs.world_base.Connections.{fresh, is_at, is_listed}
-use Rattle.node_moves.specs.world_base.ConnectionChanges.{changed, closed, handed}
+use Rattle.node_moves.specs.node_connections.Connections.{fresh, is_at, is_listed}
+use Rattle.node_moves.specs.node_connections.ConnectionChanges.{changed, closed, handed}
 use Rattle.node_moves.specs.world_base.Core.{CoreState, StepOutcome, serves}
 use Rattle.node_moves.specs.world_base.Handing.{hands_over, left_by}
 use Rattle.node_moves.specs.world_base.Step.{next_name, opens, settled}

@@ -6,8 +6,8 @@ use Rattle.packet_world.specs.broker_spec.declared.command.Command.TheVariants a
 use Rattle.packet_world.specs.broker_spec.Connection.{ConnectionName, is_connection_name}
 use Rattle.node_moves.specs.world_base.declared.Port.{Port}
 use Rattle.node_moves.specs.world_base.declared.Connection.{Connection}
-use Rattle.node_moves.specs.world_base.Connections.{fresh, is_at}
-use Rattle.node_moves.specs.world_base.ConnectionChanges.{noted_proposed, closed, failing, left_with}
+use Rattle.node_moves.specs.node_connections.Connections.{fresh, is_at}
+use Rattle.node_moves.specs.node_connections.ConnectionChanges.{noted_proposed, closed, failing, left_with}
 use Rattle.node_moves.specs.world_base.Core.{CoreState, StepOutcome, serves}
 use Rattle.node_moves.specs.world_base.Failing.{closes_failed}
 use Rattle.node_moves.specs.world_base.Lossy.{Account, TakesCommand}

@@ -2,7 +2,7 @@
 use Rattle.std.proofs.Common.{◌≡◌, ℕ, List, [], ◌∷◌, ◌++◌, Option, Some, None, refl, sym, ap, ◌∙◌, subst}
 use Rattle.packet_world.specs.lists.Lists.{Each, In}
 use Rattle.packet_world.specs.lists.Lists.In.{here}
-use Rattle.node_moves.specs.ballot.Config.{Config}
+use Rattle.node_moves.specs.ballot_base.declared.config.Config.{Config}
 use Rattle.packet_world.specs.broker_base.State.{State}
 use Rattle.packet_world.specs.broker_spec.declared.command.Command.{Command}
 use Rattle.packet_world.specs.broker_spec.declared.command.Output.{Output}

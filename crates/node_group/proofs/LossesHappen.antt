@@ -1,22 +1,22 @@
 -- Each move of a node in which something may be lost is one event among replicas, or none.
 use Rattle.std.proofs.Common.{inl, inr, ◌≡◌, ℕ, Bool, true, false, not, ◌&&◌, nat_lt, List, [], ◌∷◌, Some, slice_get, refl, sym, ap, ◌∙◌, subst}
 use Rattle.std.proofs.lemmas.Bool.{ltb-true}
-use Rattle.node_moves.specs.ballot.Config.{Config}
-use Rattle.node_moves.specs.ballot.Logs.{places}
-use Rattle.node_moves.specs.ballot.Losses.{Loses, Thinned}
-use Rattle.node_moves.specs.ballot.Protocol.{Input}
-use Rattle.node_moves.specs.ballot.Protocol.Input.{Proposes}
-use Rattle.node_moves.specs.ballot.Replica.{CountedReplica, ReplicaState, is_active}
-use Rattle.node_moves.specs.ballot.Sending.{Outcome, nothing_done}
-use Rattle.node_moves.specs.ballot.Serving.{added, max_places, proposed}
-use Rattle.node_moves.proofs.of_ballot.StepRows.{proposed-adds}
+use Rattle.node_moves.specs.ballot_base.declared.config.Config.{Config}
+use Rattle.node_moves.specs.ballot_base.Logs.{places}
+use Rattle.node_moves.specs.ballot_base.Losses.{Loses, Thinned}
+use Rattle.node_moves.specs.ballot_base.Protocol.{Input}
+use Rattle.node_moves.specs.ballot_base.Protocol.Input.{Proposes}
+use Rattle.node_moves.specs.ballot_base.Replica.{CountedReplica, ReplicaState, is_active}
+use Rattle.node_moves.specs.ballot_base.Sending.{Outcome, nothing_done}
+use Rattle.node_moves.specs.ballot_base.Serving.{added, max_places, proposed}
+use Rattle.node_moves.proofs.of_ballot_base.StepRows.{proposed-adds}
 use Rattle.packet_world.specs.broker_base.State.{State}
 use Rattle.packet_world.specs.broker_spec.declared.command.Command.{Command}
 use Rattle.packet_world.specs.broker_spec.declared.command.Command.TheVariants as commands
 use Rattle.packet_world.specs.broker_spec.declared.command.Output.{Output}
 use Rattle.packet_world.specs.snapshots.Moments.{Moment, Moments}
 use Rattle.packet_world.specs.snapshots.World.{messages, outputs}
-use Rattle.node_moves.specs.world_base.ConnectionChanges.{noted_proposed, closed, failing, left_with}
+use Rattle.node_moves.specs.node_connections.ConnectionChanges.{noted_proposed, closed, failing, left_with}
 use Rattle.node_moves.specs.world_base.Core.{CoreState, StepOutcome, rules, serves}
 use Rattle.node_moves.specs.world_base.Lossy.{Account, Drives, TakesCommand}
 use Rattle.node_moves.specs.world_base.Reading.{changes}

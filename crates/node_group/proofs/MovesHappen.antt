@@ -6,15 +6,15 @@ use Rattle.packet_world.proofs.of_lists.Prefixes.{prefix_length}
 use Rattle.packet_world.proofs.of_lists.Tests.{eq_same}
 use Rattle.packet_world.specs.whole.Applying.{outputs_between}
 use Rattle.packet_world.specs.lists.Lists.In.{there}
-use Rattle.node_moves.specs.ballot.Config.{Config}
-use Rattle.node_moves.specs.ballot.Logs.{places}
-use Rattle.node_moves.specs.ballot.Losses.{Loses, Thinned, halted}
-use Rattle.node_moves.specs.ballot.Message.{Message}
-use Rattle.node_moves.specs.ballot.Protocol.{Input, replica_step}
-use Rattle.node_moves.specs.ballot.Protocol.Input.{Receives, Proposes, Ticks}
-use Rattle.node_moves.specs.ballot.Replica.{CountedReplica, ReplicaState}
-use Rattle.node_moves.specs.ballot.Sending.{Outcome, nothing_done}
-use Rattle.node_moves.specs.ballot.Serving.{max_places, proposed}
+use Rattle.node_moves.specs.ballot_base.declared.config.Config.{Config}
+use Rattle.node_moves.specs.ballot_base.Logs.{places}
+use Rattle.node_moves.specs.ballot_base.Losses.{Loses, Thinned, halted}
+use Rattle.node_moves.specs.ballot_base.declared.message.Message.{Message}
+use Rattle.node_moves.specs.ballot_base.Protocol.{Input, replica_step}
+use Rattle.node_moves.specs.ballot_base.Protocol.Input.{Receives, Proposes, Ticks}
+use Rattle.node_moves.specs.ballot_base.Replica.{CountedReplica, ReplicaState}
+use Rattle.node_moves.specs.ballot_base.Sending.{Outcome, nothing_done}
+use Rattle.node_moves.specs.ballot_base.Serving.{max_places, proposed}
 use Rattle.packet_world.specs.broker_base.State.{State}
 use Rattle.packet_world.specs.broker_spec.declared.command.Command.{Command}
 use Rattle.packet_world.specs.broker_spec.declared.command.Command.TheVariants as commands
@@ -50,14 +50,14 @@ use Rattle.node_moves.specs.world_base.Core.{CoreState, StepOutcome, rules, serv
 use Rattle.node_moves.specs.world_base.Failing.{closes_failed}
 use Rattle.node_moves.specs.world_base.Reading.{changes}
 use Rattle.node_moves.specs.world_base.Effects.{drives, has_room, heard, moved, proposes, without_messages}
-use Rattle.node_moves.specs.world_base.ConnectionChanges.{noted_proposed, closed, holding, left_with}
+use Rattle.node_moves.specs.node_connections.ConnectionChanges.{noted_proposed, closed, holding, left_with}
 use Rattle.node_moves.specs.world_base.Handing.{hands_over}
 use Rattle.node_moves.specs.world_base.Reading.{refused}
 use Rattle.node_moves.specs.world_base.Step.{opens, settled, with_cut}
 use Rattle.node_moves.specs.Moves.{Moves, is_proposal}
 use Rattle.node_moves.specs.Moves.Moves.{hears, opens_one, holds, reads_first, reads_later, closes, refuses, loses_one, loses_next, expels_one, cuts_log, crashes, settles, hands}
 use Rattle.node_moves.specs.Puts.{given_in}
-use Rattle.node_moves.specs.ballot.Cutting.{can_cut, cut}
+use Rattle.node_moves.specs.ballot_base.Cutting.{can_cut, cut}
 use Rattle.packet_world.specs.snapshots.World.{recorded}
 use Rattle.std.specs.Prelude.{not}
 use Rattle.std.proofs.lemmas.Bool.{and_parts, ltb-true}

@@ -4,12 +4,12 @@ use Rattle.std.proofs.lemmas.Bool.{both_ways}
 use Rattle.std.proofs.lemmas.Option.{same_Some, none-some}
 use Rattle.packet_world.specs.lists.Lists.{Each}
 use Rattle.packet_world.proofs.of_lists.OfEach.{each_append}
-use Rattle.node_moves.specs.ballot.Config.{Config}
+use Rattle.node_moves.specs.ballot_base.declared.config.Config.{Config}
 use Rattle.packet_world.specs.agreement.MasterState.{AssignRefusal, master_after, refusal}
 use Rattle.packet_world.specs.broker_spec.Connection.{ConnectionName}
 use Rattle.node_moves.specs.world_base.declared.Connection.{Connection}
-use Rattle.node_moves.specs.world_base.Connections.{is_listed, is_closed}
-use Rattle.node_moves.specs.world_base.ConnectionChanges.{closed}
+use Rattle.node_moves.specs.node_connections.Connections.{is_listed, is_closed}
+use Rattle.node_moves.specs.node_connections.ConnectionChanges.{closed}
 use Rattle.node_moves.specs.world_base.declared.item.Item.{Item}
 use Rattle.node_moves.specs.world_base.Core.{CoreState, StepOutcome, opening_core, serves}
 use Rattle.node_moves.specs.world_base.LossyStep.{RunsOn}

@@ -4,11 +4,11 @@ use Rattle.std.proofs.Common.{◌≡◌, ◌<◌, ◌+◌, ℕ, Bool, true, fals
 use Rattle.std.proofs.lemmas.Bool.{lt-ltb}
 use Rattle.std.proofs.lemmas.List.{length-append}
 use Rattle.std.proofs.lemmas.List.Elements.{filter-append}
-use Rattle.node_moves.specs.ballot.Logs.{Log, places}
-use Rattle.node_moves.specs.ballot.Protocol.{Input}
-use Rattle.node_moves.specs.ballot.Protocol.Input.{Receives, Proposes, Ticks}
-use Rattle.node_moves.specs.ballot.Replica.{ReplicaState, is_active}
-use Rattle.node_moves.specs.ballot.Serving.{max_places, proposed}
+use Rattle.node_moves.specs.ballot_base.Logs.{Log, places}
+use Rattle.node_moves.specs.ballot_base.Protocol.{Input}
+use Rattle.node_moves.specs.ballot_base.Protocol.Input.{Receives, Proposes, Ticks}
+use Rattle.node_moves.specs.ballot_base.Replica.{ReplicaState, is_active}
+use Rattle.node_moves.specs.ballot_base.Serving.{max_places, proposed}
 use Rattle.packet_world.specs.broker_base.State.{State}
 use Rattle.packet_world.specs.broker_spec.declared.command.Command.{Command}
 use Rattle.packet_world.specs.broker_spec.Connection.{ConnectionName}

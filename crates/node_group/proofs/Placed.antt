@@ -1,10 +1,10 @@
 -- Nodes at their places, and their replicas at the same places.
 use Rattle.std.proofs.Common.{◌≡◌, ℕ, zero, suc, ◌+◌, List, [], ◌∷◌, ◌++◌, Some, map, slice_get, slice_set, refl, sym, ap, ◌∙◌}
 use Rattle.std.proofs.lemmas.Option.{same_Some, none-some}
-use Rattle.node_moves.specs.ballot.Config.{Config}
-use Rattle.node_moves.specs.ballot.Effect.{Effect}
-use Rattle.node_moves.specs.ballot.Effect.TheVariants.{To, Out}
-use Rattle.node_moves.specs.ballot.Replica.{opening}
+use Rattle.node_moves.specs.ballot_base.declared.config.Config.{Config}
+use Rattle.node_moves.specs.ballot_base.declared.message.Effect.{Effect}
+use Rattle.node_moves.specs.ballot_base.declared.message.Effect.TheVariants.{To, Out}
+use Rattle.node_moves.specs.ballot_base.Replica.{opening}
 use Rattle.packet_world.specs.broker_spec.declared.command.Command.{Command}
 use Rattle.packet_world.specs.broker_spec.declared.command.Output.{Output}
 use Rattle.packet_world.specs.snapshots.World.{messages}

@@ -5,13 +5,13 @@ use Rattle.std.proofs.lemmas.Bool.{both_ways}
 use Rattle.packet_world.specs.lists.Lists.{Each, In}
 use Rattle.packet_world.specs.lists.Lists.In.{here}
 use Rattle.packet_world.proofs.of_lists.OfEach.{each_append}
-use Rattle.node_moves.specs.ballot.Logs.{places}
-use Rattle.node_moves.specs.ballot.Serving.{max_places}
+use Rattle.node_moves.specs.ballot_base.Logs.{places}
+use Rattle.node_moves.specs.ballot_base.Serving.{max_places}
 use Rattle.packet_world.specs.broker_spec.declared.command.Command.{Command}
 use Rattle.packet_world.specs.broker_spec.declared.command.Command.TheVariants as commands
 use Rattle.packet_world.specs.broker_spec.Connection.{ConnectionName}
 use Rattle.packet_world.specs.exactly_once.StoryCommands.{is_packet_of}
-use Rattle.node_moves.specs.world_base.ConnectionChanges.{noted_proposed, left_with}
+use Rattle.node_moves.specs.node_connections.ConnectionChanges.{noted_proposed, left_with}
 use Rattle.node_moves.specs.world_base.Core.{CoreState, StepOutcome, serves}
 use Rattle.node_moves.specs.world_base.Lossy.{Account, TakesCommand}
 use Rattle.node_moves.specs.world_base.Reading.{changes}

@@ -2,10 +2,10 @@
 use Rattle.std.proofs.Common.{◌≡◌, Bool, true, false, not, ◌&&◌, if◌then◌else◌, List, [], ◌∷◌, Option, Some, None, refl, ap, ◌∙◌}
 use Rattle.std.specs.List.{fold}
 use Rattle.packet_world.specs.packet.Spelling.{spelling}
-use Rattle.node_moves.specs.ballot.Effect.{Effect}
-use Rattle.node_moves.specs.ballot.Effect.TheVariants.{To, Out}
-use Rattle.node_moves.specs.ballot.Replica.{CountedReplica, is_active}
-use Rattle.node_moves.specs.ballot.Sending.{Outcome}
+use Rattle.node_moves.specs.ballot_base.declared.message.Effect.{Effect}
+use Rattle.node_moves.specs.ballot_base.declared.message.Effect.TheVariants.{To, Out}
+use Rattle.node_moves.specs.ballot_base.Replica.{CountedReplica, is_active}
+use Rattle.node_moves.specs.ballot_base.Sending.{Outcome}
 use Rattle.packet_world.specs.broker_base.State.{State}
 use Rattle.packet_world.specs.broker_spec.declared.command.Command.{Command}
 use Rattle.packet_world.specs.broker_spec.declared.command.Output.{Output}
@@ -13,7 +13,7 @@ use Rattle.packet_world.specs.broker_spec.declared.command.Output.TheVariants as
 use Rattle.packet_world.specs.broker_spec.Connection.{ConnectionName}
 use Rattle.node_moves.specs.world_base.declared.Port.{Port}
 use Rattle.node_moves.specs.world_base.declared.Connection.{Connection}
-use Rattle.node_moves.specs.world_base.ConnectionChanges.{closed, put_out}
+use Rattle.node_moves.specs.node_connections.ConnectionChanges.{closed, put_out}
 use Rattle.node_moves.specs.world_base.Core.{CoreState, serves}
 use Rattle.node_moves.specs.world_base.Handing.{hands_over, left_by, listed_at}
 use Rattle.node_moves.specs.world_base.Reading.{changes}

@@ -1,11 +1,11 @@
 -- What a node does by a run of moves are events among replicas, one after another.
 use Rattle.std.proofs.Common.{◌≡◌, ℕ, List, [], ◌∷◌, ◌++◌, Some, slice_get, refl, sym, ap, ◌∙◌, subst, append_assoc}
-use Rattle.node_moves.specs.ballot.Config.{Config}
-use Rattle.node_moves.specs.ballot.Effect.{Effect}
-use Rattle.node_moves.specs.ballot.Losses.{Thinned}
-use Rattle.node_moves.specs.ballot.Message.{Message}
-use Rattle.node_moves.specs.ballot.Protocol.{Input}
-use Rattle.node_moves.specs.ballot.Protocol.Input.{Receives, Proposes, Ticks}
+use Rattle.node_moves.specs.ballot_base.declared.config.Config.{Config}
+use Rattle.node_moves.specs.ballot_base.declared.message.Effect.{Effect}
+use Rattle.node_moves.specs.ballot_base.Losses.{Thinned}
+use Rattle.node_moves.specs.ballot_base.declared.message.Message.{Message}
+use Rattle.node_moves.specs.ballot_base.Protocol.{Input}
+use Rattle.node_moves.specs.ballot_base.Protocol.Input.{Receives, Proposes, Ticks}
 use Rattle.packet_world.specs.broker_base.State.{State}
 use Rattle.packet_world.specs.broker_spec.declared.command.Command.{Command}
 use Rattle.packet_world.specs.broker_spec.declared.command.Output.{Output}

@@ -2,9 +2,9 @@
 use Rattle.std.proofs.Common.{◌≡◌, ℕ, false, List, [], ◌∷◌, ◌++◌, Some, slice_get, refl, sym, ap, ◌∙◌, subst, append_assoc}
 use Rattle.std.proofs.lemmas.List.{append-nil}
 use Rattle.packet_world.specs.packet.declared.packet.Packet.{Packet}
-use Rattle.node_moves.specs.ballot.Config.{Config}
-use Rattle.node_moves.specs.ballot.Losses.{Thinned}
-use Rattle.node_moves.specs.ballot.Replica.{is_active}
+use Rattle.node_moves.specs.ballot_base.declared.config.Config.{Config}
+use Rattle.node_moves.specs.ballot_base.Losses.{Thinned}
+use Rattle.node_moves.specs.ballot_base.Replica.{is_active}
 use Rattle.packet_world.specs.broker_spec.declared.command.Command.{Command}
 use Rattle.packet_world.specs.broker_spec.Connection.{ConnectionName}
 use Rattle.packet_world.specs.broker_spec.declared.command.Output.{Output}
@@ -15,7 +15,7 @@ use Rattle.packet_world.specs.snapshots.Moments.{Moment, Moments, IsAgreed}
 use Rattle.packet_world.specs.agreement.Proposals.{commands_of as commands_in}
 use Rattle.packet_world.specs.snapshots.Proposals.{proposals_of, taken_of}
 use Rattle.packet_world.proofs.of_snapshots.PastsAgree.{has_agreed}
-use Rattle.node_moves.specs.world_base.Connections.{is_closed}
+use Rattle.node_moves.specs.node_connections.Connections.{is_closed}
 use Rattle.node_moves.specs.world_base.Core.{CoreState, StepOutcome, rules}
 use Rattle.node_moves.specs.world_base.Effects.{without_messages}
 use Rattle.node_moves.specs.Ends.{IsOrderly}

@@ -3,9 +3,9 @@ use Rattle.std.proofs.Common.{◌≡◌, ◌≤◌, ◌+◌, ℕ, zero, suc, tru
 use Rattle.std.proofs.lemmas.List.{append-nil}
 use Rattle.packet_world.specs.packet.declared.packet.Packet.{Packet}
 use Rattle.packet_world.specs.packet.Spelling.{spelling}
-use Rattle.node_moves.specs.ballot.Effect.{Effect}
-use Rattle.node_moves.specs.ballot.Effect.TheVariants.{To, Out}
-use Rattle.node_moves.specs.ballot.Replica.{ReplicaState, is_active}
+use Rattle.node_moves.specs.ballot_base.declared.message.Effect.{Effect}
+use Rattle.node_moves.specs.ballot_base.declared.message.Effect.TheVariants.{To, Out}
+use Rattle.node_moves.specs.ballot_base.Replica.{ReplicaState, is_active}
 use Rattle.packet_world.specs.broker_spec.AnswersInOrder.{answers_of}
 use Rattle.packet_world.specs.broker_spec.declared.command.Command.{Command}
 use Rattle.packet_world.specs.broker_spec.Commands.{past_of, usual_limits}

@@ -3,7 +3,7 @@ use Rattle.std.proofs.Common.{◌≡◌, ◌⊎◌, inl, inr, ℕ, zero, suc, Bo
 use Rattle.std.specs.List.{find}
 use Rattle.std.proofs.lemmas.List.Elements.{filter-append}
 use Rattle.packet_world.specs.packet.declared.packet.Packet.{Packet}
-use Rattle.node_moves.specs.ballot.Replica.{is_active}
+use Rattle.node_moves.specs.ballot_base.Replica.{is_active}
 use Rattle.packet_world.specs.broker_spec.declared.command.Command.{Command}
 use Rattle.packet_world.specs.broker_spec.Connection.{ConnectionName}
 use Rattle.packet_world.specs.broker_spec.declared.command.Output.{Output}

@@ -1,12 +1,12 @@
 -- Messages that are lost: of what a replica gave some messages are missing, and no output.
 use Rattle.std.proofs.Common.{◌≡◌, inl, inr, ℕ, List, [], ◌∷◌, ◌++◌, filter, refl, ap, subst, sym}
-use Rattle.node_moves.specs.ballot.Effect.{Effect}
-use Rattle.node_moves.specs.ballot.Effect.TheVariants.{To, Out}
-use Rattle.node_moves.specs.ballot.Losses.{Loses, Steps, Thinned}
-use Rattle.node_moves.specs.ballot.Losses.Thinned.{none, keeps, loses}
-use Rattle.node_moves.specs.ballot.Message.{Message}
-use Rattle.node_moves.specs.ballot.Replica.{CountedReplica, ReplicaState}
-use Rattle.node_moves.specs.ballot.Sending.{Outcome}
+use Rattle.node_moves.specs.ballot_base.declared.message.Effect.{Effect}
+use Rattle.node_moves.specs.ballot_base.declared.message.Effect.TheVariants.{To, Out}
+use Rattle.node_moves.specs.ballot_base.Losses.{Loses, Steps, Thinned}
+use Rattle.node_moves.specs.ballot_base.Losses.Thinned.{none, keeps, loses}
+use Rattle.node_moves.specs.ballot_base.declared.message.Message.{Message}
+use Rattle.node_moves.specs.ballot_base.Replica.{CountedReplica, ReplicaState}
+use Rattle.node_moves.specs.ballot_base.Sending.{Outcome}
 use Rattle.packet_world.specs.broker_base.State.{State}
 use Rattle.packet_world.specs.broker_spec.declared.command.Command.{Command}
 use Rattle.packet_world.specs.broker_spec.declared.command.Output.{Output}

@@ -1,7 +1,7 @@
 -- In which ballot the packets of a connection are proposed to a replica.
 use Rattle.std.specs.Prelude.{◌≡◌, ℕ, true}
 use Rattle.packet_world.specs.lists.Lists.{Each}
-use Rattle.node_moves.specs.ballot.Config.{Config}
+use Rattle.node_moves.specs.ballot_base.declared.config.Config.{Config}
 use Rattle.packet_world.specs.broker_spec.declared.command.Command.{Command}
 use Rattle.packet_world.specs.broker_spec.Connection.{ConnectionName}
 use Rattle.packet_world.specs.exactly_once.StoryCommands.{is_packet_of}

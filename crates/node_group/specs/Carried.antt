@@ -2,7 +2,7 @@
 -- agree.
 use Rattle.std.specs.Prelude.{ℕ, List, ◌∷◌, ◌++◌}
 use Rattle.packet_world.specs.packet.declared.packet.Packet.{Packet}
-use Rattle.node_moves.specs.ballot.Config.{Config}
+use Rattle.node_moves.specs.ballot_base.declared.config.Config.{Config}
 use Rattle.packet_world.specs.broker_spec.declared.command.Command.{Command}
 use Rattle.packet_world.specs.broker_spec.Commands.{past_of, usual_limits}
 use Rattle.packet_world.specs.broker_spec.Connection.{ConnectionName}

@@ -1,10 +1,10 @@
 -- A group: nodes with the connections of their clients, one master, and the messages between them.
 use Rattle.std.specs.Prelude.{ℕ, zero, suc, ◌+◌, List, [], ◌∷◌, ◌++◌, map, slice_set}
-use Rattle.node_moves.specs.ballot.Config.{Config}
-use Rattle.node_moves.specs.ballot.Message.{Message}
-use Rattle.node_moves.specs.ballot.Effect.{Effect}
-use Rattle.node_moves.specs.ballot.Replica.{ReplicaState}
-use Rattle.node_moves.specs.ballot.Sending.{master}
+use Rattle.node_moves.specs.ballot_base.declared.config.Config.{Config}
+use Rattle.node_moves.specs.ballot_base.declared.message.Message.{Message}
+use Rattle.node_moves.specs.ballot_base.declared.message.Effect.{Effect}
+use Rattle.node_moves.specs.ballot_base.Replica.{ReplicaState}
+use Rattle.node_moves.specs.ballot_base.Sending.{master}
 use Rattle.packet_world.specs.broker_base.State.{State}
 use Rattle.packet_world.specs.broker_spec.declared.command.Command.{Command}
 use Rattle.packet_world.specs.broker_spec.declared.command.Output.{Output}

@@ -8,7 +8,6 @@ pub mod Order
 pub mod Streams
 pub mod Carried
 pub use Rattle.packet_world.specs.agreement as agreement
-pub use Rattle.node_moves.specs.ballot as ballot
 pub use Rattle.packet_world.specs.broker_base as broker_base
 pub use Rattle.packet_world.specs.broker_form as broker_form
 pub use Rattle.packet_world.specs.broker_spec as broker_spec
@@ -25,3 +24,5 @@ pub use Rattle.packet_world.specs.session_base as session_base
 pub use Rattle.packet_world.specs.snapshots as snapshots
 pub use Rattle.packet_world.specs.whole as whole
 pub use Rattle.node_moves.specs.world_base as world_base
+pub use Rattle.packet_world.specs.ballot_base as ballot_base
+pub use Rattle.node_moves.specs.node_connections as node_connections

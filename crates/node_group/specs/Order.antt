@@ -1,7 +1,7 @@
 -- In which order the packets of a connection are in the logs of a group and in the agreed list.
 use Rattle.std.specs.Prelude.{◌≡◌, ℕ, List, ◌∷◌, filter, slice_get, Some}
 use Rattle.packet_world.specs.lists.Lists.{IsPrefixOf}
-use Rattle.node_moves.specs.ballot.Config.{Config}
+use Rattle.node_moves.specs.ballot_base.declared.config.Config.{Config}
 use Rattle.packet_world.specs.broker_spec.declared.command.Command.{Command}
 use Rattle.packet_world.specs.broker_spec.Connection.{ConnectionName}
 use Rattle.packet_world.specs.exactly_once.StoryCommands.{is_packet_of}

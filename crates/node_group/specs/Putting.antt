@@ -2,9 +2,9 @@
 -- it receives was sent.
 use Rattle.std.specs.Prelude.{◌≡◌, Some, ℕ, ◌+◌, if◌then◌else◌, List, [], ◌∷◌, ◌++◌, map}
 use Rattle.packet_world.specs.lists.Lists.{In}
-use Rattle.node_moves.specs.ballot.Effect.{Effect}
-use Rattle.node_moves.specs.ballot.Protocol.{Input}
-use Rattle.node_moves.specs.ballot.Protocol.Input.{Receives, Proposes, Ticks}
+use Rattle.node_moves.specs.ballot_base.declared.message.Effect.{Effect}
+use Rattle.node_moves.specs.ballot_base.Protocol.{Input}
+use Rattle.node_moves.specs.ballot_base.Protocol.Input.{Receives, Proposes, Ticks}
 use Rattle.packet_world.specs.broker_spec.declared.command.Command.{Command}
 use Rattle.packet_world.specs.broker_spec.declared.command.Command.TheVariants as commands
 use Rattle.packet_world.specs.broker_spec.declared.command.Output.{Output}

@@ -1,10 +1,10 @@
 -- What may happen in a group: a node acts, perhaps with losses, or the master answers.
 use Rattle.std.specs.Prelude.{◌≡◌, ℕ, true, List, [], ◌∷◌, ◌++◌, slice_get, Option, Some, None}
 use Rattle.packet_world.specs.lists.Lists.{In}
-use Rattle.node_moves.specs.ballot.Body.TheVariants.{Activate}
-use Rattle.node_moves.specs.ballot.Config.{Config}
-use Rattle.node_moves.specs.ballot.Effect.{Effect}
-use Rattle.node_moves.specs.ballot.Losses.{Thinned}
+use Rattle.node_moves.specs.ballot_base.declared.message.Body.TheVariants.{Activate}
+use Rattle.node_moves.specs.ballot_base.declared.config.Config.{Config}
+use Rattle.node_moves.specs.ballot_base.declared.message.Effect.{Effect}
+use Rattle.node_moves.specs.ballot_base.Losses.{Thinned}
 use Rattle.packet_world.specs.broker_spec.declared.command.Command.{Command}
 use Rattle.packet_world.specs.broker_spec.declared.command.Output.{Output}
 use Rattle.packet_world.specs.agreement.MasterState.{AssignRefusal, master_after, refusal}

@@ -1,7 +1,7 @@
 -- A pipe whose bytes are read by the verdict on what is held: it gives the packets that were written, in order.
 use Rattle.std.proofs.Common.{◌≡◌, ℕ, List, [], ◌∷◌, ◌++◌, Result, Ok, refl, ap, sym, ◌∙◌, subst, append_assoc}
 use Rattle.exactly_once.proofs.of_packet_base.Growing.{StandsWithMore}
-use Rattle.exactly_once.specs.packet.Stop.{Stop}
+use Rattle.exactly_once.specs.packet_base.declared.stop.Stop.{Stop}
 use Rattle.exactly_once.specs.packet.declared.packet.Packet.{Packet}
 use Rattle.exactly_once.specs.packet.Verdict.{verdict}
 use Rattle.exactly_once.proofs.of_packet.PacketReads.{verdict_again}

@@ -3,11 +3,11 @@
 use Rattle.std.proofs.Common.{◌≡◌, ◌⊎◌, inl, inr, ◌≤◌, ℕ, Bool, true, false, not, ◌&&◌, ◌||◌, ◌==◌, ◌+◌, nat_le, length, if◌then◌else◌, List, [], ◌∷◌, Option, Some, None, refl, sym, ap, ◌∙◌, subst, filter, map, arith}
 use Rattle.std.specs.List.{find, fold}
 use Rattle.exactly_once.specs.packet.Spelling.{spelling}
-use Rattle.world_base.specs.ballot.Effect.{Effect}
-use Rattle.world_base.specs.ballot.Effect.TheVariants.{To, Out}
-use Rattle.world_base.specs.ballot.Protocol.{Input, replica_step}
-use Rattle.world_base.specs.ballot.Sending.{Outcome, nothing_done}
-use Rattle.world_base.specs.ballot.Serving.{proposed}
+use Rattle.world_base.specs.ballot_base.declared.message.Effect.{Effect}
+use Rattle.world_base.specs.ballot_base.declared.message.Effect.TheVariants.{To, Out}
+use Rattle.world_base.specs.ballot_base.Protocol.{Input, replica_step}
+use Rattle.world_base.specs.ballot_base.Sending.{Outcome, nothing_done}
+use Rattle.world_base.specs.ballot_base.Serving.{proposed}
 use Rattle.exactly_once.specs.broker_base.State.{State}
 use Rattle.exactly_once.specs.broker_spec.declared.command.Command.{Command}
 use Rattle.exactly_once.specs.broker_spec.declared.command.Output.{Output}
@@ -18,8 +18,8 @@ use Rattle.world_base.specs.declared.Port.{Port}
 use Rattle.world_base.specs.declared.Connection.{Connection}
 use Rattle.world_base.specs.declared.ConnectionStage.{ConnectionStage}
 use Rattle.world_base.specs.declared.ConnectionStage.TheVariants.{Awaits, Proposed, Closed, Failed}
-use Rattle.world_base.specs.Connections.{is_closed, is_proposed, is_failed, has_failed, is_at, is_open_at, is_open_named, is_listed}
-use Rattle.world_base.specs.ConnectionChanges.{max_pending, closed, failing, put_out, putting, handed, changed}
+use Rattle.world_base.specs.node_connections.Connections.{is_closed, is_proposed, is_failed, has_failed, is_at, is_open_at, is_open_named, is_listed}
+use Rattle.world_base.specs.node_connections.ConnectionChanges.{max_pending, closed, failing, put_out, putting, handed, changed}
 use Rattle.world_base.specs.Core.{CoreState, StepOutcome, rules, serves}
 use Rattle.world_base.specs.Failing.{closes_failed}
 use Rattle.world_base.specs.Handing.{hands_over, left_by, listed_at}

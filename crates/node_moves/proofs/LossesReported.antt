@@ -7,8 +7,8 @@ use Rattle.exactly_once.specs.lists.Lists.{Each}
 use Rattle.world_base.specs.declared.Connection.{Connection}
 use Rattle.world_base.specs.declared.ConnectionStage.{ConnectionStage}
 use Rattle.world_base.specs.declared.ConnectionStage.TheVariants.{Awaits, Proposed, Closed, Failed}
-use Rattle.world_base.specs.Connections.{is_proposed, is_failed, has_failed}
-use Rattle.world_base.specs.ConnectionChanges.{closed}
+use Rattle.world_base.specs.node_connections.Connections.{is_proposed, is_failed, has_failed}
+use Rattle.world_base.specs.node_connections.ConnectionChanges.{closed}
 use Rattle.world_base.specs.Core.{CoreState}
 use Rattle.world_base.specs.Failing.{closes_failed, loses_failed, loses_if}
 use Rattle.world_base.specs.Step.{acts_on, does_item}

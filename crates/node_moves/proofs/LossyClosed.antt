@@ -4,7 +4,7 @@ use Rattle.std.proofs.Common.{◌≡◌, true, Option, Some, None, refl, sym, ap
 use Rattle.std.proofs.lemmas.Bool.{both_ways}
 use Rattle.exactly_once.specs.broker_spec.Connection.{ConnectionName}
 use Rattle.world_base.specs.declared.Connection.{Connection}
-use Rattle.world_base.specs.Connections.{is_closed}
+use Rattle.world_base.specs.node_connections.Connections.{is_closed}
 use Rattle.world_base.specs.Core.{CoreState, StepOutcome}
 use Rattle.node_moves.specs.Closed.{listed_named}
 use Rattle.node_moves.specs.Closed.{IsExactlyClosedBy}

@@ -4,16 +4,16 @@ use Rattle.std.specs.List.{find}
 use Rattle.std.proofs.lemmas.List.{append-nil}
 use Rattle.exactly_once.specs.packet.declared.packet.Packet.{Packet}
 use Rattle.exactly_once.specs.packet.Spelling.{spelling}
-use Rattle.world_base.specs.ballot.Effect.{Effect}
-use Rattle.world_base.specs.ballot.Effect.TheVariants.{Out}
+use Rattle.world_base.specs.ballot_base.declared.message.Effect.{Effect}
+use Rattle.world_base.specs.ballot_base.declared.message.Effect.TheVariants.{Out}
 use Rattle.exactly_once.specs.broker_spec.declared.command.Command.{Command}
 use Rattle.exactly_once.specs.broker_spec.declared.command.Output.{Output}
 use Rattle.exactly_once.specs.broker_spec.declared.command.Output.TheVariants as outputs
 use Rattle.exactly_once.specs.broker_spec.Connection.{ConnectionName, same_connection}
 use Rattle.exactly_once.proofs.of_broker_spec.ConnectionNames.{same_itself, same_name}
 use Rattle.world_base.specs.declared.Connection.{Connection}
-use Rattle.world_base.specs.Connections.{is_open_named}
-use Rattle.world_base.specs.ConnectionChanges.{changed, closed, failing, put_out}
+use Rattle.world_base.specs.node_connections.Connections.{is_open_named}
+use Rattle.world_base.specs.node_connections.ConnectionChanges.{changed, closed, failing, put_out}
 use Rattle.world_base.specs.Core.{CoreState}
 use Rattle.world_base.specs.Lossy.{HandlesAll, Performs}
 use Rattle.world_base.specs.Lossy.HandlesAll.{nothing, does, sends, loses}

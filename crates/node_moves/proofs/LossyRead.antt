@@ -4,13 +4,13 @@ use Rattle.std.proofs.Common.{◌≡◌, ℕ, List, [], ◌++◌, length, refl, 
 use Rattle.std.proofs.lemmas.List.{append-nil, length-append}
 use Rattle.std.proofs.lemmas.List.Elements.{filter-append}
 use Rattle.exactly_once.specs.packet.declared.packet.Packet.{Packet}
-use Rattle.world_base.specs.ballot.Logs.{pushed}
-use Rattle.world_base.specs.ballot.Replica.{CountedReplica, ReplicaState}
+use Rattle.world_base.specs.ballot_base.Logs.{pushed}
+use Rattle.world_base.specs.ballot_base.Replica.{CountedReplica, ReplicaState}
 use Rattle.exactly_once.specs.broker_base.State.{State}
 use Rattle.exactly_once.specs.broker_spec.declared.command.Command.{Command}
 use Rattle.exactly_once.specs.broker_spec.Connection.{ConnectionName}
 use Rattle.exactly_once.specs.StoryCommands.{is_packet_of}
-use Rattle.world_base.specs.ConnectionChanges.{noted_proposed, left_with}
+use Rattle.world_base.specs.node_connections.ConnectionChanges.{noted_proposed, left_with}
 use Rattle.world_base.specs.Core.{CoreState, StepOutcome, rules}
 use Rattle.world_base.specs.Lossy.{Account, TakesCommand}
 use Rattle.world_base.specs.Reading.{changes}
@@ -26,7 +26,7 @@ use Rattle.node_moves.proofs.LossyOutputs.{delivers_replica}
 use Rattle.node_moves.proofs.LossyReads.{losses_read_in_order}
 use Rattle.node_moves.proofs.ProposesInOrder.{commands_join, front_of, opening_orderly, still_to_come}
 use Rattle.node_moves.proofs.ShutByChanges.{at_replica}
-use Rattle.world_base.proofs.of_ballot.StepRows.{added-log}
+use Rattle.world_base.proofs.of_ballot_base.StepRows.{added-log}
 use Rattle.node_moves.proofs.Taken.{reads_are_taken}
 
 -- ---- all that is read

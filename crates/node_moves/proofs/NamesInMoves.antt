@@ -4,7 +4,7 @@ use Rattle.std.specs.List.{list_any}
 use Rattle.exactly_once.specs.broker_spec.Connection.{ConnectionName, is_connection_name}
 use Rattle.world_base.specs.declared.Port.{Port}
 use Rattle.world_base.specs.declared.Connection.{Connection}
-use Rattle.world_base.specs.Connections.{fresh, is_at, is_closed}
+use Rattle.world_base.specs.node_connections.Connections.{fresh, is_at, is_closed}
 use Rattle.world_base.specs.Core.{CoreState, StepOutcome, serves}
 use Rattle.world_base.specs.Step.{next_name, opens, settled}
 use Rattle.node_moves.specs.Closed.{listed_named}

@@ -2,9 +2,9 @@
 -- what its replica receives.
 use Rattle.std.proofs.Common.{◌≡◌, inl, inr, Bool, true, false, not, ◌&&◌, if◌then◌else◌, [], ◌∷◌, Some, refl, sym, ap, ◌∙◌}
 use Rattle.std.proofs.lemmas.Bool.{both_ways}
-use Rattle.world_base.specs.ballot.Protocol.{Input, replica_step}
-use Rattle.world_base.specs.ballot.Replica.{ReplicaState, is_active}
-use Rattle.world_base.specs.ballot.Sending.{Outcome, nothing_done}
+use Rattle.world_base.specs.ballot_base.Protocol.{Input, replica_step}
+use Rattle.world_base.specs.ballot_base.Replica.{ReplicaState, is_active}
+use Rattle.world_base.specs.ballot_base.Sending.{Outcome, nothing_done}
 use Rattle.exactly_once.specs.broker_base.State.{State}
 use Rattle.exactly_once.specs.broker_spec.declared.command.Command.{Command}
 use Rattle.exactly_once.specs.broker_spec.declared.command.Command.TheVariants as commands
@@ -15,7 +15,7 @@ use Rattle.exactly_once.specs.lists.Lists.In.{here, there}
 use Rattle.exactly_once.specs.StoryCommands.{is_packet_of}
 use Rattle.world_base.specs.declared.Port.{Port}
 use Rattle.world_base.specs.declared.Connection.{Connection}
-use Rattle.world_base.specs.Connections.{is_at, is_open_at, is_closed}
+use Rattle.world_base.specs.node_connections.Connections.{is_at, is_open_at, is_closed}
 use Rattle.world_base.specs.Core.{CoreState, StepOutcome, rules, serves}
 use Rattle.world_base.specs.Reading.{open_at}
 use Rattle.world_base.specs.Step.{crashed, settled, with_cut}

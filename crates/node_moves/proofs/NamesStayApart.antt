@@ -4,12 +4,12 @@ use Rattle.std.specs.List.{find, list_any}
 use Rattle.exactly_once.specs.packet.Spelling.{spelling}
 use Rattle.exactly_once.specs.packet.declared.packet.Packet.{Packet}
 use Rattle.exactly_once.specs.packet.declared.packet.Packet.TheVariants as packets
-use Rattle.world_base.specs.ballot.Effect.{Effect}
-use Rattle.world_base.specs.ballot.Losses.{Steps}
-use Rattle.world_base.specs.ballot.Protocol.{Input}
-use Rattle.world_base.specs.ballot.Protocol.Input.{Receives, Ticks}
-use Rattle.world_base.specs.ballot.Replica.{CountedReplica, ReplicaState}
-use Rattle.world_base.specs.ballot.Sending.{Outcome}
+use Rattle.world_base.specs.ballot_base.declared.message.Effect.{Effect}
+use Rattle.world_base.specs.ballot_base.Losses.{Steps}
+use Rattle.world_base.specs.ballot_base.Protocol.{Input}
+use Rattle.world_base.specs.ballot_base.Protocol.Input.{Receives, Ticks}
+use Rattle.world_base.specs.ballot_base.Replica.{CountedReplica, ReplicaState}
+use Rattle.world_base.specs.ballot_base.Sending.{Outcome}
 use Rattle.exactly_once.specs.broker_base.State.{State}
 use Rattle.exactly_once.specs.broker_spec.declared.command.Command.{Command}
 use Rattle.exactly_once.specs.broker_spec.declared.command.Command.TheVariants as commands
@@ -20,8 +20,8 @@ use Rattle.world_base.specs.declared.Port.{Port}
 use Rattle.world_base.specs.declared.item.Item.{Item}
 use Rattle.world_base.specs.declared.item.Item.TheVariants.{Peer, Tick, Opened, Bytes, Ended, Expel, Cut, Crash}
 use Rattle.world_base.specs.declared.Connection.{Connection}
-use Rattle.world_base.specs.Connections.{fresh, has_failed, is_at, is_open_at, is_open_named}
-use Rattle.world_base.specs.ConnectionChanges.{noted_proposed, closed, failing, holding, left_with, put_out, changed}
+use Rattle.world_base.specs.node_connections.Connections.{fresh, has_failed, is_at, is_open_at, is_open_named}
+use Rattle.world_base.specs.node_connections.ConnectionChanges.{noted_proposed, closed, failing, holding, left_with, put_out, changed}
 use Rattle.world_base.specs.Core.{CoreState, rules, serves}
 use Rattle.world_base.specs.Failing.{closes_failed}
 use Rattle.world_base.specs.Handing.{hands_over}

@@ -6,8 +6,8 @@ use Rattle.exactly_once.specs.broker_spec.Connection.{ConnectionName, is_connect
 use Rattle.exactly_once.proofs.of_broker_spec.ConnectionNames.{same_name}
 use Rattle.world_base.specs.declared.Port.{Port}
 use Rattle.world_base.specs.declared.Connection.{Connection}
-use Rattle.world_base.specs.Connections.{fresh, is_at, is_listed}
-use Rattle.world_base.specs.ConnectionChanges.{closed, handed, changed}
+use Rattle.world_base.specs.node_connections.Connections.{fresh, is_at, is_listed}
+use Rattle.world_base.specs.node_connections.ConnectionChanges.{closed, handed, changed}
 use Rattle.world_base.specs.Core.{CoreState, serves}
 use Rattle.world_base.specs.Handing.{hands_over, left_by}
 use Rattle.world_base.specs.Step.{next_name, opens, settled}

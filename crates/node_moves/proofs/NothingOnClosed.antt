@@ -8,8 +8,8 @@ use Rattle.exactly_once.specs.broker_spec.Connection.{ConnectionName, is_connect
 use Rattle.exactly_once.specs.Sends.{sends_to}
 use Rattle.world_base.specs.declared.Port.{Port}
 use Rattle.world_base.specs.declared.Connection.{Connection}
-use Rattle.world_base.specs.Connections.{fresh, has_failed, is_at, is_failed, is_listed, is_closed}
-use Rattle.world_base.specs.ConnectionChanges.{noted_proposed, closed, handed, holding, left_with, changed}
+use Rattle.world_base.specs.node_connections.Connections.{fresh, has_failed, is_at, is_failed, is_listed, is_closed}
+use Rattle.world_base.specs.node_connections.ConnectionChanges.{noted_proposed, closed, handed, holding, left_with, changed}
 use Rattle.world_base.specs.declared.ConnectionStage.{ConnectionStage}
 use Rattle.world_base.specs.declared.ConnectionStage.TheVariants.{Awaits, Proposed, Closed, Failed}
 use Rattle.world_base.specs.Failing.{closes_failed}

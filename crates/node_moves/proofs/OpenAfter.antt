@@ -5,8 +5,8 @@ use Rattle.std.proofs.lemmas.Bool.{both_ways}
 use Rattle.exactly_once.specs.broker_spec.Connection.{ConnectionName}
 use Rattle.world_base.specs.declared.Port.{Port}
 use Rattle.world_base.specs.declared.Connection.{Connection}
-use Rattle.world_base.specs.Connections.{is_at, is_listed, is_closed}
-use Rattle.world_base.specs.ConnectionChanges.{closed, handed, changed}
+use Rattle.world_base.specs.node_connections.Connections.{is_at, is_listed, is_closed}
+use Rattle.world_base.specs.node_connections.ConnectionChanges.{closed, handed, changed}
 use Rattle.world_base.specs.Core.{CoreState, serves}
 use Rattle.world_base.specs.Handing.{hands_over, left_by}
 use Rattle.world_base.specs.Step.{settled}

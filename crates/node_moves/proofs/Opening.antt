@@ -10,7 +10,7 @@ use Rattle.exactly_once.proofs.of_lists.OfEach.{each_then, each_append}
 use Rattle.world_base.specs.cutter.Pipe.{IsPiped}
 use Rattle.world_base.specs.declared.Port.{Port}
 use Rattle.world_base.specs.declared.Connection.{Connection}
-use Rattle.world_base.specs.Connections.{is_at, fresh}
+use Rattle.world_base.specs.node_connections.Connections.{is_at, fresh}
 use Rattle.world_base.specs.Core.{CoreState, serves}
 use Rattle.world_base.specs.Step.{opens, next_name}
 use Rattle.node_moves.specs.Ends.{AtMostOne, IsGiven, Precedes, IsOrderly, IsEnd, open_named, stream_of, is_nothing}

@@ -1,9 +1,9 @@
 -- The part of a call of a node that concerns others: a message that is received, bytes that come
 -- in, bytes that are handed over. And whether its log is cut.
 use Rattle.std.proofs.Common.{◌≡◌, false, if◌then◌else◌, ℕ, List}
-use Rattle.world_base.specs.ballot.Cutting.{can_cut}
-use Rattle.world_base.specs.ballot.Message.{Message}
-use Rattle.world_base.specs.ballot.Protocol.Input.{Receives}
+use Rattle.world_base.specs.ballot_base.Cutting.{can_cut}
+use Rattle.world_base.specs.ballot_base.declared.message.Message.{Message}
+use Rattle.world_base.specs.ballot_base.Protocol.Input.{Receives}
 use Rattle.exactly_once.specs.broker_spec.declared.command.Command.{Command}
 use Rattle.world_base.specs.declared.Port.{Port}
 use Rattle.world_base.specs.declared.item.Item.TheVariants.{Peer, Bytes, Cut}

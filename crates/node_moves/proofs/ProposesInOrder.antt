@@ -7,7 +7,7 @@ use Rattle.std.proofs.lemmas.List.Elements.{filter-append}
 use Rattle.exactly_once.specs.packet.declared.packet.Packet.{Packet}
 use Rattle.exactly_once.specs.broker_spec.declared.command.Command.{Command}
 use Rattle.exactly_once.specs.broker_spec.Connection.{ConnectionName}
-use Rattle.world_base.specs.ballot.Config.{Config}
+use Rattle.world_base.specs.ballot_base.declared.config.Config.{Config}
 use Rattle.exactly_once.specs.lists.Lists.{IsPrefixOf}
 use Rattle.exactly_once.specs.StoryCommands.{is_packet_of, command_of}
 use Rattle.world_base.specs.Core.{CoreState, StepOutcome, opening_core}

@@ -3,12 +3,12 @@ use Rattle.std.proofs.Common.{◌≡◌, ◌+◌, ℕ, nat_le, length, Bool, tru
 use Rattle.std.specs.List.{find, fold}
 use Rattle.std.proofs.lemmas.List.{append-nil}
 use Rattle.exactly_once.specs.packet.declared.packet.Packet.{Packet}
-use Rattle.exactly_once.specs.packet.RefusalCode.{RefusalCode}
+use Rattle.exactly_once.specs.packet_base.declared.refusal_code.RefusalCode.{RefusalCode}
 use Rattle.exactly_once.specs.packet.Spelling.{spelling}
-use Rattle.world_base.specs.ballot.Effect.{Effect}
-use Rattle.world_base.specs.ballot.Effect.TheVariants.{To, Out}
-use Rattle.world_base.specs.ballot.Sending.{Outcome}
-use Rattle.world_base.specs.ballot.Serving.{proposed}
+use Rattle.world_base.specs.ballot_base.declared.message.Effect.{Effect}
+use Rattle.world_base.specs.ballot_base.declared.message.Effect.TheVariants.{To, Out}
+use Rattle.world_base.specs.ballot_base.Sending.{Outcome}
+use Rattle.world_base.specs.ballot_base.Serving.{proposed}
 use Rattle.exactly_once.specs.broker_base.State.{State}
 use Rattle.exactly_once.specs.broker_spec.declared.command.Command.{Command}
 use Rattle.exactly_once.specs.broker_spec.declared.command.Output.{Output}
@@ -18,11 +18,11 @@ use Rattle.exactly_once.proofs.of_broker_spec.ConnectionNames.{same_name, same_i
 use Rattle.exactly_once.specs.Sends.{sends_to}
 use Rattle.world_base.specs.declared.Port.{Port}
 use Rattle.world_base.specs.declared.Connection.{Connection}
-use Rattle.world_base.specs.ballot.Protocol.{Input}
-use Rattle.world_base.specs.ballot.Replica.{CountedReplica, ReplicaState}
+use Rattle.world_base.specs.ballot_base.Protocol.{Input}
+use Rattle.world_base.specs.ballot_base.Replica.{CountedReplica, ReplicaState}
 use Rattle.world_base.specs.Step.{settled, opens}
-use Rattle.world_base.specs.Connections.{is_listed, is_at, is_open_at, is_open_named}
-use Rattle.world_base.specs.ConnectionChanges.{noted_proposed, holding, left_with, max_pending, closed, failing, put_out, putting, changed}
+use Rattle.world_base.specs.node_connections.Connections.{is_listed, is_at, is_open_at, is_open_named}
+use Rattle.world_base.specs.node_connections.ConnectionChanges.{noted_proposed, holding, left_with, max_pending, closed, failing, put_out, putting, changed}
 use Rattle.world_base.specs.Core.{CoreState, StepOutcome, rules, serves}
 use Rattle.world_base.specs.Failing.{closes_failed}
 use Rattle.world_base.specs.Reading.{changes, refused}

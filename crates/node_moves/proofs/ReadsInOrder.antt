@@ -4,7 +4,7 @@ use Rattle.std.proofs.lemmas.List.{append-nil}
 use Rattle.exactly_once.specs.packet.declared.packet.Packet.{Packet}
 use Rattle.exactly_once.specs.packet.declared.packet.Packet.TheVariants as packets
 use Rattle.exactly_once.specs.packet.declared.connect.Connect.{Connect}
-use Rattle.exactly_once.specs.packet.RefusalCode.{RefusalCode}
+use Rattle.exactly_once.specs.packet_base.declared.refusal_code.RefusalCode.{RefusalCode}
 use Rattle.exactly_once.specs.packet.Verdict.{verdict}
 use Rattle.exactly_once.specs.broker_spec.declared.command.Command.{Command}
 use Rattle.exactly_once.specs.broker_spec.declared.command.Command.TheVariants as commands
@@ -14,8 +14,8 @@ use Rattle.world_base.specs.cutter.Pipe.{Joins, IsPiped}
 use Rattle.exactly_once.specs.StoryCommands.{is_packet_of}
 use Rattle.world_base.specs.declared.Port.{Port}
 use Rattle.world_base.specs.declared.Connection.{Connection}
-use Rattle.world_base.specs.Connections.{is_first, is_at, is_open_at}
-use Rattle.world_base.specs.ConnectionChanges.{noted_proposed, holding, left_with, closed, changed}
+use Rattle.world_base.specs.node_connections.Connections.{is_first, is_at, is_open_at}
+use Rattle.world_base.specs.node_connections.ConnectionChanges.{noted_proposed, holding, left_with, closed, changed}
 use Rattle.world_base.specs.Core.{CoreState, StepOutcome}
 use Rattle.world_base.specs.Reading.{changes, open_at, refused}
 use Rattle.world_base.specs.Failing.{closes_failed}

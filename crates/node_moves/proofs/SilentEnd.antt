@@ -2,14 +2,14 @@
 use Rattle.std.proofs.Common.{◌≡◌, ◌⊎◌, inl, inr, ◌≤◌, ◌<◌, ◌+◌, ◌*◌, ℕ, Bool, true, false, ◌&&◌, nat_lt, if◌then◌else◌, length, List, [], ◌∷◌, Option, Some, None, refl, ap, arith}
 use Rattle.std.specs.List.{find, fold}
 use Rattle.std.proofs.lemmas.Bool.{eq-eqb, and_from, not-true}
-use Rattle.world_base.specs.ballot.Protocol.Input.{Ticks}
+use Rattle.world_base.specs.ballot_base.Protocol.Input.{Ticks}
 use Rattle.exactly_once.specs.broker_spec.declared.command.Command.TheVariants as commands
 use Rattle.exactly_once.specs.lists.Lists.{Each}
 use Rattle.world_base.specs.declared.Port.{Port}
 use Rattle.world_base.specs.declared.item.Item.TheVariants.{Tick}
 use Rattle.world_base.specs.declared.Connection.{Connection}
-use Rattle.world_base.specs.Connections.{is_closed, is_proposed, is_silent, is_at, is_open_at}
-use Rattle.world_base.specs.ConnectionChanges.{closed, failing}
+use Rattle.world_base.specs.node_connections.Connections.{is_closed, is_proposed, is_silent, is_at, is_open_at}
+use Rattle.world_base.specs.node_connections.ConnectionChanges.{closed, failing}
 use Rattle.world_base.specs.Core.{CoreState, StepOutcome}
 use Rattle.world_base.specs.KeepAlive.{lower, lower_silent, lowest_silent, ends_if, ends_silent}
 use Rattle.world_base.specs.Reading.{changes, ends, loses, loses_open, open_at}

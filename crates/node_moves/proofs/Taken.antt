@@ -2,13 +2,13 @@
 use Rattle.std.proofs.Common.{◌≡◌, Bool, true, false, ◌&&◌, nat_lt, List, [], ◌∷◌, refl, ap, ◌∙◌}
 use Rattle.std.specs.List.{fold}
 use Rattle.exactly_once.specs.packet.Spelling.{spelling}
-use Rattle.world_base.specs.ballot.Effect.{Effect}
-use Rattle.world_base.specs.ballot.Effect.TheVariants.{To, Out}
-use Rattle.world_base.specs.ballot.Logs.{places, pushed}
-use Rattle.world_base.specs.ballot.Replica.{CountedReplica, ReplicaState, is_active}
-use Rattle.world_base.specs.ballot.Sending.{Outcome}
-use Rattle.world_base.specs.ballot.Serving.{max_places, proposed}
-use Rattle.world_base.proofs.of_ballot.StepRows.{added-log}
+use Rattle.world_base.specs.ballot_base.declared.message.Effect.{Effect}
+use Rattle.world_base.specs.ballot_base.declared.message.Effect.TheVariants.{To, Out}
+use Rattle.world_base.specs.ballot_base.Logs.{places, pushed}
+use Rattle.world_base.specs.ballot_base.Replica.{CountedReplica, ReplicaState, is_active}
+use Rattle.world_base.specs.ballot_base.Sending.{Outcome}
+use Rattle.world_base.specs.ballot_base.Serving.{max_places, proposed}
+use Rattle.world_base.proofs.of_ballot_base.StepRows.{added-log}
 use Rattle.exactly_once.specs.broker_base.State.{State}
 use Rattle.exactly_once.specs.broker_spec.declared.command.Command.{Command}
 use Rattle.exactly_once.specs.broker_spec.declared.command.Output.{Output}
@@ -16,7 +16,7 @@ use Rattle.exactly_once.specs.broker_spec.declared.command.Output.TheVariants as
 use Rattle.exactly_once.specs.broker_spec.Connection.{ConnectionName}
 use Rattle.world_base.specs.declared.Port.{Port}
 use Rattle.world_base.specs.declared.Connection.{Connection}
-use Rattle.world_base.specs.ConnectionChanges.{noted_proposed, left_with, closed, put_out}
+use Rattle.world_base.specs.node_connections.ConnectionChanges.{noted_proposed, left_with, closed, put_out}
 use Rattle.world_base.specs.Core.{CoreState, rules, serves}
 use Rattle.world_base.specs.Reading.{changes}
 use Rattle.world_base.specs.Effects.{moved, handled, proposes, has_room, changes_named}

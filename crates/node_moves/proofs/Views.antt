@@ -6,7 +6,7 @@ use Rattle.std.proofs.lemmas.Bool.{cases_Bool, both_ways}
 use Rattle.exactly_once.specs.lists.Lists.{Each}
 use Rattle.exactly_once.proofs.of_lists.OfEach.{each_append}
 use Rattle.world_base.specs.declared.Connection.{Connection}
-use Rattle.world_base.specs.ConnectionChanges.{changed}
+use Rattle.world_base.specs.node_connections.ConnectionChanges.{changed}
 use Rattle.node_moves.specs.Ends.{AtMostOne}
 
 -- the live one of a name

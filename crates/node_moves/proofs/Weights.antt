@@ -2,18 +2,18 @@
 use Rattle.std.proofs.Common.{◌≡◌, ◌⊎◌, inl, inr, ◌≤◌, ◌<◌, ◌+◌, ℕ, zero, suc, Bool, true, false, nat_le, if◌then◌else◌, length, List, [], ◌∷◌, Some, sym, subst, arith}
 use Rattle.std.specs.List.{find, fold}
 use Rattle.exactly_once.specs.packet.Spelling.{spelling}
-use Rattle.world_base.specs.ballot.Effect.{Effect}
-use Rattle.world_base.specs.ballot.Effect.TheVariants.{To, Out}
-use Rattle.world_base.specs.ballot.Sending.{Outcome}
-use Rattle.world_base.specs.ballot.Serving.{proposed}
+use Rattle.world_base.specs.ballot_base.declared.message.Effect.{Effect}
+use Rattle.world_base.specs.ballot_base.declared.message.Effect.TheVariants.{To, Out}
+use Rattle.world_base.specs.ballot_base.Sending.{Outcome}
+use Rattle.world_base.specs.ballot_base.Serving.{proposed}
 use Rattle.exactly_once.specs.broker_base.State.{State}
 use Rattle.exactly_once.specs.broker_spec.declared.command.Command.{Command}
 use Rattle.exactly_once.specs.broker_spec.declared.command.Output.{Output}
 use Rattle.exactly_once.specs.broker_spec.declared.command.Output.TheVariants as outputs
 use Rattle.exactly_once.specs.broker_spec.Connection.{ConnectionName}
 use Rattle.world_base.specs.declared.Connection.{Connection}
-use Rattle.world_base.specs.Connections.{is_open_named}
-use Rattle.world_base.specs.ConnectionChanges.{max_pending, closed, failing, putting, put_out, changed}
+use Rattle.world_base.specs.node_connections.Connections.{is_open_named}
+use Rattle.world_base.specs.node_connections.ConnectionChanges.{max_pending, closed, failing, putting, put_out, changed}
 use Rattle.world_base.specs.Core.{CoreState, StepOutcome, rules, serves}
 use Rattle.world_base.specs.Effects.{without_messages, repeated, handled, moved, proposes, changes_named}
 use Rattle.node_moves.proofs.NamesInOrder.{same_le}

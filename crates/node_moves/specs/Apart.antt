@@ -1,8 +1,8 @@
 -- Names when memory may run out: no two connections of a node have the same name, and no name comes
 -- twice.
 use Rattle.std.specs.Prelude.{◌≡◌, ℕ, List, None}
-use Rattle.world_base.specs.ballot.Config.{Config}
-use Rattle.world_base.specs.ballot.Effect.{Effect}
+use Rattle.world_base.specs.ballot_base.declared.config.Config.{Config}
+use Rattle.world_base.specs.ballot_base.declared.message.Effect.{Effect}
 use Rattle.exactly_once.specs.broker_spec.declared.command.Command.{Command}
 use Rattle.exactly_once.specs.broker_spec.Connection.{ConnectionName}
 use Rattle.exactly_once.specs.broker_spec.declared.command.Output.{Output}

@@ -8,7 +8,7 @@ use Rattle.exactly_once.specs.broker_spec.Connection.{ConnectionName, same_conne
 use Rattle.exactly_once.specs.lists.Lists.{IsPrefixOf}
 use Rattle.exactly_once.specs.Sends.{sends_to}
 use Rattle.world_base.specs.declared.Connection.{Connection}
-use Rattle.world_base.specs.Connections.{is_closed}
+use Rattle.world_base.specs.node_connections.Connections.{is_closed}
 use Rattle.world_base.specs.Core.{CoreState, StepOutcome}
 use Rattle.node_moves.specs.Ends.{IsOrderly, open_named}
 use Rattle.node_moves.specs.Moves.{Moves}

@@ -1,13 +1,13 @@
 -- Which ballot the names of a node's open connections have.
 use Rattle.std.specs.Prelude.{◌≡◌, ℕ, Bool, true, false, Some}
-use Rattle.world_base.specs.ballot.Config.{Config}
-use Rattle.world_base.specs.ballot.Protocol.{Input}
+use Rattle.world_base.specs.ballot_base.declared.config.Config.{Config}
+use Rattle.world_base.specs.ballot_base.Protocol.{Input}
 use Rattle.exactly_once.specs.broker_spec.declared.command.Command.{Command}
 use Rattle.exactly_once.specs.broker_spec.Connection.{ConnectionName}
 use Rattle.exactly_once.specs.lists.Lists.{In}
 use Rattle.exactly_once.specs.StoryCommands.{is_packet_of}
 use Rattle.world_base.specs.declared.Connection.{Connection}
-use Rattle.world_base.specs.Connections.{is_closed}
+use Rattle.world_base.specs.node_connections.Connections.{is_closed}
 use Rattle.world_base.specs.Core.{CoreState, StepOutcome, opening_core, serves}
 use Rattle.world_base.specs.Step.{crashed, settled, with_cut}
 use Rattle.world_base.specs.Effects.{drives}

@@ -15,6 +15,8 @@ pub mod LossyRuns
 pub mod ItemRuns
 pub mod LossyLaws
 pub mod LossyNames
-pub use Rattle.world_base.specs.ballot as ballot
 pub use Rattle.world_base.specs.cutter as cutter
 pub use Rattle.world_base.specs as world_base
+pub use Rattle.world_base.specs.node_connections as node_connections
+pub use Rattle.world_base.specs.ballot_base as ballot_base
+pub use Rattle.world_base.specs.machine as machine

@@ -2,8 +2,8 @@
 use Rattle.std.specs.Prelude.{ℕ, Bool, true, false, List, [], ◌∷◌}
 use Rattle.exactly_once.specs.packet.declared.packet.Packet.{Packet}
 use Rattle.exactly_once.specs.packet.declared.connect.Connect.{Connect}
-use Rattle.world_base.specs.ballot.Effect.{Effect}
-use Rattle.world_base.specs.ballot.Protocol.{Input}
+use Rattle.world_base.specs.ballot_base.declared.message.Effect.{Effect}
+use Rattle.world_base.specs.ballot_base.Protocol.{Input}
 use Rattle.exactly_once.specs.broker_spec.declared.command.Command.{Command}
 use Rattle.exactly_once.specs.broker_spec.declared.command.Command.TheVariants as commands
 use Rattle.exactly_once.specs.broker_spec.Connection.{ConnectionName}

@@ -1,6 +1,6 @@
 -- What a node may do in a step when memory may run out: a run of moves, one after another.
 use Rattle.std.specs.Prelude.{◌≡◌, ℕ, Bool, true, false, List, [], ◌++◌, Some}
-use Rattle.world_base.specs.ballot.Protocol.{Input}
+use Rattle.world_base.specs.ballot_base.Protocol.{Input}
 use Rattle.exactly_once.specs.broker_spec.declared.command.Command.{Command}
 use Rattle.exactly_once.specs.broker_spec.Connection.{ConnectionName}
 use Rattle.world_base.specs.Core.{CoreState, StepOutcome, rules}

@@ -1,22 +1,22 @@
 -- What a node does in a step, move by move: each of its steps is a run of these.
 use Rattle.std.specs.Prelude.{◌≡◌, ℕ, Bool, true, false, List, [], ◌∷◌, ◌++◌, Some, Ok, Err}
 use Rattle.std.specs.List.{find}
-use Rattle.exactly_once.specs.packet.Stop.TheVariants as stops
-use Rattle.exactly_once.specs.packet.RefusalCode.{RefusalCode}
+use Rattle.exactly_once.specs.packet_base.declared.stop.Stop.TheVariants as stops
+use Rattle.exactly_once.specs.packet_base.declared.refusal_code.RefusalCode.{RefusalCode}
 use Rattle.exactly_once.specs.packet.declared.packet.Packet.{Packet}
 use Rattle.exactly_once.specs.packet.declared.packet.Packet.TheVariants as packets
 use Rattle.exactly_once.specs.packet.declared.connect.Connect.{Connect}
 use Rattle.exactly_once.specs.packet.Verdict.{verdict}
-use Rattle.world_base.specs.ballot.Cutting.{can_cut}
-use Rattle.world_base.specs.ballot.Protocol.{Input}
-use Rattle.world_base.specs.ballot.Protocol.Input.{Receives, Proposes, Ticks}
+use Rattle.world_base.specs.ballot_base.Cutting.{can_cut}
+use Rattle.world_base.specs.ballot_base.Protocol.{Input}
+use Rattle.world_base.specs.ballot_base.Protocol.Input.{Receives, Proposes, Ticks}
 use Rattle.exactly_once.specs.broker_spec.declared.command.Command.{Command}
 use Rattle.exactly_once.specs.broker_spec.declared.command.Command.TheVariants as commands
 use Rattle.world_base.specs.declared.Port.{Port}
 use Rattle.world_base.specs.declared.item.Item.{Item}
 use Rattle.world_base.specs.declared.Connection.{Connection}
-use Rattle.world_base.specs.Connections.{has_failed, is_first, is_proposed}
-use Rattle.world_base.specs.ConnectionChanges.{noted_proposed, holding, left_with, closed}
+use Rattle.world_base.specs.node_connections.Connections.{has_failed, is_first, is_proposed}
+use Rattle.world_base.specs.node_connections.ConnectionChanges.{noted_proposed, holding, left_with, closed}
 use Rattle.world_base.specs.Core.{CoreState, StepOutcome}
 use Rattle.world_base.specs.Failing.{closes_failed}
 use Rattle.world_base.specs.Handing.{hands_over}

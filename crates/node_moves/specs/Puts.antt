@@ -2,9 +2,9 @@
 use Rattle.std.specs.Prelude.{◌≡◌, ℕ, Bool, true, false, if◌then◌else◌, List, [], ◌∷◌, ◌++◌, Some}
 use Rattle.exactly_once.specs.packet.declared.packet.Packet.{Packet}
 use Rattle.exactly_once.specs.packet.Spelling.{spelling}
-use Rattle.world_base.specs.ballot.Effect.{Effect}
-use Rattle.world_base.specs.ballot.Effect.TheVariants.{To, Out}
-use Rattle.world_base.specs.ballot.Serving.{proposed}
+use Rattle.world_base.specs.ballot_base.declared.message.Effect.{Effect}
+use Rattle.world_base.specs.ballot_base.declared.message.Effect.TheVariants.{To, Out}
+use Rattle.world_base.specs.ballot_base.Serving.{proposed}
 use Rattle.exactly_once.specs.broker_spec.declared.command.Command.{Command}
 use Rattle.exactly_once.specs.broker_spec.declared.command.Command.TheVariants as commands
 use Rattle.exactly_once.specs.broker_spec.declared.command.Output.{Output}

@@ -4,7 +4,7 @@ use Rattle.std.specs.Prelude.{◌≡◌, ◌<◌, ℕ, Bool, true, false, List, 
 use Rattle.exactly_once.specs.packet.declared.packet.Packet.{Packet}
 use Rattle.exactly_once.specs.broker_spec.Connection.{ConnectionName}
 use Rattle.exactly_once.specs.broker_spec.declared.command.Command.{Command}
-use Rattle.world_base.specs.ballot.Config.{Config}
+use Rattle.world_base.specs.ballot_base.declared.config.Config.{Config}
 use Rattle.exactly_once.specs.lists.Lists.{IsPrefixOf}
 use Rattle.world_base.specs.cutter.Pipe.{Joins}
 use Rattle.exactly_once.specs.StoryCommands.{is_packet_of}

@@ -4,7 +4,7 @@ use Rattle.exactly_once.specs.lists.Lists.{Each}
 use Rattle.world_base.specs.declared.item.Item.{Item}
 use Rattle.world_base.specs.declared.item.Item.TheVariants.{Tick}
 use Rattle.world_base.specs.declared.Connection.{Connection}
-use Rattle.world_base.specs.Connections.{is_silent, has_failed}
+use Rattle.world_base.specs.node_connections.Connections.{is_silent, has_failed}
 use Rattle.world_base.specs.Core.{CoreState}
 use Rattle.world_base.specs.Step.{node_step}
 

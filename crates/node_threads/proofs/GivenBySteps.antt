@@ -1,15 +1,15 @@
 -- GivenBySteps.antt: what the steps of a node give was given by one of them.
 use Rattle.std.proofs.Common.{ℕ, List, [], ◌∷◌, sym, subst}
-use Rattle.post.specs.node.Command.{Command}
-use Rattle.post.specs.node.Output.{Output}
-use Rattle.post.specs.node.Effect.{Effect}
-use Rattle.post.specs.node.Core.{CountedCore}
+use Rattle.post.specs.broker_spec.declared.command.Command.{Command}
+use Rattle.post.specs.broker_spec.declared.command.Output.{Output}
+use Rattle.post.specs.ballot_base.declared.message.Effect.{Effect}
+use Rattle.post.specs.world_base.Core.{CountedCore}
 use Rattle.node.specs.declared.Config.{Config}
-use Rattle.post.specs.node.Lists.{Each, In}
-use Rattle.post.specs.node.Lists.In.{here, there}
+use Rattle.post.specs.lists.Lists.{Each, In}
+use Rattle.post.specs.lists.Lists.In.{here, there}
 use Rattle.node.specs.State.{Replays, Seen, TakesOne}
 use Rattle.post.proofs.of_lists.OfEach.{each_append}
-use Rattle.post.specs.Queued.{EachOpens, EachOpensAs, WasGiven}
+use Rattle.post.specs.outbox.Queued.{EachOpens, EachOpensAs, WasGiven}
 
 -- what holds for whatever is in a list holds for each
 each_in : {X : Type 0} (P : X → Type 0) (xs : List X) → ((x : X) → In x xs → P x) → Each P xs

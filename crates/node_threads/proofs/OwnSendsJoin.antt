@@ -3,7 +3,7 @@ use Rattle.std.proofs.Common.{◌≡◌, ℕ, List, [], ◌∷◌, ◌++◌, ◌
 use Rattle.mailbox.specs.Ends.{Sender}
 use Rattle.node.specs.declared.Item.{Item}
 use Rattle.node.specs.declared.Item.TheVariants.{Tick, Cut}
-use Rattle.post.specs.Queued.{IsQueued}
+use Rattle.post.specs.outbox.Queued.{IsQueued}
 use Rattle.node_threads.specs.Serving.{OwnSender, SendsOwn}
 use Rattle.node_threads.specs.Serving.SendsOwn.{starts, ticks, cuts, hands}
 

@@ -1,11 +1,11 @@
 -- TurnsEnd.antt: how turns of a node begin, and how they end if no item waits.
 use Rattle.std.proofs.Common.{◌≡◌, List, [], sym, subst}
-use Rattle.post.specs.node.Command.{Command}
-use Rattle.post.specs.node.Output.{Output}
-use Rattle.post.specs.node.Effect.{Effect}
-use Rattle.post.specs.node.Lists.{Each}
+use Rattle.post.specs.broker_spec.declared.command.Command.{Command}
+use Rattle.post.specs.broker_spec.declared.command.Output.{Output}
+use Rattle.post.specs.ballot_base.declared.message.Effect.{Effect}
+use Rattle.post.specs.lists.Lists.{Each}
 use Rattle.node.specs.State.{Seen, next_taking}
-use Rattle.post.specs.Queued.{WasGiven}
+use Rattle.post.specs.outbox.Queued.{WasGiven}
 use Rattle.node_threads.specs.Turns.{Turns}
 use Rattle.node_threads.specs.Turns.Turns.{begins, finds_none}
 

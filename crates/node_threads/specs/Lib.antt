@@ -5,3 +5,4 @@ pub mod Turns
 pub mod Working
 pub use Rattle.post.specs as post
 pub use Rattle.streams.specs as streams
+pub use Rattle.post.specs.outbox as outbox

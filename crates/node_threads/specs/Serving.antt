@@ -7,7 +7,7 @@ use Rattle.mailbox.specs.Ends.{Sender}
 use Rattle.connection.specs.declared.ending.Ending.{Ending}
 use Rattle.connection.specs.Hearing.{Hears}
 use Rattle.streams.specs.Ports.{port_of}
-use Rattle.post.specs.Queued.{IsQueued}
+use Rattle.post.specs.outbox.Queued.{IsQueued}
 
 -- A lane that had sent these items sent the whole report of one connection, and nothing else. Of a
 -- socket no bytes are known except those that came.

@@ -1,8 +1,8 @@
 -- What the turns of a node give.
 use Rattle.std.specs.Prelude.{List, []}
-use Rattle.post.specs.node.Command.{Command}
-use Rattle.post.specs.node.Output.{Output}
-use Rattle.post.specs.node.Effect.{Effect}
+use Rattle.post.specs.broker_spec.declared.command.Command.{Command}
+use Rattle.post.specs.broker_spec.declared.command.Output.{Output}
+use Rattle.post.specs.ballot_base.declared.message.Effect.{Effect}
 use Rattle.node.specs.State.{Seen, TakesOne, next_taking}
 
 -- From a state of a node on, one item after another was taken, and these are all effects of the

@@ -3,7 +3,7 @@
 // so each node always has a thread of its own.
 
 ghost use Rattle.std.specs.Prelude.{◌≡◌};
-ghost use Rattle.post.specs.Queued.{IsQueued};
+ghost use Rattle.post.specs.outbox.Queued.{IsQueued};
 ghost use Rattle.node_threads.specs.Serving.{SendsOwn};
 
 use crate::own_lane::OwnLane;

@@ -1,8 +1,8 @@
 // A node that serves, with the lanes of its threads.
 
 ghost use Rattle.std.specs.Prelude.{◌≡◌, [], IfOk, map};
-ghost use Rattle.post.specs.node.Lists.{Each};
-ghost use Rattle.post.specs.Queued.{EachOpensAs};
+ghost use Rattle.post.specs.lists.Lists.{Each};
+ghost use Rattle.post.specs.outbox.Queued.{EachOpensAs};
 ghost use Rattle.node_threads.specs.Named.{AreNamed};
 
 use crate::node_context::{NodeContext, NodeContexts};

@@ -3,7 +3,7 @@
 ghost use Rattle.std.specs.Prelude.{◌≡◌, ◌++◌, ◌∷◌, [], true, false};
 ghost use Rattle.mailbox.specs.Ends.{all_met, unmet};
 ghost use Rattle.node.specs.Running.{IsNext};
-ghost use Rattle.post.specs.Queued.{EachOpens};
+ghost use Rattle.post.specs.outbox.Queued.{EachOpens};
 ghost use Rattle.node_threads.specs.Turns.{Turns};
 
 use crate::shared::Shared;

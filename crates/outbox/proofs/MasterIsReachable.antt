@@ -9,8 +9,8 @@ use Rattle.master.specs.declared.activation.Activation.TheVariants as activation
 use Rattle.master.specs.declared.error.AssignError.{AssignError}
 use Rattle.master.specs.Inside.{answer_of}
 use Rattle.master.proofs.Groups.{answer_is}
-use Rattle.node.specs.Command.{Command}
-use Rattle.node.specs.Message.{Message}
+use Rattle.node.specs.broker_spec.declared.command.Command.{Command}
+use Rattle.node.specs.ballot_base.declared.message.Message.{Message}
 use Rattle.node.specs.declared.Body.{Body}
 use Rattle.node.specs.declared.Body.TheVariants.{Activate, NewBallot}
 use Rattle.node.specs.declared.Config.{Config}

@@ -4,7 +4,7 @@ use Rattle.master.specs.agreement.MasterState.{MasterState, activating, max_ball
 use Rattle.master.specs.agreement.MasterState.AssignRefusal.{bad_members, ballots_spent}
 use Rattle.master.specs.ballot_base.LawfulConfig.{is_lawful}
 use Rattle.master.specs.snapshots.Masters.{MasterOutcome}
-use Rattle.node.specs.Command.{Command}
+use Rattle.node.specs.broker_spec.declared.command.Command.{Command}
 use Rattle.node.specs.declared.Config.{Config}
 use Rattle.outbox.specs.Mastering.{Answers, IsReachable, MayGet}
 use Rattle.outbox.specs.Mastering.Answers.{to_node, to_order}

@@ -2,11 +2,11 @@
 -- may wait for its node.
 use Rattle.std.proofs.Common.{◌≡◌, ℕ, ◌+◌, ◌≤◌, zero, suc, Bool, true, false, ◌||◌, not, nat_lt, if◌then◌else◌, List, [], ◌∷◌, ◌++◌, length, take, sym, subst, ap, arith}
 use Rattle.std.proofs.Common.{◌∙◌}
-use Rattle.node.specs.Command.{Command}
-use Rattle.node.specs.Message.{Message}
+use Rattle.node.specs.broker_spec.declared.command.Command.{Command}
+use Rattle.node.specs.ballot_base.declared.message.Message.{Message}
 use Rattle.node.specs.declared.Item.{Item}
 use Rattle.node.specs.declared.Item.TheVariants.{Peer}
-use Rattle.node.specs.Lists.{Each}
+use Rattle.node.specs.lists.Lists.{Each}
 use Rattle.master.proofs.of_lists.OfEach.{each_append}
 use Rattle.outbox.specs.Given.{Addressed}
 use Rattle.outbox.specs.Queued.{IsQueued, WasAnswered}

@@ -1,16 +1,16 @@
 -- What a step of a node gave for others.
 use Rattle.std.specs.Prelude.{◌≡◌, ℕ, List}
 use Rattle.master.specs.ballot_base.Sending.{master}
-use Rattle.node.specs.Command.{Command}
-use Rattle.node.specs.Output.{Output}
-use Rattle.node.specs.Effect.{Effect}
-use Rattle.node.specs.Effect.TheVariants.{To}
-use Rattle.node.specs.Message.{Message}
+use Rattle.node.specs.broker_spec.declared.command.Command.{Command}
+use Rattle.node.specs.broker_spec.declared.command.Output.{Output}
+use Rattle.node.specs.ballot_base.declared.message.Effect.{Effect}
+use Rattle.node.specs.ballot_base.declared.message.Effect.TheVariants.{To}
+use Rattle.node.specs.ballot_base.declared.message.Message.{Message}
 use Rattle.node.specs.declared.Config.{Config}
 use Rattle.node.specs.declared.Item.{Item}
-use Rattle.node.specs.Core.{CountedCore, opening_core}
-use Rattle.node.specs.Losses.{NodeStepped}
-use Rattle.node.specs.Lists.{In}
+use Rattle.node.specs.world_base.Core.{CountedCore, opening_core}
+use Rattle.node.specs.world_base.Losses.{NodeStepped}
+use Rattle.node.specs.lists.Lists.{In}
 use Rattle.node.specs.State.{Replays}
 
 -- a message, and the number of the node or the master that it is for

@@ -6,3 +6,4 @@ pub mod Refusals
 pub mod Superseding
 pub mod Waiting
 pub mod Waking
+pub use Rattle.node.specs.broker_spec as broker_spec

@@ -4,8 +4,8 @@ use Rattle.master.specs.agreement.MasterState.{MasterState, max_ballot, opening_
 use Rattle.master.specs.ballot_base.LawfulConfig.{is_lawful}
 use Rattle.master.specs.ballot_base.Sending.{master}
 use Rattle.master.specs.snapshots.Masters.{MasterOutcome, activated, assigned}
-use Rattle.node.specs.Command.{Command}
-use Rattle.node.specs.Message.{Message}
+use Rattle.node.specs.broker_spec.declared.command.Command.{Command}
+use Rattle.node.specs.ballot_base.declared.message.Message.{Message}
 use Rattle.node.specs.declared.Body.{Body}
 use Rattle.node.specs.declared.Body.TheVariants.{Activate}
 use Rattle.node.specs.declared.Config.{Config}

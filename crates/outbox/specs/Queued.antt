@@ -1,9 +1,9 @@
 -- What may be queued for a node: a message that a step of another node gave, an answer of the
 -- master, the order to crash, or the order to end the session of a client.
 use Rattle.std.specs.Prelude.{ℕ, List}
-use Rattle.node.specs.Command.{Command}
-use Rattle.node.specs.Effect.TheVariants.{To}
-use Rattle.node.specs.Message.{Message}
+use Rattle.node.specs.broker_spec.declared.command.Command.{Command}
+use Rattle.node.specs.ballot_base.declared.message.Effect.TheVariants.{To}
+use Rattle.node.specs.ballot_base.declared.message.Message.{Message}
 use Rattle.node.specs.declared.Item.{Item}
 use Rattle.node.specs.declared.Item.TheVariants.{Peer, Expel, Crash}
 pub use Rattle.outbox.specs.Given.{EachOpens, EachOpensAs, IsNewNode, WasGiven, WasGivenToMaster}

@@ -1,6 +1,6 @@
 -- Which message that waits for a node says nothing more, once another comes after it.
 use Rattle.std.specs.Prelude.{ℕ, Bool, false, ◌==◌, ◌&&◌, ◌-◌, nat_le, if◌then◌else◌, List, length, Option, Some, None, take, slice_get}
-use Rattle.node.specs.Command.{Command}
+use Rattle.node.specs.broker_spec.declared.command.Command.{Command}
 use Rattle.node.specs.declared.Body.{Body}
 use Rattle.node.specs.declared.Body.TheVariants.{Held, Commit}
 use Rattle.node.specs.declared.Item.{Item}

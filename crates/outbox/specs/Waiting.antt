@@ -1,7 +1,7 @@
 -- What waits for a node.
 use Rattle.std.specs.Prelude.{◌≡◌, ℕ, ◌+◌, ◌≤◌, Bool, false, ◌||◌, not, nat_lt, if◌then◌else◌, List, [], ◌∷◌, length}
 use Rattle.master.specs.agreement.MasterState.{MasterState}
-use Rattle.node.specs.Lists.{Each}
+use Rattle.node.specs.lists.Lists.{Each}
 use Rattle.node.specs.declared.Item.{Item}
 use Rattle.node.specs.declared.Item.TheVariants.{Peer}
 use Rattle.outbox.specs.Queued.{IsQueued}

@@ -1,6 +1,6 @@
 -- Which items wake the node for which they are queued.
 use Rattle.std.specs.Prelude.{ℕ, Bool, true, false, not, nat_lt, List, length}
-use Rattle.node.specs.Command.{Command}
+use Rattle.node.specs.broker_spec.declared.command.Command.{Command}
 use Rattle.node.specs.declared.Body.{Body}
 use Rattle.node.specs.declared.Body.TheVariants.{Commit}
 use Rattle.node.specs.declared.Item.{Item}

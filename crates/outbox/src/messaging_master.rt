@@ -5,7 +5,7 @@ ghost use Rattle.master.specs.agreement.MasterState.{opening_master, refusal};
 ghost use Rattle.master.specs.agreement.MasterState.AssignRefusal.{bad_members, ballots_spent};
 ghost use Rattle.master.specs.ballot_base.LawfulConfig.{is_lawful};
 ghost use Rattle.master.specs.snapshots.Masters.{assigned};
-ghost use Rattle.node.specs.Command.{Command};
+ghost use Rattle.node.specs.broker_spec.declared.command.Command.{Command};
 ghost use Rattle.outbox.specs.Queued.{WasAnswered, WasGivenToMaster};
 ghost use Rattle.outbox.specs.Mastering.{MayGet, answer_to, master_after, message_if, message_of};
 

@@ -4,8 +4,8 @@ ghost use Rattle.std.specs.Prelude.{◌≡◌, ◌↔◌, ◌+◌, ◌++◌, ◌
 ghost use Rattle.std.specs.List.{list_any};
 ghost use Rattle.master.specs.agreement.MasterState.{refusal};
 ghost use Rattle.master.specs.agreement.MasterState.AssignRefusal.{bad_members, ballots_spent};
-ghost use Rattle.node.specs.Command.{Command};
-ghost use Rattle.node.specs.Lists.{Each};
+ghost use Rattle.node.specs.broker_spec.declared.command.Command.{Command};
+ghost use Rattle.node.specs.lists.Lists.{Each};
 ghost use Rattle.node.specs.declared.Item.TheVariants.{Peer};
 ghost use Rattle.master.specs.snapshots.Masters.{assigned};
 ghost use Rattle.outbox.specs.Queued.{IsPosted, IsQueued};

@@ -9,8 +9,8 @@ use Rattle.exactly_once.specs.broker_spec.Place.{Client, Past, Limits}
 use Rattle.exactly_once.specs.broker_spec.Commands.{place_of, past_of, usual_limits}
 use Rattle.exactly_once.specs.broker_spec.declared.command.Command.{Command}
 use Rattle.exactly_once.specs.broker_spec.declared.command.Command.TheVariants as commands
-use Rattle.exactly_once.proofs.of_broker_base.ConnectionNames.{same_name}
-use Rattle.exactly_once.proofs.of_broker_base.PacketOfNobody.{window_is_steady}
+use Rattle.exactly_once.proofs.of_broker_spec.ConnectionNames.{same_name}
+use Rattle.exactly_once.proofs.of_broker_spec.PacketOfNobody.{window_is_steady}
 use Rattle.exactly_once.specs.client_base.Keeper.{Written}
 use Rattle.exactly_once.specs.client_base.Connected.{opens}
 use Rattle.exactly_once.specs.Sides.{ClientConnection}
@@ -23,7 +23,7 @@ use Rattle.exactly_once.proofs.sessions.Anew.{IsUntouched}
 use Rattle.exactly_once.proofs.sessions.Life.{IsCounted, IsLife}
 use Rattle.exactly_once.proofs.sessions.LivedIsLife.{lived_is_life}
 use Rattle.exactly_once.specs.broker_spec.Place.{same_client}
-use Rattle.exactly_once.proofs.of_broker_base.ClientsInOrder.{same_is, same_self}
+use Rattle.exactly_once.proofs.of_broker_spec.ClientsInOrder.{same_is, same_self}
 use Rattle.exactly_once.proofs.publishing.Last.{none_named, each_there, is_named}
 use Rattle.exactly_once.proofs.publishing.kept.KeepsNames.{counted_named}
 use Rattle.packet_world.specs.World.{End, ClientEnds, World, story_of, IsFresh}

@@ -9,8 +9,8 @@ use Rattle.exactly_once.specs.broker_spec.AnswersInOrder.{answers_of}
 use Rattle.exactly_once.specs.broker_spec.declared.command.Command.{Command}
 use Rattle.exactly_once.specs.broker_spec.declared.command.Output.{Output}
 use Rattle.exactly_once.specs.broker_spec.declared.command.Output.TheVariants.{Send, Close}
-use Rattle.exactly_once.proofs.of_broker_base.ConnectionNames.{same_name, same_itself}
-use Rattle.exactly_once.proofs.of_broker_base.SentToLive.{SentAt, sent_at}
+use Rattle.exactly_once.proofs.of_broker_spec.ConnectionNames.{same_name, same_itself}
+use Rattle.exactly_once.proofs.of_broker_spec.SentToLive.{SentAt, sent_at}
 use Rattle.snapshots.specs.lists.Lists.{In, IsPrefixOf}
 use Rattle.snapshots.specs.lists.Lists.In.{here, there}
 use Rattle.snapshots.proofs.of_lists.Prefixes.{prefix_same, prefix_then}

@@ -6,7 +6,7 @@ use Rattle.exactly_once.specs.packet.declared.packet.Packet.{Packet}
 use Rattle.exactly_once.specs.broker_spec.Connection.{ConnectionName, same_connection}
 use Rattle.exactly_once.specs.broker_spec.Commands.{past_of, usual_limits}
 use Rattle.exactly_once.specs.broker_spec.declared.command.Command.{Command}
-use Rattle.exactly_once.proofs.of_broker_base.ConnectionNames.{same_itself}
+use Rattle.exactly_once.proofs.of_broker_spec.ConnectionNames.{same_itself}
 use Rattle.snapshots.specs.lists.Lists.{Each}
 use Rattle.exactly_once.specs.client_base.Keeper.{Written}
 use Rattle.exactly_once.specs.Sends.{put_to}

@@ -4,7 +4,7 @@ use Rattle.std.proofs.lemmas.Bool.{both_ways, eq-eqb}
 use Rattle.exactly_once.specs.broker_spec.Connection.{ConnectionName}
 use Rattle.exactly_once.specs.broker_spec.declared.command.Command.{Command}
 use Rattle.exactly_once.specs.broker_spec.declared.command.Command.TheVariants as commands
-use Rattle.exactly_once.proofs.of_broker_base.ConnectionNames.{same_itself}
+use Rattle.exactly_once.proofs.of_broker_spec.ConnectionNames.{same_itself}
 use Rattle.snapshots.specs.lists.Lists.{In, IsPrefixOf}
 use Rattle.snapshots.specs.lists.Lists.In.{here, there}
 use Rattle.snapshots.proofs.of_lists.Members.{in_left}

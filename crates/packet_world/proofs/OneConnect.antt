@@ -9,7 +9,7 @@ use Rattle.exactly_once.specs.broker_spec.Commands.{place_of, past_of, usual_lim
 use Rattle.exactly_once.specs.broker_spec.EndingLaws.{is_connect_of, connects_of}
 use Rattle.exactly_once.specs.broker_spec.declared.command.Command.{Command}
 use Rattle.exactly_once.specs.broker_spec.declared.command.Command.TheVariants as commands
-use Rattle.exactly_once.proofs.of_broker_base.ConnectionNames.{same_name, same_itself}
+use Rattle.exactly_once.proofs.of_broker_spec.ConnectionNames.{same_name, same_itself}
 use Rattle.exactly_once.specs.StoryCommands.{is_packet_of, count_of, command_of}
 use Rattle.packet_world.proofs.Lists.{filter_push}
 use Rattle.packet_world.proofs.Answers.{of_name, past_push}

@@ -4,7 +4,7 @@ use Rattle.std.specs.Prelude.{slice_get}
 use Rattle.std.proofs.lemmas.Bool.{both_ways, cases_Bool}
 use Rattle.exactly_once.specs.broker_spec.Connection.{ConnectionName, same_connection}
 use Rattle.exactly_once.specs.broker_spec.Place.{Client}
-use Rattle.exactly_once.proofs.of_broker_base.ConnectionNames.{same_name}
+use Rattle.exactly_once.proofs.of_broker_spec.ConnectionNames.{same_name}
 use Rattle.snapshots.specs.lists.Lists.{Each}
 use Rattle.snapshots.proofs.of_lists.Tests.{none_or}
 use Rattle.exactly_once.specs.StoryCommands.{any_named}

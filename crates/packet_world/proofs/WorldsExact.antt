@@ -2,8 +2,8 @@
 use Rattle.std.proofs.Common.{ℕ, List, set, refl}
 use Rattle.exactly_once.specs.broker_spec.Place.{Client}
 use Rattle.exactly_once.specs.broker_spec.Commands.{usual_limits}
-use Rattle.exactly_once.proofs.of_broker_base.NothingAfterTheEnd.{nothing_after_the_end}
-use Rattle.exactly_once.proofs.of_broker_base.PacketOfNobody.{window_is_steady}
+use Rattle.exactly_once.proofs.of_broker_spec.NothingAfterTheEnd.{nothing_after_the_end}
+use Rattle.exactly_once.proofs.of_broker_spec.PacketOfNobody.{window_is_steady}
 use Rattle.snapshots.proofs.of_lists.OfEach.{each_then}
 use Rattle.exactly_once.specs.Sides.{ClientConnection}
 use Rattle.exactly_once.proofs.sessions.LivesExact.{lives_exact}

@@ -19,3 +19,4 @@ pub use Rattle.exactly_once.specs.packet_base as packet_base
 pub use Rattle.exactly_once.specs.session_base as session_base
 pub use Rattle.snapshots.specs as snapshots
 pub use Rattle.snapshots.specs.whole as whole
+pub use Rattle.snapshots.specs.ballot_base as ballot_base

@@ -7,14 +7,14 @@ use Rattle.script.specs.session_base.declared.publication.Publication.{Publicati
 use Rattle.script.specs.declared.script_line.ScriptLine.{ScriptLine}
 use Rattle.play.specs.Lines.{accepted_line}
 use Rattle.world.specs.world_events.declared.event.Event.{Event}
-use Rattle.world.specs.WorldClient.{WorldClient}
+use Rattle.world.specs.world_clients.declared.world_client.WorldClient.{WorldClient}
 use Rattle.world.specs.Found.{core_at}
-use Rattle.world.specs.Clients.{is_named}
+use Rattle.world.specs.world_clients.Clients.{is_named}
 use Rattle.world.specs.Asking.{EventAsks}
 use Rattle.world.specs.Trace.{StaysReached, KeepsGroup}
-use Rattle.world.specs.NodesGoOn.StepsOfGroup.{rests}
+use Rattle.world.specs.world_clients.NodesGoOn.StepsOfGroup.{rests}
 use Rattle.world.specs.Happening.{EventHappens}
-use Rattle.world.specs.Clients.{new_world_client}
+use Rattle.world.specs.world_clients.Clients.{new_world_client}
 use Rattle.world.specs.StandsFor.{KeepsReached, FollowsModelAsking, asked_on}
 use Rattle.world.specs.master.declared.event.Idle.{Idle}
 use Rattle.world.specs.World.{WorldState}

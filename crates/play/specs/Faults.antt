@@ -1,6 +1,6 @@
 -- How other errors become those of a played script.
-use Rattle.world.specs.ballot.OpeningError.{OpeningError}
-use Rattle.world.specs.ballot.OpeningError.TheVariants as openings
+use Rattle.world.specs.ballot_errors.declared.error.OpeningError.{OpeningError}
+use Rattle.world.specs.ballot_errors.declared.error.OpeningError.TheVariants as openings
 use Rattle.script.specs.declared.error.ScriptFault.{ScriptFault}
 use Rattle.script.specs.declared.error.ScriptFault.TheVariants as scripts
 use Rattle.world.specs.world_events.declared.escape_error.EscapeError.{EscapeError}

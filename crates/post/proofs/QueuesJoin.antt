@@ -1,11 +1,11 @@
 -- QueuesJoin.antt: what is queued at first and then is what is queued.
 use Rattle.std.proofs.Common.{◌≡◌, ℕ, List, [], ◌∷◌, ◌++◌, refl, ap, sym, subst}
 use Rattle.std.proofs.lemmas.List.{append-nil, append_assoc}
-use Rattle.node.specs.Command.{Command}
-use Rattle.node.specs.Output.{Output}
-use Rattle.node.specs.Effect.{Effect}
-use Rattle.node.specs.Effect.TheVariants.{To, Out}
-use Rattle.node.specs.Message.{Message}
+use Rattle.node.specs.broker_spec.declared.command.Command.{Command}
+use Rattle.node.specs.broker_spec.declared.command.Output.{Output}
+use Rattle.node.specs.ballot_base.declared.message.Effect.{Effect}
+use Rattle.node.specs.ballot_base.declared.message.Effect.TheVariants.{To, Out}
+use Rattle.node.specs.ballot_base.declared.message.Message.{Message}
 use Rattle.outbox.specs.Given.{Addressed}
 use Rattle.post.specs.Queuing.{QueuesAll, messages_of}
 use Rattle.post.specs.Queuing.QueuesAll.{none, one_more}

@@ -2,5 +2,8 @@ pub mod Numbers
 pub mod Primaries
 pub mod Queuing
 pub use Rattle.outbox.specs.Queued
-pub use Rattle.node.specs as node
 pub use Rattle.outbox.specs as outbox
+pub use Rattle.outbox.specs.broker_spec as broker_spec
+pub use Rattle.master.specs.ballot_base as ballot_base
+pub use Rattle.node.specs.world_base as world_base
+pub use Rattle.master.specs.lists as lists

@@ -1,10 +1,10 @@
 -- The messages that steps of a node gave for others, one by one.
 use Rattle.std.specs.Prelude.{ℕ, List, [], ◌∷◌, ◌++◌}
-use Rattle.node.specs.Command.{Command}
-use Rattle.node.specs.Output.{Output}
-use Rattle.node.specs.Effect.{Effect}
-use Rattle.node.specs.Effect.TheVariants.{To, Out}
-use Rattle.node.specs.Message.{Message}
+use Rattle.node.specs.broker_spec.declared.command.Command.{Command}
+use Rattle.node.specs.broker_spec.declared.command.Output.{Output}
+use Rattle.node.specs.ballot_base.declared.message.Effect.{Effect}
+use Rattle.node.specs.ballot_base.declared.message.Effect.TheVariants.{To, Out}
+use Rattle.node.specs.ballot_base.declared.message.Message.{Message}
 use Rattle.outbox.specs.Given.{Addressed}
 
 -- the messages among effects, in order

@@ -2,7 +2,7 @@
 
 ghost use Rattle.std.specs.Prelude.{◌≡◌, ◌++◌, ◌∷◌, [], false, true};
 ghost use Rattle.master.specs.lists.Lists.{has_id};
-ghost use Rattle.node.specs.Effect.TheVariants.{To};
+ghost use Rattle.node.specs.ballot_base.declared.message.Effect.TheVariants.{To};
 ghost use Rattle.node.specs.declared.Item.TheVariants.{Peer};
 ghost use Rattle.outbox.specs.Given.{IsMaster};
 ghost use Rattle.outbox.specs.Queued.{WasGiven};
@@ -23,7 +23,7 @@ pub struct AddressedMessage {
 }
 
 impl Model for AddressedMessage {
-    ghost use Rattle.node.specs.Effect.TheVariants.{To};
+    ghost use Rattle.node.specs.ballot_base.declared.message.Effect.TheVariants.{To};
     ghost use Rattle.outbox.specs.Given.{Addressed, WasGiven};
 
     ghost Value = { Addressed };

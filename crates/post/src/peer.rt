@@ -2,7 +2,7 @@
 
 ghost use Rattle.std.specs.Prelude.{◌≡◌, ◌≤◌, IfOk, IfSome, IsErrOf, false, true};
 ghost use Rattle.master.specs.ballot_base.LawfulConfig.{is_lawful};
-ghost use Rattle.node.specs.Lists.{Each};
+ghost use Rattle.node.specs.lists.Lists.{Each};
 ghost use Rattle.outbox.specs.Mastering.{MayGet};
 ghost use Rattle.outbox.specs.Queued.{IsPosted, IsQueued};
 

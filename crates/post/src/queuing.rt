@@ -1,7 +1,7 @@
 // What steps of a node gave for others, queued message by message in order.
 
 ghost use Rattle.std.specs.Prelude.{◌≡◌, [], ◌∷◌};
-ghost use Rattle.node.specs.Lists.{Each};
+ghost use Rattle.node.specs.lists.Lists.{Each};
 ghost use Rattle.post.specs.Queuing.{QueuesAll, messages_of};
 ghost use Rattle.outbox.specs.Queued.{WasGiven};
 
@@ -20,10 +20,10 @@ pub struct Given {
 
 impl Model for Given {
     ghost use Rattle.std.specs.Prelude.{List};
-    ghost use Rattle.node.specs.Command.{Command};
-    ghost use Rattle.node.specs.Output.{Output};
-    ghost use Rattle.node.specs.Effect.{Effect};
-    ghost use Rattle.node.specs.Lists.{Each};
+    ghost use Rattle.node.specs.broker_spec.declared.command.Command.{Command};
+    ghost use Rattle.node.specs.broker_spec.declared.command.Output.{Output};
+    ghost use Rattle.node.specs.ballot_base.declared.message.Effect.{Effect};
+    ghost use Rattle.node.specs.lists.Lists.{Each};
     ghost use Rattle.outbox.specs.Given.{WasGiven};
 
     ghost Value = { List (Effect Command Output) };
@@ -46,8 +46,8 @@ impl Given {
 /// The receivers of messages: nodes, for which they are queued, and the master, which answers them.
 pub trait Receivers {
     ghost use Rattle.std.specs.Prelude.{ℕ};
-    ghost use Rattle.node.specs.Command.{Command};
-    ghost use Rattle.node.specs.Message.{Message};
+    ghost use Rattle.node.specs.broker_spec.declared.command.Command.{Command};
+    ghost use Rattle.node.specs.ballot_base.declared.message.Message.{Message};
 
     // The state before a call, the receiver of the message, the message, and the state after it.
     ghost queues: { Self → ℕ → Message Command → Self → Type 0 };

@@ -3,7 +3,7 @@ use Rattle.std.proofs.Common.{◌≡◌, ◌==◌, ℕ, ◌+◌, ◌<◌, Bool, 
 use Rattle.std.proofs.lemmas.Bool.{eq-eqb}
 use Rattle.mailbox.specs.Naming.{no_inbox}
 use Rattle.node.specs.declared.Config.{Config}
-use Rattle.node_threads.specs.post.node.Lists.{Each}
+use Rattle.node_threads.specs.post.lists.Lists.{Each}
 use Rattle.node_threads.proofs.of_post.of_lists.OfEach.{each_append, each_then}
 use Rattle.node_threads.specs.Named.{AreNamed}
 use Rattle.server.specs.Opening.{first_in, inbox_among}

@@ -3,9 +3,9 @@ use Rattle.std.specs.Prelude.{◌≡◌, ℕ, ◌+◌, List, length}
 use Rattle.node.specs.declared.Config.{Config}
 use Rattle.node.specs.declared.Handed.{Handed}
 use Rattle.node.specs.declared.Port.{Port}
-use Rattle.node.specs.Core.{CountedCore, opening_core}
+use Rattle.node.specs.world_base.Core.{CountedCore, opening_core}
 use Rattle.node.specs.Growth.{counted}
-use Rattle.node.specs.Handing.{answer_of, bytes_of, listed_at}
+use Rattle.node.specs.world_base.Handing.{answer_of, bytes_of, listed_at}
 use Rattle.node.specs.State.{Replays, Seen}
 use Rattle.streams.specs.declared.port_tap.PortTap.{PortTap}
 

@@ -5,7 +5,7 @@ use Rattle.client.specs.client_base.Refusals.{client_number}
 use Rattle.client.specs.client_base.State.{new_client}
 use Rattle.client.specs.client_base.declared.error.ClientError.{ClientError}
 use Rattle.client.specs.client_base.declared.error.ClientError.TheVariants as errors
-use Rattle.client.specs.packet.ClientId.{client_fault}
+use Rattle.client.specs.packet_base.ClientId.{client_fault}
 use Rattle.packet.specs.declared.packet.Packet.{Packet}
 use Rattle.client.specs.session_base.declared.publication.Publication.{Publication}
 use Rattle.topics.specs.Refusals.{number_of}

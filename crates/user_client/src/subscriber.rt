@@ -2,7 +2,7 @@
 
 ghost use Rattle.std.specs.Prelude.{◌≡◌, ◌≢◌, None, true, [], ◌∷◌, OnOk, IfErr, IfOk};
 ghost use Rattle.std.specs.Io.KnownBytes.{Appends};
-ghost use Rattle.client.specs.packet.ClientId.{client_fault};
+ghost use Rattle.client.specs.packet_base.ClientId.{client_fault};
 ghost use Rattle.topics.specs.Text.{filter_fault};
 ghost use Rattle.user_client.specs.Printing.{line_of};
 ghost use Rattle.user_client.specs.Listening.{PrintsNothing, PrintsAccepted, Shows, begun, new_listening};

@@ -10,7 +10,7 @@ use Rattle.snapshots.proofs.of_lists.Prefixes.{prefix_length, take_prefix}
 use Rattle.machine.specs.Machine.{Rules, replay, replay_from}
 use Rattle.snapshots.specs.whole.Messages.{Body}
 use Rattle.snapshots.specs.whole.Messages.Body.{NewBallot, Join, State, Install, Installed, Activate, Activated, Superseded, Append, Held, Commit}
-use Rattle.snapshots.specs.whole.Role.TheVariants.{Active, Backup}
+use Rattle.snapshots.specs.ballot_base.declared.status.Role.TheVariants.{Active, Backup}
 use Rattle.snapshots.specs.whole.Changing.{on_new_ballot, on_join, on_state, on_install}
 use Rattle.snapshots.specs.whole.Activating.{activates, on_installed, on_activated, on_superseded}
 use Rattle.snapshots.specs.whole.Protocol.{received}

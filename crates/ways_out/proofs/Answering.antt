@@ -11,7 +11,7 @@ use Rattle.snapshots.specs.whole.Applying.{applied_to, outputs_to}
 use Rattle.snapshots.specs.whole.Messages.Body.{Append, Held, Commit}
 use Rattle.snapshots.specs.whole.Messages.{Effect, Message}
 use Rattle.snapshots.specs.whole.Messages.Effect.{Out}
-use Rattle.snapshots.specs.whole.Progress.{Progress}
+use Rattle.snapshots.specs.ballot_base.declared.status.Progress.{Progress}
 use Rattle.snapshots.specs.whole.Protocol.{received, replica_step}
 use Rattle.snapshots.specs.whole.Protocol.Input.{Proposes}
 use Rattle.snapshots.specs.whole.Replica.{ReplicaState, is_active, progress_at}

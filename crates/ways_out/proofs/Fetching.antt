@@ -5,10 +5,10 @@ use Rattle.std.proofs.lemmas.Bool.{cases_eq, le-leb, le-ltb, cases_lt, lt-ltb}
 use Rattle.machine.specs.Machine.{Rules}
 use Rattle.snapshots.specs.whole.Messages.{Body, Message}
 use Rattle.snapshots.specs.whole.Messages.Body.{NewBallot, Join, State}
-use Rattle.snapshots.specs.whole.Config.{Config}
+use Rattle.snapshots.specs.ballot_base.declared.config.Config.{Config}
 use Rattle.snapshots.specs.whole.Protocol.{received}
 use Rattle.snapshots.specs.whole.Replica.{ReplicaState}
-use Rattle.snapshots.specs.whole.Role.TheVariants.{Backup}
+use Rattle.snapshots.specs.ballot_base.declared.status.Role.TheVariants.{Backup}
 use Rattle.snapshots.specs.whole.Sending.{Outcome, message_to, message_to_each}
 use Rattle.snapshots.proofs.of_whole.ChangeRows.{on_join-answers, on_new_ballot-joins}
 use Rattle.snapshots.specs.agreement.MasterState.{MasterState, assigning}

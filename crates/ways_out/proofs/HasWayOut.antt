@@ -5,8 +5,8 @@ use Rattle.machine.specs.Machine.{Rules}
 use Rattle.snapshots.specs.lists.Lists.{In}
 use Rattle.snapshots.proofs.of_lists.Members.{in_at}
 use Rattle.snapshots.specs.whole.Messages.Body.{Held}
-use Rattle.snapshots.specs.whole.Config.{Config}
-use Rattle.snapshots.specs.whole.LawfulConfig.{is_lawful}
+use Rattle.snapshots.specs.ballot_base.declared.config.Config.{Config}
+use Rattle.snapshots.specs.ballot_base.LawfulConfig.{is_lawful}
 use Rattle.snapshots.specs.whole.Replica.{ReplicaState, others}
 use Rattle.snapshots.specs.agreement.MasterState.{MasterState, assigning}
 use Rattle.snapshots.specs.agreement.Moments.{Moment, Moments, IsAgreed}

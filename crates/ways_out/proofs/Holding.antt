@@ -6,7 +6,7 @@ use Rattle.snapshots.specs.whole.Applying.{applied_to}
 use Rattle.snapshots.specs.whole.Messages.{Body, Effect, Message}
 use Rattle.snapshots.specs.whole.Messages.Body.{Append, Held, Commit}
 use Rattle.snapshots.specs.whole.Messages.Effect.{Out}
-use Rattle.snapshots.specs.whole.Progress.{Progress}
+use Rattle.snapshots.specs.ballot_base.declared.status.Progress.{Progress}
 use Rattle.snapshots.specs.whole.Replica.{ReplicaState, progress_at}
 use Rattle.snapshots.specs.whole.Sending.{Outcome, message_to_followed}
 use Rattle.snapshots.specs.agreement.Moments.{Moment}

@@ -7,7 +7,7 @@ use Rattle.snapshots.specs.whole.Messages.Body.{State, Install, Installed, Activ
 use Rattle.snapshots.specs.whole.Changing.{installs}
 use Rattle.snapshots.specs.whole.Protocol.{received}
 use Rattle.snapshots.specs.whole.Replica.{ReplicaState, others}
-use Rattle.snapshots.specs.whole.Role.TheVariants.{Fetching}
+use Rattle.snapshots.specs.ballot_base.declared.status.Role.TheVariants.{Fetching}
 use Rattle.snapshots.specs.whole.Sending.{Outcome, master, message_to, message_to_each}
 use Rattle.snapshots.specs.agreement.Moments.{Moment}
 use Rattle.snapshots.specs.lists.Lists.{In}

@@ -10,10 +10,10 @@ use Rattle.snapshots.specs.whole.Changing.{installs}
 use Rattle.snapshots.specs.whole.Activating.{activates}
 use Rattle.snapshots.specs.whole.Messages.{Effect}
 use Rattle.snapshots.specs.whole.Messages.Effect.{Out}
-use Rattle.snapshots.specs.whole.Progress.{Progress}
+use Rattle.snapshots.specs.ballot_base.declared.status.Progress.{Progress}
 use Rattle.snapshots.specs.whole.Protocol.{received}
 use Rattle.snapshots.specs.whole.Replica.{ReplicaState, others, progress_at, is_active, is_fetching}
-use Rattle.snapshots.specs.whole.Role.TheVariants.{Fetching, Active}
+use Rattle.snapshots.specs.ballot_base.declared.status.Role.TheVariants.{Fetching, Active}
 use Rattle.snapshots.specs.whole.Sending.{Outcome, master, message_to, message_to_followed, sent_first}
 use Rattle.snapshots.specs.whole.Serving.{added, commit_at, least, max_places, raised, raised_progress}
 use Rattle.snapshots.proofs.of_whole.ChangeRows.{on_state-takes, on_installed-counts, on_activated-adds}

@@ -5,7 +5,7 @@ use Rattle.machine.specs.Machine.{Rules}
 use Rattle.snapshots.specs.lists.Lists.{IsPrefixOf}
 use Rattle.snapshots.proofs.of_lists.Prefixes.{prefix_then}
 use Rattle.snapshots.proofs.of_lists.Members.{in_at}
-use Rattle.snapshots.specs.whole.Config.{Config}
+use Rattle.snapshots.specs.ballot_base.declared.config.Config.{Config}
 use Rattle.snapshots.specs.whole.Protocol.Input.{Receives}
 use Rattle.snapshots.specs.whole.Messages.{Effect}
 use Rattle.snapshots.specs.whole.Losses.{Thinned}

@@ -7,7 +7,7 @@ use Rattle.machine.specs.Machine.{Rules}
 use Rattle.snapshots.specs.lists.Lists.{In}
 use Rattle.snapshots.specs.lists.Lists.In.{here}
 use Rattle.snapshots.proofs.of_lists.Prefixes.{prefix_length}
-use Rattle.snapshots.specs.whole.Config.{Config}
+use Rattle.snapshots.specs.ballot_base.declared.config.Config.{Config}
 use Rattle.snapshots.specs.whole.Replica.{ReplicaState}
 use Rattle.snapshots.specs.agreement.Agreement.{Agrees}
 use Rattle.snapshots.specs.agreement.Moments.{Moment, Moments}

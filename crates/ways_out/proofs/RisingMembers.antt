@@ -3,8 +3,8 @@ use Rattle.std.proofs.Common.{◌≡◌, ℕ, ◌+◌, ◌<◌, Bool, true, fals
 use Rattle.std.specs.Prelude.{◌==◌, ◌&&◌, nat_le, nat_lt, not}
 use Rattle.std.specs.List.{list_any}
 use Rattle.std.proofs.lemmas.Bool.{and_parts, eq-eqb, ltb-true, ne_eqb}
-use Rattle.snapshots.specs.whole.Config.{Config}
-use Rattle.snapshots.specs.whole.LawfulConfig.{are_rising, is_lawful}
+use Rattle.snapshots.specs.ballot_base.declared.config.Config.{Config}
+use Rattle.snapshots.specs.ballot_base.LawfulConfig.{are_rising, is_lawful}
 use Rattle.snapshots.specs.whole.Replica.{others}
 use Rattle.snapshots.specs.lists.Lists.{In}
 use Rattle.snapshots.specs.lists.Lists.In.{here, there}

@@ -8,7 +8,7 @@ use Rattle.snapshots.specs.whole.Messages.{Body, Message}
 use Rattle.snapshots.specs.whole.Messages.Body.{Install, Installed, Append, Held}
 use Rattle.snapshots.specs.whole.Protocol.{received}
 use Rattle.snapshots.specs.whole.Replica.{ReplicaState, others, progress_at, is_backup}
-use Rattle.snapshots.specs.whole.Role.TheVariants.{Backup}
+use Rattle.snapshots.specs.ballot_base.declared.status.Role.TheVariants.{Backup}
 use Rattle.snapshots.specs.whole.Sending.{Outcome, message_to, message_to_each, message_to_followed}
 use Rattle.snapshots.specs.whole.Serving.{extended, follows}
 use Rattle.snapshots.proofs.of_whole.ChangeRows.{on_install-takes}

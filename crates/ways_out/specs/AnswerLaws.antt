@@ -4,7 +4,7 @@ use Rattle.std.specs.Prelude.{slice_get, Some}
 use Rattle.machine.specs.Machine.{Rules, replay}
 use Rattle.snapshots.specs.lists.Lists.{In}
 use Rattle.snapshots.specs.whole.Messages.Body.{Held}
-use Rattle.snapshots.specs.whole.Config.{Config}
+use Rattle.snapshots.specs.ballot_base.declared.config.Config.{Config}
 use Rattle.snapshots.specs.whole.Messages.{Effect}
 use Rattle.snapshots.specs.whole.Messages.Effect.{Out}
 use Rattle.snapshots.specs.whole.Protocol.{received, replica_step}

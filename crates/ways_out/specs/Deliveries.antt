@@ -4,7 +4,7 @@ use Rattle.snapshots.specs.lists.Lists.{In}
 use Rattle.std.specs.Prelude.{ℕ, zero, suc, ◌+◌, ◌≡◌, false, List, [], ◌∷◌, ◌++◌, slice_get, Some}
 use Rattle.machine.specs.Machine.{Rules}
 use Rattle.snapshots.specs.whole.Messages.Body.{Activate}
-use Rattle.snapshots.specs.whole.Config.{Config}
+use Rattle.snapshots.specs.ballot_base.declared.config.Config.{Config}
 use Rattle.snapshots.specs.whole.Messages.{Message}
 use Rattle.snapshots.specs.whole.Protocol.{received}
 use Rattle.snapshots.specs.whole.Replica.{ReplicaState}

@@ -1,6 +1,6 @@
 -- The states of nodes in relation to the ballot that is led to its start.
 use Rattle.std.specs.Prelude.{ℕ, ◌≡◌, false, List, length}
-use Rattle.snapshots.specs.whole.Role.TheVariants.{Backup, Active}
+use Rattle.snapshots.specs.ballot_base.declared.status.Role.TheVariants.{Backup, Active}
 use Rattle.snapshots.specs.whole.Replica.{ReplicaState, progress_at}
 
 -- the whole list of commands of a node's log

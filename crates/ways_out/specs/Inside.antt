@@ -1,6 +1,6 @@
 -- What proofs say about nodes during a way out; no law cites it.
 use Rattle.std.specs.Prelude.{ℕ, ◌+◌, ◌≡◌, ◌≤◌, ◌<◌, false, List, [], ◌++◌}
-use Rattle.snapshots.specs.whole.Role.TheVariants.{Fetching, Installing}
+use Rattle.snapshots.specs.ballot_base.declared.status.Role.TheVariants.{Fetching, Installing}
 use Rattle.snapshots.specs.whole.Replica.{ReplicaState, progress_at}
 
 -- a node that runs and can still take a ballot's log of this length

@@ -5,7 +5,7 @@ use Rattle.std.specs.Prelude.{slice_get, Some}
 use Rattle.machine.specs.Machine.{Rules}
 use Rattle.snapshots.specs.lists.Lists.{In, IsPrefixOf}
 use Rattle.snapshots.specs.whole.Messages.Body.{Held}
-use Rattle.snapshots.specs.whole.Config.{Config}
+use Rattle.snapshots.specs.ballot_base.declared.config.Config.{Config}
 use Rattle.snapshots.specs.whole.Replica.{others}
 use Rattle.snapshots.specs.whole.Serving.{max_places}
 use Rattle.snapshots.specs.agreement.MasterState.{refusal}

@@ -3,7 +3,7 @@ use Rattle.std.proofs.Common.{ℕ, List, ◌∷◌, ◌++◌, sym, ap, ◌∙◌
 use Rattle.escaping_client.specs.lists.Lists.{IsPrefixOf}
 use Rattle.escaping_client.specs.lists.Lists.In.{here}
 use Rattle.escaping_client.proofs.of_lists.Prefixes.{prefix_same, prefix_then}
-use Rattle.headline.specs.ballot.Config.{Config}
+use Rattle.headline.specs.ballot_base.declared.config.Config.{Config}
 use Rattle.headline.specs.snapshots.Moments.{IsAgreed, Moment}
 use Rattle.headline.proofs.of_snapshots.PastsAgree.{has_agreed, nodes_agree}
 use Rattle.headline.specs.broker_spec.declared.command.Command.{Command}

@@ -1,7 +1,7 @@
 -- The CONNECT of a client comes to the primary of the new ballot, and is answered: at once, or when the others have answered.
 use Rattle.std.proofs.Common.{◌≡◌, ◌<◌, ◌+◌, ◌*◌, ℕ, suc, true, List, [], ◌∷◌, ◌++◌, Option, Some, length, map, slice_get, refl, sym, ◌∙◌}
 use Rattle.std.specs.List.{position}
-use Rattle.headline.specs.ballot.Config.{Config}
+use Rattle.headline.specs.ballot_base.declared.config.Config.{Config}
 use Rattle.headline.specs.broker_spec.declared.command.Command.{Command}
 use Rattle.headline.specs.broker_spec.Connection.{ConnectionName}
 use Rattle.headline.specs.broker_spec.declared.command.Output.{Output}

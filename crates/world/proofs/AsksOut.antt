@@ -4,8 +4,8 @@
 use Rattle.std.proofs.Common.{◌≡◌, ◌⊎◌, inl, inr, ◌<◌, ◌≤◌, ◌+◌, ◌*◌, ℕ, suc, true, false, List, [], ◌∷◌, ◌++◌, Some, Ok, drop, length, map, refl, ap, ◌∙◌, subst, append_assoc, arith}
 use Rattle.std.specs.List.{position}
 use Rattle.std.proofs.lemmas.List.{length-append, map-append}
-use Rattle.headline.specs.ballot.Config.{Config}
-use Rattle.headline.specs.ballot.Serving.{max_places}
+use Rattle.headline.specs.ballot_base.declared.config.Config.{Config}
+use Rattle.headline.specs.ballot_base.Serving.{max_places}
 use Rattle.headline.specs.broker_spec.declared.command.Command.{Command}
 use Rattle.headline.specs.broker_spec.declared.command.Command.TheVariants as commands
 use Rattle.headline.specs.broker_spec.Commands.{past_of, usual_limits}

@@ -3,11 +3,11 @@ use Rattle.std.proofs.Common.{◌≡◌, ◌⊎◌, inl, inr, ◌<◌, ◌≤◌
 use Rattle.std.specs.List.{position}
 use Rattle.std.proofs.lemmas.List.{length-append, take_at}
 use Rattle.std.proofs.lemmas.Option.{same_Some}
-use Rattle.escaping_client.specs.client.ClientError.{ClientError}
-use Rattle.escaping_client.specs.client.ClientError.TheVariants as errors
+use Rattle.escaping_client.specs.client_base.declared.error.ClientError.{ClientError}
+use Rattle.escaping_client.specs.client_base.declared.error.ClientError.TheVariants as errors
 use Rattle.escaping_client.specs.client.Core.{Core, nothing_read}
-use Rattle.escaping_client.specs.client.Stage.TheVariants as stages
-use Rattle.escaping_client.specs.client.State.{is_online, is_open}
+use Rattle.escaping_client.specs.client_base.declared.stage.Stage.TheVariants as stages
+use Rattle.escaping_client.specs.client_base.State.{is_online, is_open}
 use Rattle.escaping_client.specs.Online.{IsServed}
 use Rattle.escaping_client.proofs.ConnackServed.{connack_serves}
 use Rattle.escaping_nodes.specs.Answered.{session_present}

@@ -6,11 +6,11 @@ use Rattle.std.proofs.lemmas.List.{append-nil}
 use Rattle.packet.specs.declared.connect.Connect.{Connect}
 use Rattle.packet.specs.declared.packet.Packet.{Packet}
 use Rattle.packet.specs.declared.packet.Packet.TheVariants as packets
-use Rattle.escaping_client.specs.packet.ClientId.{is_client}
-use Rattle.escaping_client.specs.packet.Stop.{Stop}
+use Rattle.escaping_client.specs.packet_base.ClientId.{is_client}
+use Rattle.escaping_client.specs.packet_base.declared.stop.Stop.{Stop}
 use Rattle.packet.specs.Spelling.{IsPacket, body, spelling}
 use Rattle.packet.specs.Verdict.{verdict}
-use Rattle.escaping_client.proofs.of_packet.Clients.{client_parts, client_short}
+use Rattle.escaping_client.proofs.of_packet_base.Clients.{client_parts, client_short}
 use Rattle.packet.proofs.OneSpelling.{spelling_is}
 use Rattle.packet.proofs.PacketReads.{verdict_again}
 use Rattle.escaping_client.specs.client.Core.{AppendsAll}

@@ -1,6 +1,6 @@
 -- CountedOnce.antt: an event is counted once, if at all.
 use Rattle.std.proofs.Common.{◌≡◌, inl, inr, ℕ, Bool, true, false, if◌then◌else◌, Result, Ok, Err, ap, ◌∙◌}
-use Rattle.headline.specs.ballot.Losses.{one_more}
+use Rattle.headline.specs.ballot_base.Losses.{one_more}
 use Rattle.escaping_client.specs.client_base.declared.error.ClientError.{ClientError}
 use Rattle.escaping_client.specs.client_base.declared.error.ClientError.TheVariants as errors
 use Rattle.escaping_nodes.specs.master.declared.event.Idle.{Idle}

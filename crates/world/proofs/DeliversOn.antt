@@ -2,10 +2,10 @@
 use Rattle.std.proofs.Common.{◌≡◌, ◌-◌, ◌+◌, ℕ, suc, Bool, true, false, if◌then◌else◌, List, [], ◌∷◌, Option, Some, None, map, refl, sym, ap, ◌∙◌, subst, arith}
 use Rattle.std.specs.Prelude.{slice_get}
 use Rattle.std.proofs.lemmas.Option.{none-some, same_Some}
-use Rattle.headline.specs.ballot.Body.TheVariants.{Activate}
-use Rattle.headline.specs.ballot.Message.{Message}
-use Rattle.headline.specs.ballot.Protocol.{received}
-use Rattle.headline.specs.ballot.Replica.{ReplicaState}
+use Rattle.headline.specs.ballot_base.declared.message.Body.TheVariants.{Activate}
+use Rattle.headline.specs.ballot_base.declared.message.Message.{Message}
+use Rattle.headline.specs.ballot_base.Protocol.{received}
+use Rattle.headline.specs.ballot_base.Replica.{ReplicaState}
 use Rattle.headline.specs.broker_spec.declared.command.Command.{Command}
 use Rattle.headline.specs.broker_spec.declared.command.Output.{Output}
 use Rattle.headline.specs.broker_base.State.{State}

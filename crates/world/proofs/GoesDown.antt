@@ -1,7 +1,7 @@
 -- GoesDown.antt: what a node hands over for a connection goes down on it.
 use Rattle.std.proofs.Common.{◌≡◌, inl, inr, ◌-◌, ℕ, suc, Bool, if◌then◌else◌, List, [], ◌++◌, Option, Some, None, set, slice_get, refl, sym, ap, ◌∙◌, subst, arith}
 use Rattle.std.proofs.lemmas.Option.{same_Some}
-use Rattle.headline.specs.ballot.Config.{Config}
+use Rattle.headline.specs.ballot_base.declared.config.Config.{Config}
 use Rattle.headline.specs.broker_spec.Connection.{ConnectionName, same_connection}
 use Rattle.headline.specs.broker_spec.Place.{Client}
 use Rattle.escaping_client.specs.lists.Lists.{In}
@@ -9,7 +9,7 @@ use Rattle.escaping_client.proofs.of_lists.Tests.{eq_is}
 use Rattle.headline.proofs.of_exactly_once.Takes.{same_name_self}
 use Rattle.world_base.specs.declared.Connection.{Connection as NodesEnd}
 use Rattle.world_base.specs.declared.Port.{Port}
-use Rattle.headline.specs.world_base.Connections.{is_at}
+use Rattle.headline.specs.node_connections.Connections.{is_at}
 use Rattle.world_base.specs.Core.{CoreState, CountedCore}
 use Rattle.world_base.specs.Handing.{bytes_of, listed_at}
 use Rattle.headline.specs.node_moves.Moves.NodeCall.{gives}

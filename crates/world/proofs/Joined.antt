@@ -1,8 +1,8 @@
 -- Joined.antt: steps of worlds, one after another.
 use Rattle.std.proofs.Common.{◌≡◌, ◌<◌, ◌≤◌, ◌^◌, ◌-◌, ℕ, List, [], ◌++◌, refl, sym, ap, ap₂, ◌∙◌, subst, arith, append_assoc}
 use Rattle.std.proofs.lemmas.List.{append-nil}
-use Rattle.headline.specs.ballot.Config.{Config}
-use Rattle.headline.specs.ballot.Losses.{one_more}
+use Rattle.headline.specs.ballot_base.declared.config.Config.{Config}
+use Rattle.headline.specs.ballot_base.Losses.{one_more}
 use Rattle.headline.specs.broker_spec.Place.{Client}
 use Rattle.headline.proofs.WorldsExact.{worlds_are_exact}
 use Rattle.headline.specs.packet_world.World.{ClientsAreApart}

@@ -3,14 +3,14 @@ use Rattle.std.proofs.Common.{◌≡◌, ◌-◌, ◌+◌, ℕ, suc, Bool, List,
 use Rattle.std.proofs.lemmas.Option.{none-some}
 use Rattle.headline.specs.agreement.MasterState.{MasterState}
 use Rattle.headline.specs.agreement.MasterState.AssignRefusal.{bad_members}
-use Rattle.headline.specs.ballot.Config.{Config}
-use Rattle.headline.specs.ballot.Message.{Message}
+use Rattle.headline.specs.ballot_base.declared.config.Config.{Config}
+use Rattle.headline.specs.ballot_base.declared.message.Message.{Message}
 use Rattle.headline.specs.broker_spec.declared.command.Command.{Command}
 use Rattle.headline.specs.broker_spec.declared.command.Output.{Output}
 use Rattle.headline.specs.broker_spec.Place.{Client}
 use Rattle.headline.specs.broker_base.State.{State}
 use Rattle.escaping_client.specs.client.Core.{AppendsAll, Core}
-use Rattle.escaping_client.specs.client.State.{is_open}
+use Rattle.escaping_client.specs.client_base.State.{is_open}
 use Rattle.escaping_nodes.specs.Answered.{begun}
 use Rattle.escaping_nodes.specs.Opened.{CanOpen}
 use Rattle.ways_out.specs.Deliveries.{asked_and_answered}

@@ -3,7 +3,7 @@ use Rattle.std.proofs.Common.{◌≡◌, ℕ, Bool, true, false, List, ◌++◌,
 use Rattle.std.proofs.lemmas.Bool.{both_ways}
 use Rattle.std.proofs.lemmas.Option.{same_Some}
 use Rattle.escaping_client.specs.client.Core.{Core, gone}
-use Rattle.escaping_client.specs.client.State.{is_open}
+use Rattle.escaping_client.specs.client_base.State.{is_open}
 use Rattle.escaping_client.proofs.of_lists.Places.{get_set}
 use Rattle.world_pipes.specs.Piped.{Piped}
 use Rattle.world_events.specs.declared.event.Event.{Event}

@@ -4,9 +4,9 @@ use Rattle.std.specs.Prelude.{nat_le}
 use Rattle.std.proofs.lemmas.Bool.{leb-false}
 use Rattle.headline.specs.agreement.MasterState.{MasterState, max_ballot}
 use Rattle.headline.specs.agreement.MasterState.AssignRefusal.{bad_members, ballots_spent}
-use Rattle.headline.specs.ballot.Config.{Config}
-use Rattle.headline.specs.ballot.LawfulConfig.{is_lawful}
-use Rattle.headline.specs.ballot.Message.{Message}
+use Rattle.headline.specs.ballot_base.declared.config.Config.{Config}
+use Rattle.headline.specs.ballot_base.LawfulConfig.{is_lawful}
+use Rattle.headline.specs.ballot_base.declared.message.Message.{Message}
 use Rattle.headline.specs.broker_spec.declared.command.Command.{Command}
 use Rattle.headline.specs.broker_spec.declared.command.Output.{Output}
 use Rattle.headline.specs.broker_spec.Place.{Client}

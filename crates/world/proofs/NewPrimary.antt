@@ -5,9 +5,9 @@ use Rattle.std.specs.List.{list_any}
 use Rattle.std.proofs.lemmas.Bool.{and_parts}
 use Rattle.headline.specs.agreement.MasterState.{MasterState, max_ballot}
 use Rattle.headline.specs.whole.Replica.{ReplicaState as WholeState}
-use Rattle.headline.specs.ballot.Config.{Config}
-use Rattle.headline.specs.ballot.LawfulConfig.{are_rising, is_lawful}
-use Rattle.headline.specs.ballot.Replica.{ReplicaState, others}
+use Rattle.headline.specs.ballot_base.declared.config.Config.{Config}
+use Rattle.headline.specs.ballot_base.LawfulConfig.{are_rising, is_lawful}
+use Rattle.headline.specs.ballot_base.Replica.{ReplicaState, others}
 use Rattle.headline.specs.broker_spec.declared.command.Command.{Command}
 use Rattle.headline.specs.broker_spec.Connection.{ConnectionName}
 use Rattle.headline.specs.broker_spec.declared.command.Output.{Output}

@@ -5,7 +5,7 @@ use Rattle.std.proofs.lemmas.Bool.{and_from, both_ways, eq-eqb}
 use Rattle.std.proofs.lemmas.List.{length-set, take_all}
 use Rattle.std.proofs.lemmas.Option.{none-some, same_Some}
 use Rattle.escaping_client.specs.client.Core.{Core}
-use Rattle.escaping_client.specs.client.State.{is_open}
+use Rattle.escaping_client.specs.client_base.State.{is_open}
 use Rattle.escaping_client.proofs.of_lists.Places.{get_set}
 use Rattle.world_base.specs.Core.{CountedCore}
 use Rattle.world_base.specs.declared.item.Item.{Item}

@@ -1,10 +1,10 @@
 -- NothingLost.antt: what was done with losses allowed was done exactly if the nodes counted none.
 use Rattle.std.specs.Prelude.{min}
 use Rattle.std.proofs.Common.{◌≡◌, ◌⊎◌, inl, inr, ◌≤◌, ◌<◌, ◌^◌, ◌-◌, ℕ, zero, suc, Bool, true, false, Option, Some, None, length, ap, arith}
-use Rattle.headline.specs.ballot.Body.{Body}
-use Rattle.headline.specs.ballot.Body.TheVariants.{NewBallot, Join, State, Install, Installed, Activate, Activated, Superseded, Append, Held, Commit}
-use Rattle.headline.specs.ballot.Config.{Config}
-use Rattle.headline.specs.ballot.Message.{Message}
+use Rattle.headline.specs.ballot_base.declared.message.Body.{Body}
+use Rattle.headline.specs.ballot_base.declared.message.Body.TheVariants.{NewBallot, Join, State, Install, Installed, Activate, Activated, Superseded, Append, Held, Commit}
+use Rattle.headline.specs.ballot_base.declared.config.Config.{Config}
+use Rattle.headline.specs.ballot_base.declared.message.Message.{Message}
 use Rattle.headline.specs.broker_spec.declared.command.Command.{Command}
 use Rattle.headline.specs.broker_spec.Place.{Client}
 use Rattle.headline.specs.snapshots.World.{recorded}

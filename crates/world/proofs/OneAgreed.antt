@@ -3,7 +3,7 @@ use Rattle.std.proofs.Common.{◌≡◌, ◌⊎◌, inl, inr, ℕ, List, [], ◌
 use Rattle.std.proofs.lemmas.List.{append-nil, length-append}
 use Rattle.escaping_client.specs.lists.Lists.{IsPrefixOf}
 use Rattle.escaping_client.proofs.of_lists.Prefixes.{prefix_length}
-use Rattle.headline.specs.ballot.Config.{Config}
+use Rattle.headline.specs.ballot_base.declared.config.Config.{Config}
 use Rattle.headline.specs.node_group.Group.{moment_of}
 use Rattle.headline.specs.snapshots.Moments.{IsAgreed, Moment, whole_moment}
 use Rattle.headline.specs.agreement.Moments.{IsChosen, WasActive}

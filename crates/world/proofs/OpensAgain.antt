@@ -4,7 +4,7 @@ use Rattle.std.specs.Prelude.{slice_get}
 use Rattle.std.specs.List.{find, list_any}
 use Rattle.std.proofs.lemmas.Bool.{eq-eqb, ne_eqb, or_parts}
 use Rattle.std.proofs.lemmas.Option.{none-some, same_Some}
-use Rattle.headline.specs.ballot.Config.{Config}
+use Rattle.headline.specs.ballot_base.declared.config.Config.{Config}
 use Rattle.headline.specs.broker_spec.Place.{Client}
 use Rattle.escaping_nodes.specs.Opened.{first_of}
 use Rattle.headline.specs.node_moves.Ends.{IsGiven}
@@ -18,7 +18,7 @@ use Rattle.escaping_client.specs.lists.Lists.{Each, In}
 use Rattle.escaping_client.specs.lists.Lists.In.{here, there}
 use Rattle.world_base.specs.declared.Connection.{Connection}
 use Rattle.world_base.specs.declared.Port.{Port}
-use Rattle.headline.specs.world_base.Connections.{is_at, is_open_named, is_closed}
+use Rattle.headline.specs.node_connections.Connections.{is_at, is_open_named, is_closed}
 use Rattle.world_base.specs.Core.{CoreState, CountedCore}
 use Rattle.world.specs.Found.{port_of}
 use Rattle.world.specs.StandsFor.{WorldStandsFor}

@@ -5,14 +5,14 @@ use Rattle.std.specs.List.{position}
 use Rattle.std.proofs.lemmas.Bool.{both_ways}
 use Rattle.std.proofs.lemmas.List.{length-append}
 use Rattle.std.proofs.lemmas.Option.{same_Some}
-use Rattle.headline.specs.ballot.Replica.{is_active}
+use Rattle.headline.specs.ballot_base.Replica.{is_active}
 use Rattle.headline.specs.broker_spec.declared.command.Command.{Command}
 use Rattle.headline.specs.broker_spec.declared.command.Output.{Output}
 use Rattle.headline.specs.broker_base.State.{State}
-use Rattle.escaping_client.specs.client.Calls.{opened}
+use Rattle.escaping_client.specs.client_base.Calls.{opened}
 use Rattle.escaping_client.specs.client.Core.{AppendsAll, Core, nothing_read}
-use Rattle.escaping_client.specs.client.Stage.TheVariants as stages
-use Rattle.escaping_client.specs.client.State.{ClientState, is_open}
+use Rattle.escaping_client.specs.client_base.declared.stage.Stage.TheVariants as stages
+use Rattle.escaping_client.specs.client_base.State.{ClientState, is_open}
 use Rattle.escaping_nodes.specs.Coming.{Come}
 use Rattle.escaping_nodes.specs.Coming.Come.{all_came as none_comes}
 use Rattle.escaping_nodes.specs.Opened.{CanOpen, IsOpened, first_of}

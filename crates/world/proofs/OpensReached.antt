@@ -1,7 +1,7 @@
 -- OpensReached.antt: a world in code opens as one of the model does.
 use Rattle.std.proofs.Common.{◌≡◌, ℕ, true, List, [], Some, map, slice_get, sym, ap, ◌∙◌}
 use Rattle.std.proofs.lemmas.Option.{none-some}
-use Rattle.headline.specs.ballot.Config.{Config}
+use Rattle.headline.specs.ballot_base.declared.config.Config.{Config}
 use Rattle.headline.specs.agreement.World.{can_open}
 use Rattle.headline.specs.broker_spec.Place.{Client}
 use Rattle.headline.specs.packet_world.World.{ClientsAreApart}

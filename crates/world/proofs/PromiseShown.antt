@@ -1,6 +1,6 @@
 -- PromiseShown.antt: what a client of a world that is reached shows is as promised.
 use Rattle.std.proofs.Common.{◌≡◌, ℕ, List, Option, Some, slice_get, sym, subst}
-use Rattle.headline.specs.ballot.Config.{Config}
+use Rattle.headline.specs.ballot_base.declared.config.Config.{Config}
 use Rattle.headline.specs.broker_spec.Place.{Client}
 use Rattle.headline.specs.Promise.{Promise}
 use Rattle.headline.specs.byte_world.World.{ClientPipes}

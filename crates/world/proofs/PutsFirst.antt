@@ -3,7 +3,7 @@
 use Rattle.std.proofs.Common.{◌≡◌, ◌<◌, ◌+◌, ◌*◌, ℕ, zero, suc, Bool, true, List, [], ◌∷◌, ◌++◌, Option, Some, None, slice_get, refl, sym, ap, ◌∙◌, subst, append_assoc, arith}
 use Rattle.std.specs.List.{position}
 use Rattle.std.proofs.lemmas.Option.{none-some, same_Some}
-use Rattle.headline.specs.ballot.Message.{Message}
+use Rattle.headline.specs.ballot_base.declared.message.Message.{Message}
 use Rattle.headline.specs.broker_spec.declared.command.Command.{Command}
 use Rattle.escaping_client.specs.client.Core.{Core}
 use Rattle.escaping_nodes.specs.Answered.{PutsOutAtLast, last_held, session_present}

@@ -1,6 +1,6 @@
 -- Steps of nodes, one after another.
 use Rattle.std.proofs.Common.{◌-◌, ℕ}
-use Rattle.headline.specs.ballot.Config.{Config}
+use Rattle.headline.specs.ballot_base.declared.config.Config.{Config}
 use Rattle.headline.proofs.of_snapshots.PastsAgree.{has_agreed, nodes_agree}
 use Rattle.world_base.specs.Core.{rules}
 use Rattle.headline.specs.node_group.Group.{Group, moment_of}

@@ -2,9 +2,9 @@
 use Rattle.std.proofs.Common.{◌≡◌, ◌⊎◌, inl, inr, ◌<◌, ◌+◌, ℕ, suc, Bool, true, false, not, if◌then◌else◌, List, [], ◌∷◌, Option, Some, map, refl, sym, ap, ◌∙◌, subst, arith}
 use Rattle.std.specs.Prelude.{slice_get}
 use Rattle.std.proofs.lemmas.Bool.{and_parts, cases_eq}
-use Rattle.headline.specs.ballot.Body.TheVariants.{Activate}
-use Rattle.headline.specs.ballot.Message.{Message}
-use Rattle.headline.specs.ballot.Protocol.{received}
+use Rattle.headline.specs.ballot_base.declared.message.Body.TheVariants.{Activate}
+use Rattle.headline.specs.ballot_base.declared.message.Message.{Message}
+use Rattle.headline.specs.ballot_base.Protocol.{received}
 use Rattle.headline.specs.broker_spec.declared.command.Command.{Command}
 use Rattle.headline.specs.broker_spec.Connection.{ConnectionName, same_connection}
 use Rattle.headline.specs.broker_spec.declared.command.Output.{Output}
@@ -25,7 +25,7 @@ use Rattle.world_base.specs.declared.Handed.{Handed}
 use Rattle.world_base.specs.declared.Handed.TheVariants as answers
 use Rattle.world_base.specs.declared.Port.{Port}
 use Rattle.world_base.specs.declared.item.Item.TheVariants.{Peer}
-use Rattle.headline.specs.world_base.Connections.{is_open_named, is_closed}
+use Rattle.headline.specs.node_connections.Connections.{is_open_named, is_closed}
 use Rattle.world_base.specs.Core.{CountedCore, rules}
 use Rattle.world_base.specs.Handing.{answer_of, bytes_of}
 use Rattle.world_nodes.specs.ExactSteps.{after_answer, after_node_call}

@@ -7,9 +7,9 @@ use Rattle.std.proofs.lemmas.List.{append_assoc, get_or_default, length-append, 
 use Rattle.std.proofs.lemmas.Option.{none-some, same_Some}
 use Rattle.headline.specs.agreement.MasterState.{MasterState, max_ballot, refusal}
 use Rattle.headline.specs.agreement.MasterState.AssignRefusal.{bad_members, ballots_spent}
-use Rattle.headline.specs.ballot.Config.{Config}
-use Rattle.headline.specs.ballot.LawfulConfig.{are_rising, is_lawful}
-use Rattle.headline.specs.ballot.Serving.{max_places}
+use Rattle.headline.specs.ballot_base.declared.config.Config.{Config}
+use Rattle.headline.specs.ballot_base.LawfulConfig.{are_rising, is_lawful}
+use Rattle.headline.specs.ballot_base.Serving.{max_places}
 use Rattle.headline.specs.broker_spec.Commands.{past_from, past_of, usual_limits}
 use Rattle.headline.specs.broker_spec.Past.{session_of}
 use Rattle.headline.specs.broker_spec.Place.{Client}

@@ -1,6 +1,6 @@
 -- What clients are asked to publish: the Publish events that were done, in order.
 use Rattle.std.specs.Prelude.{◌≡◌, ◌⊎◌, ℕ, false, List, [], ◌∷◌, ◌++◌, Result, Ok, Err}
-use Rattle.headline.specs.ballot.Losses.{one_more}
+use Rattle.headline.specs.ballot_base.Losses.{one_more}
 use Rattle.escaping_client.specs.client_base.Steps.{Call}
 use Rattle.escaping_nodes.specs.master.declared.event.Idle.{Idle}
 use Rattle.session_base.specs.declared.publication.Publication.{Publication}

@@ -1,7 +1,7 @@
 -- What an event does: exactly, or, if losses are allowed (`whole` is false), perhaps with losses.
 use Rattle.std.specs.Prelude.{◌≡◌, ℕ, Bool, true, false, List, Option, Some, None, Err, slice_get, take}
-use Rattle.headline.specs.ballot.Config.{Config}
-use Rattle.headline.specs.ballot.Message.{Message}
+use Rattle.headline.specs.ballot_base.declared.config.Config.{Config}
+use Rattle.headline.specs.ballot_base.declared.message.Message.{Message}
 use Rattle.headline.specs.broker_spec.declared.command.Command.{Command}
 use Rattle.escaping_client.specs.client_base.Steps.{Call}
 use Rattle.escaping_client.specs.client_base.declared.error.ClientError.TheVariants as errors

@@ -3,9 +3,9 @@ use Rattle.std.specs.Prelude.{◌≡◌, ◌≤◌, ℕ, ◌+◌, true, false, L
 use Rattle.std.specs.List.{list_all, position}
 use Rattle.escaping_client.specs.lists.Lists.{IsPrefixOf}
 use Rattle.headline.specs.agreement.MasterState.{refusal}
-use Rattle.headline.specs.ballot.Config.{Config}
-use Rattle.headline.specs.ballot.Logs.{places}
-use Rattle.headline.specs.ballot.Serving.{max_places}
+use Rattle.headline.specs.ballot_base.declared.config.Config.{Config}
+use Rattle.headline.specs.ballot_base.Logs.{places}
+use Rattle.headline.specs.ballot_base.Serving.{max_places}
 use Rattle.headline.specs.broker_spec.declared.command.Command.{Command}
 use Rattle.headline.specs.broker_spec.Commands.{past_of, usual_limits}
 use Rattle.headline.specs.broker_spec.Past.{session_of}

@@ -1,7 +1,7 @@
 -- What happens in a world: what one event and a list of events do, and how a world begins.
 use Rattle.std.specs.Prelude.{◌≡◌, ◌⊎◌, ◌<◌, ℕ, true, false, List, [], ◌∷◌, Result, Ok, Err, map}
-use Rattle.headline.specs.ballot.Config.{Config}
-use Rattle.headline.specs.ballot.Losses.{greatest_count, one_more}
+use Rattle.headline.specs.ballot_base.declared.config.Config.{Config}
+use Rattle.headline.specs.ballot_base.Losses.{greatest_count, one_more}
 use Rattle.headline.specs.broker_spec.Place.{Client}
 use Rattle.headline.specs.node_group.Group.{opening_group}
 use Rattle.escaping_nodes.specs.master.declared.event.Idle.{Idle}

@@ -1,6 +1,6 @@
 -- Laws about what events do. The calls of `laws.rt` prove them.
 use Rattle.std.specs.Prelude.{◌≡◌, ◌<◌, ◌≤◌, ℕ, false, List, Some, Ok}
-use Rattle.headline.specs.ballot.Losses.{greatest_count}
+use Rattle.headline.specs.ballot_base.Losses.{greatest_count}
 use Rattle.headline.specs.broker_spec.Connection.{max_ballot, max_count}
 use Rattle.world_base.specs.Core.{CountedCore}
 use Rattle.world_nodes.specs.Running.{node_of}

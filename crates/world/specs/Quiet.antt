@@ -1,6 +1,6 @@
 -- Which events take no memory, and so raise no count.
 use Rattle.std.specs.Prelude.{◌≡◌, ℕ, zero, suc, true, Option, Some, None, slice_get}
-use Rattle.headline.specs.ballot.Message.{Message}
+use Rattle.headline.specs.ballot_base.declared.message.Message.{Message}
 use Rattle.headline.specs.broker_spec.declared.command.Command.{Command}
 use Rattle.world_base.specs.declared.item.Item.{Item}
 use Rattle.world_base.specs.declared.item.Item.TheVariants as items

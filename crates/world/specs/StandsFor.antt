@@ -1,6 +1,6 @@
 -- Which worlds of the model a world in code corresponds to, and how these move.
 use Rattle.std.specs.Prelude.{◌≡◌, ℕ, List, [], ◌++◌, Option, Some, None, slice_get}
-use Rattle.headline.specs.ballot.Config.{Config}
+use Rattle.headline.specs.ballot_base.declared.config.Config.{Config}
 use Rattle.headline.specs.broker_spec.Place.{Client}
 use Rattle.headline.specs.packet_world.World.{ClientsAreApart}
 use Rattle.session_base.specs.declared.publication.Publication.{Publication}

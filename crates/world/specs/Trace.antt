@@ -1,8 +1,8 @@
 -- What the nodes of a world do may happen in a group, and so they agree.
 use Rattle.std.specs.Prelude.{◌≡◌, ◌⊎◌, ◌<◌, ◌≤◌, ℕ, List, ◌∷◌}
 use Rattle.escaping_client.specs.lists.Lists.{IsPrefixOf}
-use Rattle.headline.specs.ballot.Losses.{greatest_count, one_more}
-use Rattle.headline.specs.ballot.Config.{Config}
+use Rattle.headline.specs.ballot_base.Losses.{greatest_count, one_more}
+use Rattle.headline.specs.ballot_base.declared.config.Config.{Config}
 use Rattle.headline.specs.snapshots.Agreeing.{Agrees, Holds, LeftInOrder}
 use Rattle.headline.specs.snapshots.Moments.{IsAgreed}
 use Rattle.headline.specs.broker_spec.declared.command.Command.{Command}

@@ -2,7 +2,7 @@
 
 ghost use Rattle.std.specs.Prelude.{ℕ, List, ◌≡◌, ◌<◌, ◌-◌, ◌++◌, length, [], None, Some, IfSome, slice_get};
 ghost use Rattle.std.specs.List.{position};
-ghost use Rattle.headline.specs.ballot.Config.{Config};
+ghost use Rattle.headline.specs.ballot_base.declared.config.Config.{Config};
 ghost use Rattle.headline.specs.broker_spec.Place.{Client};
 ghost use Rattle.world_nodes.specs.Agreed.{AgreeOn, AgreeOnSoMany};
 ghost use Rattle.world.specs.Found.{core_named, slot_numbered, way_of};

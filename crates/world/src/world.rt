@@ -3,7 +3,7 @@
 ghost use Rattle.std.specs.Prelude.{ℕ, List, [], ◌≡◌, ◌≤◌, ◌<◌, ◌↔◌, true, false, length, IfOk, IsErr, IsErrOf, OnErr};
 ghost use Rattle.session_base.specs.declared.publication.Publication.{Publication};
 ghost use Rattle.headline.specs.agreement.World.{can_open};
-ghost use Rattle.headline.specs.ballot.Losses.{greatest_count, one_more};
+ghost use Rattle.headline.specs.ballot_base.Losses.{greatest_count, one_more};
 ghost use Rattle.headline.specs.packet_world.World.{ClientsAreApart};
 ghost use Rattle.world.specs.Trace.{AgreedGrows, AreReached, CountsOnce, StaysReached, KeepsGroup};
 ghost use Rattle.world.specs.Asking.{EventAsks, RunAsks};

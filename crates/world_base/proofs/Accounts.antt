@@ -3,7 +3,7 @@ use Rattle.std.proofs.Common.{◌≡◌, ℕ, zero, suc, ◌+◌, ◌-◌, ◌�
 use Rattle.std.proofs.lemmas.List.{append-nil}
 use Rattle.broker_spec.specs.declared.command.Command.{Command}
 use Rattle.broker_spec.specs.declared.command.Output.{Output}
-use Rattle.ballot.specs.Effect.{Effect}
+use Rattle.ballot.specs.ballot_base.declared.message.Effect.{Effect}
 use Rattle.world_base.specs.Core.{CoreState}
 use Rattle.world_base.specs.Inside.{Ran}
 use Rattle.world_base.specs.Lossy.{Account, Repeated, Then, joined, without_effects}

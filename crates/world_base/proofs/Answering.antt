@@ -6,15 +6,15 @@ use Rattle.std.proofs.lemmas.Bool.{lt-ltb, le-ltb, cases_lt}
 use Rattle.broker.specs.broker_base.State.{State}
 use Rattle.broker_spec.specs.declared.command.Command.{Command}
 use Rattle.broker_spec.specs.declared.command.Output.{Output}
-use Rattle.ballot.specs.Logs.{places}
-use Rattle.ballot.specs.ProposeError.{ProposeError}
-use Rattle.ballot.specs.ProposeError.TheVariants.{NotActive, LogFull, Memory, Halted}
-use Rattle.ballot.specs.Effect.{Effect}
-use Rattle.ballot.specs.Losses.{Done, Stepped, Steps, halted, one_more}
-use Rattle.ballot.specs.Protocol.{Input, replica_step}
-use Rattle.ballot.specs.Replica.{CountedReplica, ReplicaState, is_active}
-use Rattle.ballot.specs.Sending.{Outcome, nothing_done}
-use Rattle.ballot.specs.Serving.{added, max_places, proposed}
+use Rattle.ballot.specs.ballot_base.Logs.{places}
+use Rattle.ballot.specs.ballot_errors.declared.error.ProposeError.{ProposeError}
+use Rattle.ballot.specs.ballot_errors.declared.error.ProposeError.TheVariants.{NotActive, LogFull, Memory, Halted}
+use Rattle.ballot.specs.ballot_base.declared.message.Effect.{Effect}
+use Rattle.ballot.specs.ballot_base.Losses.{Done, Stepped, Steps, halted, one_more}
+use Rattle.ballot.specs.ballot_base.Protocol.{Input, replica_step}
+use Rattle.ballot.specs.ballot_base.Replica.{CountedReplica, ReplicaState, is_active}
+use Rattle.ballot.specs.ballot_base.Sending.{Outcome, nothing_done}
+use Rattle.ballot.specs.ballot_base.Serving.{added, max_places, proposed}
 use Rattle.world_base.specs.Core.{CoreState, rules, serves}
 use Rattle.world_base.specs.Inside.{StepsReplicaOrLoses, Answered, HandledAll, ProposedBy, Ran}
 use Rattle.world_base.specs.Lossy.{Account, HandlesAll, Drives, without_effects}

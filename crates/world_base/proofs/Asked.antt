@@ -5,15 +5,15 @@ use Rattle.std.proofs.lemmas.Bool.{lt-ltb, le-ltb, cases_lt}
 use Rattle.broker.specs.broker_base.State.{State}
 use Rattle.broker_spec.specs.declared.command.Command.{Command}
 use Rattle.broker_spec.specs.declared.command.Output.{Output}
-use Rattle.ballot.specs.Logs.{places}
-use Rattle.ballot.specs.ProposeError.{ProposeError}
-use Rattle.ballot.specs.ProposeError.TheVariants.{NotActive, LogFull, Memory, Halted}
-use Rattle.ballot.specs.Effect.{Effect}
-use Rattle.ballot.specs.Losses.{Stepped, Steps, one_more}
-use Rattle.ballot.specs.Replica.{CountedReplica, ReplicaState, is_active}
-use Rattle.ballot.specs.Sending.{Outcome}
-use Rattle.ballot.specs.Serving.{max_places, proposed}
-use Rattle.ballot.proofs.StepRows.{proposed-adds, proposed-full, added-stopped}
+use Rattle.ballot.specs.ballot_base.Logs.{places}
+use Rattle.ballot.specs.ballot_errors.declared.error.ProposeError.{ProposeError}
+use Rattle.ballot.specs.ballot_errors.declared.error.ProposeError.TheVariants.{NotActive, LogFull, Memory, Halted}
+use Rattle.ballot.specs.ballot_base.declared.message.Effect.{Effect}
+use Rattle.ballot.specs.ballot_base.Losses.{Stepped, Steps, one_more}
+use Rattle.ballot.specs.ballot_base.Replica.{CountedReplica, ReplicaState, is_active}
+use Rattle.ballot.specs.ballot_base.Sending.{Outcome}
+use Rattle.ballot.specs.ballot_base.Serving.{max_places, proposed}
+use Rattle.ballot.proofs.of_ballot_base.StepRows.{proposed-adds, proposed-full, added-stopped}
 use Rattle.world_base.specs.Core.{CoreState, rules, serves}
 use Rattle.world_base.specs.Effects.{has_room}
 

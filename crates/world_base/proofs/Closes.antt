@@ -4,10 +4,10 @@ use Rattle.std.proofs.lemmas.Bool.{lt-ltb, cases_lt}
 use Rattle.broker_spec.specs.declared.command.Command.{Command}
 use Rattle.broker_spec.specs.declared.command.Command.TheVariants as commands
 use Rattle.broker_spec.specs.declared.command.Output.{Output}
-use Rattle.ballot.specs.Logs.{places}
-use Rattle.ballot.specs.Effect.{Effect}
-use Rattle.ballot.specs.Serving.{max_places}
-use Rattle.ballot.proofs.StepRows.{proposed-full}
+use Rattle.ballot.specs.ballot_base.Logs.{places}
+use Rattle.ballot.specs.ballot_base.declared.message.Effect.{Effect}
+use Rattle.ballot.specs.ballot_base.Serving.{max_places}
+use Rattle.ballot.proofs.of_ballot_base.StepRows.{proposed-full}
 use Rattle.node_connections.specs.declared.port.Port.{Port}
 use Rattle.node_connections.specs.declared.connection.Connection.{Connection}
 use Rattle.node_connections.specs.Connections.{is_proposed}

@@ -2,7 +2,7 @@
 use Rattle.std.proofs.Common.{◌≡◌, ◌⊎◌, inl, inr, ℕ, Bool, true, false, if◌then◌else◌, not, ◌&&◌, nat_le, ◌+◌, List, [], ◌∷◌, ◌++◌, length, append_assoc, refl, sym, ap, subst, ◌∙◌}
 use Rattle.std.proofs.lemmas.List.{append-nil}
 use Rattle.packet.specs.declared.packet.Packet.{Packet}
-use Rattle.node_connections.specs.packet.RefusalCode.{RefusalCode}
+use Rattle.node_connections.specs.packet_base.declared.refusal_code.RefusalCode.{RefusalCode}
 use Rattle.packet.specs.declared.packet.Packet.TheVariants as packets
 use Rattle.packet.specs.declared.connack.Connack.TheVariants as connacks
 use Rattle.packet.specs.Spelling.{spelling}
@@ -12,9 +12,9 @@ use Rattle.broker_spec.specs.declared.command.Output.{Output}
 use Rattle.broker_spec.specs.declared.command.Output.TheVariants as outputs
 use Rattle.broker_spec.proofs.ConnectionNames.{same_name}
 use Rattle.ballot.specs.lists.Lists.{Each}
-use Rattle.ballot.specs.Effect.{Effect}
-use Rattle.ballot.specs.Effect.TheVariants.{To, Out}
-use Rattle.ballot.specs.Message.{Message}
+use Rattle.ballot.specs.ballot_base.declared.message.Effect.{Effect}
+use Rattle.ballot.specs.ballot_base.declared.message.Effect.TheVariants.{To, Out}
+use Rattle.ballot.specs.ballot_base.declared.message.Message.{Message}
 use Rattle.node_connections.specs.declared.connection.Connection.{Connection}
 use Rattle.node_connections.specs.declared.connection.ConnectionStage.TheVariants.{Closed, Failed}
 use Rattle.node_connections.specs.Connections.{is_open_named, is_closed, is_proposed}

@@ -3,9 +3,9 @@ use Rattle.std.proofs.Common.{◌≡◌, ℕ, ◌⊎◌, inl, inr, ◌+◌, ◌-
 use Rattle.std.proofs.lemmas.Bool.{cases_Bool}
 use Rattle.broker.specs.broker_base.State.{State}
 use Rattle.broker_spec.specs.declared.command.Command.{Command}
-use Rattle.ballot.specs.Cutting.{can_cut, cut}
-use Rattle.ballot.specs.Losses.{one_more}
-use Rattle.ballot.specs.Replica.{CountedReplica, ReplicaState}
+use Rattle.ballot.specs.ballot_base.Cutting.{can_cut, cut}
+use Rattle.ballot.specs.ballot_base.Losses.{one_more}
+use Rattle.ballot.specs.ballot_base.Replica.{CountedReplica, ReplicaState}
 use Rattle.world_base.specs.Core.{CoreState, rules}
 use Rattle.world_base.specs.Inside.{DoesExactly, Running}
 use Rattle.world_base.specs.Lossy.{without_effects}

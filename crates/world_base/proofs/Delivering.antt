@@ -3,9 +3,9 @@ use Rattle.std.proofs.Common.{◌≡◌, ℕ, Bool, true, false, if◌then◌els
 use Rattle.std.proofs.lemmas.List.{append-nil}
 use Rattle.broker_spec.specs.declared.command.Command.{Command}
 use Rattle.broker_spec.specs.declared.command.Output.{Output}
-use Rattle.ballot.specs.Effect.{Effect}
-use Rattle.ballot.specs.Effect.TheVariants.{To, Out}
-use Rattle.ballot.specs.Message.{Message}
+use Rattle.ballot.specs.ballot_base.declared.message.Effect.{Effect}
+use Rattle.ballot.specs.ballot_base.declared.message.Effect.TheVariants.{To, Out}
+use Rattle.ballot.specs.ballot_base.declared.message.Message.{Message}
 use Rattle.world_base.specs.Core.{CoreState}
 use Rattle.world_base.specs.Inside.{HandledAll}
 use Rattle.world_base.specs.Lossy.{HandlesAll, Performs}

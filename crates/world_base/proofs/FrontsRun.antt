@@ -1,14 +1,14 @@
 -- FrontsRun.antt: what is done by what the unread bytes of a connection begin with, if memory may
 -- have run out.
 use Rattle.std.proofs.Common.{◌≡◌, ℕ, Bool, true, false, if◌then◌else◌, List, Option, Some, None, ◌⊎◌, inl, inr, refl, sym, ap, subst, ◌∙◌}
-use Rattle.node_connections.specs.packet.RefusalCode.{RefusalCode}
+use Rattle.node_connections.specs.packet_base.declared.refusal_code.RefusalCode.{RefusalCode}
 use Rattle.packet.specs.declared.packet.Packet.{Packet}
 use Rattle.packet.specs.declared.packet.Packet.TheVariants as packets
 use Rattle.packet.specs.declared.connect.Connect.{Connect}
 use Rattle.broker_spec.specs.Connection.{ConnectionName}
 use Rattle.broker_spec.specs.declared.command.Command.{Command}
 use Rattle.broker_spec.specs.declared.command.Output.{Output}
-use Rattle.ballot.specs.Effect.{Effect}
+use Rattle.ballot.specs.ballot_base.declared.message.Effect.{Effect}
 use Rattle.node_connections.specs.declared.port.Port.{Port}
 use Rattle.node_connections.specs.declared.front.Front.{Front}
 use Rattle.node_connections.specs.declared.front.Front.TheVariants as fronts

@@ -10,9 +10,9 @@ use Rattle.broker_spec.specs.Connection.{ConnectionName, is_connection_name}
 use Rattle.broker_spec.specs.declared.command.Command.{Command}
 use Rattle.broker_spec.specs.declared.command.Command.TheVariants as commands
 use Rattle.broker_spec.specs.declared.command.Output.{Output}
-use Rattle.ballot.specs.Protocol.{Input}
-use Rattle.ballot.specs.Protocol.Input.{Receives, Ticks}
-use Rattle.ballot.specs.Sending.{Outcome}
+use Rattle.ballot.specs.ballot_base.Protocol.{Input}
+use Rattle.ballot.specs.ballot_base.Protocol.Input.{Receives, Ticks}
+use Rattle.ballot.specs.ballot_base.Sending.{Outcome}
 use Rattle.node_connections.specs.declared.port.Port.{Port}
 use Rattle.world_base.specs.declared.item.Item.{Item}
 use Rattle.world_base.specs.declared.item.Item.TheVariants.{Peer, Tick, Opened, Bytes, Ended, Expel, Cut, Crash}

@@ -4,16 +4,16 @@ use Rattle.std.specs.List.{find}
 use Rattle.broker.specs.broker_base.State.{State}
 use Rattle.broker_spec.specs.declared.command.Command.{Command}
 use Rattle.broker_spec.specs.declared.command.Output.{Output}
-use Rattle.ballot.specs.Effect.{Effect}
-use Rattle.ballot.specs.Losses.{SendsAndAddsNothing, Stepped, Steps, Thinned}
-use Rattle.ballot.specs.Losses.Thinned.{keeps, loses}
-use Rattle.ballot.specs.Losses.Thinned.{none as none_missing}
-use Rattle.ballot.specs.Message.{Message}
-use Rattle.ballot.specs.Protocol.{replica_step}
-use Rattle.ballot.specs.Protocol.Input.{Receives}
-use Rattle.ballot.specs.Replica.{CountedReplica, ReplicaState}
-use Rattle.ballot.specs.Sending.{Outcome, nothing_done}
-use Rattle.ballot.specs.Unread.{is_unread}
+use Rattle.ballot.specs.ballot_base.declared.message.Effect.{Effect}
+use Rattle.ballot.specs.ballot_base.Losses.{SendsAndAddsNothing, Stepped, Steps, Thinned}
+use Rattle.ballot.specs.ballot_base.Losses.Thinned.{keeps, loses}
+use Rattle.ballot.specs.ballot_base.Losses.Thinned.{none as none_missing}
+use Rattle.ballot.specs.ballot_base.declared.message.Message.{Message}
+use Rattle.ballot.specs.ballot_base.Protocol.{replica_step}
+use Rattle.ballot.specs.ballot_base.Protocol.Input.{Receives}
+use Rattle.ballot.specs.ballot_base.Replica.{CountedReplica, ReplicaState}
+use Rattle.ballot.specs.ballot_base.Sending.{Outcome, nothing_done}
+use Rattle.ballot.specs.ballot_base.Unread.{is_unread}
 use Rattle.node_connections.specs.Connections.{has_failed}
 use Rattle.world_base.specs.declared.item.Item.{Item}
 use Rattle.world_base.specs.declared.item.Item.TheVariants.{Peer}

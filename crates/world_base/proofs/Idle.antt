@@ -5,11 +5,11 @@ use Rattle.broker.specs.broker_base.State.{State}
 use Rattle.broker_spec.specs.declared.command.Command.{Command}
 use Rattle.broker_spec.specs.declared.command.Command.TheVariants as commands
 use Rattle.broker_spec.specs.declared.command.Output.{Output}
-use Rattle.ballot.specs.Effect.{Effect}
-use Rattle.ballot.specs.Message.{Message}
-use Rattle.ballot.specs.Protocol.{Input}
-use Rattle.ballot.specs.Protocol.Input.{Receives, Ticks}
-use Rattle.ballot.specs.Sending.{Outcome}
+use Rattle.ballot.specs.ballot_base.declared.message.Effect.{Effect}
+use Rattle.ballot.specs.ballot_base.declared.message.Message.{Message}
+use Rattle.ballot.specs.ballot_base.Protocol.{Input}
+use Rattle.ballot.specs.ballot_base.Protocol.Input.{Receives, Ticks}
+use Rattle.ballot.specs.ballot_base.Sending.{Outcome}
 use Rattle.node_connections.specs.declared.port.Port.{Port}
 use Rattle.world_base.specs.declared.item.Item.{Item}
 use Rattle.world_base.specs.declared.item.Item.TheVariants.{Peer, Tick, Opened, Bytes, Ended, Expel, Cut, Crash}
@@ -25,7 +25,7 @@ use Rattle.world_base.specs.Lossy.{Account, Drives, Repeated, without_effects}
 use Rattle.world_base.specs.Lossy.HandlesAll.{nothing}
 use Rattle.world_base.specs.LossyStep.{ActsOn, LosesAllFailed, ReadsPackets, DoesItem}
 use Rattle.world_base.specs.LossyReading.{EndsSilent, ReadsNext}
-use Rattle.ballot.specs.Cutting.{can_cut}
+use Rattle.ballot.specs.ballot_base.Cutting.{can_cut}
 use Rattle.world_base.specs.LossyProposals.Declines.{no_room}
 use Rattle.world_base.specs.LossyStep.Cuts.{nothing_to_cut}
 use Rattle.world_base.specs.LossyReading.EndsConnection.{none_open}

@@ -26,4 +26,4 @@ mod Settles
 mod Silences
 mod StepsJoin
 mod Repeats
-pub use Rattle.ballot.proofs as of_ballot
+pub use Rattle.ballot.proofs.of_ballot_base as of_ballot_base

@@ -5,13 +5,13 @@ use Rattle.std.proofs.lemmas.Bool.{lt-ltb, le-ltb, cases_lt}
 use Rattle.broker.specs.broker_base.State.{State}
 use Rattle.broker_spec.specs.declared.command.Command.{Command}
 use Rattle.broker_spec.specs.declared.command.Output.{Output}
-use Rattle.ballot.specs.Logs.{places}
-use Rattle.ballot.specs.Effect.{Effect}
-use Rattle.ballot.specs.Losses.{Done, Steps, Thinned, halted, one_more}
-use Rattle.ballot.specs.Replica.{CountedReplica, is_active}
-use Rattle.ballot.specs.Sending.{Outcome}
-use Rattle.ballot.specs.Serving.{added, max_places, proposed}
-use Rattle.ballot.proofs.StepRows.{proposed-adds, proposed-full}
+use Rattle.ballot.specs.ballot_base.Logs.{places}
+use Rattle.ballot.specs.ballot_base.declared.message.Effect.{Effect}
+use Rattle.ballot.specs.ballot_base.Losses.{Done, Steps, Thinned, halted, one_more}
+use Rattle.ballot.specs.ballot_base.Replica.{CountedReplica, is_active}
+use Rattle.ballot.specs.ballot_base.Sending.{Outcome}
+use Rattle.ballot.specs.ballot_base.Serving.{added, max_places, proposed}
+use Rattle.ballot.proofs.of_ballot_base.StepRows.{proposed-adds, proposed-full}
 use Rattle.world_base.specs.Core.{CoreState, rules, serves}
 use Rattle.world_base.specs.Lossy.{Account, ReplicaSteps}
 use Rattle.world_base.specs.LossyProposals.{ProposalsAreSteps}

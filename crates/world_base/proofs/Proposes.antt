@@ -4,10 +4,10 @@ use Rattle.std.proofs.Common.{◌≡◌, true, false, List, refl, ap, subst, ◌
 use Rattle.broker.specs.broker_base.State.{State}
 use Rattle.broker_spec.specs.declared.command.Command.{Command}
 use Rattle.broker_spec.specs.declared.command.Output.{Output}
-use Rattle.ballot.specs.Effect.{Effect}
-use Rattle.ballot.specs.Protocol.{Input}
-use Rattle.ballot.specs.Sending.{Outcome}
-use Rattle.ballot.specs.Serving.{proposed}
+use Rattle.ballot.specs.ballot_base.declared.message.Effect.{Effect}
+use Rattle.ballot.specs.ballot_base.Protocol.{Input}
+use Rattle.ballot.specs.ballot_base.Sending.{Outcome}
+use Rattle.ballot.specs.ballot_base.Serving.{proposed}
 use Rattle.world_base.specs.Core.{StepOutcome, rules, serves}
 use Rattle.world_base.specs.Inside.{Running, StepsReplica, DoesOutcome}
 use Rattle.world_base.specs.Effects.{handled_all, drives, heard, moved, proposes}

@@ -1,14 +1,14 @@
 -- A node: one replica of the broker with its connections, and how it opens.
 use Rattle.std.specs.Prelude.{ℕ, Bool, not, ◌&&◌, List, []}
-use Rattle.ballot.specs.Machine.{Rules}
+use Rattle.ballot.specs.machine.Machine.{Rules}
 use Rattle.broker.specs.broker_base.State.{State}
 use Rattle.broker_spec.specs.Connection.{ConnectionName}
 use Rattle.broker_spec.specs.declared.command.Command.{Command}
 use Rattle.broker_spec.specs.declared.command.Output.{Output}
 use Rattle.broker.specs.StandsFor.{broker_rules}
-use Rattle.ballot.specs.Config.{Config}
-use Rattle.ballot.specs.Effect.{Effect}
-use Rattle.ballot.specs.Replica.{CountedReplica, is_active, opening}
+use Rattle.ballot.specs.ballot_base.declared.config.Config.{Config}
+use Rattle.ballot.specs.ballot_base.declared.message.Effect.{Effect}
+use Rattle.ballot.specs.ballot_base.Replica.{CountedReplica, is_active, opening}
 use Rattle.node_connections.specs.declared.connection.Connection.{Connection}
 
 -- what a node keeps; its connections are in the order in which they were opened

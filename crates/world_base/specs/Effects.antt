@@ -6,13 +6,13 @@ use Rattle.broker_spec.specs.Connection.{ConnectionName}
 use Rattle.broker_spec.specs.declared.command.Command.{Command}
 use Rattle.broker_spec.specs.declared.command.Output.{Output}
 use Rattle.broker_spec.specs.declared.command.Output.TheVariants as outputs
-use Rattle.ballot.specs.Logs.{places}
-use Rattle.ballot.specs.Effect.{Effect}
-use Rattle.ballot.specs.Effect.TheVariants.{To, Out}
-use Rattle.ballot.specs.Protocol.{Input, replica_step}
-use Rattle.ballot.specs.Replica.{ReplicaState}
-use Rattle.ballot.specs.Sending.{Outcome, nothing_done}
-use Rattle.ballot.specs.Serving.{proposed, max_places}
+use Rattle.ballot.specs.ballot_base.Logs.{places}
+use Rattle.ballot.specs.ballot_base.declared.message.Effect.{Effect}
+use Rattle.ballot.specs.ballot_base.declared.message.Effect.TheVariants.{To, Out}
+use Rattle.ballot.specs.ballot_base.Protocol.{Input, replica_step}
+use Rattle.ballot.specs.ballot_base.Replica.{ReplicaState}
+use Rattle.ballot.specs.ballot_base.Sending.{Outcome, nothing_done}
+use Rattle.ballot.specs.ballot_base.Serving.{proposed, max_places}
 use Rattle.node_connections.specs.declared.connection.Connection.{Connection}
 use Rattle.node_connections.specs.Connections.{is_open_named}
 use Rattle.node_connections.specs.ConnectionChanges.{closed, put_out, changed}

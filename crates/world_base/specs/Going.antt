@@ -5,13 +5,13 @@ use Rattle.broker_spec.specs.Connection.{ConnectionName, same_connection}
 use Rattle.broker_spec.specs.declared.command.Command.{Command}
 use Rattle.broker_spec.specs.declared.command.Output.{Output}
 use Rattle.broker_spec.specs.declared.command.Output.TheVariants as outputs
-use Rattle.node_connections.specs.packet.RefusalCode.{RefusalCode}
+use Rattle.node_connections.specs.packet_base.declared.refusal_code.RefusalCode.{RefusalCode}
 use Rattle.packet.specs.declared.packet.Packet.TheVariants as packets
 use Rattle.packet.specs.declared.connack.Connack.TheVariants as connacks
 use Rattle.packet.specs.Spelling.{spelling}
 use Rattle.ballot.specs.lists.Lists.{Each, IsPrefixOf}
-use Rattle.ballot.specs.Effect.{Effect}
-use Rattle.ballot.specs.Effect.TheVariants.{To, Out}
+use Rattle.ballot.specs.ballot_base.declared.message.Effect.{Effect}
+use Rattle.ballot.specs.ballot_base.declared.message.Effect.TheVariants.{To, Out}
 use Rattle.world_base.specs.declared.item.Item.{Item}
 use Rattle.world_base.specs.declared.item.Item.TheVariants.{Opened}
 use Rattle.node_connections.specs.declared.connection.Connection.{Connection}

@@ -6,11 +6,11 @@ use Rattle.broker_spec.specs.Connection.{ConnectionName}
 use Rattle.broker_spec.specs.declared.command.Command.{Command}
 use Rattle.broker_spec.specs.declared.command.Command.TheVariants as commands
 use Rattle.broker_spec.specs.declared.command.Output.{Output}
-use Rattle.ballot.specs.Effect.{Effect}
-use Rattle.ballot.specs.Losses.{Done, Steps}
-use Rattle.ballot.specs.Replica.{CountedReplica}
-use Rattle.ballot.specs.Sending.{Outcome}
-use Rattle.ballot.specs.Serving.{added}
+use Rattle.ballot.specs.ballot_base.declared.message.Effect.{Effect}
+use Rattle.ballot.specs.ballot_base.Losses.{Done, Steps}
+use Rattle.ballot.specs.ballot_base.Replica.{CountedReplica}
+use Rattle.ballot.specs.ballot_base.Sending.{Outcome}
+use Rattle.ballot.specs.ballot_base.Serving.{added}
 use Rattle.packet.specs.declared.packet.Packet.{Packet}
 use Rattle.world_base.specs.Core.{CoreState, StepOutcome, rules}
 use Rattle.node_connections.specs.declared.port.Port.{Port}

@@ -22,6 +22,9 @@ pub use Rattle.ballot.specs.Message
 pub use Rattle.ballot.specs.Config
 pub use Rattle.broker_spec.specs.declared.command.Command
 pub use Rattle.broker_spec.specs.declared.command.Output
-pub use Rattle.ballot.specs as ballot
 pub use Rattle.node_connections.specs.cutter as cutter
 pub use Rattle.ballot.specs.lists as lists
+pub use Rattle.node_connections.specs as node_connections
+pub use Rattle.ballot.specs.ballot_base as ballot_base
+pub use Rattle.ballot.specs.machine as machine
+pub use Rattle.broker_spec.specs as broker_spec

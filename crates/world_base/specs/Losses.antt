@@ -4,18 +4,18 @@ use Rattle.std.specs.List.{find}
 use Rattle.ballot.specs.lists.Lists.{Each}
 use Rattle.broker_spec.specs.declared.command.Command.{Command}
 use Rattle.broker_spec.specs.declared.command.Output.{Output}
-use Rattle.ballot.specs.Effect.{Effect}
-use Rattle.ballot.specs.Cutting.{can_cut}
-use Rattle.ballot.specs.Losses.{SendsAndAddsNothing, greatest_count, one_more}
-use Rattle.ballot.specs.Protocol.{Input}
-use Rattle.ballot.specs.Protocol.Input.{Receives, Ticks}
-use Rattle.ballot.specs.Sending.{nothing_done}
+use Rattle.ballot.specs.ballot_base.declared.message.Effect.{Effect}
+use Rattle.ballot.specs.ballot_base.Cutting.{can_cut}
+use Rattle.ballot.specs.ballot_base.Losses.{SendsAndAddsNothing, greatest_count, one_more}
+use Rattle.ballot.specs.ballot_base.Protocol.{Input}
+use Rattle.ballot.specs.ballot_base.Protocol.Input.{Receives, Ticks}
+use Rattle.ballot.specs.ballot_base.Sending.{nothing_done}
 use Rattle.world_base.specs.declared.item.Item.{Item}
 use Rattle.world_base.specs.declared.item.Item.TheVariants.{Peer, Tick, Opened, Bytes, Ended, Expel, Cut, Crash}
 use Rattle.node_connections.specs.declared.connection.Connection.{Connection}
 use Rattle.node_connections.specs.Connections.{has_failed, is_proposed}
-use Rattle.ballot.specs.Message.{Message}
-use Rattle.ballot.specs.Unread.{is_unread}
+use Rattle.ballot.specs.ballot_base.declared.message.Message.{Message}
+use Rattle.ballot.specs.ballot_base.Unread.{is_unread}
 use Rattle.world_base.specs.Core.{CoreState, CountedCore, StepOutcome, rules}
 use Rattle.world_base.specs.KeepAlive.{lowest_silent}
 use Rattle.world_base.specs.LossyStep.{RunsOn}

@@ -4,14 +4,14 @@ use Rattle.broker.specs.broker_base.State.{State}
 use Rattle.broker_spec.specs.declared.command.Command.{Command}
 use Rattle.broker_spec.specs.declared.command.Output.{Output}
 use Rattle.broker_spec.specs.declared.command.Output.TheVariants as outputs
-use Rattle.ballot.specs.Effect.{Effect}
-use Rattle.ballot.specs.Effect.TheVariants.{To, Out}
-use Rattle.ballot.specs.Message.{Message}
-use Rattle.ballot.specs.Losses.{Done, Steps}
-use Rattle.ballot.specs.Protocol.{Input}
-use Rattle.ballot.specs.Replica.{CountedReplica}
-use Rattle.ballot.specs.Sending.{Outcome}
-use Rattle.ballot.specs.Serving.{added}
+use Rattle.ballot.specs.ballot_base.declared.message.Effect.{Effect}
+use Rattle.ballot.specs.ballot_base.declared.message.Effect.TheVariants.{To, Out}
+use Rattle.ballot.specs.ballot_base.declared.message.Message.{Message}
+use Rattle.ballot.specs.ballot_base.Losses.{Done, Steps}
+use Rattle.ballot.specs.ballot_base.Protocol.{Input}
+use Rattle.ballot.specs.ballot_base.Replica.{CountedReplica}
+use Rattle.ballot.specs.ballot_base.Sending.{Outcome}
+use Rattle.ballot.specs.ballot_base.Serving.{added}
 use Rattle.node_connections.specs.ConnectionChanges.{failing}
 use Rattle.world_base.specs.Core.{CoreState, rules}
 use Rattle.world_base.specs.Effects.{changes_named, has_room, heard, performed_by}

@@ -1,8 +1,8 @@
 -- What is done with a proposal if memory may run out: it is taken, or the replica declines it.
 use Rattle.std.specs.Prelude.{◌≡◌, ◌⊎◌, true, false}
 use Rattle.broker_spec.specs.declared.command.Command.{Command}
-use Rattle.ballot.specs.Losses.{halted, one_more}
-use Rattle.ballot.specs.Serving.{proposed}
+use Rattle.ballot.specs.ballot_base.Losses.{halted, one_more}
+use Rattle.ballot.specs.ballot_base.Serving.{proposed}
 use Rattle.world_base.specs.Core.{CoreState, rules, serves}
 use Rattle.world_base.specs.Effects.{has_room}
 use Rattle.world_base.specs.Lossy.{Account, without_effects, ReplicaSteps, TakesCommand}

@@ -1,8 +1,8 @@
 -- How a connection ends, and how its next packet is read, if memory may run out.
 use Rattle.std.specs.Prelude.{◌≡◌, ◌⊎◌, ℕ, true, false, List, Option, Some, None, Ok, Err}
 use Rattle.std.specs.List.{find}
-use Rattle.node_connections.specs.packet.Stop.TheVariants as stops
-use Rattle.node_connections.specs.packet.RefusalCode.{RefusalCode}
+use Rattle.node_connections.specs.packet_base.declared.stop.Stop.TheVariants as stops
+use Rattle.node_connections.specs.packet_base.declared.refusal_code.RefusalCode.{RefusalCode}
 use Rattle.packet.specs.declared.packet.Packet.{Packet}
 use Rattle.packet.specs.declared.packet.Packet.TheVariants as packets
 use Rattle.packet.specs.declared.connect.Connect.{Connect}

@@ -4,14 +4,14 @@ use Rattle.std.specs.Prelude.{◌≡◌, ◌⊎◌, ℕ, true, false, List, leng
 use Rattle.broker_spec.specs.declared.command.Command.{Command}
 use Rattle.broker_spec.specs.declared.command.Command.TheVariants as commands
 use Rattle.broker_spec.specs.declared.command.Output.{Output}
-use Rattle.ballot.specs.Effect.{Effect}
-use Rattle.ballot.specs.Protocol.Input.{Receives, Ticks}
+use Rattle.ballot.specs.ballot_base.declared.message.Effect.{Effect}
+use Rattle.ballot.specs.ballot_base.Protocol.Input.{Receives, Ticks}
 use Rattle.node_connections.specs.declared.port.Port.{Port}
 use Rattle.world_base.specs.declared.item.Item.{Item}
 use Rattle.world_base.specs.declared.item.Item.TheVariants.{Peer, Tick, Opened, Bytes, Ended, Expel, Cut, Crash}
 use Rattle.node_connections.specs.ConnectionChanges.{holding}
-use Rattle.ballot.specs.Cutting.{can_cut}
-use Rattle.ballot.specs.Losses.{one_more}
+use Rattle.ballot.specs.ballot_base.Cutting.{can_cut}
+use Rattle.ballot.specs.ballot_base.Losses.{one_more}
 use Rattle.world_base.specs.Core.{CoreState, rules}
 use Rattle.world_base.specs.Lossy.{Account, Drives, Repeated, Then, without_effects}
 use Rattle.world_base.specs.LossyProposals.{ProposesCommand}

@@ -1,8 +1,8 @@
 -- What a node reads from a connection, and how a connection ends (MQTT 3.1.4, 3.2, 4.8).
 use Rattle.std.specs.Prelude.{ℕ, if◌then◌else◌, List, length, Option, Some, None, Result, Ok, Err}
 use Rattle.std.specs.List.{find}
-use Rattle.node_connections.specs.packet.Stop.{Stop}
-use Rattle.node_connections.specs.packet.Stop.TheVariants as stops
+use Rattle.node_connections.specs.packet_base.declared.stop.Stop.{Stop}
+use Rattle.node_connections.specs.packet_base.declared.stop.Stop.TheVariants as stops
 use Rattle.packet.specs.declared.packet.Packet.{Packet}
 use Rattle.packet.specs.declared.packet.Packet.TheVariants as packets
 use Rattle.packet.specs.declared.connect.Connect.{Connect}

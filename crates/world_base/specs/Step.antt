@@ -3,9 +3,9 @@ use Rattle.std.specs.Prelude.{ℕ, ◌+◌, Bool, not, ◌&&◌, ◌==◌, if◌
 use Rattle.std.specs.List.{list_any}
 use Rattle.broker_spec.specs.Connection.{ConnectionName, is_connection_name}
 use Rattle.broker_spec.specs.declared.command.Command.TheVariants as commands
-use Rattle.ballot.specs.Cutting.{can_cut, cut}
-use Rattle.ballot.specs.Losses.{halted}
-use Rattle.ballot.specs.Protocol.Input.{Receives, Ticks}
+use Rattle.ballot.specs.ballot_base.Cutting.{can_cut, cut}
+use Rattle.ballot.specs.ballot_base.Losses.{halted}
+use Rattle.ballot.specs.ballot_base.Protocol.Input.{Receives, Ticks}
 use Rattle.node_connections.specs.declared.port.Port.{Port}
 use Rattle.world_base.specs.declared.item.Item.{Item}
 use Rattle.world_base.specs.declared.item.Item.TheVariants.{Peer, Tick, Opened, Bytes, Ended, Expel, Cut, Crash}

@@ -1,9 +1,9 @@
 // What is given to the replica, and its effects, which are done at once.
 
 ghost use Rattle.std.specs.Prelude.{◌≡◌, ◌<◌, false, true, [], ◌∷◌};
-ghost use Rattle.ballot.specs.Losses.{greatest_count};
-ghost use Rattle.ballot.specs.Protocol.Input.{Receives, Ticks};
-ghost use Rattle.ballot.specs.Serving.{proposed};
+ghost use Rattle.ballot.specs.ballot_base.Losses.{greatest_count};
+ghost use Rattle.ballot.specs.ballot_base.Protocol.Input.{Receives, Ticks};
+ghost use Rattle.ballot.specs.ballot_base.Serving.{proposed};
 ghost use Rattle.world_base.specs.Core.{rules, serves};
 ghost use Rattle.world_base.specs.Inside.{StepsReplicaOrLoses, Answered, HandledAll, DoesExactly, DoesOutcome, StepsReplica, ProposedBy, Ran, WithoutFailure};
 ghost use Rattle.world_base.specs.Losses.{IsHeardQuietly, ReadsNone};

@@ -1,7 +1,7 @@
 // Items that do nothing at a node: these take no memory.
 
 ghost use Rattle.std.specs.Prelude.{◌≡◌, ◌↔◌, false, true};
-ghost use Rattle.ballot.specs.Protocol.Input.{Receives, Ticks};
+ghost use Rattle.ballot.specs.ballot_base.Protocol.Input.{Receives, Ticks};
 ghost use Rattle.world_base.specs.Losses.{DoesNothing, IsIgnored, ReadsNone};
 
 use crate::item::Item;

@@ -2,11 +2,11 @@
 
 ghost use Rattle.std.specs.Prelude.{◌≡◌, ◌≤◌, ◌↔◌, ◌++◌, false, not, [], if◌then◌else◌, IfOk, IsOk, IsErrOf, OnErr, OnOk};
 ghost use Rattle.std.specs.Option.{is_some};
-ghost use Rattle.ballot.specs.LawfulConfig.{is_lawful};
-ghost use Rattle.ballot.specs.Cutting.{can_cut};
-ghost use Rattle.ballot.specs.Logs.{places};
-ghost use Rattle.ballot.specs.Losses.{one_more};
-ghost use Rattle.ballot.specs.Replica.{status_of};
+ghost use Rattle.ballot.specs.ballot_base.LawfulConfig.{is_lawful};
+ghost use Rattle.ballot.specs.ballot_base.Cutting.{can_cut};
+ghost use Rattle.ballot.specs.ballot_base.Logs.{places};
+ghost use Rattle.ballot.specs.ballot_base.Losses.{one_more};
+ghost use Rattle.ballot.specs.ballot_base.Replica.{status_of};
 ghost use Rattle.broker_spec.specs.Connection.{is_connection_name};
 ghost use Rattle.world_base.specs.Core.{opening_core};
 ghost use Rattle.world_base.specs.Step.{next_name};

@@ -3,10 +3,10 @@
 ghost use Rattle.std.specs.Prelude.{◌≡◌, ◌⊎◌, ◌≤◌, ◌↔◌, false, true, not, [], length, IfOk, IfSome, OnSome, IfNone, IsErrOf};
 ghost use Rattle.std.specs.List.{list_any, position};
 ghost use Rattle.broker_spec.specs.Connection.{is_connection_name, max_count};
-ghost use Rattle.ballot.specs.LawfulConfig.{is_lawful};
-ghost use Rattle.ballot.specs.Cutting.{can_cut};
-ghost use Rattle.ballot.specs.Logs.{places};
-ghost use Rattle.ballot.specs.Replica.{status_of};
+ghost use Rattle.ballot.specs.ballot_base.LawfulConfig.{is_lawful};
+ghost use Rattle.ballot.specs.ballot_base.Cutting.{can_cut};
+ghost use Rattle.ballot.specs.ballot_base.Logs.{places};
+ghost use Rattle.ballot.specs.ballot_base.Replica.{status_of};
 ghost use Rattle.node_connections.specs.Connections.{has_failed, is_at, is_open_at, is_open_named};
 ghost use Rattle.node_connections.specs.ConnectionChanges.{noted_proposed, closed, failing, holding, put_out};
 ghost use Rattle.world_base.specs.Core.{opening_core, serves};

@@ -3,9 +3,9 @@ use Rattle.std.proofs.Common.{◌≡◌, inl, inr, ◌<◌, ◌^◌, ℕ, zero, 
 use Rattle.std.specs.Prelude.{slice_get, slice_set, get_or, OnOk, Result, Ok, Err}
 use Rattle.std.specs.Result.{is_err}
 use Rattle.std.proofs.lemmas.Option.{get_or_from_slice_get}
-use Rattle.master.specs.ballot.Effect.{Effect}
-use Rattle.master.specs.ballot.Losses.{one_more}
-use Rattle.master.specs.ballot.Message.{Message}
+use Rattle.master.specs.ballot_base.declared.message.Effect.{Effect}
+use Rattle.master.specs.ballot_base.Losses.{one_more}
+use Rattle.master.specs.ballot_base.declared.message.Message.{Message}
 use Rattle.master.specs.lists.Lists.{In}
 use Rattle.master.specs.snapshots.World.{messages}
 use Rattle.byte_world.specs.broker_spec.declared.command.Command.{Command}

@@ -2,7 +2,7 @@
 -- do.
 use Rattle.std.proofs.Common.{◌≡◌, ◌-◌, ℕ, Bool, false, List, ◌++◌, Some, refl, sym, ap, ◌∙◌, subst}
 use Rattle.std.specs.Prelude.{slice_get, slice_set}
-use Rattle.master.specs.ballot.Message.{Message}
+use Rattle.master.specs.ballot_base.declared.message.Message.{Message}
 use Rattle.master.specs.snapshots.World.{messages}
 use Rattle.byte_world.specs.broker_spec.declared.command.Command.{Command}
 use Rattle.world_base.specs.declared.item.Item.{Item}

@@ -3,9 +3,9 @@ use Rattle.std.proofs.Common.{◌≡◌, ℕ, ◌<◌, ◌≤◌, ◌-◌, ◌^�
 use Rattle.std.specs.Prelude.{slice_get}
 use Rattle.std.proofs.lemmas.List.{length-map}
 use Rattle.master.specs.lists.Lists.{In}
-use Rattle.master.specs.ballot.Message.{Message}
-use Rattle.master.specs.ballot.Replica.{ReplicaState, status_of}
-use Rattle.master.specs.ballot.Status.{Status}
+use Rattle.master.specs.ballot_base.declared.message.Message.{Message}
+use Rattle.master.specs.ballot_base.Replica.{ReplicaState, status_of}
+use Rattle.master.specs.ballot_base.declared.status.Status.{Status}
 use Rattle.master.specs.agreement.MasterState.{MasterState}
 use Rattle.byte_world.specs.broker_spec.declared.command.Command.{Command}
 use Rattle.byte_world.specs.broker_base.State.{State}

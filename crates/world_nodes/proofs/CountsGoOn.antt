@@ -1,7 +1,7 @@
 -- What nodes count stays what their messages tell, after what nodes do.
 use Rattle.std.proofs.Common.{◌≡◌, ℕ, true, List, ◌++◌, length, take, get_or, sym, ap, ◌∙◌, subst}
-use Rattle.master.specs.ballot.Config.{Config}
-use Rattle.master.specs.ballot.Message.{Message}
+use Rattle.master.specs.ballot_base.declared.config.Config.{Config}
+use Rattle.master.specs.ballot_base.declared.message.Message.{Message}
 use Rattle.master.specs.agreement.MasterState.{MasterState}
 use Rattle.master.specs.agreement.World.{can_open}
 use Rattle.byte_world.specs.broker_spec.declared.command.Command.{Command}

@@ -2,11 +2,11 @@
 use Rattle.std.proofs.Common.{◌≡◌, inl, inr, ◌⊎◌, ◌<◌, ◌≤◌, ◌+◌, ◌-◌, ℕ, zero, suc, Bool, true, false, not, ◌&&◌, nat_lt, if◌then◌else◌, List, [], ◌∷◌, ◌++◌, length, take, drop, Option, Some, None, refl, sym, ap, ◌∙◌, subst, arith}
 use Rattle.std.specs.Prelude.{get_or, slice_get}
 use Rattle.std.proofs.lemmas.Bool.{and_parts, ltb-true, ltb-false}
-use Rattle.master.specs.ballot.Cutting.{can_cut}
-use Rattle.master.specs.ballot.Losses.{one_more}
-use Rattle.master.specs.ballot.Message.{Message}
-use Rattle.master.specs.ballot.Replica.{status_of}
-use Rattle.master.specs.ballot.Status.{Status}
+use Rattle.master.specs.ballot_base.Cutting.{can_cut}
+use Rattle.master.specs.ballot_base.Losses.{one_more}
+use Rattle.master.specs.ballot_base.declared.message.Message.{Message}
+use Rattle.master.specs.ballot_base.Replica.{status_of}
+use Rattle.master.specs.ballot_base.declared.status.Status.{Status}
 use Rattle.byte_world.specs.broker_spec.declared.command.Command.{Command}
 use Rattle.master.specs.Inside.{ToldIn}
 use Rattle.master.specs.snapshots.World.{messages, recorded}

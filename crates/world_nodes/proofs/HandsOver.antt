@@ -2,7 +2,7 @@
 use Rattle.std.proofs.Common.{◌≡◌, ◌<◌, ◌≤◌, ◌-◌, ℕ, zero, suc, List, [], ◌∷◌, ◌++◌, length, Option, Some, refl, sym, ap, ◌∙◌, subst, arith}
 use Rattle.std.specs.Prelude.{get_or, slice_get, slice_set}
 use Rattle.std.proofs.lemmas.List.{append-nil}
-use Rattle.master.specs.ballot.Message.{Message}
+use Rattle.master.specs.ballot_base.declared.message.Message.{Message}
 use Rattle.byte_world.specs.broker_spec.declared.command.Command.{Command}
 use Rattle.world_base.specs.declared.Handed.{Handed}
 use Rattle.world_base.specs.declared.Port.{Port}

@@ -2,11 +2,11 @@
 use Rattle.std.proofs.Common.{◌≡◌, ℕ, Bool, true, false, List, [], ◌∷◌, ◌++◌, refl, sym, ap, ◌∙◌, subst, append_assoc}
 use Rattle.std.proofs.lemmas.List.{append-nil}
 use Rattle.std.specs.Bool.{OnFalse}
-use Rattle.master.specs.ballot.Effect.{Effect}
-use Rattle.master.specs.ballot.Effect.TheVariants.{To}
-use Rattle.master.specs.ballot.Losses.{Thinned}
-use Rattle.master.specs.ballot.Losses.Thinned.{none, keeps, loses}
-use Rattle.master.specs.ballot.Message.{Message}
+use Rattle.master.specs.ballot_base.declared.message.Effect.{Effect}
+use Rattle.master.specs.ballot_base.declared.message.Effect.TheVariants.{To}
+use Rattle.master.specs.ballot_base.Losses.{Thinned}
+use Rattle.master.specs.ballot_base.Losses.Thinned.{none, keeps, loses}
+use Rattle.master.specs.ballot_base.declared.message.Message.{Message}
 use Rattle.master.specs.snapshots.World.{messages}
 use Rattle.master.proofs.of_snapshots.Effects.{messages-append}
 use Rattle.byte_world.specs.broker_spec.declared.command.Command.{Command}

@@ -5,11 +5,11 @@ use Rattle.std.specs.Prelude.{slice_get, OnOk, Result, Ok, Err}
 use Rattle.std.specs.Bool.{OnTrue, OnFalse}
 use Rattle.master.specs.lists.Lists.{In}
 use Rattle.master.proofs.of_lists.Members.{in_at}
-use Rattle.master.specs.ballot.Body.{Body}
-use Rattle.master.specs.ballot.Body.TheVariants.{NewBallot, Join, State, Install, Installed, Activate, Activated, Superseded, Append, Held, Commit}
-use Rattle.master.specs.ballot.Config.{Config}
-use Rattle.master.specs.ballot.Losses.{one_more}
-use Rattle.master.specs.ballot.Message.{Message}
+use Rattle.master.specs.ballot_base.declared.message.Body.{Body}
+use Rattle.master.specs.ballot_base.declared.message.Body.TheVariants.{NewBallot, Join, State, Install, Installed, Activate, Activated, Superseded, Append, Held, Commit}
+use Rattle.master.specs.ballot_base.declared.config.Config.{Config}
+use Rattle.master.specs.ballot_base.Losses.{one_more}
+use Rattle.master.specs.ballot_base.declared.message.Message.{Message}
 use Rattle.master.specs.agreement.MasterState.{AssignRefusal, MasterState, activating, assigning, is_granted, master_after, refusal}
 use Rattle.master.specs.snapshots.Masters.{activated, assigned}
 use Rattle.byte_world.specs.broker_spec.declared.command.Command.{Command}

@@ -4,9 +4,9 @@ use Rattle.std.specs.Prelude.{◌↔◌, Result, Err}
 use Rattle.std.specs.Bool.{OnTrue, OnFalse}
 use Rattle.std.specs.Result.{IsErrOf}
 use Rattle.master.specs.lists.Lists.{In}
-use Rattle.master.specs.ballot.Body.{Body}
-use Rattle.master.specs.ballot.Body.TheVariants.{NewBallot, Activate, Activated, Superseded}
-use Rattle.master.specs.ballot.Config.{Config}
+use Rattle.master.specs.ballot_base.declared.message.Body.{Body}
+use Rattle.master.specs.ballot_base.declared.message.Body.TheVariants.{NewBallot, Activate, Activated, Superseded}
+use Rattle.master.specs.ballot_base.declared.config.Config.{Config}
 use Rattle.master.specs.agreement.MasterState.AssignRefusal.{bad_members, ballots_spent}
 use Rattle.master.specs.agreement.MasterState.{AssignRefusal, MasterState, activating, assigning, is_granted, refusal}
 use Rattle.byte_world.specs.broker_spec.declared.command.Command.{Command}

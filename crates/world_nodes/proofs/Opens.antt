@@ -2,8 +2,8 @@
 use Rattle.std.proofs.Common.{◌≡◌, ℕ, suc, ◌+◌, List, [], ◌∷◌, ◌++◌, sym, ap, ◌∙◌, subst, arith}
 use Rattle.std.proofs.lemmas.List.{map-append}
 use Rattle.master.specs.agreement.MasterState.{MasterState, opening_master}
-use Rattle.master.specs.ballot.Config.{Config}
-use Rattle.master.specs.ballot.Message.{Message}
+use Rattle.master.specs.ballot_base.declared.config.Config.{Config}
+use Rattle.master.specs.ballot_base.declared.message.Message.{Message}
 use Rattle.byte_world.specs.broker_spec.declared.command.Command.{Command}
 use Rattle.world_base.specs.Core.{CoreState, CountedCore, opening_core}
 use Rattle.byte_world.specs.node_group.Group.{opening_cores, opening_group}

@@ -3,24 +3,24 @@ use Rattle.std.proofs.Common.{◌≡◌, ◌⊎◌, inl, inr, ◌<◌, ◌^◌, 
 use Rattle.std.specs.Prelude.{slice_get, get_or, IfSome, OnOk, Result, Ok, Err}
 use Rattle.std.specs.List.{find}
 use Rattle.std.proofs.lemmas.Option.{same_Some, slice_get_within}
-use Rattle.master.specs.ballot.Body.{Body}
-use Rattle.master.specs.ballot.Body.TheVariants.{NewBallot, Join, State, Install, Installed, Activate, Activated, Superseded, Append, Held, Commit}
-use Rattle.master.specs.ballot.Effect.{Effect}
+use Rattle.master.specs.ballot_base.declared.message.Body.{Body}
+use Rattle.master.specs.ballot_base.declared.message.Body.TheVariants.{NewBallot, Join, State, Install, Installed, Activate, Activated, Superseded, Append, Held, Commit}
+use Rattle.master.specs.ballot_base.declared.message.Effect.{Effect}
 use Rattle.master.specs.Copying.{has_numbers_alone}
 use Rattle.master.specs.Inside.{ToldIn, asks_for}
 use Rattle.master.proofs.EarlierMembers.{NamesSome, names_some, quiet_does_nothing}
-use Rattle.master.specs.ballot.Losses.{SendsAndAddsNothing, one_more}
-use Rattle.master.specs.ballot.Message.{Message}
-use Rattle.master.specs.ballot.Protocol.{replica_step}
-use Rattle.master.specs.ballot.Protocol.Input.{Receives}
-use Rattle.master.specs.ballot.Replica.{ReplicaState}
-use Rattle.master.specs.ballot.Sending.{nothing_done}
+use Rattle.master.specs.ballot_base.Losses.{SendsAndAddsNothing, one_more}
+use Rattle.master.specs.ballot_base.declared.message.Message.{Message}
+use Rattle.master.specs.ballot_base.Protocol.{replica_step}
+use Rattle.master.specs.ballot_base.Protocol.Input.{Receives}
+use Rattle.master.specs.ballot_base.Replica.{ReplicaState}
+use Rattle.master.specs.ballot_base.Sending.{nothing_done}
 use Rattle.master.specs.lists.Lists.{In}
 use Rattle.master.proofs.of_lists.Members.{in_at}
 use Rattle.byte_world.specs.broker_spec.declared.command.Command.{Command}
 use Rattle.byte_world.specs.broker_spec.declared.command.Output.{Output}
 use Rattle.byte_world.specs.broker_base.State.{State as BrokerState}
-use Rattle.byte_world.specs.world_base.Connections.{has_failed}
+use Rattle.byte_world.specs.node_connections.Connections.{has_failed}
 use Rattle.world_base.specs.declared.item.Item.{Item}
 use Rattle.world_base.specs.declared.item.Item.TheVariants.{Peer}
 use Rattle.world_base.specs.Core.{CoreState, CountedCore, rules}

@@ -3,9 +3,9 @@ use Rattle.std.proofs.Common.{◌≡◌, ◌<◌, ℕ, zero, suc, Bool, false, L
 use Rattle.std.specs.Prelude.{IfOk, Result, Ok, Err, slice_get}
 use Rattle.std.proofs.lemmas.List.{take_more}
 use Rattle.std.proofs.lemmas.Option.{same_Some}
-use Rattle.master.specs.ballot.Logs.{Log}
-use Rattle.master.specs.ballot.Machine.{replay, replay_from}
-use Rattle.master.specs.ballot.Replica.{ReplicaState}
+use Rattle.master.specs.ballot_base.Logs.{Log}
+use Rattle.master.specs.machine.Machine.{replay, replay_from}
+use Rattle.master.specs.ballot_base.Replica.{ReplicaState}
 use Rattle.byte_world.specs.broker_spec.declared.command.Command.{Command}
 use Rattle.byte_world.specs.broker_spec.declared.command.Command.TheVariants as commands
 use Rattle.byte_world.specs.broker_spec.Place.{Client}

@@ -1,6 +1,6 @@
 -- The list on which nodes agree.
 use Rattle.std.specs.Prelude.{◌≡◌, ℕ, List, ◌∷◌, length}
-use Rattle.master.specs.ballot.Config.{Config}
+use Rattle.master.specs.ballot_base.declared.config.Config.{Config}
 use Rattle.master.specs.snapshots.Moments.{IsAgreed, Moment, Moments}
 use Rattle.byte_world.specs.broker_spec.declared.command.Command.{Command}
 use Rattle.byte_world.specs.broker_spec.declared.command.Output.{Output}

@@ -1,7 +1,7 @@
 -- What is asked of nodes before they are led out: the whole log of a node, and whether a client's
 -- session is found after it.
 use Rattle.std.specs.Prelude.{ℕ, Bool, false, List, [], ◌∷◌, ◌++◌, Option, Some, None}
-use Rattle.master.specs.ballot.Machine.{replay}
+use Rattle.master.specs.machine.Machine.{replay}
 use Rattle.master.specs.snapshots.Whole.{whole_log}
 use Rattle.packet.specs.declared.connack.Connack.TheVariants.{Accepted}
 use Rattle.packet.specs.declared.packet.Packet.TheVariants.{Connack}

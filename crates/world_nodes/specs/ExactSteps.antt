@@ -1,10 +1,10 @@
 -- What nodes and their master do, exactly, and how a group that corresponds to them then moves.
 use Rattle.std.specs.Prelude.{◌≡◌, ℕ, zero, suc, ◌-◌, [], ◌∷◌, ◌++◌, List, Option, Some, None, slice_set}
-use Rattle.master.specs.ballot.Body.{Body}
-use Rattle.master.specs.ballot.Body.TheVariants.{Activate}
-use Rattle.master.specs.ballot.Config.{Config}
-use Rattle.master.specs.ballot.Message.{Message}
-use Rattle.master.specs.ballot.Sending.{master}
+use Rattle.master.specs.ballot_base.declared.message.Body.{Body}
+use Rattle.master.specs.ballot_base.declared.message.Body.TheVariants.{Activate}
+use Rattle.master.specs.ballot_base.declared.config.Config.{Config}
+use Rattle.master.specs.ballot_base.declared.message.Message.{Message}
+use Rattle.master.specs.ballot_base.Sending.{master}
 use Rattle.master.specs.snapshots.Masters.{MasterOutcome, activated, assigned}
 use Rattle.master.specs.snapshots.World.{messages, recorded}
 use Rattle.byte_world.specs.broker_spec.declared.command.Command.{Command}

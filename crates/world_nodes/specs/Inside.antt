@@ -2,18 +2,18 @@
 use Rattle.std.specs.Prelude.{◌≡◌, ◌<◌, ℕ, Bool, true, ◌-◌, ◌++◌, List, [], Some, None, length, map, slice_get}
 use Rattle.std.specs.List.{find}
 use Rattle.master.specs.lists.Lists.{In}
-use Rattle.master.specs.ballot.Replica.{ReplicaState}
+use Rattle.master.specs.ballot_base.Replica.{ReplicaState}
 use Rattle.byte_world.specs.broker_base.State.{State}
 use Rattle.master.specs.snapshots.World.{messages}
-use Rattle.master.specs.ballot.Effect.{Effect}
-use Rattle.master.specs.ballot.Losses.{Thinned, greatest_count}
-use Rattle.master.specs.ballot.Message.{Message}
+use Rattle.master.specs.ballot_base.declared.message.Effect.{Effect}
+use Rattle.master.specs.ballot_base.Losses.{Thinned, greatest_count}
+use Rattle.master.specs.ballot_base.declared.message.Message.{Message}
 use Rattle.byte_world.specs.broker_spec.declared.command.Command.{Command}
 use Rattle.byte_world.specs.broker_spec.declared.command.Output.{Output}
 use Rattle.world_base.specs.declared.item.Item.{Item}
 use Rattle.world_base.specs.declared.item.Item.TheVariants.{Cut, Peer}
 use Rattle.world_base.specs.Core.{CountedCore, rules}
-use Rattle.byte_world.specs.world_base.Connections.{has_failed}
+use Rattle.byte_world.specs.node_connections.Connections.{has_failed}
 use Rattle.world_base.specs.Losses.{DoesNothing, ItemTakesNoMemory}
 use Rattle.world_base.specs.LossyStep.{RunsOn}
 use Rattle.world_base.specs.Step.{node_step}

@@ -1,6 +1,6 @@
 -- Nodes with their master and all messages that were sent, and which groups of the model they are.
 use Rattle.std.specs.Prelude.{◌≡◌, ℕ, List, map}
-use Rattle.master.specs.ballot.Message.{Message}
+use Rattle.master.specs.ballot_base.declared.message.Message.{Message}
 use Rattle.master.specs.agreement.MasterState.{MasterState}
 use Rattle.byte_world.specs.broker_spec.declared.command.Command.{Command}
 use Rattle.world_base.specs.Core.{CoreState, CountedCore}

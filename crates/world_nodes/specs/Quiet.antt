@@ -1,12 +1,12 @@
 -- What takes no memory at nodes: no loss is counted for it.
 use Rattle.std.specs.Prelude.{◌≡◌, ◌<◌, ℕ, zero, suc, [], Option, Some, None}
-use Rattle.master.specs.ballot.Losses.{greatest_count}
+use Rattle.master.specs.ballot_base.Losses.{greatest_count}
 use Rattle.std.specs.List.{find}
-use Rattle.master.specs.ballot.Body.{Body}
-use Rattle.master.specs.ballot.Body.TheVariants.{Activate}
-use Rattle.master.specs.ballot.Message.{Message}
+use Rattle.master.specs.ballot_base.declared.message.Body.{Body}
+use Rattle.master.specs.ballot_base.declared.message.Body.TheVariants.{Activate}
+use Rattle.master.specs.ballot_base.declared.message.Message.{Message}
 use Rattle.byte_world.specs.broker_spec.declared.command.Command.{Command}
-use Rattle.byte_world.specs.world_base.Connections.{has_failed}
+use Rattle.byte_world.specs.node_connections.Connections.{has_failed}
 use Rattle.world_base.specs.declared.item.Item.{Item}
 use Rattle.world_base.specs.declared.item.Item.TheVariants.{Peer}
 use Rattle.world_base.specs.declared.Port.{Port}

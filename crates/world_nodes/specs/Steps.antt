@@ -1,12 +1,12 @@
 -- Steps of nodes in which memory may have run out, and how these are counted.
 use Rattle.std.specs.Prelude.{◌≡◌, ◌⊎◌, ◌<◌, ◌-◌, ◌++◌, ℕ, zero, suc, nat_lt, if◌then◌else◌, List, Option, Some, None, slice_set}
 use Rattle.master.specs.snapshots.World.{messages, recorded}
-use Rattle.master.specs.ballot.Effect.{Effect}
-use Rattle.master.specs.ballot.Body.{Body}
-use Rattle.master.specs.ballot.Body.TheVariants.{Activate}
-use Rattle.master.specs.ballot.Config.{Config}
-use Rattle.master.specs.ballot.Losses.{Thinned, greatest_count, one_more}
-use Rattle.master.specs.ballot.Message.{Message}
+use Rattle.master.specs.ballot_base.declared.message.Effect.{Effect}
+use Rattle.master.specs.ballot_base.declared.message.Body.{Body}
+use Rattle.master.specs.ballot_base.declared.message.Body.TheVariants.{Activate}
+use Rattle.master.specs.ballot_base.declared.config.Config.{Config}
+use Rattle.master.specs.ballot_base.Losses.{Thinned, greatest_count, one_more}
+use Rattle.master.specs.ballot_base.declared.message.Message.{Message}
 use Rattle.byte_world.specs.broker_spec.declared.command.Command.{Command}
 use Rattle.byte_world.specs.broker_spec.declared.command.Output.{Output}
 use Rattle.world_base.specs.declared.item.Item.{Item}

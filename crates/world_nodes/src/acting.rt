@@ -1,9 +1,9 @@
 // What nodes and their master do in a step.
 
 ghost use Rattle.std.specs.Prelude.{◌≡◌, ◌+◌, ◌-◌, ◌↔◌, ◌≤◌, true, false, None, Some, length, slice_get, IfSome, OnOk, OnErr, IsErr};
-ghost use Rattle.master.specs.ballot.Body.TheVariants.{Activate};
-ghost use Rattle.master.specs.ballot.Cutting.{can_cut};
-ghost use Rattle.master.specs.ballot.Losses.{one_more};
+ghost use Rattle.master.specs.ballot_base.declared.message.Body.TheVariants.{Activate};
+ghost use Rattle.master.specs.ballot_base.Cutting.{can_cut};
+ghost use Rattle.master.specs.ballot_base.Losses.{one_more};
 ghost use Rattle.master.specs.lists.Lists.{In};
 ghost use Rattle.master.specs.agreement.MasterState.{refusal};
 ghost use Rattle.byte_world.specs.node_moves.Moves.NodeCall.{takes};

@@ -2,7 +2,7 @@
 
 ghost use Rattle.std.specs.Prelude.{◌≡◌, ◌<◌, ◌++◌, ◌↔◌, [], ◌∷◌, None, Some, true, false, IfOk, OnOk};
 ghost use Rattle.master.specs.agreement.MasterState.{refusal};
-ghost use Rattle.master.specs.ballot.Machine.{replay_from};
+ghost use Rattle.master.specs.machine.Machine.{replay_from};
 ghost use Rattle.world_base.specs.Core.{CountedCore, rules};
 ghost use Rattle.world_nodes.specs.Asking.{first_connection, is_present, is_welcome, log_of, welcomes_back};
 ghost use Rattle.world_nodes.specs.Running.{node_of};

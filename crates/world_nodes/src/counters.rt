@@ -1,7 +1,7 @@
 // How many places nodes acknowledged in the ballots that matter.
 
 ghost use Rattle.std.specs.Prelude.{ℕ, ◌≡◌, ◌≤◌, ◌<◌, ◌^◌, IfOk, get_or, length, take};
-ghost use Rattle.master.specs.ballot.Losses.{greatest_count};
+ghost use Rattle.master.specs.ballot_base.Losses.{greatest_count};
 ghost use Rattle.master.specs.lists.Lists.{In};
 ghost use Rattle.master.specs.Inside.{HasCounted, least_but_one};
 

@@ -3,7 +3,7 @@
 ghost use Rattle.std.specs.Prelude.{◌≡◌, ◌++◌, ◌∷◌, []};
 ghost use Rattle.std.specs.Bool.{OnTrue, OnFalse};
 ghost use Rattle.master.specs.snapshots.World.{messages};
-ghost use Rattle.master.specs.ballot.Losses.{Thinned};
+ghost use Rattle.master.specs.ballot_base.Losses.{Thinned};
 ghost use Rattle.world_nodes.specs.Inside.{KeepsMessages};
 
 use world_base::{Command, Effect, Message, Output};

@@ -1,7 +1,7 @@
 // Nodes and their master.
 
 ghost use Rattle.std.specs.Prelude.{◌≡◌, ◌≤◌, ◌-◌, ◌↔◌, ◌++◌, true, false, None, Some, length, slice_get, IfOk, IfSome, OnOk, OnErr, IsErr, IsErrOf};
-ghost use Rattle.master.specs.ballot.Losses.{one_more};
+ghost use Rattle.master.specs.ballot_base.Losses.{one_more};
 ghost use Rattle.master.specs.agreement.MasterState.{refusal};
 ghost use Rattle.master.specs.agreement.World.{can_open};
 ghost use Rattle.byte_world.specs.node_group.Group.{Group, opening_group};

@@ -1,7 +1,7 @@
 // The step of one node.
 
 ghost use Rattle.std.specs.Prelude.{◌≡◌, ◌<◌, true, take, length, slice_get, if◌then◌else◌, IfSome};
-ghost use Rattle.master.specs.ballot.Losses.{greatest_count};
+ghost use Rattle.master.specs.ballot_base.Losses.{greatest_count};
 ghost use Rattle.world_base.specs.Losses.{DoesNothing};
 ghost use Rattle.world_nodes.specs.Inside.{TookItem};
 

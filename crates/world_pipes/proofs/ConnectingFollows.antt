@@ -2,8 +2,8 @@
 use Rattle.std.proofs.Common.{◌≡◌, ℕ, suc, true, false, inl, inr, List, [], ◌∷◌, length, reverse, Result, Ok, Err, IsTrue, refl, ap, ap₂, sym, subst, ◌∙◌, arith}
 use Rattle.std.proofs.lemmas.Bool.{both_ways}
 use Rattle.std.proofs.lemmas.List.{append-nil}
-use Rattle.client.specs.packet.ClientId.{is_client}
-use Rattle.client.proofs.of_packet.Clients.{client_short}
+use Rattle.client.specs.packet_base.ClientId.{is_client}
+use Rattle.client.proofs.of_packet_base.Clients.{client_short}
 use Rattle.packet.specs.Spelling.{IsPacket}
 use Rattle.packet.specs.declared.packet.Packet.TheVariants as packets
 use Rattle.byte_world.specs.broker_spec.Connection.{ConnectionName}

@@ -1,7 +1,7 @@
 -- Which client of the model of worlds a `PipedClient` corresponds to. History is only in the model.
 use Rattle.std.specs.Prelude.{◌≡◌, true, false, IsTrue, List, [], ◌∷◌, ◌++◌, length, reverse}
 use Rattle.client.specs.packet_base.Spelling.{IsId}
-use Rattle.client.specs.packet.ClientId.{is_client}
+use Rattle.client.specs.packet_base.ClientId.{is_client}
 use Rattle.packet.specs.Spelling.{IsPacket}
 use Rattle.client.specs.lists.Lists.{Each, IsPrefixOf}
 use Rattle.client.specs.client_base.declared.unacknowledged_publication.UnacknowledgedPublication.{UnacknowledgedPublication}

@@ -2,7 +2,7 @@
 use Rattle.std.proofs.Common.{◌≡◌, ℕ, ◌+◌, List, ◌∷◌, Some, Option, ap, sym, ◌∙◌, arith}
 use Rattle.machine.specs.Machine.{Rules}
 use Rattle.whole.specs.lists.Lists.{In}
-use Rattle.whole.specs.Config.{Config}
+use Rattle.whole.specs.ballot_base.declared.config.Config.{Config}
 use Rattle.agreement.specs.Inside.Ballots.{Given}
 use Rattle.agreement.specs.Laws.{OnePrimaryABallot}
 use Rattle.agreement.specs.Moments.{Moment}

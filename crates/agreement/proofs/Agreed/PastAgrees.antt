@@ -2,7 +2,7 @@
 use Rattle.std.proofs.Common.{◌≡◌, ℕ, ◌⊎◌, inl, inr, List, [], ◌∷◌, refl, sym, subst}
 use Rattle.machine.specs.Machine.{Rules}
 use Rattle.whole.specs.lists.Lists.{IsPrefixOf}
-use Rattle.whole.specs.Config.{Config}
+use Rattle.whole.specs.ballot_base.declared.config.Config.{Config}
 use Rattle.agreement.specs.Inside.Chosen.{ChosenList, IsAgreedIn}
 use Rattle.agreement.specs.Laws.{HasAgreed, NodesAgree, MachinesReplay}
 use Rattle.agreement.specs.Moments.{Moment, WasActive, IsChosen, IsAgreed}

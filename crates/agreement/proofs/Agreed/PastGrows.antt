@@ -3,7 +3,7 @@
 use Rattle.std.proofs.Common.{◌≡◌, ℕ, ◌⊎◌, inl, inr, List, [], ◌∷◌, refl, sym, subst}
 use Rattle.whole.specs.lists.Lists.{IsPrefixOf}
 use Rattle.whole.specs.lists.Lists.In.{there}
-use Rattle.whole.specs.Config.{Config}
+use Rattle.whole.specs.ballot_base.declared.config.Config.{Config}
 use Rattle.machine.specs.Machine.{Rules}
 use Rattle.agreement.specs.Laws.{AgreedGrows}
 use Rattle.agreement.specs.Moments.{Moment, HasConfig, WasActive, HasTold, IsChosen, IsAgreed}

@@ -6,7 +6,7 @@ use Rattle.machine.specs.Machine.{Rules}
 use Rattle.whole.specs.lists.Lists.{In}
 use Rattle.whole.specs.lists.Lists.In.{here}
 use Rattle.whole.proofs.of_lists.Prefixes.{prefix_take}
-use Rattle.whole.specs.Config.{Config}
+use Rattle.whole.specs.ballot_base.declared.config.Config.{Config}
 use Rattle.whole.specs.Replica.{ReplicaState}
 use Rattle.agreement.specs.Inside.Ballots.{Given, History, Told, TellsHere}
 use Rattle.agreement.specs.Inside.Extending.{Extends}

@@ -4,7 +4,7 @@ use Rattle.std.specs.Prelude.{filter, slice_get}
 use Rattle.std.proofs.lemmas.List.{append-nil}
 use Rattle.machine.specs.Machine.{Rules}
 use Rattle.whole.specs.Applying.{applied_to}
-use Rattle.whole.specs.Config.{Config}
+use Rattle.whole.specs.ballot_base.declared.config.Config.{Config}
 use Rattle.whole.specs.Replica.{ReplicaState}
 use Rattle.whole.specs.lists.Lists.{In}
 use Rattle.whole.specs.lists.Lists.In.{here, there}

@@ -6,7 +6,7 @@ use Rattle.whole.specs.lists.Lists.{In, IsPrefixOf}
 use Rattle.whole.specs.lists.Lists.In.{here}
 use Rattle.whole.proofs.of_lists.Prefixes.{prefix_then, prefix_length}
 use Rattle.whole.specs.Messages.Body.{Held, Installed}
-use Rattle.whole.specs.Config.{Config}
+use Rattle.whole.specs.ballot_base.declared.config.Config.{Config}
 use Rattle.whole.specs.Replica.{ReplicaState}
 use Rattle.agreement.specs.Inside.Ballots.{Given, Line, Told}
 use Rattle.agreement.specs.Inside.Ballots.Told.{told_by_held, told_by_installed, told_as_primary}

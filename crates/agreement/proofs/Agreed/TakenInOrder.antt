@@ -9,7 +9,7 @@ use Rattle.whole.specs.Losses.{Loses, halted}
 use Rattle.whole.specs.Protocol.{replica_step}
 use Rattle.whole.specs.Protocol.Input.{Receives, Proposes, Ticks}
 use Rattle.whole.specs.Replica.{ReplicaState}
-use Rattle.whole.specs.Role.TheVariants.{Active}
+use Rattle.whole.specs.ballot_base.declared.status.Role.TheVariants.{Active}
 use Rattle.whole.specs.Serving.{added}
 use Rattle.agreement.specs.Inside.Ballots.{History}
 use Rattle.agreement.specs.Inside.GroupSteps.{GroupStep, adds_of}

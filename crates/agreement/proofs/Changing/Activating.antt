@@ -6,8 +6,8 @@ use Rattle.machine.specs.Machine.{Rules, replay}
 use Rattle.whole.proofs.AppliesInOrder.{replay_goes_on}
 use Rattle.whole.specs.Applying.{applied_to}
 use Rattle.whole.specs.Messages.Body.{Activated}
-use Rattle.whole.specs.Progress.{Progress}
-use Rattle.whole.specs.Role.TheVariants.{Active}
+use Rattle.whole.specs.ballot_base.declared.status.Progress.{Progress}
+use Rattle.whole.specs.ballot_base.declared.status.Role.TheVariants.{Active}
 use Rattle.whole.specs.Replica.{ReplicaState, is_installing, others, progress_at}
 use Rattle.whole.specs.Sending.{Outcome}
 use Rattle.whole.specs.Serving.{max_places}

@@ -3,7 +3,7 @@ use Rattle.std.proofs.Common.{◌≡◌, ℕ, ◌+◌, ◌<◌, ◌≤◌, inl, 
 use Rattle.std.specs.Prelude.{slice_get}
 use Rattle.machine.specs.Machine.{Rules}
 use Rattle.whole.specs.Messages.Body.{Installed}
-use Rattle.whole.specs.Role.TheVariants.{Backup}
+use Rattle.whole.specs.ballot_base.declared.status.Role.TheVariants.{Backup}
 use Rattle.whole.specs.Replica.{ReplicaState}
 use Rattle.whole.specs.Sending.{message_to}
 use Rattle.agreement.specs.World.{World, moved}

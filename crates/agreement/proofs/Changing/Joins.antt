@@ -5,7 +5,7 @@ use Rattle.std.proofs.lemmas.Bool.{cases_Bool, and_parts, ltb-true, leb-true, lt
 use Rattle.machine.specs.Machine.{Rules}
 use Rattle.whole.specs.Messages.{Message, Effect}
 use Rattle.whole.specs.Messages.Body.{Join, State}
-use Rattle.whole.specs.Role.TheVariants.{Backup}
+use Rattle.whole.specs.ballot_base.declared.status.Role.TheVariants.{Backup}
 use Rattle.whole.specs.Replica.{ReplicaState}
 use Rattle.whole.specs.Sending.{Outcome, message_to}
 use Rattle.whole.specs.Changing.{on_join}

@@ -5,7 +5,7 @@ use Rattle.std.proofs.lemmas.Bool.{cases_lt}
 use Rattle.machine.specs.Machine.{Rules}
 use Rattle.whole.specs.Messages.{Message, Body, Effect}
 use Rattle.whole.specs.Messages.Body.{NewBallot, Join}
-use Rattle.whole.specs.Role.TheVariants.{Fetching}
+use Rattle.whole.specs.ballot_base.declared.status.Role.TheVariants.{Fetching}
 use Rattle.whole.specs.Replica.{ReplicaState}
 use Rattle.whole.specs.Sending.{Outcome, message_to_each}
 use Rattle.whole.specs.Changing.{on_new_ballot}

@@ -2,7 +2,7 @@
 use Rattle.std.proofs.Common.{◌≡◌, ℕ, ◌+◌, ◌≤◌, ◌⊎◌, inl, inr, List, length, take, Some, Option, refl, ap, sym, ◌∙◌, subst, arith}
 use Rattle.std.specs.Prelude.{slice_get}
 use Rattle.machine.specs.Machine.{Rules}
-use Rattle.whole.specs.Role.TheVariants.{Installing}
+use Rattle.whole.specs.ballot_base.declared.status.Role.TheVariants.{Installing}
 use Rattle.whole.specs.Replica.{ReplicaState, others}
 use Rattle.whole.specs.Changing.{installs}
 use Rattle.agreement.specs.World.{World, moved}

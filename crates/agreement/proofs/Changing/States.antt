@@ -4,7 +4,7 @@ use Rattle.std.specs.Prelude.{slice_get, nat_le, ◌&&◌, ◌==◌}
 use Rattle.std.proofs.lemmas.Bool.{cases_Bool, and_parts, leb-true, eqb-true}
 use Rattle.machine.specs.Machine.{Rules}
 use Rattle.whole.specs.Messages.Body.{State}
-use Rattle.whole.specs.Role.TheVariants.{Installing}
+use Rattle.whole.specs.ballot_base.declared.status.Role.TheVariants.{Installing}
 use Rattle.whole.specs.Replica.{ReplicaState, is_fetching, others}
 use Rattle.whole.specs.Sending.{Outcome}
 use Rattle.whole.specs.Changing.{installs, on_state}

@@ -4,7 +4,7 @@ use Rattle.std.specs.Prelude.{slice_get, ◌&&◌, ◌==◌}
 use Rattle.std.proofs.lemmas.Bool.{cases_Bool}
 use Rattle.machine.specs.Machine.{Rules}
 use Rattle.whole.specs.Messages.{Effect}
-use Rattle.whole.specs.Role.TheVariants.{Backup}
+use Rattle.whole.specs.ballot_base.declared.status.Role.TheVariants.{Backup}
 use Rattle.whole.specs.Replica.{ReplicaState, is_installing}
 use Rattle.whole.specs.Sending.{Outcome}
 use Rattle.whole.specs.Activating.{on_superseded}

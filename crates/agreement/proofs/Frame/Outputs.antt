@@ -2,7 +2,7 @@
 use Rattle.std.proofs.Common.{◌≡◌, ℕ, ◌+◌, ◌≤◌, min, List, [], ◌∷◌, ◌++◌, map, refl, ap, ◌∙◌, arith}
 use Rattle.machine.specs.Machine.{Rules}
 use Rattle.whole.specs.Messages.Effect.{Out}
-use Rattle.whole.specs.Progress.{Progress}
+use Rattle.whole.specs.ballot_base.declared.status.Progress.{Progress}
 use Rattle.whole.specs.Applying.{outputs_from}
 use Rattle.whole.specs.Serving.{least}
 use Rattle.whole.proofs.StepRows.{least-le}

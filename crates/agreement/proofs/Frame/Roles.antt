@@ -1,7 +1,7 @@
 -- Roles.antt: a role by its test.
 use Rattle.std.proofs.Common.{◌≡◌, true, refl}
-use Rattle.whole.specs.Role.{Role}
-use Rattle.whole.specs.Role.TheVariants.{Backup, Fetching, Installing, Active}
+use Rattle.whole.specs.ballot_base.declared.status.Role.{Role}
+use Rattle.whole.specs.ballot_base.declared.status.Role.TheVariants.{Backup, Fetching, Installing, Active}
 use Rattle.whole.specs.Replica.{is_active, is_backup, is_fetching, is_installing}
 
 -- a role by its test

@@ -7,8 +7,8 @@ use Rattle.whole.specs.Messages.Body.{Join, Commit}
 use Rattle.whole.specs.Changing.{on_new_ballot, on_join, on_install, on_state}
 use Rattle.whole.specs.Activating.{on_superseded, on_installed, activates}
 use Rattle.whole.specs.Replica.{ReplicaState, is_fetching, is_installing, others}
-use Rattle.whole.specs.Role.{Role}
-use Rattle.whole.specs.Role.TheVariants.{Backup, Fetching, Installing, Active}
+use Rattle.whole.specs.ballot_base.declared.status.Role.{Role}
+use Rattle.whole.specs.ballot_base.declared.status.Role.TheVariants.{Backup, Fetching, Installing, Active}
 use Rattle.whole.specs.Protocol.{ticked}
 use Rattle.whole.specs.Sending.{Outcome, message_to_followed}
 use Rattle.whole.specs.Serving.{appends_after, follows, on_append, on_tick_active}

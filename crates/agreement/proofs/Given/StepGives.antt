@@ -11,7 +11,7 @@ use Rattle.whole.specs.Activating.{on_activated}
 use Rattle.whole.specs.Protocol.{Input, received, replica_step}
 use Rattle.whole.specs.Protocol.Input.{Receives, Proposes, Ticks}
 use Rattle.whole.specs.Replica.{ReplicaState, is_active, is_backup, is_installing, others, progress_at}
-use Rattle.whole.specs.Role.TheVariants.{Active}
+use Rattle.whole.specs.ballot_base.declared.status.Role.TheVariants.{Active}
 use Rattle.whole.specs.Sending.{Outcome, message_to_followed, nothing_done}
 use Rattle.whole.specs.Serving.{added, commit, follows, leads, least, max_places, on_commit, on_held, proposed, raised}
 use Rattle.whole.proofs.AppliesInOrder.{replay_goes_on}

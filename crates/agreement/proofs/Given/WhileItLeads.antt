@@ -7,7 +7,7 @@ use Rattle.machine.specs.Machine.{Rules}
 use Rattle.whole.proofs.of_lists.Prefixes.{prefix_length, take_prefix}
 use Rattle.whole.proofs.of_lists.Places.{get_set_other}
 use Rattle.whole.specs.Applying.{applied_to, outputs_between}
-use Rattle.whole.specs.Config.{Config}
+use Rattle.whole.specs.ballot_base.declared.config.Config.{Config}
 use Rattle.whole.specs.Replica.{ReplicaState, is_active}
 use Rattle.agreement.specs.Giving.{LeadsOn, given_in, given_of}
 use Rattle.agreement.specs.Giving.LeadsOn.{leads_there, leads_still, leads_beside}

@@ -3,7 +3,7 @@ use Rattle.std.proofs.Common.{◌≡◌, ℕ, ◌<◌, ◌≤◌, ◌⊎◌, inl
 use Rattle.std.specs.Prelude.{◌==◌}
 use Rattle.std.proofs.lemmas.Bool.{cases_Bool, eqb-true}
 use Rattle.machine.specs.Machine.{Rules}
-use Rattle.whole.specs.Config.{Config}
+use Rattle.whole.specs.ballot_base.declared.config.Config.{Config}
 use Rattle.whole.specs.Messages.Body.{Activate, Activated}
 use Rattle.agreement.specs.World.{World}
 use Rattle.whole.specs.lists.Lists.{In}

@@ -9,7 +9,7 @@ use Rattle.whole.specs.Messages.{Effect}
 use Rattle.whole.specs.Losses.Thinned.{none}
 use Rattle.whole.specs.Protocol.Input.{Ticks}
 use Rattle.whole.specs.Replica.{ReplicaState, is_active}
-use Rattle.whole.specs.Role.TheVariants.{Active}
+use Rattle.whole.specs.ballot_base.declared.status.Role.TheVariants.{Active}
 use Rattle.whole.proofs.AppliesInOrder.{replay_goes_on}
 use Rattle.whole.specs.lists.Lists.{In, IsPrefixOf}
 use Rattle.whole.proofs.of_lists.Prefixes.{prefix_take, prefix_then}

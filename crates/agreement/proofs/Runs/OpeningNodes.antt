@@ -5,9 +5,9 @@ use Rattle.std.specs.List.{list_any}
 use Rattle.std.proofs.lemmas.Bool.{cases_eq, eq-eqb, ne_eqb}
 use Rattle.machine.specs.Machine.{Rules}
 use Rattle.agreement.proofs.LawfulConfigs.{any_in}
-use Rattle.whole.specs.Config.{Config}
-use Rattle.whole.specs.Progress.{Progress}
-use Rattle.whole.specs.Role.TheVariants.{Backup, Active}
+use Rattle.whole.specs.ballot_base.declared.config.Config.{Config}
+use Rattle.whole.specs.ballot_base.declared.status.Progress.{Progress}
+use Rattle.whole.specs.ballot_base.declared.status.Role.TheVariants.{Backup, Active}
 use Rattle.whole.specs.Replica.{ReplicaState, opening, others, progress_at}
 use Rattle.agreement.specs.World.{opening_world}
 use Rattle.whole.specs.lists.Lists.{In, IsPrefixOf}

@@ -3,8 +3,8 @@ use Rattle.std.proofs.Common.{Bool, cond, inl, ◌≡◌, ℕ, zero, suc, ◌+�
 use Rattle.std.specs.Prelude.{◌==◌}
 use Rattle.std.proofs.lemmas.List.{length-append}
 use Rattle.machine.specs.Machine.{Rules}
-use Rattle.whole.specs.Config.{Config}
-use Rattle.whole.specs.Role.TheVariants.{Active}
+use Rattle.whole.specs.ballot_base.declared.config.Config.{Config}
+use Rattle.whole.specs.ballot_base.declared.status.Role.TheVariants.{Active}
 use Rattle.whole.specs.Replica.{ReplicaState, opening, opening_member, progress_at, others}
 use Rattle.agreement.specs.World.{can_open, opening_nodes, opening_world}
 use Rattle.agreement.specs.Inside.Masters.{IsServing}

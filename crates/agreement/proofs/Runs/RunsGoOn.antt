@@ -2,7 +2,7 @@
 -- replays, its ballots begin with their starts.
 use Rattle.std.proofs.Common.{List, ◌≡◌, ◌⊎◌, ℕ, inl, subst, [], Option, refl, ap, sym, ◌∙◌}
 use Rattle.machine.specs.Machine.{Rules}
-use Rattle.whole.specs.Config.{Config}
+use Rattle.whole.specs.ballot_base.declared.config.Config.{Config}
 use Rattle.whole.specs.Losses.Thinned.{none}
 use Rattle.whole.specs.Protocol.Input.{Ticks}
 use Rattle.whole.specs.Protocol.{replica_step}

@@ -10,12 +10,12 @@ use Rattle.whole.specs.Messages.Body.{NewBallot, Join, State, Install, Installed
 use Rattle.whole.specs.Changing.{on_new_ballot, on_join, installs, on_state, on_install}
 use Rattle.whole.specs.Activating.{activates, on_installed, on_activated, on_superseded}
 use Rattle.whole.specs.Messages.Effect.{To, Out}
-use Rattle.whole.specs.Progress.{Progress}
+use Rattle.whole.specs.ballot_base.declared.status.Progress.{Progress}
 use Rattle.whole.specs.Protocol.{Input, received, ticked, replica_step}
 use Rattle.whole.specs.Protocol.Input.{Receives, Proposes, Ticks}
 use Rattle.whole.specs.Replica.{ReplicaState, is_active, is_fetching, is_installing, others}
-use Rattle.whole.specs.Role.{Role}
-use Rattle.whole.specs.Role.TheVariants.{Backup, Fetching, Installing, Active}
+use Rattle.whole.specs.ballot_base.declared.status.Role.{Role}
+use Rattle.whole.specs.ballot_base.declared.status.Role.TheVariants.{Backup, Fetching, Installing, Active}
 use Rattle.whole.specs.Sending.{Outcome, message_to_each, message_to_followed}
 use Rattle.whole.specs.Serving.{append_at, appends_after, follows, leads, commit_at, commit, max_places, added, proposed, on_append, on_held, on_commit, on_tick_active}
 use Rattle.whole.proofs.StepRows.{commit_at-stays, commit_at-goes}

@@ -5,7 +5,7 @@ use Rattle.std.proofs.lemmas.List.{length-set}
 use Rattle.machine.specs.Machine.{Rules}
 use Rattle.whole.specs.Messages.{Body, Effect, Message}
 use Rattle.whole.specs.Messages.Body.{Activate}
-use Rattle.whole.specs.Config.{Config}
+use Rattle.whole.specs.ballot_base.declared.config.Config.{Config}
 use Rattle.whole.specs.Losses.{Loses, halted}
 use Rattle.whole.specs.Protocol.{Input, replica_step}
 use Rattle.whole.specs.Replica.{ReplicaState}

@@ -4,7 +4,7 @@ use Rattle.std.specs.Prelude.{slice_get}
 use Rattle.machine.specs.Machine.{Rules}
 use Rattle.whole.specs.Messages.{Message, Body}
 use Rattle.whole.specs.Messages.Body.{Append, Commit}
-use Rattle.whole.specs.Progress.{Progress}
+use Rattle.whole.specs.ballot_base.declared.status.Progress.{Progress}
 use Rattle.whole.specs.Replica.{ReplicaState}
 use Rattle.whole.specs.Sending.{Outcome, message_to_followed}
 use Rattle.whole.specs.Serving.{append_at, appends_after, on_tick_active}

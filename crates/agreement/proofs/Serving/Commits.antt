@@ -5,7 +5,7 @@ use Rattle.std.proofs.lemmas.List.{append-nil}
 use Rattle.machine.specs.Machine.{Rules, replay}
 use Rattle.whole.specs.Messages.{Message, Effect}
 use Rattle.whole.specs.Messages.Body.{Commit}
-use Rattle.whole.specs.Progress.{Progress}
+use Rattle.whole.specs.ballot_base.declared.status.Progress.{Progress}
 use Rattle.whole.specs.Replica.{ReplicaState}
 use Rattle.whole.specs.Sending.{Outcome, message_to_followed, sent_first}
 use Rattle.whole.specs.Applying.{applied_to, outputs_from, outputs_to, outputs_between}

@@ -1,7 +1,7 @@
 -- Raising.antt: progress that is raised is acknowledged.
 use Rattle.std.proofs.Common.{◌≡◌, ℕ, ◌<◌, ◌≤◌, ◌⊎◌, inl, inr, cond, max, List, [], ◌∷◌, refl, ap, sym, subst, arith}
 use Rattle.std.proofs.lemmas.Bool.{cases_eq, cases_lt, eq-eqb, ne_eqb}
-use Rattle.whole.specs.Progress.{Progress}
+use Rattle.whole.specs.ballot_base.declared.status.Progress.{Progress}
 use Rattle.whole.specs.Serving.{raised, raised_progress}
 use Rattle.agreement.specs.World.{World}
 use Rattle.whole.specs.lists.Lists.{In}

@@ -2,8 +2,8 @@
 use Rattle.std.proofs.Common.{◌≡◌, ℕ, ◌+◌, ◌≤◌, List, length, Some, Option, ap, arith}
 use Rattle.machine.specs.Machine.{Rules}
 use Rattle.whole.specs.Messages.{Message, Effect}
-use Rattle.whole.specs.Progress.{Progress}
-use Rattle.whole.specs.Role.TheVariants.{Active}
+use Rattle.whole.specs.ballot_base.declared.status.Progress.{Progress}
+use Rattle.whole.specs.ballot_base.declared.status.Role.TheVariants.{Active}
 use Rattle.whole.specs.Replica.{ReplicaState}
 use Rattle.whole.specs.Applying.{applied_to}
 use Rattle.agreement.specs.World.{World, messages, moved}

@@ -5,7 +5,7 @@ use Rattle.std.specs.Prelude.{nat_lt, nat_le, ◌&&◌, ◌||◌, ◌==◌}
 use Rattle.std.specs.List.{list_any}
 use Rattle.std.proofs.lemmas.Bool.{cases_Bool}
 use Rattle.machine.specs.Machine.{Rules}
-use Rattle.whole.specs.Role.TheVariants.{Active}
+use Rattle.whole.specs.ballot_base.declared.status.Role.TheVariants.{Active}
 use Rattle.whole.specs.Replica.{ReplicaState, is_fetching, is_installing}
 use Rattle.whole.specs.Sending.{Outcome}
 use Rattle.whole.specs.Changing.{on_new_ballot, on_join, on_install, on_state}

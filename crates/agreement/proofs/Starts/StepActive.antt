@@ -7,8 +7,8 @@ use Rattle.machine.specs.Machine.{Rules}
 use Rattle.whole.specs.Applying.{applied_to}
 use Rattle.whole.specs.Messages.{Body}
 use Rattle.whole.specs.Messages.Body.{NewBallot, Join, State, Install, Installed, Activate, Activated, Superseded, Append, Held, Commit}
-use Rattle.whole.specs.Role.{Role}
-use Rattle.whole.specs.Role.TheVariants.{Backup, Fetching, Installing, Active}
+use Rattle.whole.specs.ballot_base.declared.status.Role.{Role}
+use Rattle.whole.specs.ballot_base.declared.status.Role.TheVariants.{Backup, Fetching, Installing, Active}
 use Rattle.whole.specs.Protocol.{Input, received, ticked, replica_step}
 use Rattle.whole.specs.Protocol.Input.{Receives, Proposes, Ticks}
 use Rattle.whole.specs.Replica.{ReplicaState, is_active, is_installing, others, progress_at}

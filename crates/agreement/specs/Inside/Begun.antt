@@ -1,6 +1,6 @@
 -- Where a ballot begins in its list.
 use Rattle.std.specs.Prelude.{ℕ, ◌<◌, ◌≡◌, ◌⊎◌, length, slice_get, Some}
-use Rattle.whole.specs.Role.TheVariants.{Active}
+use Rattle.whole.specs.ballot_base.declared.status.Role.TheVariants.{Active}
 use Rattle.whole.specs.Replica.{ReplicaState}
 use Rattle.agreement.specs.World.{World}
 use Rattle.agreement.specs.Inside.Ballots.{Line, History}

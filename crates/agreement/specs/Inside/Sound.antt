@@ -4,8 +4,8 @@ use Rattle.std.specs.Prelude.{Some, None}
 use Rattle.std.specs.List.{flat_map}
 use Rattle.machine.specs.Machine.{Rules}
 use Rattle.whole.specs.Messages.{Message}
-use Rattle.whole.specs.Progress.{Progress}
-use Rattle.whole.specs.Role.TheVariants.{Fetching, Installing, Active}
+use Rattle.whole.specs.ballot_base.declared.status.Progress.{Progress}
+use Rattle.whole.specs.ballot_base.declared.status.Role.TheVariants.{Fetching, Installing, Active}
 use Rattle.whole.specs.Replica.{ReplicaState}
 use Rattle.whole.specs.Applying.{outputs_between}
 use Rattle.agreement.specs.World.{World, outputs}

@@ -24,7 +24,7 @@ use Rattle.broker_base.specs.broker_spec.declared.command.Command.{Command}
 use Rattle.broker_base.specs.broker_spec.declared.command.Command.TheVariants as commands
 use Rattle.broker_base.specs.broker_spec.declared.command.Output.{Output}
 use Rattle.broker_base.specs.broker_spec.declared.command.Output.TheVariants.{Send, Close}
-use Rattle.broker_base.proofs.CopiesAreUnasked.{AnswersNothing, copies_are_unasked}
+use Rattle.broker_base.proofs.of_broker_spec.CopiesAreUnasked.{AnswersNothing, copies_are_unasked}
 use Rattle.client_base.specs.lists.Lists.{In}
 use Rattle.client_base.specs.lists.Lists.In.{here, there}
 use Rattle.client_base.proofs.of_lists.Members.{in_left, in_append}

@@ -3,7 +3,7 @@ use Rattle.std.proofs.Common.{◌≡◌, ◌≤◌, ◌<◌, ◌+◌, ℕ, suc, 
 use Rattle.std.specs.Prelude.{slice_get}
 use Rattle.std.proofs.lemmas.Bool.{cases_Bool}
 use Rattle.client_base.specs.session_base.declared.publication.Publication.{Publication}
-use Rattle.broker_base.proofs.EntersOnce.{one_if}
+use Rattle.broker_base.proofs.of_broker_spec.EntersOnce.{one_if}
 use Rattle.client_base.specs.lists.Lists.{In, has_id, IsDistinct}
 use Rattle.client_base.specs.lists.Lists.In.{here, there}
 use Rattle.client_base.proofs.of_lists.Tests.{none_or, or_none, eq_turn}

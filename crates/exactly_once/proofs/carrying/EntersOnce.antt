@@ -19,8 +19,8 @@ use Rattle.broker_base.specs.broker_spec.EndingLaws.{StandsAt}
 use Rattle.broker_base.specs.broker_spec.TakenLaws.{takes_publication}
 use Rattle.broker_base.specs.broker_spec.declared.command.Command.{Command}
 use Rattle.broker_base.specs.broker_spec.declared.command.Command.TheVariants as commands
-use Rattle.broker_base.proofs.EntersOnce.{one_if, MadeBelow, none-yet, made-below, count, enters_once}
-use Rattle.broker_base.proofs.EntersWhereTaken.{enters_where_taken}
+use Rattle.broker_base.proofs.of_broker_spec.EntersOnce.{one_if, MadeBelow, none-yet, made-below, count, enters_once}
+use Rattle.broker_base.proofs.of_broker_spec.EntersWhereTaken.{enters_where_taken}
 use Rattle.client_base.specs.lists.Lists.{In, IsDistinct}
 use Rattle.exactly_once.specs.Story.{Story}
 use Rattle.exactly_once.specs.Carried.{carries, is_two, more_by, new_numbers, published, publications_of, is_this}

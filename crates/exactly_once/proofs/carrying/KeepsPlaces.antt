@@ -7,7 +7,7 @@ use Rattle.broker_base.specs.broker_spec.Commands.{place_of, past_of}
 use Rattle.broker_base.specs.broker_spec.NobodyLaws.{IsSteady}
 use Rattle.broker_base.specs.broker_spec.declared.command.Command.{Command}
 use Rattle.broker_base.specs.broker_spec.declared.command.Command.TheVariants as commands
-use Rattle.broker_base.proofs.MarksOfPlaces.{AreMarked, past_is_marked}
+use Rattle.broker_base.proofs.of_broker_spec.MarksOfPlaces.{AreMarked, past_is_marked}
 use Rattle.client_base.specs.lists.Lists.{Each}
 use Rattle.client_base.proofs.of_lists.Tests.{or_none}
 use Rattle.exactly_once.specs.Sides.{ClientConnection}

@@ -30,7 +30,7 @@ use Rattle.exactly_once.specs.Carried.{connection_named, number_at, new_numbers}
 use Rattle.exactly_once.specs.Inside.Projections.{forward_of_own, forward_of_one, backward_of_own, to_come, is_current, transit_of_own, as_publisher}
 use Rattle.exactly_once.specs.Inside.Shape.{HasShape}
 use Rattle.exactly_once.specs.Inside.ConnectionShape.{ConnectionInShape}
-use Rattle.broker_base.proofs.ConnectionNames.{same_itself}
+use Rattle.broker_base.proofs.of_broker_spec.ConnectionNames.{same_itself}
 use Rattle.exactly_once.proofs.places.Owned.{own_owner, none_owns}
 use Rattle.exactly_once.proofs.publishing.First.{story_by}
 use Rattle.exactly_once.proofs.publishing.Last.{each_there, is_named}

@@ -21,7 +21,7 @@ use Rattle.client_base.proofs.of_lists.OfEach.{each_append}
 use Rattle.exactly_once.specs.Sends.{sends_to}
 use Rattle.exactly_once.specs.StoryCommands.{is_packet_of, count_of}
 use Rattle.exactly_once.specs.Inside.ConnectionShape.{is_connack, no_connacks}
-use Rattle.broker_base.proofs.ConnectionNames.{same_name, same_itself}
+use Rattle.broker_base.proofs.of_broker_spec.ConnectionNames.{same_name, same_itself}
 use Rattle.exactly_once.proofs.places.Counts.{current_counted}
 use Rattle.exactly_once.proofs.connections.Answers.{is_connect_of, GoesRight, MayBeSent, each_flat, resent_right, deliveries_right, acknowledged_right, handled_right}
 

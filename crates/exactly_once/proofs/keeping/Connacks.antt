@@ -1,7 +1,7 @@
 -- What a connection is sent at one more place: a CONNACK is there only at a Connect of its own.
 use Rattle.std.proofs.Common.{◌≡◌, ℕ, zero, suc, Bool, true, false, not, if◌then◌else◌, List, [], ◌∷◌, length, Some, refl, sym, ◌∙◌, subst, Option, None}
 use Rattle.std.specs.Prelude.{slice_get}
-use Rattle.client_base.specs.packet.RefusalCode.TheVariants as refusals
+use Rattle.client_base.specs.packet_base.declared.refusal_code.RefusalCode.TheVariants as refusals
 use Rattle.client_base.specs.packet.declared.connack.Connack.TheVariants as connacks
 use Rattle.client_base.specs.packet.declared.packet.Packet.{Packet}
 use Rattle.client_base.specs.packet.declared.packet.Packet.TheVariants as packets

@@ -10,7 +10,7 @@ use Rattle.broker_base.specs.broker_spec.Marks.{mark_of}
 use Rattle.broker_base.specs.broker_spec.Commands.{place_of}
 use Rattle.broker_base.specs.broker_spec.declared.command.Command.{Command}
 use Rattle.broker_base.specs.broker_spec.declared.command.Command.TheVariants as commands
-use Rattle.broker_base.proofs.ClientsInOrder.{same_is, same_self}
+use Rattle.broker_base.proofs.of_broker_spec.ClientsInOrder.{same_is, same_self}
 use Rattle.client_base.proofs.of_lists.Tests.{or_right}
 use Rattle.client_base.specs.Keeper.{Written}
 use Rattle.exactly_once.specs.Sides.{ClientConnection}
@@ -19,7 +19,7 @@ use Rattle.exactly_once.specs.StoryCommands.{any_named, names_client, command_of
 use Rattle.client_base.specs.Written.{writes_first}
 use Rattle.exactly_once.specs.Inside.Shape.{LastIsCurrent, NewestIsServed, NamesApart, HasShape}
 use Rattle.exactly_once.specs.Inside.ConnectionShape.{ConnackFirst, ConnectionInShape}
-use Rattle.broker_base.proofs.ConnectionNames.{same_name}
+use Rattle.broker_base.proofs.of_broker_spec.ConnectionNames.{same_name}
 use Rattle.exactly_once.proofs.places.After.{current_opens}
 use Rattle.exactly_once.proofs.publishing.Last.{each_there, is_named}
 use Rattle.exactly_once.proofs.publishing.kept.KeepsNames.{counted_named}

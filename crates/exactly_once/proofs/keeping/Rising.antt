@@ -13,7 +13,7 @@ use Rattle.client_base.specs.Written.{writes_first}
 use Rattle.exactly_once.specs.Inside.Projections.{last_confirmed}
 use Rattle.exactly_once.specs.Inside.Shape.{NamesApart}
 use Rattle.exactly_once.proofs.Takes.{same_name_self}
-use Rattle.broker_base.proofs.ConnectionNames.{same_name}
+use Rattle.broker_base.proofs.of_broker_spec.ConnectionNames.{same_name}
 use Rattle.exactly_once.proofs.subscribing.Newest.{Unconfirmed}
 use Rattle.exactly_once.proofs.subscribing.Counted.{named_at}
 

@@ -8,7 +8,7 @@ use Rattle.broker_base.specs.broker_spec.Past.{accepts, ends_any, newest_connect
 use Rattle.broker_base.specs.broker_spec.declared.command.Command.{Command}
 use Rattle.broker_base.specs.broker_spec.declared.command.Command.TheVariants as commands
 use Rattle.exactly_once.specs.StoryCommands.{is_packet_of, count_of}
-use Rattle.broker_base.proofs.ConnectionNames.{same_itself}
+use Rattle.broker_base.proofs.of_broker_spec.ConnectionNames.{same_itself}
 
 -- a packet of x counts
 pub counted_here : (x : ConnectionName) (place : Place) (past : Past) → is_packet_of place.command x ≡ true → count_of x past < count_of x (place ∷ past)

@@ -11,11 +11,11 @@ use Rattle.client_base.specs.session_base.Identifiers.{without_id}
 use Rattle.broker_base.specs.broker_spec.Marks.{packet_mark, packet_mark_of}
 use Rattle.broker_base.specs.broker_spec.Commands.{place_of}
 use Rattle.broker_base.specs.broker_spec.declared.command.Command.TheVariants as commands
-use Rattle.broker_base.proofs.ClientsInOrder.{same_self}
+use Rattle.broker_base.proofs.of_broker_spec.ClientsInOrder.{same_self}
 use Rattle.exactly_once.specs.Sides.{ClientConnection}
 use Rattle.exactly_once.specs.StoryCommands.{any_named}
 use Rattle.exactly_once.proofs.Packets.{at_packet}
-use Rattle.broker_base.proofs.ConnectionNames.{same_itself}
+use Rattle.broker_base.proofs.of_broker_spec.ConnectionNames.{same_itself}
 use Rattle.exactly_once.proofs.places.After.{IsKeptSession, current_stays, current_ends, current_opens, session_stays, session_opens, received_live, received_stays, received_opens}
 use Rattle.exactly_once.proofs.places.Owned.{NobodyElse, none_owns, own_owner}
 

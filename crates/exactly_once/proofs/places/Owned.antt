@@ -7,10 +7,10 @@ use Rattle.broker_base.specs.broker_spec.Connection.{ConnectionName, same_connec
 use Rattle.broker_base.specs.broker_spec.Place.{Client, Past, same_client}
 use Rattle.broker_base.specs.broker_spec.Past.{any_connection, current_connection}
 use Rattle.broker_base.specs.broker_spec.Owner.{owner_of}
-use Rattle.broker_base.proofs.ClientsInOrder.{same_is}
+use Rattle.broker_base.proofs.of_broker_spec.ClientsInOrder.{same_is}
 use Rattle.exactly_once.specs.Sides.{ClientConnection}
 use Rattle.exactly_once.specs.StoryCommands.{any_named}
-use Rattle.broker_base.proofs.ConnectionNames.{same_name, same_itself}
+use Rattle.broker_base.proofs.of_broker_spec.ConnectionNames.{same_name, same_itself}
 use Rattle.exactly_once.proofs.places.Owners.{owner_has, owner_there}
 
 -- no other client is on one of these connections

@@ -9,7 +9,7 @@ use Rattle.broker_base.specs.broker_spec.Place.{Client, Past, same_client}
 use Rattle.broker_base.specs.broker_spec.Past.{expels, session_of}
 use Rattle.broker_base.specs.broker_spec.declared.command.Command.{Command}
 use Rattle.broker_base.specs.broker_spec.declared.command.Command.TheVariants as commands
-use Rattle.broker_base.proofs.ClientsInOrder.{same_is}
+use Rattle.broker_base.proofs.of_broker_spec.ClientsInOrder.{same_is}
 use Rattle.exactly_once.specs.StoryCommands.{command_of, names_client}
 use Rattle.exactly_once.proofs.places.After.{IsSpared}
 

@@ -19,7 +19,7 @@ use Rattle.exactly_once.specs.StoryCommands.{counted_at}
 use Rattle.exactly_once.specs.Inside.Projections.{is_current, last_confirmed, as_publisher, GoesTo}
 use Rattle.exactly_once.specs.Inside.Shape.{HasShape}
 use Rattle.exactly_once.proofs.Packets.{at_packet}
-use Rattle.broker_base.proofs.ConnectionNames.{same_name}
+use Rattle.broker_base.proofs.of_broker_spec.ConnectionNames.{same_name}
 use Rattle.exactly_once.proofs.places.After.{current_stays, received_stays}
 use Rattle.exactly_once.proofs.places.Owned.{none_owns}
 use Rattle.exactly_once.proofs.publishing.Links.{current_last, forward_last, backward_last}

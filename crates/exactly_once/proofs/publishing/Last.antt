@@ -10,7 +10,7 @@ use Rattle.exactly_once.specs.Sides.{ClientConnection}
 use Rattle.exactly_once.specs.StoryCommands.{any_named, counted_at}
 use Rattle.exactly_once.specs.Inside.Projections.{last_confirmed}
 use Rattle.exactly_once.specs.Inside.Shape.{NamesApart}
-use Rattle.broker_base.proofs.ConnectionNames.{same_itself}
+use Rattle.broker_base.proofs.of_broker_spec.ConnectionNames.{same_itself}
 
 -- what holds for each holds for the last confirmed one
 pub each_last : (P : ClientConnection → Type 0) (connections : List ClientConnection) (κ : ClientConnection) → Each P connections → last_confirmed connections ≡ Some κ → P κ

@@ -16,7 +16,7 @@ use Rattle.client_base.specs.Keeper.{Written}
 use Rattle.client_base.specs.Connected.{opens}
 use Rattle.exactly_once.specs.Sides.{ClientConnection}
 use Rattle.exactly_once.specs.StoryCommands.{any_named, counted_at, command_of, count_of, is_packet_of}
-use Rattle.broker_base.proofs.ConnectionNames.{same_itself}
+use Rattle.broker_base.proofs.of_broker_spec.ConnectionNames.{same_itself}
 use Rattle.exactly_once.specs.InStep.{opens_on}
 use Rattle.exactly_once.specs.Inside.Shape.{NamesApart}
 use Rattle.exactly_once.proofs.sessions.Beside.{other_name}

@@ -8,7 +8,7 @@ use Rattle.broker_base.specs.broker_spec.Connection.{ConnectionName}
 use Rattle.broker_base.specs.broker_spec.Place.{Client, Place, Past, Limits, same_client}
 use Rattle.broker_base.specs.broker_spec.Past.{accepts, begins, begins_session, is_beginning, session_of, session_start}
 use Rattle.broker_base.specs.broker_spec.Commands.{place_of}
-use Rattle.broker_base.proofs.ClientsInOrder.{same_self}
+use Rattle.broker_base.proofs.of_broker_spec.ClientsInOrder.{same_self}
 use Rattle.exactly_once.specs.Sides.{ClientConnection}
 use Rattle.exactly_once.specs.Story.{Story, StoryStep}
 use Rattle.exactly_once.specs.StoryCommands.{command_of, names_client}

@@ -27,8 +27,8 @@ use Rattle.exactly_once.proofs.places.Kinds.{nobodys_mark}
 use Rattle.exactly_once.proofs.Packets.{at_packet}
 use Rattle.exactly_once.proofs.publishing.Last.{each_there}
 use Rattle.exactly_once.proofs.sessions.Beside.{with_connections, other_name}
-use Rattle.broker_base.proofs.ClientsInOrder.{same_is}
-use Rattle.broker_base.proofs.ConnectionNames.{same_name, same_itself}
+use Rattle.broker_base.proofs.of_broker_spec.ClientsInOrder.{same_is}
+use Rattle.broker_base.proofs.of_broker_spec.ConnectionNames.{same_name, same_itself}
 use Rattle.exactly_once.specs.Inside.Shape.{NamesApart}
 use Rattle.exactly_once.proofs.sessions.Anew.{IsUntouched}
 use Rattle.exactly_once.proofs.sessions.Again.{accepted_at}

@@ -7,7 +7,7 @@ use Rattle.broker_base.specs.broker_spec.Connection.{ConnectionName, same_connec
 use Rattle.broker_base.specs.broker_spec.Place.{Client, Mark, Place, Past, only_if}
 use Rattle.broker_base.specs.broker_spec.Past.{accepts, expels, ends_any, newest_session, is_beginning, current_connection, session_of, session_start, begins}
 use Rattle.broker_base.specs.broker_spec.declared.command.Command.{Command}
-use Rattle.broker_base.proofs.ConnectionNames.{same_name}
+use Rattle.broker_base.proofs.of_broker_spec.ConnectionNames.{same_name}
 use Rattle.exactly_once.specs.StoryCommands.{is_packet_of, count_of}
 use Rattle.exactly_once.specs.InStep.{has_begun, opens_on, opened_in}
 use Rattle.exactly_once.proofs.places.Counts.{accepted_counts}

@@ -7,8 +7,8 @@ use Rattle.broker_base.specs.broker_spec.Connection.{ConnectionName}
 use Rattle.broker_base.specs.broker_spec.Entries.{Entry}
 use Rattle.broker_base.specs.broker_spec.Times.{started}
 use Rattle.broker_base.specs.broker_spec.IdentifierLaws.{WaitsLast, IsWaiting}
-use Rattle.broker_base.proofs.SoundEntries.{AllWait, InOrder, Sound}
-use Rattle.broker_base.proofs.SoundStarts.{sound_new}
+use Rattle.broker_base.proofs.of_broker_spec.SoundEntries.{AllWait, InOrder, Sound}
+use Rattle.broker_base.proofs.of_broker_spec.SoundStarts.{sound_new}
 use Rattle.exactly_once.specs.Items.{SenderItem}
 use Rattle.exactly_once.specs.Handshake.{Handshake, with_items}
 use Rattle.exactly_once.specs.HandshakeSteps.{HandshakeRun}

@@ -9,9 +9,9 @@ use Rattle.broker_base.specs.broker_spec.Entries.{Entry, copies_at, queued}
 use Rattle.broker_base.specs.broker_spec.Times.{answered_by, start_all, started, window_at, entries_of}
 use Rattle.broker_base.specs.broker_spec.Sends.{all_started}
 use Rattle.broker_base.specs.broker_spec.declared.command.Command.TheVariants as commands
-use Rattle.broker_base.proofs.ClientsInOrder.{same_self}
+use Rattle.broker_base.proofs.of_broker_spec.ClientsInOrder.{same_self}
 use Rattle.broker_base.proofs.ConnectionsOfSessions.{same_turned}
-use Rattle.broker_base.proofs.EntriesStartedBefore.{before_below, before_answered, before_new}
+use Rattle.broker_base.proofs.of_broker_spec.EntriesStartedBefore.{before_below, before_answered, before_new}
 use Rattle.broker_base.proofs.QueueAfter.{sound_entries, sound_answered}
 use Rattle.broker_base.proofs.QuietPasts.{no_connection, entries_next}
 use Rattle.exactly_once.specs.Handshake.{Forward, publishing}

@@ -12,7 +12,7 @@ use Rattle.broker_base.specs.broker_spec.Readings.{made_at, waiting_of, busy_ids
 use Rattle.broker_base.specs.broker_spec.Times.{start_all}
 use Rattle.broker_base.specs.broker_spec.Sends.{publish, all_started, handed}
 use Rattle.client_base.proofs.of_session_base.CountedIdentifiers.{count, same_length}
-use Rattle.broker_base.proofs.SoundEntries.{Sound}
+use Rattle.broker_base.proofs.of_broker_spec.SoundEntries.{Sound}
 use Rattle.broker_base.proofs.flights.IdentifiersInFlight.{append_none}
 use Rattle.broker_base.proofs.flights.SendsOfCopies.{starts_full}
 use Rattle.broker_base.proofs.flights.EntriesOfPlaces.{busy_from, busy_from_is, made_here}

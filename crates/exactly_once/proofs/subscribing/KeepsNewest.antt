@@ -12,7 +12,7 @@ use Rattle.broker_base.specs.broker_spec.Marks.{mark_of, connect_mark}
 use Rattle.broker_base.specs.broker_spec.Commands.{place_of}
 use Rattle.broker_base.specs.broker_spec.declared.command.Command.{Command}
 use Rattle.broker_base.specs.broker_spec.declared.command.Command.TheVariants as commands
-use Rattle.broker_base.proofs.ClientsInOrder.{same_is}
+use Rattle.broker_base.proofs.of_broker_spec.ClientsInOrder.{same_is}
 use Rattle.broker_base.proofs.QuietPasts.{no_connection}
 use Rattle.client_base.specs.Keeper.{Written}
 use Rattle.exactly_once.specs.Sides.{ClientConnection, Side}

@@ -7,7 +7,7 @@ use Rattle.broker_base.specs.broker_spec.Place.{Place, Limits}
 use Rattle.broker_base.specs.broker_spec.Past.{current_connection}
 use Rattle.broker_base.specs.broker_spec.Entries.{Entry}
 use Rattle.broker_base.specs.broker_spec.Times.{started, window_at, entries_of}
-use Rattle.broker_base.proofs.SoundEntries.{Sound}
+use Rattle.broker_base.proofs.of_broker_spec.SoundEntries.{Sound}
 use Rattle.exactly_once.specs.Handshake.{Forward, Backward, Handshake, publishing}
 use Rattle.exactly_once.specs.HandshakeSteps.{HandshakeRun}
 use Rattle.exactly_once.specs.Sides.{ClientConnection}

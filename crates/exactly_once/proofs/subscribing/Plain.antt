@@ -10,7 +10,7 @@ use Rattle.broker_base.specs.broker_spec.Readings.{made_at}
 use Rattle.broker_base.specs.broker_spec.Times.{answered_by, started, window_at, entries_of}
 use Rattle.broker_base.specs.broker_spec.Sends.{handed_to, deliveries_to}
 use Rattle.broker_base.specs.broker_spec.AnswersInOrder.{answers_at}
-use Rattle.broker_base.proofs.AnswersStaySound.{sound_more}
+use Rattle.broker_base.proofs.of_broker_spec.AnswersStaySound.{sound_more}
 use Rattle.broker_base.proofs.QueueAfter.{sound_entries}
 use Rattle.broker_base.proofs.QuietPasts.{no_connection, entries_next, entries_none}
 use Rattle.exactly_once.specs.Handshake.{publishing}

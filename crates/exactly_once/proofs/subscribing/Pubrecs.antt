@@ -14,7 +14,7 @@ use Rattle.broker_base.specs.broker_spec.Times.{at_pubrec, started, window_at, e
 use Rattle.broker_base.specs.broker_spec.NobodyLaws.{IsSteady}
 use Rattle.broker_base.specs.broker_spec.declared.command.Output.TheVariants.{Send}
 use Rattle.broker_base.proofs.ConnectionsOfSessions.{same_turned}
-use Rattle.broker_base.proofs.NothingWaits.{IsFull, full-at}
+use Rattle.broker_base.proofs.of_broker_spec.NothingWaits.{IsFull, full-at}
 use Rattle.broker_base.proofs.flights.StartsInFlight.{released_started}
 use Rattle.exactly_once.specs.Items.{has_sent}
 use Rattle.exactly_once.specs.Handshake.{Forward, Backward, publishing}

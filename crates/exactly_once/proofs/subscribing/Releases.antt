@@ -8,7 +8,7 @@ use Rattle.broker_base.specs.broker_spec.Readings.{released_at, released_below}
 use Rattle.broker_base.specs.ClientSession.{sent_flights, released_flight, flights_below}
 use Rattle.client_base.specs.session_base.Queue.{Flight, ids_of}
 use Rattle.client_base.proofs.of_session_base.CountedIdentifiers.{one_if, count, count-append}
-use Rattle.broker_base.proofs.SoundEntries.{Sound}
+use Rattle.broker_base.proofs.of_broker_spec.SoundEntries.{Sound}
 use Rattle.broker_base.proofs.flights.IdentifiersInFlight.{same_ids}
 use Rattle.client_base.specs.lists.Lists.{has_id, IsDistinct, Each}
 use Rattle.exactly_once.specs.Items.{SenderItem, has_released}

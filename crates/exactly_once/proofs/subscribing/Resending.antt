@@ -12,7 +12,7 @@ use Rattle.broker_base.specs.broker_spec.Sends.{sent_again, all_started, resent}
 use Rattle.broker_base.specs.broker_spec.declared.command.Output.{Output}
 use Rattle.broker_base.specs.broker_spec.declared.command.Output.TheVariants.{Send}
 use Rattle.broker_base.proofs.flights.StartsInFlight.{released_started}
-use Rattle.broker_base.proofs.EntriesStartedBefore.{StartedBefore}
+use Rattle.broker_base.proofs.of_broker_spec.EntriesStartedBefore.{StartedBefore}
 use Rattle.exactly_once.specs.Handshake.{Forward, publishing, resend}
 use Rattle.exactly_once.specs.Items.{SenderItem, sent}
 use Rattle.client_base.proofs.of_lists.Tests.{eq_same}

@@ -1,14 +1,14 @@
 -- Steps of nodes and of groups that may lose something when memory runs out, and count it.
 use Rattle.std.specs.Prelude.{ℕ, Bool, true, false, ◌<◌, ◌≡◌, ◌⊎◌, List, [], ◌++◌, Some}
 use Rattle.machine.specs.Machine.{Rules}
-use Rattle.ballot.specs.Message.{Message}
-use Rattle.ballot.specs.Effect.{Effect}
-use Rattle.ballot.specs.Effect.TheVariants.{To, Out}
-use Rattle.ballot.specs.Losses.{SendsAndAddsNothing, Loses, Thinned, greatest_count, one_more}
-use Rattle.ballot.specs.Protocol.{Input, replica_step}
-use Rattle.ballot.specs.Protocol.Input.{Receives, Proposes, Ticks}
-use Rattle.ballot.specs.Replica.{ReplicaState, CountedReplica}
-use Rattle.ballot.specs.Unread.{is_unread}
+use Rattle.ballot.specs.ballot_base.declared.message.Message.{Message}
+use Rattle.ballot.specs.ballot_base.declared.message.Effect.{Effect}
+use Rattle.ballot.specs.ballot_base.declared.message.Effect.TheVariants.{To, Out}
+use Rattle.ballot.specs.ballot_base.Losses.{SendsAndAddsNothing, Loses, Thinned, greatest_count, one_more}
+use Rattle.ballot.specs.ballot_base.Protocol.{Input, replica_step}
+use Rattle.ballot.specs.ballot_base.Protocol.Input.{Receives, Proposes, Ticks}
+use Rattle.ballot.specs.ballot_base.Replica.{ReplicaState, CountedReplica}
+use Rattle.ballot.specs.ballot_base.Unread.{is_unread}
 use Rattle.snapshots.specs.Masters.{MasterOutcome}
 use Rattle.snapshots.specs.Steps.{sends_from_master}
 use Rattle.snapshots.specs.World.{messages, outputs, moved}

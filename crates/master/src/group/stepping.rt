@@ -2,9 +2,9 @@
 
 ghost use Rattle.std.specs.Prelude.{◌≡◌, ◌<◌, ◌↔◌, true, false, None, Some, slice_get, OnOk};
 ghost use Rattle.std.specs.Prelude.{OnErr, IsErr};
-ghost use Rattle.ballot.specs.Body.TheVariants.{Activate};
-ghost use Rattle.ballot.specs.Cutting.{can_cut};
-ghost use Rattle.ballot.specs.Replica.{ReplicaState};
+ghost use Rattle.ballot.specs.ballot_base.declared.message.Body.TheVariants.{Activate};
+ghost use Rattle.ballot.specs.ballot_base.Cutting.{can_cut};
+ghost use Rattle.ballot.specs.ballot_base.Replica.{ReplicaState};
 ghost use Rattle.ballot.specs.lists.Lists.{In};
 ghost use Rattle.snapshots.specs.Masters.{activated, assigned};
 ghost use Rattle.snapshots.specs.agreement.MasterState.{refusal};

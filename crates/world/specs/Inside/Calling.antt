@@ -1,6 +1,6 @@
 -- A call of a client.
 use Rattle.std.specs.Prelude.{◌≡◌, Result, Ok, Err, IsOk, IsErr}
-use Rattle.headline.specs.ballot.Losses.{one_more}
+use Rattle.headline.specs.ballot_base.Losses.{one_more}
 use Rattle.escaping_client.specs.client_base.declared.error.ClientError.{ClientError}
 use Rattle.escaping_client.specs.client_base.declared.error.ClientError.TheVariants as errors
 use Rattle.escaping_nodes.specs.master.declared.event.Idle.{Idle}

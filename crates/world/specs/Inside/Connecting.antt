@@ -1,6 +1,6 @@
 -- A new connection.
 use Rattle.std.specs.Prelude.{◌≡◌, ◌⊎◌, ◌-◌, ℕ, true, false, [], ◌∷◌, ◌++◌, Some, length, slice_get}
-use Rattle.headline.specs.ballot.Losses.{one_more}
+use Rattle.headline.specs.ballot_base.Losses.{one_more}
 use Rattle.world_nodes.specs.Nodes.{NodesState}
 use Rattle.world_nodes.specs.Steps.{NodesLoseNothing}
 use Rattle.world_pipes.specs.Piped.{Piped}

@@ -1,7 +1,7 @@
 -- The events of a way out, by arithmetic, and the member whose log is fetched.
 use Rattle.std.specs.Prelude.{◌≡◌, ◌≤◌, ℕ, suc, ◌+◌, ◌-◌, ◌*◌, Bool, List, ◌∷◌, ◌++◌, Some, length, map, slice_get}
 use Rattle.std.specs.List.{position}
-use Rattle.headline.specs.ballot.Serving.{max_places}
+use Rattle.headline.specs.ballot_base.Serving.{max_places}
 use Rattle.ways_out.specs.Deliveries.{way_out}
 use Rattle.world_nodes.specs.Running.{is_running, node_of}
 use Rattle.world_events.specs.declared.event.Event.{Event}

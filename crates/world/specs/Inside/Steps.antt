@@ -1,6 +1,6 @@
 -- What the parts of a step do, and how a step is counted.
 use Rattle.std.specs.Prelude.{◌≡◌, ◌⊎◌, ◌≤◌, ◌<◌, ℕ, true, false, List, [], Result, Ok, Err}
-use Rattle.headline.specs.ballot.Losses.{greatest_count, one_more}
+use Rattle.headline.specs.ballot_base.Losses.{greatest_count, one_more}
 use Rattle.escaping_nodes.specs.master.declared.event.Idle.{Idle}
 use Rattle.session_base.specs.declared.publication.Publication.{Publication}
 use Rattle.world_nodes.specs.Steps.{NodesLoseNothing}

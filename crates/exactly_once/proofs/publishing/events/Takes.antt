@@ -17,7 +17,7 @@ use Rattle.exactly_once.specs.StoryCommands.{counted_at, command_of}
 use Rattle.exactly_once.specs.Inside.Projections.{as_publisher, GoesTo}
 use Rattle.exactly_once.specs.Inside.Shape.{HasShape}
 use Rattle.exactly_once.proofs.Packets.{at_packet}
-use Rattle.broker_base.proofs.ConnectionNames.{same_name, same_itself}
+use Rattle.broker_base.proofs.of_broker_spec.ConnectionNames.{same_name, same_itself}
 use Rattle.exactly_once.proofs.places.Owned.{own_owner}
 use Rattle.exactly_once.proofs.publishing.First.{story_by}
 use Rattle.exactly_once.proofs.publishing.Last.{is_named}

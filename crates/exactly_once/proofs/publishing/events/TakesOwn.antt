@@ -21,7 +21,7 @@ use Rattle.exactly_once.specs.Inside.Projections.{forward_of_own, forward_of_one
 use Rattle.exactly_once.specs.Inside.Shape.{HasShape}
 use Rattle.exactly_once.specs.Inside.ConnectionShape.{ConnectionInShape}
 use Rattle.exactly_once.proofs.Packets.{at_packet, current_packet}
-use Rattle.broker_base.proofs.ConnectionNames.{same_itself}
+use Rattle.broker_base.proofs.of_broker_spec.ConnectionNames.{same_itself}
 use Rattle.exactly_once.proofs.places.After.{current_ends, received_live}
 use Rattle.exactly_once.proofs.publishing.Links.{link_by, current_last, forward_last, link_is}
 use Rattle.exactly_once.proofs.publishing.Written.{dropped_next}

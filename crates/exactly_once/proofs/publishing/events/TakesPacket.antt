@@ -21,7 +21,7 @@ use Rattle.exactly_once.specs.Inside.Projections.{forward_of_one, last_confirmed
 use Rattle.exactly_once.specs.Inside.Shape.{HasShape, LastIsCurrent}
 use Rattle.exactly_once.specs.Inside.ConnectionShape.{ConnectionInShape, is_two_unnumbered}
 use Rattle.exactly_once.proofs.Packets.{at_packet}
-use Rattle.broker_base.proofs.ConnectionNames.{same_itself}
+use Rattle.broker_base.proofs.of_broker_spec.ConnectionNames.{same_itself}
 use Rattle.exactly_once.proofs.places.Sessions.{current_has_session}
 use Rattle.exactly_once.proofs.places.After.{IsKeptSession}
 use Rattle.exactly_once.proofs.publishing.First.{story_by}

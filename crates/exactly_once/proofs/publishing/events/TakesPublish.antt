@@ -15,7 +15,7 @@ use Rattle.broker_base.specs.broker_spec.Marks.{is_refused, packet_mark}
 use Rattle.broker_base.specs.broker_spec.Sends.{deliveries_to}
 use Rattle.broker_base.specs.broker_spec.Answers.{acknowledged}
 use Rattle.broker_base.specs.broker_spec.declared.command.Output.TheVariants.{Send}
-use Rattle.broker_base.proofs.ClientsInOrder.{same_self}
+use Rattle.broker_base.proofs.of_broker_spec.ClientsInOrder.{same_self}
 use Rattle.exactly_once.specs.Handshake.{Forward, Handshake}
 use Rattle.exactly_once.specs.Sends.{sends_to}
 use Rattle.client_base.specs.Keeper.{Written, Keeper}
@@ -23,7 +23,7 @@ use Rattle.exactly_once.specs.Sides.{ClientConnection}
 use Rattle.exactly_once.specs.StoryCommands.{counted_at}
 use Rattle.exactly_once.specs.Inside.Projections.{forward_of_one, backward_of_own, as_publisher, GoesTo}
 use Rattle.exactly_once.proofs.Packets.{at_packet, copies_none}
-use Rattle.broker_base.proofs.ConnectionNames.{same_itself}
+use Rattle.broker_base.proofs.of_broker_spec.ConnectionNames.{same_itself}
 use Rattle.exactly_once.proofs.publishing.kept.Numbers.{same_counted}
 use Rattle.exactly_once.proofs.publishing.First.{story_by}
 use Rattle.exactly_once.proofs.publishing.Elsewhere.{NoneSent, none_both}

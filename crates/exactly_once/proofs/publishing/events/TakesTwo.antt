@@ -14,7 +14,7 @@ use Rattle.broker_base.specs.broker_spec.Owner.{clients}
 use Rattle.broker_base.specs.broker_spec.Marks.{is_refused, packet_mark}
 use Rattle.broker_base.specs.broker_spec.Sends.{deliveries_to}
 use Rattle.broker_base.specs.broker_spec.declared.command.Output.TheVariants.{Send}
-use Rattle.broker_base.proofs.ClientsInOrder.{same_self}
+use Rattle.broker_base.proofs.of_broker_spec.ClientsInOrder.{same_self}
 use Rattle.exactly_once.specs.Handshake.{Forward, Transit, Handshake, accepting}
 use Rattle.exactly_once.specs.Sends.{sends_to}
 use Rattle.client_base.specs.Keeper.{Written, Keeper}
@@ -25,7 +25,7 @@ use Rattle.exactly_once.specs.Inside.Projections.{backward_of_own, as_publisher,
 use Rattle.exactly_once.specs.Inside.Shape.{NamesApart}
 use Rattle.exactly_once.proofs.Packets.{at_packet, copies_none}
 use Rattle.client_base.proofs.of_session_base.KeptIdentifiers.{has_with}
-use Rattle.broker_base.proofs.ConnectionNames.{same_itself}
+use Rattle.broker_base.proofs.of_broker_spec.ConnectionNames.{same_itself}
 use Rattle.exactly_once.proofs.places.Counts.{counted_here}
 use Rattle.exactly_once.proofs.publishing.Last.{each_there, none_named}
 use Rattle.exactly_once.proofs.Deliveries.{sends_append}

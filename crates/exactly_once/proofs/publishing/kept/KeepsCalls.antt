@@ -9,7 +9,7 @@ use Rattle.client_base.specs.session_base.Identifiers.{least_free}
 use Rattle.client_base.specs.session_base.Publication.{is_answered}
 use Rattle.broker_base.specs.broker_spec.Place.{Limits}
 use Rattle.client_base.specs.lists.Lists.{has_id, IsDistinct}
-use Rattle.broker_base.proofs.LeastFree.{least-is-free}
+use Rattle.broker_base.proofs.of_broker_spec.LeastFree.{least-is-free}
 use Rattle.exactly_once.specs.Items.{SenderItem, has_released}
 use Rattle.exactly_once.specs.HandshakeInvariant.{IsGood}
 use Rattle.client_base.proofs.of_lists.Identifiers.{has_split, distinct_insert, distinct_push}

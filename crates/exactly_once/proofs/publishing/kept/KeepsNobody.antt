@@ -11,7 +11,7 @@ use Rattle.broker_base.specs.broker_spec.Marks.{mark_of}
 use Rattle.broker_base.specs.broker_spec.Commands.{place_of}
 use Rattle.broker_base.specs.broker_spec.declared.command.Command.{Command}
 use Rattle.broker_base.specs.broker_spec.declared.command.Command.TheVariants as commands
-use Rattle.broker_base.proofs.ClientsInOrder.{same_is, same_self}
+use Rattle.broker_base.proofs.of_broker_spec.ClientsInOrder.{same_is, same_self}
 use Rattle.client_base.specs.Keeper.{Written}
 use Rattle.exactly_once.specs.Sides.{ClientConnection}
 use Rattle.client_base.specs.Written.{plain}
@@ -23,7 +23,7 @@ use Rattle.client_base.specs.Written.{writes_first}
 use Rattle.exactly_once.specs.Story.StoryStep.{takes, others_take, receives, opens_anew, loses, disconnects, publishes_one, subscribes, unsubscribes}
 use Rattle.exactly_once.specs.Inside.Shape.{IsSoundStory}
 use Rattle.exactly_once.specs.Inside.ConnectionShape.{ConnectionInShape}
-use Rattle.broker_base.proofs.ConnectionNames.{same_name}
+use Rattle.broker_base.proofs.of_broker_spec.ConnectionNames.{same_name}
 use Rattle.exactly_once.proofs.places.Counts.{only_there, current_counted}
 use Rattle.exactly_once.proofs.places.Owned.{NobodyElse}
 use Rattle.exactly_once.proofs.publishing.Grown.{handled_grows}

@@ -2,7 +2,7 @@
 use Rattle.std.proofs.Common.{◌≡◌, ℕ, Bool, true, false, if◌then◌else◌, List, [], ◌∷◌, ◌++◌, map, refl, ap}
 use Rattle.std.proofs.lemmas.Bool.{both_ways}
 use Rattle.client_base.specs.session_base.Identifiers.{least_free}
-use Rattle.broker_base.proofs.LeastFree.{least-is-free}
+use Rattle.broker_base.proofs.of_broker_spec.LeastFree.{least-is-free}
 use Rattle.exactly_once.specs.Items.{SenderItem, busy}
 use Rattle.client_base.specs.lists.Lists.{has_id}
 use Rattle.client_base.proofs.of_lists.Identifiers.{has_split}

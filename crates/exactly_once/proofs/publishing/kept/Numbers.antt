@@ -12,7 +12,7 @@ use Rattle.client_base.specs.Keeper.{Written}
 use Rattle.exactly_once.specs.Sides.{ClientConnection}
 use Rattle.exactly_once.specs.StoryCommands.{is_packet_of, count_of, counted_at}
 use Rattle.exactly_once.specs.Carried.{carries, connection_named, number_at, number_of, more_by, new_numbers}
-use Rattle.broker_base.proofs.ConnectionNames.{same_name, same_itself}
+use Rattle.broker_base.proofs.of_broker_spec.ConnectionNames.{same_name, same_itself}
 use Rattle.exactly_once.proofs.places.Counts.{counted_here, counted_still}
 
 -- both lists of connections give the same number to each packet of x that is taken

@@ -10,7 +10,7 @@ use Rattle.broker_base.specs.broker_spec.Entries.{Entry}
 use Rattle.broker_base.specs.broker_spec.Readings.{released_below}
 use Rattle.broker_base.specs.broker_spec.Times.{started, window_at, entries_of}
 use Rattle.broker_base.specs.broker_spec.NobodyLaws.{IsSteady}
-use Rattle.broker_base.proofs.AnswersStaySound.{sound_more}
+use Rattle.broker_base.proofs.of_broker_spec.AnswersStaySound.{sound_more}
 use Rattle.broker_base.proofs.QueueAfter.{sound_entries}
 use Rattle.exactly_once.specs.Handshake.{Backward, Transit, Handshake, publishing, resend, with_items}
 use Rattle.exactly_once.specs.HandshakeSteps.{HandshakeRun}

@@ -17,7 +17,7 @@ use Rattle.broker_base.specs.broker_spec.NobodyLaws.{IsSteady}
 use Rattle.broker_base.specs.broker_spec.declared.command.Command.TheVariants as commands
 use Rattle.broker_base.specs.broker_spec.declared.command.Output.{Output}
 use Rattle.broker_base.specs.broker_spec.declared.command.Output.TheVariants.{Send}
-use Rattle.broker_base.proofs.ClientsInOrder.{same_is}
+use Rattle.broker_base.proofs.of_broker_spec.ClientsInOrder.{same_is}
 use Rattle.broker_base.proofs.ConnectionsOfSessions.{same_turned}
 use Rattle.exactly_once.specs.Sends.{sends_to}
 use Rattle.exactly_once.specs.Story.{Story}

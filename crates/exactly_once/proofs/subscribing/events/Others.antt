@@ -9,7 +9,7 @@ use Rattle.broker_base.specs.broker_spec.Owner.{owner_of}
 use Rattle.broker_base.specs.broker_spec.Marks.{packet_mark, packet_mark_of}
 use Rattle.broker_base.specs.broker_spec.Times.{entries_of}
 use Rattle.broker_base.specs.broker_spec.NobodyLaws.{IsSteady}
-use Rattle.broker_base.proofs.ClientsInOrder.{same_is}
+use Rattle.broker_base.proofs.of_broker_spec.ClientsInOrder.{same_is}
 use Rattle.broker_base.proofs.ConnectionsOfSessions.{same_turned}
 use Rattle.exactly_once.specs.Sides.{ClientConnection}
 use Rattle.exactly_once.specs.Story.{Story}

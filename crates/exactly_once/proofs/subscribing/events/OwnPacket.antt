@@ -13,7 +13,7 @@ use Rattle.broker_base.specs.broker_spec.Retained.{retained_publications}
 use Rattle.broker_base.specs.broker_spec.Marks.{grants, packet_mark, packet_mark_of}
 use Rattle.broker_base.specs.broker_spec.Times.{entries_of, room_of}
 use Rattle.broker_base.specs.broker_spec.NobodyLaws.{IsSteady}
-use Rattle.broker_base.proofs.ClientsInOrder.{same_is, IsNamed}
+use Rattle.broker_base.proofs.of_broker_spec.ClientsInOrder.{same_is, IsNamed}
 use Rattle.exactly_once.specs.HandshakeInvariant.{IsGood}
 use Rattle.client_base.specs.Keeper.{Written}
 use Rattle.exactly_once.specs.Sides.{ClientConnection}

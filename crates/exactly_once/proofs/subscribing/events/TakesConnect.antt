@@ -1,7 +1,7 @@
 -- The CONNECT of one of the client's connections, by what happens to it.
 use Rattle.std.proofs.Common.{◌≡◌, ℕ, Bool, true, false, ◌||◌, nat_lt, if◌then◌else◌, [], ◌∷◌, length, Option, Some, None, is_some, refl, ap, sym, ◌∙◌, ◌⊎◌, inl, inr, arith}
 use Rattle.std.proofs.lemmas.Bool.{both_ways}
-use Rattle.client_base.specs.packet.RefusalCode.TheVariants as refusals
+use Rattle.client_base.specs.packet_base.declared.refusal_code.RefusalCode.TheVariants as refusals
 use Rattle.client_base.specs.packet.declared.connack.Connack.TheVariants as connacks
 use Rattle.client_base.specs.packet.declared.packet.Packet.TheVariants as packets
 use Rattle.broker_base.specs.broker_spec.Connection.{ConnectionName}

@@ -16,8 +16,8 @@ use Rattle.broker_base.specs.broker_spec.Answers.{welcome}
 use Rattle.broker_base.specs.broker_spec.AnswersInOrder.{answers_at}
 use Rattle.broker_base.specs.broker_spec.declared.command.Command.{Command}
 use Rattle.broker_base.specs.broker_spec.declared.command.Command.TheVariants as commands
-use Rattle.broker_base.proofs.ClientsInOrder.{same_self}
-use Rattle.broker_base.proofs.EntriesStartedBefore.{before_below}
+use Rattle.broker_base.proofs.of_broker_spec.ClientsInOrder.{same_self}
+use Rattle.broker_base.proofs.of_broker_spec.EntriesStartedBefore.{before_below}
 use Rattle.broker_base.proofs.QueueAfter.{sound_entries}
 use Rattle.exactly_once.specs.Handshake.{publishing, resend}
 use Rattle.exactly_once.specs.Sends.{sends_to}

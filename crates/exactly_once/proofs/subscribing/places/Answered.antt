@@ -9,7 +9,7 @@ use Rattle.client_base.specs.lists.Lists.{has_id}
 use Rattle.broker_base.specs.broker_spec.Entries.{Entry}
 use Rattle.broker_base.specs.broker_spec.Readings.{released_at}
 use Rattle.broker_base.specs.broker_spec.Times.{at_puback, at_pubrec}
-use Rattle.broker_base.proofs.NothingWaits.{IsFull}
+use Rattle.broker_base.proofs.of_broker_spec.NothingWaits.{IsFull}
 use Rattle.exactly_once.specs.Items.{SenderItem, has_sent}
 use Rattle.client_base.proofs.of_lists.Tests.{or_right, or_left, eq_same}
 use Rattle.exactly_once.specs.Carried.{is_two}

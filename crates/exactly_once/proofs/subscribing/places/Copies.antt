@@ -10,7 +10,7 @@ use Rattle.broker_base.specs.broker_spec.Past.{any_connection, current_connectio
 use Rattle.broker_base.specs.broker_spec.Owner.{clients}
 use Rattle.broker_base.specs.broker_spec.Sends.{deliveries_to}
 use Rattle.broker_base.specs.broker_spec.declared.command.Output.{Output}
-use Rattle.broker_base.proofs.ClientsInOrder.{by_bytes_self, IsAbove, Rising, IsNamed}
+use Rattle.broker_base.proofs.of_broker_spec.ClientsInOrder.{by_bytes_self, IsAbove, Rising, IsNamed}
 use Rattle.exactly_once.specs.Sends.{sends_to}
 use Rattle.exactly_once.proofs.Deliveries.{sends_append, IsElsewhere, deliveries_elsewhere}
 use Rattle.exactly_once.proofs.subscribing.places.Owners.{rising_clients, served_named, is_that}

@@ -5,7 +5,7 @@ use Rattle.broker_base.specs.broker_spec.Connection.{ConnectionName, same_connec
 use Rattle.broker_base.specs.broker_spec.Place.{Client, Past}
 use Rattle.broker_base.specs.broker_spec.Past.{any_connection, current_connection, session_of}
 use Rattle.broker_base.specs.broker_spec.Owner.{named, clients, first_client, owner_of}
-use Rattle.broker_base.proofs.ClientsInOrder.{IsAbove, Rising, rising_named, IsNamed, session_is_named}
+use Rattle.broker_base.proofs.of_broker_spec.ClientsInOrder.{IsAbove, Rising, rising_named, IsNamed, session_is_named}
 use Rattle.broker_base.proofs.QuietPasts.{no_connection}
 use Rattle.exactly_once.proofs.subscribing.events.Leaving.{same_name}
 

@@ -21,7 +21,7 @@ use Rattle.broker_base.specs.broker_spec.Answers.{acknowledged, codes_of}
 use Rattle.broker_base.specs.broker_spec.AnswersInOrder.{answers_at}
 use Rattle.broker_base.specs.broker_spec.declared.command.Output.{Output}
 use Rattle.broker_base.specs.broker_spec.declared.command.Output.TheVariants.{Send}
-use Rattle.broker_base.proofs.ClientsInOrder.{same_self, same_is}
+use Rattle.broker_base.proofs.of_broker_spec.ClientsInOrder.{same_self, same_is}
 use Rattle.exactly_once.specs.Handshake.{Forward}
 use Rattle.exactly_once.specs.Sends.{sends_to}
 use Rattle.exactly_once.specs.Inside.AsSubscriber.{forward_of}

@@ -8,7 +8,7 @@ use Rattle.broker_base.specs.broker_spec.Entries.{Entry, copies_at, queued}
 use Rattle.broker_base.specs.broker_spec.Times.{answered_by, start_all, started, window_at, entries_of}
 use Rattle.broker_base.specs.broker_spec.Commands.{is_start}
 use Rattle.broker_base.specs.broker_spec.NobodyLaws.{IsSteady}
-use Rattle.broker_base.proofs.NothingWaits.{IsFull, full-at}
+use Rattle.broker_base.proofs.of_broker_spec.NothingWaits.{IsFull, full-at}
 use Rattle.exactly_once.proofs.Starts.{rows_started}
 use Rattle.exactly_once.proofs.subscribing.Adding.{rows_at}
 

@@ -1,6 +1,6 @@
 use Rattle.std.proofs.Common.{◌≡◌}
-use Rattle.post.specs.node.Lists.{Each}
-use Rattle.post.specs.Queued.{WasGiven}
+use Rattle.post.specs.lists.Lists.{Each}
+use Rattle.post.specs.outbox.Queued.{WasGiven}
 use Rattle.node_threads.specs.Turns.{Turns}
 use Rattle.node_threads.proofs.turns.take_up_to.Given as goal
 

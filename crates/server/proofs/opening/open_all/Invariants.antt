@@ -1,5 +1,5 @@
 use Rattle.std.proofs.Common.{◌<◌}
-use Rattle.node_threads.specs.post.node.Lists.{Each}
+use Rattle.node_threads.specs.post.lists.Lists.{Each}
 use Rattle.node_threads.specs.Named.{AreNamed}
 use Rattle.server.specs.Opening.{first_in, inbox_among}
 use Rattle.node_threads.specs.declared.opened.Opened.{Opened}

@@ -1,5 +1,5 @@
 use Rattle.std.proofs.Common.{◌≡◌, take}
-use Rattle.master.specs.ballot.Machine.{replay_from}
+use Rattle.master.specs.machine.Machine.{replay_from}
 use Rattle.world_base.specs.Core.{rules}
 use Rattle.world_nodes.proofs.asking.apply_all.Given as goal
 

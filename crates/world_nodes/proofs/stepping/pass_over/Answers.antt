@@ -1,6 +1,6 @@
 use Rattle.std.proofs.Common.{Bool, ℕ, Option, ◌&&◌, sym, ap, subst, ◌∙◌}
 use Rattle.std.specs.Prelude.{IfSome}
-use Rattle.master.specs.ballot.Message.{Message}
+use Rattle.master.specs.ballot_base.declared.message.Message.{Message}
 use Rattle.byte_world.specs.broker_spec.declared.command.Command.{Command}
 use Rattle.master.proofs.Counting.{get_there}
 use Rattle.world_base.specs.declared.item.Item.TheVariants.{Peer}

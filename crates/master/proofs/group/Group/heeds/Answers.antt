@@ -1,10 +1,10 @@
 use Rattle.std.proofs.Common.{◌≡◌, false, subst, arith}
 use Rattle.std.proofs.lemmas.Bool.{both_ways}
 use Rattle.std.proofs.lemmas.List.{length-map}
-use Rattle.ballot.specs.Protocol.{replica_step}
-use Rattle.ballot.specs.Protocol.Input.{Receives}
-use Rattle.ballot.specs.Replica.{ReplicaState, CountedReplica}
-use Rattle.ballot.specs.Sending.{nothing_done}
+use Rattle.ballot.specs.ballot_base.Protocol.{replica_step}
+use Rattle.ballot.specs.ballot_base.Protocol.Input.{Receives}
+use Rattle.ballot.specs.ballot_base.Replica.{ReplicaState, CountedReplica}
+use Rattle.ballot.specs.ballot_base.Sending.{nothing_done}
 use Rattle.snapshots.proofs.PastsAgree.{snapshots_are_read}
 use Rattle.master.proofs.EarlierMembers.{names_some, quiet_does_nothing}
 use Rattle.master.proofs.StepsOfNodes.{same_replica}

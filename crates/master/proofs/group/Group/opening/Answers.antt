@@ -1,5 +1,5 @@
 use Rattle.std.proofs.Common.{◌≡◌, [], ◌∷◌, ap, sym, ◌∙◌, subst, refl, arith}
-use Rattle.ballot.specs.Replica.{CountedReplica}
+use Rattle.ballot.specs.ballot_base.Replica.{CountedReplica}
 use Rattle.snapshots.specs.World.{messages}
 use Rattle.snapshots.specs.Moments.{Moment, Moments}
 use Rattle.snapshots.specs.Moments.Moments.{began}

@@ -1,5 +1,5 @@
 use Rattle.std.proofs.Common.{◌≡◌, map}
-use Rattle.ballot.specs.Replica.{CountedReplica}
+use Rattle.ballot.specs.ballot_base.Replica.{CountedReplica}
 use Rattle.snapshots.specs.Moments.{opening_nodes}
 use Rattle.master.specs.Inside.{CountsAtMost}
 use Rattle.master.proofs.group.Group.opening.Given as goal

@@ -1,6 +1,6 @@
 use Rattle.std.specs.Vec.Iter.{into_iter_items}
-use Rattle.post.specs.node.Lists.{Each}
-use Rattle.post.specs.Queued.{IsQueued}
+use Rattle.post.specs.lists.Lists.{Each}
+use Rattle.post.specs.outbox.Queued.{IsQueued}
 use Rattle.node_threads.specs.Serving.{SendsOwn}
 use Rattle.node_threads.proofs.shared.Shared.take_queued.Given as goal
 

@@ -1,5 +1,5 @@
 use Rattle.std.proofs.Common.{ℕ, ◌∙◌, ap, subst}
-use Rattle.node.specs.Effect.TheVariants.{To}
+use Rattle.node.specs.ballot_base.declared.message.Effect.TheVariants.{To}
 use Rattle.outbox.specs.Given.{Addressed}
 use Rattle.outbox.specs.Queued.{WasGiven}
 use Rattle.post.proofs.addressed_message.AddressedMessage.ask.Goals as goal

@@ -1,5 +1,5 @@
 use Rattle.std.proofs.Common.{Bool, if◌then◌else◌, ap, subst, ◌∙◌}
-use Rattle.ballot.specs.Losses.{one_more}
+use Rattle.ballot.specs.ballot_base.Losses.{one_more}
 use Rattle.world_base.specs.Core.{CountedCore}
 use Rattle.world_base.specs.Inside.{Running}
 use Rattle.world_base.specs.Losses.{NodeStepped}

@@ -1,5 +1,5 @@
 use Rattle.std.proofs.Common.{refl}
-use Rattle.ballot.specs.Protocol.Input.{Ticks}
+use Rattle.ballot.specs.ballot_base.Protocol.Input.{Ticks}
 use Rattle.world_base.specs.declared.item.Item.TheVariants.{Peer, Tick, Opened, Bytes, Ended, Expel, Cut}
 use Rattle.world_base.specs.Lossy.{Drives}
 use Rattle.world_base.specs.LossyStep.{EndsAllSilent, HoldsBytes, ReadsPackets}

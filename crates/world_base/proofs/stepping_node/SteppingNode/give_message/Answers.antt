@@ -1,5 +1,5 @@
 use Rattle.std.proofs.Common.{refl}
-use Rattle.ballot.specs.Protocol.Input.{Receives}
+use Rattle.ballot.specs.ballot_base.Protocol.Input.{Receives}
 use Rattle.world_base.proofs.Answering.{acts_kept, err_of_stopped}
 use Rattle.world_base.proofs.Hearing.{heard_quietly}
 use Rattle.world_base.proofs.stepping_node.SteppingNode.give_message.Goals as goal

@@ -1,4 +1,4 @@
-use Rattle.ballot.specs.Protocol.Input.{Receives}
+use Rattle.ballot.specs.ballot_base.Protocol.Input.{Receives}
 use Rattle.world_base.proofs.Answering.{drives_all}
 use Rattle.world_base.proofs.Hearing.{delivers_calmly}
 use Rattle.world_base.proofs.Proposes.{turns_driven}

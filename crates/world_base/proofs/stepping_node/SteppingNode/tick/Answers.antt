@@ -1,4 +1,4 @@
-use Rattle.ballot.specs.Protocol.Input.{Ticks}
+use Rattle.ballot.specs.ballot_base.Protocol.Input.{Ticks}
 use Rattle.world_base.proofs.Answering.{drives_all}
 use Rattle.world_base.proofs.Proposes.{turns_driven}
 use Rattle.world_base.proofs.stepping_node.SteppingNode.tick.Goals as goal

@@ -1,5 +1,5 @@
 use Rattle.std.proofs.Common.{subst}
-use Rattle.ballot.specs.Protocol.Input.{Ticks}
+use Rattle.ballot.specs.ballot_base.Protocol.Input.{Ticks}
 use Rattle.world_base.specs.Inside.{StepsReplicaOrLoses, Running}
 use Rattle.world_base.specs.Effects.{heard}
 use Rattle.world_base.proofs.Answering.{acts_kept}

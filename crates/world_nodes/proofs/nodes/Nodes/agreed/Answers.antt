@@ -1,6 +1,6 @@
 use Rattle.std.proofs.Common.{◌-◌, ap, sym, ◌∙◌, length, refl, arith}
 use Rattle.std.proofs.lemmas.List.{length-take-le}
-use Rattle.master.specs.ballot.Replica.{ReplicaState}
+use Rattle.master.specs.ballot_base.Replica.{ReplicaState}
 use Rattle.byte_world.specs.broker_spec.declared.command.Command.{Command}
 use Rattle.byte_world.specs.broker_base.State.{State}
 use Rattle.world_nodes.specs.Nodes.{NodesState}

@@ -1,6 +1,6 @@
 use Rattle.std.proofs.Common.{◌≡◌, ap, ◌∙◌, None}
 use Rattle.master.specs.agreement.MasterState.{assigning, master_after, refusal}
-use Rattle.master.specs.ballot.Config.{Config}
+use Rattle.master.specs.ballot_base.declared.config.Config.{Config}
 use Rattle.byte_world.specs.broker_spec.declared.command.Command.{Command}
 use Rattle.master.proofs.Groups.{new_ballot_is}
 use Rattle.world_nodes.specs.Nodes.{NodesState}
