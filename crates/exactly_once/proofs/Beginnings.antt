@@ -11,14 +11,14 @@ use Rattle.broker_base.specs.broker_spec.declared.command.Command.TheVariants as
 use Rattle.broker_base.proofs.QuietPasts.{no_connection}
 use Rattle.exactly_once.specs.Items.{SenderItem, busy, has_released}
 use Rattle.exactly_once.specs.Handshake.{Backward}
-use Rattle.exactly_once.specs.HandshakeInvariant.{IsGood, IsBehind, IsNew, IsWaiting, WaitsLast}
+use Rattle.exactly_once.specs.HandshakeInvariant.{IsGood, IsBehind, IsNew, IsUnsent, UnsentAreLast}
 use Rattle.client_base.specs.Keeper.{Own, ids_in_use}
 use Rattle.exactly_once.specs.Story.{Story}
 use Rattle.exactly_once.specs.StoryTrace.{AreUnsent, unserved}
 use Rattle.exactly_once.specs.Carried.{carries, new_numbers, more_by, is_two}
 use Rattle.exactly_once.specs.Inside.Projections.{items_of_own, as_publisher}
-use Rattle.exactly_once.specs.Inside.AsSubscriber.{items_of, as_subscriber, left_behind}
-use Rattle.exactly_once.specs.Inside.Shape.{AreNumbered, HasShape, IsSoundStory, LastIsCurrent, NewestIsServed}
+use Rattle.exactly_once.specs.Inside.AsSubscriber.{items_of_entries, as_subscriber, left_behind}
+use Rattle.exactly_once.specs.Inside.Shape.{AreNumberedFrom, HasShape, IsSoundStory, LastIsCurrent, NewestIsServed}
 use Rattle.exactly_once.proofs.places.Sessions.{received_outside}
 use Rattle.exactly_once.proofs.subscribing.places.Quiet.{no_entries}
 use Rattle.client_base.specs.session_base.declared.publication.Publication.{Publication}
@@ -29,7 +29,7 @@ begun past c earlier own = record { past = past; connections = []; keeper = unse
 
 -- ---- what was published and never sent
 
-pub numbered : (n : ℕ) (own : List Own) → AreUnsent n own → AreNumbered n own
+pub numbered : (n : ℕ) (own : List Own) → AreUnsent n own → AreNumberedFrom n own
 numbered n [] h = tt
 numbered n (Own.Unsent k p id ∷ own) h = (h.0, numbered (suc n) own h.1)
 numbered n (Own.Sent k p id ∷ own) h = absurd h
@@ -37,32 +37,32 @@ numbered n (Own.Released k p id ∷ own) h = absurd h
 numbered n (Own.Done k p ∷ own) h = absurd h
 
 -- all of it waits
-all_wait : (n : ℕ) (own : List Own) → AreUnsent n own → Each IsWaiting (items_of_own own)
+all_wait : (n : ℕ) (own : List Own) → AreUnsent n own → Each IsUnsent (items_of_own own)
 all_wait n [] h = tt
 all_wait n (Own.Unsent k p id ∷ own) h = by (is_two p.qos) (all_wait (suc n) own h.1)
   where
-    by : (b : Bool) → Each IsWaiting (items_of_own own) → Each IsWaiting (if b then SenderItem.Waits k ∷ items_of_own own else items_of_own own)
+    by : (b : Bool) → Each IsUnsent (items_of_own own) → Each IsUnsent (if b then SenderItem.Waits k ∷ items_of_own own else items_of_own own)
     by true w = (tt, w)
     by false w = w
 all_wait n (Own.Sent k p id ∷ own) h = absurd h
 all_wait n (Own.Released k p id ∷ own) h = absurd h
 all_wait n (Own.Done k p ∷ own) h = absurd h
 
-waits_last : {V : Type 0} (items : List (SenderItem V)) → Each IsWaiting items → WaitsLast items
+waits_last : {V : Type 0} (items : List (SenderItem V)) → Each IsUnsent items → UnsentAreLast items
 waits_last [] h = tt
 waits_last (SenderItem.Waits v ∷ items) h = h.1
 waits_last (SenderItem.Sent v id ∷ items) h = absurd h.0
 waits_last (SenderItem.Released v id ∷ items) h = absurd h.0
 waits_last (SenderItem.Finished v ∷ items) h = absurd h.0
 
-all_new : {V : Type 0} (received : ℕ → Bool) (items : List (SenderItem V)) → Each IsWaiting items → Each (IsNew received) items
+all_new : {V : Type 0} (received : ℕ → Bool) (items : List (SenderItem V)) → Each IsUnsent items → Each (IsNew received) items
 all_new received [] h = tt
 all_new received (SenderItem.Waits v ∷ items) h = (tt, all_new received items h.1)
 all_new received (SenderItem.Sent v id ∷ items) h = absurd h.0
 all_new received (SenderItem.Released v id ∷ items) h = absurd h.0
 all_new received (SenderItem.Finished v ∷ items) h = absurd h.0
 
-none_busy : {V : Type 0} (items : List (SenderItem V)) → Each IsWaiting items → busy items ≡ []
+none_busy : {V : Type 0} (items : List (SenderItem V)) → Each IsUnsent items → busy items ≡ []
 none_busy [] h = refl
 none_busy (SenderItem.Waits v ∷ items) h = none_busy items h.1
 none_busy (SenderItem.Sent v id ∷ items) h = absurd h.0
@@ -148,7 +148,7 @@ begun_subscriber limits past c earlier own none =
       old = [];
       new = [];
       sides = record {
-        is = ap items_of (no_entries limits past c none);
+        is = ap items_of_entries (no_entries limits past c none);
         accepted_is = refl;
         olds = tt;
         news = tt;

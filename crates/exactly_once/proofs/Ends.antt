@@ -9,15 +9,15 @@ use Rattle.broker_base.specs.broker_spec.Readings.{publication_in}
 use Rattle.broker_base.specs.broker_spec.Times.{entries_of}
 use Rattle.client_base.specs.lists.Lists.{Each, IsPrefixOf}
 use Rattle.exactly_once.specs.Items.{SenderItem, value_of}
-use Rattle.exactly_once.specs.Exact.{is_over}
+use Rattle.exactly_once.specs.Exact.{is_pubrec_received}
 use Rattle.exactly_once.specs.Handshake.{Handshake}
 use Rattle.exactly_once.specs.HandshakeInvariant.{IsGood}
 use Rattle.exactly_once.proofs.Exact.{good_exact, good_run}
-use Rattle.exactly_once.specs.Carried.{is_two, new_numbers, published}
+use Rattle.exactly_once.specs.Carried.{is_two, new_numbers, own_qos2_numbers}
 use Rattle.client_base.specs.Keeper.{Own}
-use Rattle.exactly_once.specs.Acceptance.{AcceptedInOrder, two_entries, is_released}
+use Rattle.exactly_once.specs.Acceptance.{AcceptedInOrder, two_entries, is_entry_released}
 use Rattle.exactly_once.specs.Inside.Projections.{items_of_own, as_publisher, IsLike, GoesTo}
-use Rattle.exactly_once.specs.Inside.AsSubscriber.{items_of, two_item, as_subscriber}
+use Rattle.exactly_once.specs.Inside.AsSubscriber.{items_of_entries, two_item, as_subscriber}
 use Rattle.exactly_once.specs.Story.{Story}
 
 -- two handshakes that differ in nothing are one
@@ -43,12 +43,12 @@ two_by entry es items e = by (is_two (publication_in entry).qos)
     by true = ap (λ l. item_of entry ∷ l) e
     by false = e
 
-items_are : (es : List Entry) → map item_of (two_entries es) ≡ items_of es
+items_are : (es : List Entry) → map item_of (two_entries es) ≡ items_of_entries es
 items_are [] = refl
-items_are (Entry.Waits made p ∷ es) = two_by (Entry.Waits made p) es (items_of es) (items_are es)
-items_are (Entry.Started made p id start ∷ es) = two_by (Entry.Started made p id start) es (items_of es) (items_are es)
-items_are (Entry.Released made p id start release ∷ es) = two_by (Entry.Released made p id start release) es (items_of es) (items_are es)
-items_are (Entry.Finished made p id start release finish ∷ es) = two_by (Entry.Finished made p id start release finish) es (items_of es) (items_are es)
+items_are (Entry.Waits made p ∷ es) = two_by (Entry.Waits made p) es (items_of_entries es) (items_are es)
+items_are (Entry.Started made p id start ∷ es) = two_by (Entry.Started made p id start) es (items_of_entries es) (items_are es)
+items_are (Entry.Released made p id start release ∷ es) = two_by (Entry.Released made p id start release) es (items_of_entries es) (items_are es)
+items_are (Entry.Finished made p id start release finish ∷ es) = two_by (Entry.Finished made p id start release finish) es (items_of_entries es) (items_are es)
 
 value_is : (entry : Entry) → value_of (item_of entry) ≡ publication_in entry
 value_is (Entry.Waits made p) = refl
@@ -60,13 +60,13 @@ values_are : (es : List Entry) → map value_of (map item_of es) ≡ map publica
 values_are [] = refl
 values_are (entry ∷ es) = ap₂ (λ x l. x ∷ l) (value_is entry) (values_are es)
 
-not_over : (entry : Entry) → is_over (item_of entry) ≡ false → is_released entry ≡ false
+not_over : (entry : Entry) → is_pubrec_received (item_of entry) ≡ false → is_entry_released entry ≡ false
 not_over (Entry.Waits made p) e = refl
 not_over (Entry.Started made p id start) e = refl
 not_over (Entry.Released made p id start release) e = absurd (both_ways true e refl)
 not_over (Entry.Finished made p id start release finish) e = absurd (both_ways true e refl)
 
-nones_over : (es : List Entry) → Each (λ item. is_over item ≡ false) (map item_of es) → Each (λ entry. is_released entry ≡ false) es
+nones_over : (es : List Entry) → Each (λ item. is_pubrec_received item ≡ false) (map item_of es) → Each (λ entry. is_entry_released entry ≡ false) es
 nones_over [] h = tt
 nones_over (entry ∷ es) h = (not_over entry h.0, nones_over es h.1)
 
@@ -99,7 +99,7 @@ accepted_in_order limits s g =
       others = cut.behind;
       is = cut.is;
       accepted = x.accepted ∙ ap (map value_of) (sym cut.front_is) ∙ values_are cut.front;
-      rest = nones_over cut.behind (subst (Each (λ item. is_over item ≡ false)) (sym cut.behind_is) x.rest);
+      rest = nones_over cut.behind (subst (Each (λ item. is_pubrec_received item ≡ false)) (sym cut.behind_is) x.rest);
     }
 
 -- ---- publications
@@ -109,14 +109,14 @@ own_by : (b : Bool) (k : ℕ) (item : SenderItem ℕ) (items : List (SenderItem 
 own_by true k item items own e f = ap₂ (λ x l. x ∷ l) e f
 own_by false k item items own e f = f
 
-numbers_are : (own : List Own) → map value_of (items_of_own own) ≡ published own
+numbers_are : (own : List Own) → map value_of (items_of_own own) ≡ own_qos2_numbers own
 numbers_are [] = refl
-numbers_are (Own.Unsent k p id ∷ own) = own_by (is_two p.qos) k (SenderItem.Waits k) (items_of_own own) (published own) refl (numbers_are own)
-numbers_are (Own.Sent k p id ∷ own) = own_by (is_two p.qos) k (SenderItem.Sent k id) (items_of_own own) (published own) refl (numbers_are own)
-numbers_are (Own.Released k p id ∷ own) = own_by (is_two p.qos) k (SenderItem.Released k id) (items_of_own own) (published own) refl (numbers_are own)
-numbers_are (Own.Done k p ∷ own) = own_by (is_two p.qos) k (SenderItem.Finished k) (items_of_own own) (published own) refl (numbers_are own)
+numbers_are (Own.Unsent k p id ∷ own) = own_by (is_two p.qos) k (SenderItem.Waits k) (items_of_own own) (own_qos2_numbers own) refl (numbers_are own)
+numbers_are (Own.Sent k p id ∷ own) = own_by (is_two p.qos) k (SenderItem.Sent k id) (items_of_own own) (own_qos2_numbers own) refl (numbers_are own)
+numbers_are (Own.Released k p id ∷ own) = own_by (is_two p.qos) k (SenderItem.Released k id) (items_of_own own) (own_qos2_numbers own) refl (numbers_are own)
+numbers_are (Own.Done k p ∷ own) = own_by (is_two p.qos) k (SenderItem.Finished k) (items_of_own own) (own_qos2_numbers own) refl (numbers_are own)
 
-pub numbers_in_order : (limits : Limits) (s : Story) → IsGood (as_publisher limits s) → IsPrefixOf (new_numbers s.connections s.past) (published s.keeper.own)
+pub numbers_in_order : (limits : Limits) (s : Story) → IsGood (as_publisher limits s) → IsPrefixOf (new_numbers s.connections s.past) (own_qos2_numbers s.keeper.own)
 numbers_in_order limits s g =
     let x = good_exact (as_publisher limits s) g in
     record {

@@ -2,10 +2,10 @@
 use Rattle.std.proofs.Common.{◌≡◌, ℕ, Bool, true, false, List, [], ◌∷◌, ◌++◌, map, refl, sym, subst}
 use Rattle.std.proofs.lemmas.List.{append-nil}
 use Rattle.client_base.specs.lists.Lists.{Each}
-use Rattle.exactly_once.specs.Items.{SenderItem, sent, releasing, finishing, start_first}
-use Rattle.exactly_once.specs.Handshake.{Forward, Backward, Transit, Handshake, answer, reply, heard, taking, accepting, with_items}
-use Rattle.exactly_once.specs.HandshakeSteps.{Advances, HandshakeRun, opening}
-use Rattle.exactly_once.specs.Exact.{is_over, IsExact}
+use Rattle.exactly_once.specs.Items.{SenderItem, sent, item_released, finishing, start_first}
+use Rattle.exactly_once.specs.Handshake.{Forward, Backward, Transit, Handshake, answer, reply, sender_hears, receiver_takes, receiver_accepts, with_items}
+use Rattle.exactly_once.specs.HandshakeSteps.{Advances, HandshakeRun, opening_handshake}
+use Rattle.exactly_once.specs.Exact.{is_pubrec_received, IsExact}
 use Rattle.exactly_once.specs.HandshakeSteps.Advances.{adds, starts, takes, takes_alone, hears, hears_alone, sender_leaves, receiver_leaves, parts, parts_ahead, restarts}
 use Rattle.exactly_once.specs.HandshakeSteps.HandshakeRun.{stays, goes_on}
 use Rattle.exactly_once.specs.HandshakeInvariant.{IsNew, IsAhead, FitsTransit, IsGood}
@@ -22,18 +22,18 @@ use Rattle.exactly_once.proofs.LinksAnew.{joined_anew}
 linked : {V : Type 0} (h : Handshake V) (g : IsGood h) (l : Transit V) → h.transit ≡ l → FitsTransit h.received g.old g.new l
 linked {V = X} h g l e = subst (λ (z : Transit X). FitsTransit h.received g.old g.new z) e g.transit
 
-accepting_link : {V : Type 0} (id : ℕ) (v : V) (b : Bool) (h : Handshake V) (l : Transit V) → l ≡ (accepting id v b h l).transit
+accepting_link : {V : Type 0} (id : ℕ) (v : V) (b : Bool) (h : Handshake V) (l : Transit V) → l ≡ (receiver_accepts id v b h l).transit
 accepting_link id v true h l = refl
 accepting_link id v false h l = refl
 
-taking_link : {V : Type 0} (m : Forward V) (h : Handshake V) (l : Transit V) → l ≡ (taking m h l).transit
+taking_link : {V : Type 0} (m : Forward V) (h : Handshake V) (l : Transit V) → l ≡ (receiver_takes m h l).transit
 taking_link (Forward.Publish id v) h l = accepting_link id v (h.received id) h l
 taking_link (Forward.Pubrel id) h l = refl
 
 good_takes : {V : Type 0} (h : Handshake V) → IsGood h → (m : Forward V) (f : List (Forward V)) (b : List Backward) → h.transit ≡ Transit.Joined (m ∷ f) b
-    → IsGood (taking m h (Transit.Joined f (b ++ answer m ∷ [])))
+    → IsGood (receiver_takes m h (Transit.Joined f (b ++ answer m ∷ [])))
 good_takes {V = X} h g m f b e =
-    let after = taking m h (Transit.Joined f (b ++ answer m ∷ [])) in
+    let after = receiver_takes m h (Transit.Joined f (b ++ answer m ∷ [])) in
     let j = linked h g (Transit.Joined (m ∷ f) b) e in
     let t = took h m f (Transit.Joined f (b ++ answer m ∷ [])) g.old g.new (sent g.new) [] g.sides j.comes (sym (append-nil (sent g.new))) in
     record {
@@ -43,9 +43,9 @@ good_takes {V = X} h g m f b e =
       transit = subst (λ (z : Transit X). FitsTransit after.received t.old' t.new' z) (taking_link m h (Transit.Joined f (b ++ answer m ∷ []))) (joined_taken h.received g.old g.new m f b after j t);
     }
 
-good_takes_alone : {V : Type 0} (h : Handshake V) → IsGood h → (m : Forward V) (f : List (Forward V)) → h.transit ≡ Transit.Ahead (m ∷ f) → IsGood (taking m h (Transit.Ahead f))
+good_takes_alone : {V : Type 0} (h : Handshake V) → IsGood h → (m : Forward V) (f : List (Forward V)) → h.transit ≡ Transit.Ahead (m ∷ f) → IsGood (receiver_takes m h (Transit.Ahead f))
 good_takes_alone {V = X} h g m f e =
-    let after = taking m h (Transit.Ahead f) in
+    let after = receiver_takes m h (Transit.Ahead f) in
     let j = linked h g (Transit.Ahead (m ∷ f)) e in
     let t = took h m f (Transit.Ahead f) g.old g.new j.next j.more g.sides j.comes j.prefix in
     let ahead : IsAhead t.old' t.new' f = record { next = t.next'; more = j.more; comes = t.comes; prefix = t.front } in
@@ -57,11 +57,11 @@ good_takes_alone {V = X} h g m f e =
     }
 
 good_hears : {V : Type 0} (h : Handshake V) → IsGood h → (m : Backward) (f : List (Forward V)) (b : List Backward) → h.transit ≡ Transit.Joined f (m ∷ b)
-    → IsGood (with_items (heard m h.items) (Transit.Joined (f ++ reply m) b) h)
+    → IsGood (with_items (sender_hears m h.items) (Transit.Joined (f ++ reply m) b) h)
 good_hears h g (Backward.Pubrec id) f b e =
     let j = linked h g (Transit.Joined f (Backward.Pubrec id ∷ b)) e in
     record {
-      old = map (releasing id) g.old;
+      old = map (item_released id) g.old;
       new = g.new;
       sides = sides_release h.items h.accepted h.received g.old g.new id g.sides j.due.0;
       transit = joined_released h.received g.old g.new id f b j;
@@ -76,11 +76,11 @@ good_hears h g (Backward.Pubcomp id) f b e =
     }
 
 good_hears_alone : {V : Type 0} (h : Handshake V) → IsGood h → (m : Backward) (b : List Backward) → h.transit ≡ Transit.Behind (m ∷ b)
-    → IsGood (with_items (heard m h.items) (Transit.Behind b) h)
+    → IsGood (with_items (sender_hears m h.items) (Transit.Behind b) h)
 good_hears_alone h g (Backward.Pubrec id) b e =
     let j = linked h g (Transit.Behind (Backward.Pubrec id ∷ b)) e in
     record {
-      old = map (releasing id) g.old;
+      old = map (item_released id) g.old;
       new = g.new;
       sides = sides_release h.items h.accepted h.received g.old g.new id g.sides j.due.0;
       transit = behind_released h.received g.old id b j;
@@ -135,7 +135,7 @@ pub good_run : {V : Type 0} (h k : Handshake V) → IsGood h → HandshakeRun h 
 good_run h k g stays = g
 good_run h k g (goes_on {k = m} r s) = good_moves m k (good_run h m g r) s
 
-pub good_opening : (V : Type 0) → IsGood (opening V)
+pub good_opening : (V : Type 0) → IsGood (opening_handshake V)
 good_opening V =
     record {
       old = [];
@@ -144,7 +144,7 @@ good_opening V =
       transit = record { due = tt; apart = tt };
     }
 
-none_over : {V : Type 0} (received : ℕ → Bool) (items : List (SenderItem V)) → Each (IsNew received) items → Each (λ item. is_over item ≡ false) items
+none_over : {V : Type 0} (received : ℕ → Bool) (items : List (SenderItem V)) → Each (IsNew received) items → Each (λ item. is_pubrec_received item ≡ false) items
 none_over received [] h = tt
 none_over received (SenderItem.Waits v ∷ items) h = (refl, none_over received items h.1)
 none_over received (SenderItem.Sent v id ∷ items) h = (refl, none_over received items h.1)
@@ -156,8 +156,8 @@ good_exact h g =
     record { prefix = g.old; others = g.new; is = g.sides.is; accepted = g.sides.accepted_is; rest = none_over h.received g.new g.sides.news }
 
 -- after every run from the opening
-pub runs_are_exact : (V : Type 0) (h : Handshake V) → HandshakeRun (opening V) h → IsExact h
-runs_are_exact V h r = good_exact h (good_run (opening V) h (good_opening V) r)
+pub runs_are_exact : (V : Type 0) (h : Handshake V) → HandshakeRun (opening_handshake V) h → IsExact h
+runs_are_exact V h r = good_exact h (good_run (opening_handshake V) h (good_opening V) r)
 
 pub run_then : {V : Type 0} {h k l : Handshake V} → HandshakeRun h k → HandshakeRun k l → HandshakeRun h l
 run_then r stays = r

@@ -16,8 +16,8 @@ use Rattle.broker_base.specs.broker_spec.Place.{Place, Past, Limits}
 use Rattle.broker_base.specs.broker_spec.Received.{is_new}
 use Rattle.broker_base.specs.broker_spec.declared.command.Command.{Command}
 use Rattle.broker_base.specs.broker_spec.declared.command.Command.TheVariants as commands
-use Rattle.exactly_once.specs.Items.{SenderItem, releasing, has_sent}
-use Rattle.exactly_once.specs.Handshake.{Forward, Backward, Transit, with_items, heard, reply}
+use Rattle.exactly_once.specs.Items.{SenderItem, item_released, has_sent}
+use Rattle.exactly_once.specs.Handshake.{Forward, Backward, Transit, with_items, sender_hears, reply}
 use Rattle.exactly_once.specs.HandshakeSteps.Advances.{hears}
 use Rattle.exactly_once.specs.HandshakeSteps.HandshakeRun.{stays, goes_on}
 use Rattle.client_base.proofs.of_lists.Tests.{or_then}
@@ -30,8 +30,8 @@ use Rattle.client_base.specs.Handled.{handled}
 use Rattle.client_base.specs.Handshakes.{at_pubrec, is_sent_with}
 use Rattle.client_base.specs.Written.{plain, writes}
 use Rattle.exactly_once.specs.Story.{Story, with_side}
-use Rattle.exactly_once.specs.StoryCommands.{is_packet_of, count_of}
-use Rattle.exactly_once.specs.Carried.{is_two, carries, connection_named, number_at, number_of, more_by, new_numbers}
+use Rattle.exactly_once.specs.StoryCommands.{is_packet_of, packet_count}
+use Rattle.exactly_once.specs.Carried.{is_two, carries, connection_named, number_at, written_number, more_by, new_numbers}
 use Rattle.exactly_once.specs.Inside.Projections.{items_of_own, own_item, forward_of_own, forward_of_one, carried_by, backward_of_own, to_come, to_be_taken, is_current, transit_of_own, last_confirmed, as_publisher, GoesTo}
 
 -- ---- its publications
@@ -54,20 +54,20 @@ not_two_one qualities.AtMostOnce a e = absurd (both_ways false refl a)
 not_two_one qualities.AtLeastOnce a e = refl
 not_two_one qualities.ExactlyOnce a e = absurd (both_ways true e refl)
 
-own_map : (i : ℕ) (p : Publication) (x y : SenderItem ℕ) (es fs : List (SenderItem ℕ)) → y ≡ releasing i x → fs ≡ map (releasing i) es → own_item p y fs ≡ map (releasing i) (own_item p x es)
+own_map : (i : ℕ) (p : Publication) (x y : SenderItem ℕ) (es fs : List (SenderItem ℕ)) → y ≡ item_released i x → fs ≡ map (item_released i) es → own_item p y fs ≡ map (item_released i) (own_item p x es)
 own_map i p x y es fs e f = by (is_two p.qos)
   where
-    by : (b : Bool) → (if b then y ∷ fs else fs) ≡ map (releasing i) (if b then x ∷ es else es)
+    by : (b : Bool) → (if b then y ∷ fs else fs) ≡ map (item_released i) (if b then x ∷ es else es)
     by true = ap₂ (λ z l. z ∷ l) e f
     by false = f
 
-pub own_pubrec : (i : ℕ) (own : List Own) → OwnAnswered own → items_of_own (map (at_pubrec i) own) ≡ map (releasing i) (items_of_own own)
+pub own_pubrec : (i : ℕ) (own : List Own) → OwnAnswered own → items_of_own (map (at_pubrec i) own) ≡ map (item_released i) (items_of_own own)
 own_pubrec i [] h = refl
 own_pubrec i (Own.Unsent k p id ∷ own) h = own_map i p (SenderItem.Waits k) (SenderItem.Waits k) (items_of_own own) (items_of_own (map (at_pubrec i) own)) refl (own_pubrec i own h.1)
 own_pubrec i (Own.Sent k p id ∷ own) h = by (cases_Bool (i == id)) (cases_Bool (is_two p.qos)) (own_pubrec i own h.1)
   where
-    by : ((i == id) ≡ true) ⊎ ((i == id) ≡ false) → (is_two p.qos ≡ true) ⊎ (is_two p.qos ≡ false) → items_of_own (map (at_pubrec i) own) ≡ map (releasing i) (items_of_own own)
-        → items_of_own (at_pubrec i (Own.Sent k p id) ∷ map (at_pubrec i) own) ≡ map (releasing i) (own_item p (SenderItem.Sent k id) (items_of_own own))
+    by : ((i == id) ≡ true) ⊎ ((i == id) ≡ false) → (is_two p.qos ≡ true) ⊎ (is_two p.qos ≡ false) → items_of_own (map (at_pubrec i) own) ≡ map (item_released i) (items_of_own own)
+        → items_of_own (at_pubrec i (Own.Sent k p id) ∷ map (at_pubrec i) own) ≡ map (item_released i) (own_item p (SenderItem.Sent k id) (items_of_own own))
     by (inl b) (inl t) ih = rw (b, t, two_not_one p.qos t) (rw t (rw b (ap (λ l. SenderItem.Released k id ∷ l) ih)))
     by (inl b) (inr t) ih = rw (b, t, not_two_one p.qos h.0 t) (rw t ih)
     by (inr b) (inl t) ih = rw (b, t) (rw b (ap (λ l. SenderItem.Sent k id ∷ l) ih))
@@ -134,17 +134,17 @@ within_more [] more j h = absurd (omega (arith, h))
 within_more (w ∷ ws) more zero h = refl
 within_more (w ∷ ws) more (suc j) h = within_more ws more j (omega (arith, h))
 
-counted_less : (x : ConnectionName) (place : Place) (past : Past) (n : ℕ) → is_packet_of place.command x ≡ true → count_of x (place ∷ past) ≤ n → count_of x past < n
+counted_less : (x : ConnectionName) (place : Place) (past : Past) (n : ℕ) → is_packet_of place.command x ≡ true → packet_count x (place ∷ past) ≤ n → packet_count x past < n
 counted_less x place past n e h = by (is_packet_of place.command x) e h
   where
-    by : (b : Bool) → b ≡ true → (if b then suc (count_of x past) else count_of x past) ≤ n → count_of x past < n
+    by : (b : Bool) → b ≡ true → (if b then suc (packet_count x past) else packet_count x past) ≤ n → packet_count x past < n
     by true e h = omega (arith, h)
     by false e h = absurd (both_ways false refl e)
 
-counted_below : (x : ConnectionName) (place : Place) (past : Past) (n : ℕ) → count_of x (place ∷ past) ≤ n → count_of x past ≤ n
+counted_below : (x : ConnectionName) (place : Place) (past : Past) (n : ℕ) → packet_count x (place ∷ past) ≤ n → packet_count x past ≤ n
 counted_below x place past n h = by (is_packet_of place.command x) h
   where
-    by : (b : Bool) → (if b then suc (count_of x past) else count_of x past) ≤ n → count_of x past ≤ n
+    by : (b : Bool) → (if b then suc (packet_count x past) else packet_count x past) ≤ n → packet_count x past ≤ n
     by true h = omega (arith, h)
     by false h = h
 
@@ -176,22 +176,22 @@ number_more x κ κ' others more j n w h = by (cases_Bool (same_connection x κ.
   where
     by : (same_connection x κ.name ≡ true) ⊎ (same_connection x κ.name ≡ false) → number_at j (connection_named x (κ' ∷ others)) ≡ number_at j (connection_named x (κ ∷ others))
     by (inr e) = rw (ap (same_connection x) n ∙ e, e) refl
-    by (inl e) = rw (ap (same_connection x) n ∙ e, e) (ap number_of (ap (λ z. slice_get z j) w ∙ within_more κ.written more j (h (same_name x κ.name e))))
+    by (inl e) = rw (ap (same_connection x) n ∙ e, e) (ap written_number (ap (λ z. slice_get z j) w ∙ within_more κ.written more j (h (same_name x κ.name e))))
 
-pub numbers_more : (past : Past) (κ κ' : ClientConnection) (others : List ClientConnection) (more : List Written) → κ'.name ≡ κ.name → κ'.written ≡ κ.written ++ more → count_of κ.name past ≤ length κ.written
+pub numbers_more : (past : Past) (κ κ' : ClientConnection) (others : List ClientConnection) (more : List Written) → κ'.name ≡ κ.name → κ'.written ≡ κ.written ++ more → packet_count κ.name past ≤ length κ.written
     → new_numbers (κ' ∷ others) past ≡ new_numbers (κ ∷ others) past
 numbers_more [] κ κ' others more n w h = refl
 numbers_more (place ∷ past) κ κ' others more n w h =
     ap₂ (λ xs number. xs ++ more_by (is_new place.command place.mark) number)
     (numbers_more past κ κ' others more n w (counted_below κ.name place past (length κ.written) h)) (one place.command refl)
   where
-    here : (x : ConnectionName) (packet : Packet) → x ≡ κ.name → place.command ≡ commands.Packet x packet → count_of x past < length κ.written
+    here : (x : ConnectionName) (packet : Packet) → x ≡ κ.name → place.command ≡ commands.Packet x packet → packet_count x past < length κ.written
     here x packet s e =
-        subst (λ (y : ConnectionName). count_of y past < length κ.written) (sym s)
+        subst (λ (y : ConnectionName). packet_count y past < length κ.written) (sym s)
         (counted_less κ.name place past (length κ.written) (ap (λ c. is_packet_of c κ.name) e ∙ ap (same_connection x) (sym s) ∙ same_self x) h)
 
     one : (command : Command) → place.command ≡ command → carries (κ' ∷ others) command past ≡ carries (κ ∷ others) command past
-    one (commands.Packet x (packets.Publish p)) e = number_more x κ κ' others more (count_of x past) n w (λ s. here x (packets.Publish p) s e)
+    one (commands.Packet x (packets.Publish p)) e = number_more x κ κ' others more (packet_count x past) n w (λ s. here x (packets.Publish p) s e)
     one (commands.Packet x packet) e = refl
     one (commands.Connect x c clean) e = refl
     one (commands.Lost x) e = refl
@@ -231,7 +231,7 @@ handled_is : (i : ℕ) (keeper : Keeper) (κ : ClientConnection) → keeper.is_o
 handled_is i keeper κ on has = rw (on, has) refl
 
 pub hears_pubrec : (limits : Limits) (past : Past) (keeper : Keeper) (κ : ClientConnection) (others : List ClientConnection) (i : ℕ)
-    → OwnAnswered keeper.own → keeper.is_online ≡ true → κ.confirmed ≡ true → κ.taken ≤ length κ.written → count_of κ.name past ≤ length κ.written
+    → OwnAnswered keeper.own → keeper.is_online ≡ true → κ.confirmed ≡ true → κ.taken ≤ length κ.written → packet_count κ.name past ≤ length κ.written
     → is_current (current_connection past keeper.client) κ.name ≡ true → slice_get (put_to limits past κ.name) κ.handled ≡ Some (packets.Pubrec i)
     → IsGood (as_publisher limits (record { past = past; connections = κ ∷ others; keeper = keeper }))
     → GoesTo (as_publisher limits (record { past = past; connections = κ ∷ others; keeper = keeper }))
@@ -249,7 +249,7 @@ hears_pubrec limits past keeper κ others i two on conf within counted current n
     let side = heard_pubrec i keeper κ in
     let t : Story = with_side s others side in
     let goes : GoesTo h (as_publisher limits t) = record {
-      between = with_items (heard (Backward.Pubrec i) h.items) (Transit.Joined (f ++ reply (Backward.Pubrec i)) b) h;
+      between = with_items (sender_hears (Backward.Pubrec i) h.items) (Transit.Joined (f ++ reply (Backward.Pubrec i)) b) h;
       run = goes_on stays (hears (Backward.Pubrec i) f b transit);
       like = record {
         items = sym (own_pubrec i keeper.own two);

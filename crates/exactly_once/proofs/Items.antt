@@ -7,9 +7,9 @@ use Rattle.client_base.specs.session_base.declared.publication.Publication.{Publ
 use Rattle.client_base.specs.session_base.Publication.{is_acknowledged, is_answered}
 use Rattle.broker_base.specs.broker_spec.Entries.{Entry}
 use Rattle.broker_base.specs.broker_spec.Times.{at_pubrec, at_pubcomp}
-use Rattle.exactly_once.specs.Items.{SenderItem, releasing, finishing}
+use Rattle.exactly_once.specs.Items.{SenderItem, item_released, finishing}
 use Rattle.exactly_once.specs.Carried.{is_two}
-use Rattle.exactly_once.specs.Inside.AsSubscriber.{items_of, two_item}
+use Rattle.exactly_once.specs.Inside.AsSubscriber.{items_of_entries, two_item}
 
 -- an entry is of QoS 1 or 2
 abbrev pub IsQueued : Entry → Type 0
@@ -39,32 +39,32 @@ AllQueued [] = Unit {0}
 
 -- ---- PUBREC
 
-pub items_pubrec : (n i : ℕ) (es : List Entry) → AllQueued es → items_of (map (at_pubrec n i) es) ≡ map (releasing i) (items_of es)
+pub items_pubrec : (n i : ℕ) (es : List Entry) → AllQueued es → items_of_entries (map (at_pubrec n i) es) ≡ map (item_released i) (items_of_entries es)
 items_pubrec n i [] h = refl
 items_pubrec n i (Entry.Waits made p ∷ es) h = by (is_two p.qos) (items_pubrec n i es h.1)
   where
-    by : (b : Bool) → items_of (map (at_pubrec n i) es) ≡ map (releasing i) (items_of es)
-        → (if b then SenderItem.Waits p ∷ items_of (map (at_pubrec n i) es) else items_of (map (at_pubrec n i) es)) ≡ map (releasing i) (if b then SenderItem.Waits p ∷ items_of es else items_of es)
+    by : (b : Bool) → items_of_entries (map (at_pubrec n i) es) ≡ map (item_released i) (items_of_entries es)
+        → (if b then SenderItem.Waits p ∷ items_of_entries (map (at_pubrec n i) es) else items_of_entries (map (at_pubrec n i) es)) ≡ map (item_released i) (if b then SenderItem.Waits p ∷ items_of_entries es else items_of_entries es)
     by true ih = ap (λ l. SenderItem.Waits p ∷ l) ih
     by false ih = ih
 items_pubrec n i (Entry.Started made p id start ∷ es) h = by (cases_Bool (i == id)) (cases_Bool (is_two p.qos)) (items_pubrec n i es h.1)
   where
-    by : ((i == id) ≡ true) ⊎ ((i == id) ≡ false) → (is_two p.qos ≡ true) ⊎ (is_two p.qos ≡ false) → items_of (map (at_pubrec n i) es) ≡ map (releasing i) (items_of es)
-        → items_of (at_pubrec n i (Entry.Started made p id start) ∷ map (at_pubrec n i) es) ≡ map (releasing i) (two_item p (SenderItem.Sent p id) (items_of es))
+    by : ((i == id) ≡ true) ⊎ ((i == id) ≡ false) → (is_two p.qos ≡ true) ⊎ (is_two p.qos ≡ false) → items_of_entries (map (at_pubrec n i) es) ≡ map (item_released i) (items_of_entries es)
+        → items_of_entries (at_pubrec n i (Entry.Started made p id start) ∷ map (at_pubrec n i) es) ≡ map (item_released i) (two_item p (SenderItem.Sent p id) (items_of_entries es))
     by (inl b) (inl t) ih = rw (b, t, two_not_one p.qos t) (rw t (rw b (ap (λ l. SenderItem.Released p id ∷ l) ih)))
     by (inl b) (inr t) ih = rw (b, t, not_two_one p.qos h.0 t) (rw t ih)
     by (inr b) (inl t) ih = rw (b, t) (rw b (ap (λ l. SenderItem.Sent p id ∷ l) ih))
     by (inr b) (inr t) ih = rw (b, t) ih
 items_pubrec n i (Entry.Released made p id start release ∷ es) h = by (is_two p.qos) (items_pubrec n i es h.1)
   where
-    by : (b : Bool) → items_of (map (at_pubrec n i) es) ≡ map (releasing i) (items_of es)
-        → (if b then SenderItem.Released p id ∷ items_of (map (at_pubrec n i) es) else items_of (map (at_pubrec n i) es)) ≡ map (releasing i) (if b then SenderItem.Released p id ∷ items_of es else items_of es)
+    by : (b : Bool) → items_of_entries (map (at_pubrec n i) es) ≡ map (item_released i) (items_of_entries es)
+        → (if b then SenderItem.Released p id ∷ items_of_entries (map (at_pubrec n i) es) else items_of_entries (map (at_pubrec n i) es)) ≡ map (item_released i) (if b then SenderItem.Released p id ∷ items_of_entries es else items_of_entries es)
     by true ih = ap (λ l. SenderItem.Released p id ∷ l) ih
     by false ih = ih
 items_pubrec n i (Entry.Finished made p id start release finish ∷ es) h = by (is_two p.qos) (items_pubrec n i es h.1)
   where
-    by : (b : Bool) → items_of (map (at_pubrec n i) es) ≡ map (releasing i) (items_of es)
-        → (if b then SenderItem.Finished p ∷ items_of (map (at_pubrec n i) es) else items_of (map (at_pubrec n i) es)) ≡ map (releasing i) (if b then SenderItem.Finished p ∷ items_of es else items_of es)
+    by : (b : Bool) → items_of_entries (map (at_pubrec n i) es) ≡ map (item_released i) (items_of_entries es)
+        → (if b then SenderItem.Finished p ∷ items_of_entries (map (at_pubrec n i) es) else items_of_entries (map (at_pubrec n i) es)) ≡ map (item_released i) (if b then SenderItem.Finished p ∷ items_of_entries es else items_of_entries es)
     by true ih = ap (λ l. SenderItem.Finished p ∷ l) ih
     by false ih = ih
 
@@ -77,17 +77,17 @@ two_map i p x y es fs e f = by (is_two p.qos)
     by true = ap₂ (λ z l. z ∷ l) e f
     by false = f
 
-pub items_pubcomp : (n i : ℕ) (es : List Entry) → items_of (map (at_pubcomp n i) es) ≡ map (finishing i) (items_of es)
+pub items_pubcomp : (n i : ℕ) (es : List Entry) → items_of_entries (map (at_pubcomp n i) es) ≡ map (finishing i) (items_of_entries es)
 items_pubcomp n i [] = refl
-items_pubcomp n i (Entry.Waits made p ∷ es) = two_map i p (SenderItem.Waits p) (SenderItem.Waits p) (items_of es) (items_of (map (at_pubcomp n i) es)) refl (items_pubcomp n i es)
-items_pubcomp n i (Entry.Started made p id start ∷ es) = two_map i p (SenderItem.Sent p id) (SenderItem.Sent p id) (items_of es) (items_of (map (at_pubcomp n i) es)) refl (items_pubcomp n i es)
+items_pubcomp n i (Entry.Waits made p ∷ es) = two_map i p (SenderItem.Waits p) (SenderItem.Waits p) (items_of_entries es) (items_of_entries (map (at_pubcomp n i) es)) refl (items_pubcomp n i es)
+items_pubcomp n i (Entry.Started made p id start ∷ es) = two_map i p (SenderItem.Sent p id) (SenderItem.Sent p id) (items_of_entries es) (items_of_entries (map (at_pubcomp n i) es)) refl (items_pubcomp n i es)
 items_pubcomp n i (Entry.Released made p id start release ∷ es) = by (cases_Bool (i == id)) (items_pubcomp n i es)
   where
-    by : ((i == id) ≡ true) ⊎ ((i == id) ≡ false) → items_of (map (at_pubcomp n i) es) ≡ map (finishing i) (items_of es)
-        → items_of (at_pubcomp n i (Entry.Released made p id start release) ∷ map (at_pubcomp n i) es) ≡ map (finishing i) (two_item p (SenderItem.Released p id) (items_of es))
-    by (inl b) ih = rw b (two_map i p (SenderItem.Released p id) (SenderItem.Finished p) (items_of es) (items_of (map (at_pubcomp n i) es)) (rw b refl) ih)
-    by (inr b) ih = rw b (two_map i p (SenderItem.Released p id) (SenderItem.Released p id) (items_of es) (items_of (map (at_pubcomp n i) es)) (rw b refl) ih)
-items_pubcomp n i (Entry.Finished made p id start release finish ∷ es) = two_map i p (SenderItem.Finished p) (SenderItem.Finished p) (items_of es) (items_of (map (at_pubcomp n i) es)) refl (items_pubcomp n i es)
+    by : ((i == id) ≡ true) ⊎ ((i == id) ≡ false) → items_of_entries (map (at_pubcomp n i) es) ≡ map (finishing i) (items_of_entries es)
+        → items_of_entries (at_pubcomp n i (Entry.Released made p id start release) ∷ map (at_pubcomp n i) es) ≡ map (finishing i) (two_item p (SenderItem.Released p id) (items_of_entries es))
+    by (inl b) ih = rw b (two_map i p (SenderItem.Released p id) (SenderItem.Finished p) (items_of_entries es) (items_of_entries (map (at_pubcomp n i) es)) (rw b refl) ih)
+    by (inr b) ih = rw b (two_map i p (SenderItem.Released p id) (SenderItem.Released p id) (items_of_entries es) (items_of_entries (map (at_pubcomp n i) es)) (rw b refl) ih)
+items_pubcomp n i (Entry.Finished made p id start release finish ∷ es) = two_map i p (SenderItem.Finished p) (SenderItem.Finished p) (items_of_entries es) (items_of_entries (map (at_pubcomp n i) es)) refl (items_pubcomp n i es)
 
 -- ---- new entries
 
@@ -98,9 +98,9 @@ two_append p x es more all e = by (is_two p.qos)
     by true = ap (λ l. x ∷ l) e
     by false = e
 
-pub items_append : (es more : List Entry) → items_of (es ++ more) ≡ items_of es ++ items_of more
+pub items_append : (es more : List Entry) → items_of_entries (es ++ more) ≡ items_of_entries es ++ items_of_entries more
 items_append [] more = refl
-items_append (Entry.Waits made p ∷ es) more = two_append p (SenderItem.Waits p) (items_of es) (items_of more) (items_of (es ++ more)) (items_append es more)
-items_append (Entry.Started made p id start ∷ es) more = two_append p (SenderItem.Sent p id) (items_of es) (items_of more) (items_of (es ++ more)) (items_append es more)
-items_append (Entry.Released made p id start release ∷ es) more = two_append p (SenderItem.Released p id) (items_of es) (items_of more) (items_of (es ++ more)) (items_append es more)
-items_append (Entry.Finished made p id start release finish ∷ es) more = two_append p (SenderItem.Finished p) (items_of es) (items_of more) (items_of (es ++ more)) (items_append es more)
+items_append (Entry.Waits made p ∷ es) more = two_append p (SenderItem.Waits p) (items_of_entries es) (items_of_entries more) (items_of_entries (es ++ more)) (items_append es more)
+items_append (Entry.Started made p id start ∷ es) more = two_append p (SenderItem.Sent p id) (items_of_entries es) (items_of_entries more) (items_of_entries (es ++ more)) (items_append es more)
+items_append (Entry.Released made p id start release ∷ es) more = two_append p (SenderItem.Released p id) (items_of_entries es) (items_of_entries more) (items_of_entries (es ++ more)) (items_append es more)
+items_append (Entry.Finished made p id start release finish ∷ es) more = two_append p (SenderItem.Finished p) (items_of_entries es) (items_of_entries more) (items_of_entries (es ++ more)) (items_append es more)

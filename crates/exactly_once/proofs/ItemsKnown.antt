@@ -3,7 +3,7 @@ use Rattle.std.proofs.Common.{◌≡◌, ℕ, Bool, true, false, not, ◌&&◌, 
 use Rattle.std.proofs.lemmas.Bool.{or_cases, both_ways, cases_Bool}
 use Rattle.client_base.specs.lists.Lists.{has_id, IsDistinct, Each}
 use Rattle.exactly_once.specs.Items.{SenderItem, busy, sent, has_sent, has_released}
-use Rattle.exactly_once.specs.HandshakeInvariant.{IsOld, IsNew, WaitsLast}
+use Rattle.exactly_once.specs.HandshakeInvariant.{IsOld, IsNew, UnsentAreLast}
 use Rattle.client_base.proofs.of_lists.Tests.{or_none, none_or, or_right, eq_is, eq_turn}
 use Rattle.exactly_once.proofs.BusyIdentifiers.{sent_not_released}
 use Rattle.exactly_once.proofs.ItemsStarted.{none_sent}
@@ -89,7 +89,7 @@ pair_is {A = X} {B = Y} p q e = (ap (λ (r : X × Y). r.0) e, ap (λ (r : X × Y
 no_cons : {A : Type 0} (x : A) (xs ys : List A) → xs ≡ [] → xs ≡ x ∷ ys → ⊥
 no_cons x xs ys e f = cc
 
-pub first_sent : {V : Type 0} (received : ℕ → Bool) (id : ℕ) (v : V) (rest : List (ℕ × V)) (new : List (SenderItem V)) → Each (IsNew received) new → WaitsLast new
+pub first_sent : {V : Type 0} (received : ℕ → Bool) (id : ℕ) (v : V) (rest : List (ℕ × V)) (new : List (SenderItem V)) → Each (IsNew received) new → UnsentAreLast new
     → sent new ≡ (id, v) ∷ rest → IsFirst id v rest new
 first_sent received id v rest [] h w e = absurd (no_cons (id, v) [] rest refl e)
 first_sent received id v rest (SenderItem.Waits u ∷ new) h w e = absurd (no_cons (id, v) (sent new) rest (none_sent new w) e)

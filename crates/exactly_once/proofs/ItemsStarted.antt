@@ -2,18 +2,18 @@
 use Rattle.std.proofs.Common.{◌≡◌, ℕ, Bool, false, List, [], ◌∷◌, ◌++◌, Some, None, refl, ap, ap₂, sym, ◌∙◌}
 use Rattle.client_base.specs.lists.Lists.{Each}
 use Rattle.exactly_once.specs.Items.{SenderItem, busy, sent, start_first, first_waiting}
-use Rattle.exactly_once.specs.HandshakeInvariant.{IsOld, IsNew, IsWaiting, WaitsLast}
+use Rattle.exactly_once.specs.HandshakeInvariant.{IsOld, IsNew, IsUnsent, UnsentAreLast}
 
 -- ---- a start
 
-pub none_busy : {V : Type 0} (items : List (SenderItem V)) → Each IsWaiting items → busy items ≡ []
+pub none_busy : {V : Type 0} (items : List (SenderItem V)) → Each IsUnsent items → busy items ≡ []
 none_busy [] w = refl
 none_busy (SenderItem.Waits v ∷ items) w = none_busy items w.1
 none_busy (SenderItem.Sent v id ∷ items) w = elim w.0 [ ]
 none_busy (SenderItem.Released v id ∷ items) w = elim w.0 [ ]
 none_busy (SenderItem.Finished v ∷ items) w = elim w.0 [ ]
 
-pub none_sent : {V : Type 0} (items : List (SenderItem V)) → Each IsWaiting items → sent items ≡ []
+pub none_sent : {V : Type 0} (items : List (SenderItem V)) → Each IsUnsent items → sent items ≡ []
 none_sent [] w = refl
 none_sent (SenderItem.Waits v ∷ items) w = none_sent items w.1
 none_sent (SenderItem.Sent v id ∷ items) w = elim w.0 [ ]
@@ -39,13 +39,13 @@ pub record Started {V : Type 0} (received : ℕ → Bool) (id : ℕ) (v : V) (ne
   pub sent_is : sent (start_first id new) ≡ sent new ++ (id, v) ∷ []
   pub busy_is : busy (start_first id new) ≡ busy new ++ id ∷ []
   pub news : Each (IsNew received) (start_first id new)
-  pub waits_last : WaitsLast (start_first id new)
+  pub waits_last : UnsentAreLast (start_first id new)
 
 none_or_some : {V : Type 0} (v : V) → None ≡ Some v → ⊥
 none_or_some v e = cc
 
 pub starts_new : {V : Type 0} (received : ℕ → Bool) (id : ℕ) (v : V) (new : List (SenderItem V)) → received id ≡ false → Each (IsNew received) new
-    → WaitsLast new → first_waiting new ≡ Some v → Started received id v new
+    → UnsentAreLast new → first_waiting new ≡ Some v → Started received id v new
 starts_new received id v [] r h w e = absurd (none_or_some v e)
 starts_new received id v (SenderItem.Waits u ∷ new) r h w e =
     let same : u ≡ v = cc in
@@ -56,7 +56,7 @@ starts_new received id v (SenderItem.Waits u ∷ new) r h w e =
       waits_last = all_wait new w;
     }
   where
-    all_wait : {V : Type 0} (items : List (SenderItem V)) → Each IsWaiting items → WaitsLast items
+    all_wait : {V : Type 0} (items : List (SenderItem V)) → Each IsUnsent items → UnsentAreLast items
     all_wait [] w = tt
     all_wait (SenderItem.Waits v ∷ items) w = w.1
     all_wait (SenderItem.Sent v id ∷ items) w = elim w.0 [ ]

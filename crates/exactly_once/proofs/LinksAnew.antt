@@ -5,8 +5,8 @@ use Rattle.std.proofs.lemmas.Bool.{or_cases, both_ways}
 use Rattle.client_base.specs.lists.Lists.{In, has_id, IsDistinct, Each}
 use Rattle.client_base.specs.lists.Lists.In.{here, there}
 use Rattle.exactly_once.specs.Items.{SenderItem, busy, sent, has_sent, has_released}
-use Rattle.exactly_once.specs.Handshake.{Forward, resend, publishing}
-use Rattle.exactly_once.specs.HandshakeInvariant.{IsNew, AreSides, publishes, forward_id, IsMeant, IsJoined}
+use Rattle.exactly_once.specs.Handshake.{Forward, sender_resends, publishing}
+use Rattle.exactly_once.specs.HandshakeInvariant.{IsNew, AreSides, publishes_in_transit, forward_id, IsMeant, IsJoined}
 use Rattle.client_base.proofs.of_lists.Tests.{or_none, none_or, eq_is}
 use Rattle.client_base.proofs.of_lists.Identifiers.{distinct_joined}
 use Rattle.client_base.proofs.of_lists.OfEach.{each_then}
@@ -15,11 +15,11 @@ use Rattle.exactly_once.proofs.ItemsKnown.{released_not_sent}
 
 -- ---- a new connection
 
-publishes_releases : {V : Type 0} (ids : List ℕ) (f : List (Forward V)) → publishes (map (λ id. Forward.Pubrel id) ids ++ f) ≡ publishes f
+publishes_releases : {V : Type 0} (ids : List ℕ) (f : List (Forward V)) → publishes_in_transit (map (λ id. Forward.Pubrel id) ids ++ f) ≡ publishes_in_transit f
 publishes_releases [] f = refl
 publishes_releases (id ∷ ids) f = publishes_releases ids f
 
-publishes_rows : {V : Type 0} (rows : List (ℕ × V)) → publishes (map publishing rows) ≡ rows
+publishes_rows : {V : Type 0} (rows : List (ℕ × V)) → publishes_in_transit (map publishing rows) ≡ rows
 publishes_rows [] = refl
 publishes_rows ((id, v) ∷ rows) = ap (λ z. (id, v) ∷ z) (publishes_rows rows)
 
@@ -96,7 +96,7 @@ has_each (j ∷ ids) i P h e = by (or_cases (i == j) (has_id i ids) e) (has_each
     by (inr g) ih = ih g
 
 pub joined_anew : {V : Type 0} (items : List (SenderItem V)) (accepted : List V) (received : ℕ → Bool) (old new : List (SenderItem V)) (ids : List ℕ) → AreSides items accepted received old new
-    → IsDistinct ids → Each (λ id. has_released id items ≡ true) ids → IsJoined received old new (resend ids items) []
+    → IsDistinct ids → Each (λ id. has_released id items ≡ true) ids → IsJoined received old new (sender_resends ids items) []
 joined_anew {V = X} items accepted received old new ids s d r =
     let apart : IsDistinct (busy items) = subst (λ z. IsDistinct (busy z)) (sym s.is) s.apart in
     let r' = each_then (λ id. has_released id items ≡ true) (λ id. has_released id old ≡ true) ids
@@ -109,7 +109,7 @@ joined_anew {V = X} items accepted received old new ids s d r =
         meant = releases_meant old ids (sent items) r';
       };
       due = tt;
-      apart = subst IsDistinct (sym (append-nil (map forward_id (resend ids items)) ∙ resend_ids ids (sent items)))
+      apart = subst IsDistinct (sym (append-nil (map forward_id (sender_resends ids items)) ∙ resend_ids ids (sent items)))
           (distinct_joined ids (row_ids (sent items)) d (rows_apart items apart)
           (λ i h. rows_not_sent i items (released_not_sent i items apart (has_each ids i (λ k. has_released k items ≡ true) r h))));
     }

@@ -2,7 +2,7 @@
 use Rattle.std.proofs.Common.{◌≡◌, ℕ, Bool, false, ◌==◌, List, [], ◌∷◌, ◌++◌, map, sym, subst}
 use Rattle.std.proofs.lemmas.List.{append-nil}
 use Rattle.client_base.specs.lists.Lists.{has_id, Each}
-use Rattle.exactly_once.specs.Items.{SenderItem, releasing, finishing}
+use Rattle.exactly_once.specs.Items.{SenderItem, item_released, finishing}
 use Rattle.exactly_once.specs.Handshake.{Forward, Backward}
 use Rattle.exactly_once.specs.HandshakeInvariant.{forward_id, backward_id, IsMeant, IsDue, IsSent, IsJoined, IsBehind}
 use Rattle.client_base.proofs.of_lists.Tests.{or_none, eq_turn}
@@ -41,9 +41,9 @@ joined_finished {V = X} received old new id f b j =
     })
 
 pub behind_released : {V : Type 0} (received : ℕ → Bool) (old : List (SenderItem V)) (id : ℕ) (b : List Backward)
-    → IsBehind received old (Backward.Pubrec id ∷ b) → IsBehind received (map (releasing id) old) b
+    → IsBehind received old (Backward.Pubrec id ∷ b) → IsBehind received (map (item_released id) old) b
 behind_released received old id b j =
-    record { due = dues received received old (map (releasing id) old) id b (due_releasing received id old) j.apart.0 j.due.1; apart = j.apart.1 }
+    record { due = dues received received old (map (item_released id) old) id b (due_releasing received id old) j.apart.0 j.due.1; apart = j.apart.1 }
 
 pub behind_finished : {V : Type 0} (received : ℕ → Bool) (old : List (SenderItem V)) (id : ℕ) (b : List Backward)
     → IsBehind received old (Backward.Pubcomp id ∷ b) → IsBehind received (map (finishing id) old) b

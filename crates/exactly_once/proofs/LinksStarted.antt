@@ -3,8 +3,8 @@ use Rattle.std.proofs.Common.{◌≡◌, ℕ, Bool, true, false, ◌==◌, List,
 use Rattle.std.proofs.lemmas.List.{append-nil, map-append}
 use Rattle.client_base.specs.lists.Lists.{has_id, IsDistinct, Each}
 use Rattle.exactly_once.specs.Items.{SenderItem, busy, sent, start_first}
-use Rattle.exactly_once.specs.Handshake.{Forward, Backward, Transit, sending}
-use Rattle.exactly_once.specs.HandshakeInvariant.{publishes, forward_id, backward_id, IsMeant, IsDue, IsSent, ComesToReceiver, IsJoined, IsBehind, IsAhead, FitsTransit}
+use Rattle.exactly_once.specs.Handshake.{Forward, Backward, Transit, sender_sends}
+use Rattle.exactly_once.specs.HandshakeInvariant.{publishes_in_transit, forward_id, backward_id, IsMeant, IsDue, IsSent, ComesToReceiver, IsJoined, IsBehind, IsAhead, FitsTransit}
 use Rattle.client_base.proofs.of_lists.Tests.{or_none, none_or}
 use Rattle.client_base.proofs.of_lists.Identifiers.{other_id, distinct_after, distinct_insert}
 use Rattle.client_base.proofs.of_lists.OfEach.{each_append, each_then}
@@ -27,7 +27,7 @@ rows_away i (SenderItem.Released v id ∷ new) n = let h = or_none (i == id) (ha
 rows_away i (SenderItem.Finished v ∷ new) n = rows_away i new n
 
 forward_away : {V : Type 0} (i : ℕ) (old : List (SenderItem V)) (f : List (Forward V)) → has_id i (busy old) ≡ false → Each (IsMeant old) f
-    → Each (λ (row : ℕ × V). (i == row.0) ≡ false) (publishes f) → has_id i (map forward_id f) ≡ false
+    → Each (λ (row : ℕ × V). (i == row.0) ≡ false) (publishes_in_transit f) → has_id i (map forward_id f) ≡ false
 forward_away i old [] n m r = refl
 forward_away i old (Forward.Publish id v ∷ f) n m r = none_or (i == id) (has_id i (map forward_id f)) r.0 (forward_away i old f n m.1 r.1)
 forward_away i old (Forward.Pubrel id ∷ f) n m r =
@@ -41,7 +41,7 @@ backward_away received i old (Backward.Pubcomp id ∷ b) n d =
     none_or (i == id) (has_id i (map backward_id b)) (not_busy i id old n (released_busy id old d.0.0)) (backward_away received i old b n d.1)
 
 pub linked_start : {V : Type 0} (received : ℕ → Bool) (old new : List (SenderItem V)) (id : ℕ) (v : V) (l : Transit V) → has_id id (busy old) ≡ false → has_id id (busy new) ≡ false
-    → Started received id v new → FitsTransit received old new l → FitsTransit received old (start_first id new) (sending (Forward.Publish id v) l)
+    → Started received id v new → FitsTransit received old new l → FitsTransit received old (start_first id new) (sender_sends (Forward.Publish id v) l)
 linked_start {V = X} received old new id v (Transit.Joined f b) n n' s j =
     let known = each_then (IsSent old) (λ (row : ℕ × X). (id == row.0) ≡ false) j.comes.again
     (λ row h. not_busy id row.0 old n (sent_busy row.0 old (row_sent row old h))) j.comes.known in

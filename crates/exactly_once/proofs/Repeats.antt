@@ -6,8 +6,8 @@ use Rattle.client_base.specs.lists.Lists.{In, Each}
 use Rattle.client_base.specs.lists.Lists.In.{here, there}
 use Rattle.exactly_once.specs.Items.{SenderItem, value_of, sent}
 use Rattle.exactly_once.specs.Handshake.{Forward, Transit, Handshake}
-use Rattle.exactly_once.specs.HandshakeSteps.{opening}
-use Rattle.exactly_once.specs.HandshakeInvariant.{IsNew, IsSent, FitsTransit, IsGood, ComesToReceiver, publishes}
+use Rattle.exactly_once.specs.HandshakeSteps.{opening_handshake}
+use Rattle.exactly_once.specs.HandshakeInvariant.{IsNew, IsSent, FitsTransit, IsGood, ComesToReceiver, publishes_in_transit}
 use Rattle.exactly_once.specs.Exact.{next_of, RepeatsWereAccepted}
 use Rattle.exactly_once.proofs.Exact.{good_run, good_opening}
 use Rattle.exactly_once.proofs.ItemsKnown.{cons_is}
@@ -48,10 +48,10 @@ link_known : {V : Type 0} (received : ℕ → Bool) (old new : List (SenderItem 
     → next_of l ≡ Some (Forward.Publish id v) → received id ≡ true → In v (map value_of old)
 link_known {V = X} received old new (Transit.Joined (m ∷ f) b) id v news j e known =
     let c = subst (λ (z : Forward X). ComesToReceiver old (z ∷ f) (sent new)) (some_is m (Forward.Publish id v) e) j.comes in
-    first_known received old new (id, v) (publishes f) c.again (sent new) [] news known c.is c.known (sym (append-nil (sent new)))
+    first_known received old new (id, v) (publishes_in_transit f) c.again (sent new) [] news known c.is c.known (sym (append-nil (sent new)))
 link_known {V = X} received old new (Transit.Ahead (m ∷ f)) id v news j e known =
     let c = subst (λ (z : Forward X). ComesToReceiver old (z ∷ f) j.next) (some_is m (Forward.Publish id v) e) j.comes in
-    first_known received old new (id, v) (publishes f) c.again j.next j.more news known c.is c.known j.prefix
+    first_known received old new (id, v) (publishes_in_transit f) c.again j.next j.more news known c.is c.known j.prefix
 link_known received old new (Transit.Joined [] b) id v news j e known = cc
 link_known received old new (Transit.Ahead []) id v news j e known = cc
 link_known received old new (Transit.Behind b) id v news j e known = cc
@@ -61,4 +61,4 @@ good_repeat {V = X} h g id v e known =
     subst (λ (z : List X). In v z) (sym g.sides.accepted_is) (link_known h.received g.old g.new h.transit id v g.sides.news g.transit e known)
 
 pub repeats_were_accepted : (V : Type 0) → RepeatsWereAccepted V
-repeats_were_accepted V h run = good_repeat h (good_run (opening V) h (good_opening V) run)
+repeats_were_accepted V h run = good_repeat h (good_run (opening_handshake V) h (good_opening V) run)

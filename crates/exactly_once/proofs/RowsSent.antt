@@ -4,7 +4,7 @@ use Rattle.std.proofs.lemmas.Bool.{both_ways}
 use Rattle.client_base.specs.lists.Lists.{In}
 use Rattle.client_base.specs.lists.Lists.In.{here, there}
 use Rattle.client_base.proofs.of_lists.Tests.{or_left, or_right, eq_same}
-use Rattle.exactly_once.specs.Items.{SenderItem, sent, has_sent, releasing, finishing}
+use Rattle.exactly_once.specs.Items.{SenderItem, sent, has_sent, item_released, finishing}
 
 -- its identifier is that of one that is sent
 pub row_sent : {V : Type 0} (row : ℕ × V) (items : List (SenderItem V)) → In row (sent items) → has_sent row.0 items ≡ true
@@ -16,17 +16,17 @@ row_sent row (SenderItem.Released v id ∷ items) i = row_sent row items i
 row_sent row (SenderItem.Finished v ∷ items) i = row_sent row items i
 
 -- another stays
-pub row_releasing : {V : Type 0} (i : ℕ) (row : ℕ × V) (items : List (SenderItem V)) → (i == row.0) ≡ false → In row (sent items) → In row (sent (map (releasing i) items))
+pub row_releasing : {V : Type 0} (i : ℕ) (row : ℕ × V) (items : List (SenderItem V)) → (i == row.0) ≡ false → In row (sent items) → In row (sent (map (item_released i) items))
 row_releasing i row [] n h = elim h [ ]
 row_releasing i row (SenderItem.Waits v ∷ items) n h = row_releasing i row items n h
 row_releasing i row (SenderItem.Sent v id ∷ items) n here = by (i == id) n
   where
-    by : (b : Bool) → b ≡ false → In (id, v) (sent ((if b then SenderItem.Released v id else SenderItem.Sent v id) ∷ map (releasing i) items))
+    by : (b : Bool) → b ≡ false → In (id, v) (sent ((if b then SenderItem.Released v id else SenderItem.Sent v id) ∷ map (item_released i) items))
     by true e = absurd (both_ways true e refl)
     by false e = here
 row_releasing i row (SenderItem.Sent v id ∷ items) n (there h) = by (i == id) (row_releasing i row items n h)
   where
-    by : (b : Bool) → In row (sent (map (releasing i) items)) → In row (sent ((if b then SenderItem.Released v id else SenderItem.Sent v id) ∷ map (releasing i) items))
+    by : (b : Bool) → In row (sent (map (item_released i) items)) → In row (sent ((if b then SenderItem.Released v id else SenderItem.Sent v id) ∷ map (item_released i) items))
     by true ih = ih
     by false ih = there ih
 row_releasing i row (SenderItem.Released v id ∷ items) n h = row_releasing i row items n h

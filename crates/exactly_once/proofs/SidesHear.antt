@@ -3,7 +3,7 @@ use Rattle.std.proofs.Common.{◌≡◌, ℕ, Bool, true, false, ◌==◌, List,
 use Rattle.std.proofs.lemmas.List.{map-append}
 use Rattle.std.proofs.lemmas.Bool.{both_ways, cases_Bool}
 use Rattle.client_base.specs.lists.Lists.{has_id, IsDistinct}
-use Rattle.exactly_once.specs.Items.{SenderItem, busy, has_sent, has_released, releasing, finishing}
+use Rattle.exactly_once.specs.Items.{SenderItem, busy, has_sent, has_released, item_released, finishing}
 use Rattle.exactly_once.specs.HandshakeInvariant.{AreSides}
 use Rattle.client_base.proofs.of_lists.Tests.{eq_is}
 use Rattle.client_base.proofs.of_lists.Identifiers.{distinct_apart}
@@ -15,17 +15,17 @@ use Rattle.exactly_once.proofs.ItemsFinished.{values_finishing, finishing_others
 
 pub sides_release : {V : Type 0} (items : List (SenderItem V)) (accepted : List V) (received : ℕ → Bool) (old new : List (SenderItem V)) (id : ℕ)
     → AreSides items accepted received old new → has_sent id old ≡ true
-    → AreSides (map (releasing id) items) accepted received (map (releasing id) old) new
+    → AreSides (map (item_released id) items) accepted received (map (item_released id) old) new
 sides_release items accepted received old new id s e =
     let apart = subst IsDistinct (busy_append old new) s.apart in
     let stays = releasing_others id new (distinct_apart id (busy old) (busy new) apart (sent_busy id old e)) in
     record {
-      is = ap (map (releasing id)) s.is ∙ map-append (releasing id) old new ∙ ap (λ l. map (releasing id) old ++ l) stays;
+      is = ap (map (item_released id)) s.is ∙ map-append (item_released id) old new ∙ ap (λ l. map (item_released id) old ++ l) stays;
       accepted_is = s.accepted_is ∙ sym (values_releasing id old);
       olds = olds_releasing received id old s.olds;
       news = s.news;
       waits_last = s.waits_last;
-      apart = subst IsDistinct (sym (busy_append (map (releasing id) old) new ∙ ap (λ l. l ++ busy new) (busy_releasing id old))) apart;
+      apart = subst IsDistinct (sym (busy_append (map (item_released id) old) new ∙ ap (λ l. l ++ busy new) (busy_releasing id old))) apart;
       known = λ j h. ap (has_id j) (busy_releasing id old) ∙ s.known j h;
     }
 

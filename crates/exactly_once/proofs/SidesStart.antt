@@ -4,7 +4,7 @@ use Rattle.std.proofs.lemmas.List.{append-nil}
 use Rattle.std.proofs.lemmas.Bool.{both_ways, cases_Bool}
 use Rattle.client_base.specs.lists.Lists.{has_id, IsDistinct}
 use Rattle.exactly_once.specs.Items.{SenderItem, busy, sent, start_first, first_waiting}
-use Rattle.exactly_once.specs.HandshakeInvariant.{IsNew, IsWaiting, WaitsLast, AreSides}
+use Rattle.exactly_once.specs.HandshakeInvariant.{IsNew, IsUnsent, UnsentAreLast, AreSides}
 use Rattle.client_base.proofs.of_lists.Identifiers.{has_join, has_split, distinct_push}
 use Rattle.client_base.proofs.of_lists.OfEach.{each_append}
 use Rattle.exactly_once.proofs.BusyIdentifiers.{busy_append, sent_append}
@@ -12,9 +12,9 @@ use Rattle.exactly_once.proofs.ItemsStarted.{start_after, waiting_after, Started
 
 -- ---- a publication comes
 
-waits_more : {V : Type 0} (items : List (SenderItem V)) (v : V) → WaitsLast items → WaitsLast (items ++ SenderItem.Waits v ∷ [])
+waits_more : {V : Type 0} (items : List (SenderItem V)) (v : V) → UnsentAreLast items → UnsentAreLast (items ++ SenderItem.Waits v ∷ [])
 waits_more [] v w = tt
-waits_more (SenderItem.Waits u ∷ items) v w = each_append IsWaiting items (SenderItem.Waits v ∷ []) w (tt, tt)
+waits_more (SenderItem.Waits u ∷ items) v w = each_append IsUnsent items (SenderItem.Waits v ∷ []) w (tt, tt)
 waits_more (SenderItem.Sent u id ∷ items) v w = waits_more items v w
 waits_more (SenderItem.Released u id ∷ items) v w = waits_more items v w
 waits_more (SenderItem.Finished u ∷ items) v w = waits_more items v w

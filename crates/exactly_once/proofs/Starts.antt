@@ -9,7 +9,7 @@ use Rattle.broker_base.specs.broker_spec.Times.{start_all}
 use Rattle.broker_base.specs.broker_spec.IdentifierLaws.{WaitsLast, IsWaiting}
 use Rattle.broker_base.proofs.of_broker_spec.LeastFree.{least-is-free}
 use Rattle.exactly_once.specs.Items.{SenderItem, busy, start_first, first_waiting}
-use Rattle.exactly_once.specs.Handshake.{sending, with_items, Forward, Transit, Handshake}
+use Rattle.exactly_once.specs.Handshake.{sender_sends, with_items, Forward, Transit, Handshake}
 use Rattle.exactly_once.specs.HandshakeSteps.{HandshakeRun}
 use Rattle.exactly_once.specs.HandshakeSteps.Advances.{starts}
 use Rattle.exactly_once.specs.HandshakeSteps.HandshakeRun.{stays, goes_on}
@@ -18,7 +18,7 @@ use Rattle.client_base.proofs.of_lists.Tests.{or_none, none_or}
 use Rattle.exactly_once.proofs.BusyIdentifiers.{busy_append}
 use Rattle.exactly_once.proofs.Exact.{run_then}
 use Rattle.exactly_once.specs.Carried.{is_two}
-use Rattle.exactly_once.specs.Inside.AsSubscriber.{items_of}
+use Rattle.exactly_once.specs.Inside.AsSubscriber.{items_of_entries}
 use Rattle.std.specs.List.{AllByRecursion}
 
 -- items of which none waits
@@ -49,11 +49,11 @@ start_after id (SenderItem.Released v i ∷ pre) more n = ap (λ l. SenderItem.R
 start_after id (SenderItem.Finished v ∷ pre) more n = ap (λ l. SenderItem.Finished v ∷ l) (start_after id pre more n)
 
 -- what waits is not busy
-waiting_free : (es : List Entry) → AllByRecursion IsWaiting es → busy (items_of es) ≡ []
+waiting_free : (es : List Entry) → AllByRecursion IsWaiting es → busy (items_of_entries es) ≡ []
 waiting_free [] w = refl
 waiting_free (Entry.Waits made p ∷ es) w = by (is_two p.qos) (waiting_free es w.1)
   where
-    by : (b : Bool) → busy (items_of es) ≡ [] → busy (if b then SenderItem.Waits p ∷ items_of es else items_of es) ≡ []
+    by : (b : Bool) → busy (items_of_entries es) ≡ [] → busy (if b then SenderItem.Waits p ∷ items_of_entries es else items_of_entries es) ≡ []
     by true ih = ih
     by false ih = ih
 waiting_free (Entry.Started made p id start ∷ es) w = elim w.0 [ ]
@@ -74,7 +74,7 @@ rows_started w ids (Entry.Finished made p id start release finish ∷ es) = rows
 rows_started w ids [] = []
 
 abbrev pub sending_all : List (ℕ × Publication) → Transit Publication → Transit Publication
-sending_all (row ∷ rows) l = sending_all rows (sending (Forward.Publish row.0 row.1) l)
+sending_all (row ∷ rows) l = sending_all rows (sender_sends (Forward.Publish row.0 row.1) l)
 sending_all [] l = l
 
 -- what is in front uses no other identifiers than these
@@ -109,14 +109,14 @@ in_front h pre items item rows s =
 
 -- the start of one that waits
 starts_one : (h : Handshake Publication) (pre : List (SenderItem Publication)) (id : ℕ) (p : Publication) (es : List Entry) (ids : List ℕ)
-    → h.items ≡ pre ++ SenderItem.Waits p ∷ items_of es → NoneWaits pre → Covers ids pre → has_id id ids ≡ false → AllByRecursion IsWaiting es
-    → HandshakeRun h (with_items (start_first id h.items) (sending (Forward.Publish id p) h.transit) h) × (start_first id h.items ≡ (pre ++ SenderItem.Sent p id ∷ []) ++ items_of es)
+    → h.items ≡ pre ++ SenderItem.Waits p ∷ items_of_entries es → NoneWaits pre → Covers ids pre → has_id id ids ≡ false → AllByRecursion IsWaiting es
+    → HandshakeRun h (with_items (start_first id h.items) (sender_sends (Forward.Publish id p) h.transit) h) × (start_first id h.items ≡ (pre ++ SenderItem.Sent p id ∷ []) ++ items_of_entries es)
 starts_one h pre id p es ids e n c free w =
     let fresh : has_id id (busy h.items) ≡ false =
-    ap (λ l. has_id id (busy l)) e ∙ ap (has_id id) (busy_append pre (SenderItem.Waits p ∷ items_of es) ∙ ap (λ l. busy pre ++ l) (waiting_free es w) ∙ append-nil (busy pre)) ∙ c id free in
-    let first : first_waiting h.items ≡ Some p = ap first_waiting e ∙ first_after pre (SenderItem.Waits p ∷ items_of es) n in (
+    ap (λ l. has_id id (busy l)) e ∙ ap (has_id id) (busy_append pre (SenderItem.Waits p ∷ items_of_entries es) ∙ ap (λ l. busy pre ++ l) (waiting_free es w) ∙ append-nil (busy pre)) ∙ c id free in
+    let first : first_waiting h.items ≡ Some p = ap first_waiting e ∙ first_after pre (SenderItem.Waits p ∷ items_of_entries es) n in (
       goes_on stays (starts id p fresh first),
-      ap (start_first id) e ∙ start_after id pre (SenderItem.Waits p ∷ items_of es) n ∙ sym (append_assoc pre (SenderItem.Sent p id ∷ []) (items_of es)),
+      ap (start_first id) e ∙ start_after id pre (SenderItem.Waits p ∷ items_of_entries es) n ∙ sym (append_assoc pre (SenderItem.Sent p id ∷ []) (items_of_entries es)),
     )
 
 waits_after : (es : List Entry) → AllByRecursion IsWaiting es → WaitsLast es
@@ -128,38 +128,38 @@ waits_after (Entry.Finished made p id start release finish ∷ es) w = elim w.0 
 
 -- all starts of a place
 pub all_starts : (w n : ℕ) (ids : List ℕ) (pre : List (SenderItem Publication)) (es : List Entry) (h : Handshake Publication)
-    → h.items ≡ pre ++ items_of es → NoneWaits pre → Covers ids pre → WaitsLast es
-    → Starts h (pre ++ items_of (start_all w n ids es)) (rows_started w ids es)
+    → h.items ≡ pre ++ items_of_entries es → NoneWaits pre → Covers ids pre → WaitsLast es
+    → Starts h (pre ++ items_of_entries (start_all w n ids es)) (rows_started w ids es)
 all_starts w n ids pre [] h e nw c l = record { after = h; run = stays; items_are = e; accepted = refl; received = refl; transit = refl }
 all_starts w n ids pre (Entry.Started made p id start ∷ es) h e nw c l =
     by (is_two p.qos) e (λ e'. all_starts w n (id ∷ ids) pre es h e' nw (covers_more ids pre id c) l)
     (λ e'. all_starts w n (id ∷ ids) (pre ++ SenderItem.Sent p id ∷ []) es h e' (none_more pre (SenderItem.Sent p id ∷ []) nw tt) (covers_one ids pre (SenderItem.Sent p id) id refl c) l)
   where
-    by : (b : Bool) → h.items ≡ pre ++ (if b then SenderItem.Sent p id ∷ items_of es else items_of es)
-        → (h.items ≡ pre ++ items_of es → Starts h (pre ++ items_of (start_all w n (id ∷ ids) es)) (rows_started w (id ∷ ids) es))
-        → (h.items ≡ (pre ++ SenderItem.Sent p id ∷ []) ++ items_of es → Starts h ((pre ++ SenderItem.Sent p id ∷ []) ++ items_of (start_all w n (id ∷ ids) es)) (rows_started w (id ∷ ids) es))
-        → Starts h (pre ++ (if b then SenderItem.Sent p id ∷ items_of (start_all w n (id ∷ ids) es) else items_of (start_all w n (id ∷ ids) es))) (rows_started w (id ∷ ids) es)
-    by true e f g = in_front h pre (items_of (start_all w n (id ∷ ids) es)) (SenderItem.Sent p id) (rows_started w (id ∷ ids) es) (g (e ∙ sym (append_assoc pre (SenderItem.Sent p id ∷ []) (items_of es))))
+    by : (b : Bool) → h.items ≡ pre ++ (if b then SenderItem.Sent p id ∷ items_of_entries es else items_of_entries es)
+        → (h.items ≡ pre ++ items_of_entries es → Starts h (pre ++ items_of_entries (start_all w n (id ∷ ids) es)) (rows_started w (id ∷ ids) es))
+        → (h.items ≡ (pre ++ SenderItem.Sent p id ∷ []) ++ items_of_entries es → Starts h ((pre ++ SenderItem.Sent p id ∷ []) ++ items_of_entries (start_all w n (id ∷ ids) es)) (rows_started w (id ∷ ids) es))
+        → Starts h (pre ++ (if b then SenderItem.Sent p id ∷ items_of_entries (start_all w n (id ∷ ids) es) else items_of_entries (start_all w n (id ∷ ids) es))) (rows_started w (id ∷ ids) es)
+    by true e f g = in_front h pre (items_of_entries (start_all w n (id ∷ ids) es)) (SenderItem.Sent p id) (rows_started w (id ∷ ids) es) (g (e ∙ sym (append_assoc pre (SenderItem.Sent p id ∷ []) (items_of_entries es))))
     by false e f g = f e
 all_starts w n ids pre (Entry.Released made p id start release ∷ es) h e nw c l =
     by (is_two p.qos) e (λ e'. all_starts w n (id ∷ ids) pre es h e' nw (covers_more ids pre id c) l)
     (λ e'. all_starts w n (id ∷ ids) (pre ++ SenderItem.Released p id ∷ []) es h e' (none_more pre (SenderItem.Released p id ∷ []) nw tt) (covers_one ids pre (SenderItem.Released p id) id refl c) l)
   where
-    by : (b : Bool) → h.items ≡ pre ++ (if b then SenderItem.Released p id ∷ items_of es else items_of es)
-        → (h.items ≡ pre ++ items_of es → Starts h (pre ++ items_of (start_all w n (id ∷ ids) es)) (rows_started w (id ∷ ids) es))
-        → (h.items ≡ (pre ++ SenderItem.Released p id ∷ []) ++ items_of es → Starts h ((pre ++ SenderItem.Released p id ∷ []) ++ items_of (start_all w n (id ∷ ids) es)) (rows_started w (id ∷ ids) es))
-        → Starts h (pre ++ (if b then SenderItem.Released p id ∷ items_of (start_all w n (id ∷ ids) es) else items_of (start_all w n (id ∷ ids) es))) (rows_started w (id ∷ ids) es)
-    by true e f g = in_front h pre (items_of (start_all w n (id ∷ ids) es)) (SenderItem.Released p id) (rows_started w (id ∷ ids) es) (g (e ∙ sym (append_assoc pre (SenderItem.Released p id ∷ []) (items_of es))))
+    by : (b : Bool) → h.items ≡ pre ++ (if b then SenderItem.Released p id ∷ items_of_entries es else items_of_entries es)
+        → (h.items ≡ pre ++ items_of_entries es → Starts h (pre ++ items_of_entries (start_all w n (id ∷ ids) es)) (rows_started w (id ∷ ids) es))
+        → (h.items ≡ (pre ++ SenderItem.Released p id ∷ []) ++ items_of_entries es → Starts h ((pre ++ SenderItem.Released p id ∷ []) ++ items_of_entries (start_all w n (id ∷ ids) es)) (rows_started w (id ∷ ids) es))
+        → Starts h (pre ++ (if b then SenderItem.Released p id ∷ items_of_entries (start_all w n (id ∷ ids) es) else items_of_entries (start_all w n (id ∷ ids) es))) (rows_started w (id ∷ ids) es)
+    by true e f g = in_front h pre (items_of_entries (start_all w n (id ∷ ids) es)) (SenderItem.Released p id) (rows_started w (id ∷ ids) es) (g (e ∙ sym (append_assoc pre (SenderItem.Released p id ∷ []) (items_of_entries es))))
     by false e f g = f e
 all_starts w n ids pre (Entry.Finished made p id start release finish ∷ es) h e nw c l =
     by (is_two p.qos) e (λ e'. all_starts w n ids pre es h e' nw c l)
     (λ e'. all_starts w n ids (pre ++ SenderItem.Finished p ∷ []) es h e' (none_more pre (SenderItem.Finished p ∷ []) nw tt) (covers_free ids pre (SenderItem.Finished p) refl c) l)
   where
-    by : (b : Bool) → h.items ≡ pre ++ (if b then SenderItem.Finished p ∷ items_of es else items_of es)
-        → (h.items ≡ pre ++ items_of es → Starts h (pre ++ items_of (start_all w n ids es)) (rows_started w ids es))
-        → (h.items ≡ (pre ++ SenderItem.Finished p ∷ []) ++ items_of es → Starts h ((pre ++ SenderItem.Finished p ∷ []) ++ items_of (start_all w n ids es)) (rows_started w ids es))
-        → Starts h (pre ++ (if b then SenderItem.Finished p ∷ items_of (start_all w n ids es) else items_of (start_all w n ids es))) (rows_started w ids es)
-    by true e f g = in_front h pre (items_of (start_all w n ids es)) (SenderItem.Finished p) (rows_started w ids es) (g (e ∙ sym (append_assoc pre (SenderItem.Finished p ∷ []) (items_of es))))
+    by : (b : Bool) → h.items ≡ pre ++ (if b then SenderItem.Finished p ∷ items_of_entries es else items_of_entries es)
+        → (h.items ≡ pre ++ items_of_entries es → Starts h (pre ++ items_of_entries (start_all w n ids es)) (rows_started w ids es))
+        → (h.items ≡ (pre ++ SenderItem.Finished p ∷ []) ++ items_of_entries es → Starts h ((pre ++ SenderItem.Finished p ∷ []) ++ items_of_entries (start_all w n ids es)) (rows_started w ids es))
+        → Starts h (pre ++ (if b then SenderItem.Finished p ∷ items_of_entries (start_all w n ids es) else items_of_entries (start_all w n ids es))) (rows_started w ids es)
+    by true e f g = in_front h pre (items_of_entries (start_all w n ids es)) (SenderItem.Finished p) (rows_started w ids es) (g (e ∙ sym (append_assoc pre (SenderItem.Finished p ∷ []) (items_of_entries es))))
     by false e f g = f e
 all_starts w n ids pre (Entry.Waits made p ∷ es) h e nw c l =
     by (nat_lt (length ids) w)
@@ -168,30 +168,30 @@ all_starts w n ids pre (Entry.Waits made p ∷ es) h e nw c l =
     (λ k e'. all_starts w n (least_free ids ∷ ids) (pre ++ SenderItem.Sent p (least_free ids) ∷ []) es k e' (none_more pre (SenderItem.Sent p (least_free ids) ∷ []) nw tt)
     (covers_one ids pre (SenderItem.Sent p (least_free ids)) (least_free ids) refl c) (waits_after es l)))
   where
-    two : (b : Bool) → h.items ≡ pre ++ (if b then SenderItem.Waits p ∷ items_of es else items_of es)
-        → (h.items ≡ pre ++ items_of es → Starts h (pre ++ items_of (start_all w n (least_free ids ∷ ids) es)) (rows_started w (least_free ids ∷ ids) es))
-        → ((k : Handshake Publication) → k.items ≡ (pre ++ SenderItem.Sent p (least_free ids) ∷ []) ++ items_of es
-        → Starts k ((pre ++ SenderItem.Sent p (least_free ids) ∷ []) ++ items_of (start_all w n (least_free ids ∷ ids) es)) (rows_started w (least_free ids ∷ ids) es))
-        → Starts h (pre ++ (if b then SenderItem.Sent p (least_free ids) ∷ items_of (start_all w n (least_free ids ∷ ids) es) else items_of (start_all w n (least_free ids ∷ ids) es)))
+    two : (b : Bool) → h.items ≡ pre ++ (if b then SenderItem.Waits p ∷ items_of_entries es else items_of_entries es)
+        → (h.items ≡ pre ++ items_of_entries es → Starts h (pre ++ items_of_entries (start_all w n (least_free ids ∷ ids) es)) (rows_started w (least_free ids ∷ ids) es))
+        → ((k : Handshake Publication) → k.items ≡ (pre ++ SenderItem.Sent p (least_free ids) ∷ []) ++ items_of_entries es
+        → Starts k ((pre ++ SenderItem.Sent p (least_free ids) ∷ []) ++ items_of_entries (start_all w n (least_free ids ∷ ids) es)) (rows_started w (least_free ids ∷ ids) es))
+        → Starts h (pre ++ (if b then SenderItem.Sent p (least_free ids) ∷ items_of_entries (start_all w n (least_free ids ∷ ids) es) else items_of_entries (start_all w n (least_free ids ∷ ids) es)))
         (if b then (least_free ids, p) ∷ rows_started w (least_free ids ∷ ids) es else rows_started w (least_free ids ∷ ids) es)
     two false a f g = f a
     two true a f g =
         let s = starts_one h pre (least_free ids) p es ids a nw c (least-is-free ids) l in
-        let k = with_items (start_first (least_free ids) h.items) (sending (Forward.Publish (least_free ids) p) h.transit) h in
+        let k = with_items (start_first (least_free ids) h.items) (sender_sends (Forward.Publish (least_free ids) p) h.transit) h in
         let r = g k s.1 in
         record {
           after = r.after;
           run = run_then s.0 r.run;
-          items_are = r.items_are ∙ append_assoc pre (SenderItem.Sent p (least_free ids) ∷ []) (items_of (start_all w n (least_free ids ∷ ids) es));
+          items_are = r.items_are ∙ append_assoc pre (SenderItem.Sent p (least_free ids) ∷ []) (items_of_entries (start_all w n (least_free ids ∷ ids) es));
           accepted = r.accepted;
           received = r.received;
           transit = r.transit;
         }
 
     by : (room : Bool)
-        → Starts h (pre ++ items_of (Entry.Started made p (least_free ids) n ∷ start_all w n (least_free ids ∷ ids) es))
+        → Starts h (pre ++ items_of_entries (Entry.Started made p (least_free ids) n ∷ start_all w n (least_free ids ∷ ids) es))
         (if is_two p.qos then (least_free ids, p) ∷ rows_started w (least_free ids ∷ ids) es else rows_started w (least_free ids ∷ ids) es)
-        → Starts h (pre ++ items_of (if room then Entry.Started made p (least_free ids) n ∷ start_all w n (least_free ids ∷ ids) es else Entry.Waits made p ∷ es))
+        → Starts h (pre ++ items_of_entries (if room then Entry.Started made p (least_free ids) n ∷ start_all w n (least_free ids ∷ ids) es else Entry.Waits made p ∷ es))
         (if room then (if is_two p.qos then (least_free ids, p) ∷ rows_started w (least_free ids ∷ ids) es else rows_started w (least_free ids ∷ ids) es) else [])
     by true r = r
     by false r = record { after = h; run = stays; items_are = e; accepted = refl; received = refl; transit = refl }

@@ -3,8 +3,8 @@ use Rattle.std.proofs.Common.{◌≡◌, ℕ, Bool, true, false, not, ◌&&◌, 
 use Rattle.std.proofs.lemmas.Bool.{both_ways}
 use Rattle.client_base.specs.lists.Lists.{Each}
 use Rattle.exactly_once.specs.Items.{SenderItem, sent, has_sent, has_released}
-use Rattle.exactly_once.specs.Handshake.{Forward, Backward, Transit, Handshake, answer, accepting, taking}
-use Rattle.exactly_once.specs.HandshakeInvariant.{AreSides, publishes, forward_id, backward_id, IsMeant, IsDue, IsSent, ComesToReceiver}
+use Rattle.exactly_once.specs.Handshake.{Forward, Backward, Transit, Handshake, answer, receiver_accepts, receiver_takes}
+use Rattle.exactly_once.specs.HandshakeInvariant.{AreSides, publishes_in_transit, forward_id, backward_id, IsMeant, IsDue, IsSent, ComesToReceiver}
 use Rattle.client_base.proofs.of_lists.Tests.{none_or, eq_same, eq_turn, or_left, or_right, or_then}
 use Rattle.client_base.proofs.of_lists.OfEach.{each_then}
 use Rattle.exactly_once.proofs.ItemsKnown.{cons_is, pair_is, olds_sent, first_sent, with, without}
@@ -70,8 +70,8 @@ now_less received id = ap (λ b. not b && received id) (eq_same id)
 
 -- one that the receiver knows: only answered
 took_again : {V : Type 0} (h : Handshake V) (id : ℕ) (v : V) (f : List (Forward V)) (l : Transit V) (old new : List (SenderItem V)) (next more again : List (ℕ × V))
-    → AreSides h.items h.accepted h.received old new → (b : Bool) → b ≡ true → publishes f ≡ again ++ next → Each (IsSent old) again
-    → Each (IsMeant old) f → has_sent id old ≡ true → sent new ≡ next ++ more → Took (Forward.Publish id v) h.received old f more (accepting id v b h l)
+    → AreSides h.items h.accepted h.received old new → (b : Bool) → b ≡ true → publishes_in_transit f ≡ again ++ next → Each (IsSent old) again
+    → Each (IsMeant old) f → has_sent id old ≡ true → sent new ≡ next ++ more → Took (Forward.Publish id v) h.received old f more (receiver_accepts id v b h l)
 took_again h id v f l old new next more again s false e is known meant here front = absurd (both_ways false refl e)
 took_again h id v f l old new next more again s true e is known meant here front =
     record {
@@ -88,13 +88,13 @@ took_again h id v f l old new next more again s true e is known meant here front
 -- the next one: accepted
 took_next : {V : Type 0} (h : Handshake V) (id : ℕ) (v : V) (f : List (Forward V)) (l : Transit V) (old later : List (SenderItem V)) (more : List (ℕ × V))
     → AreSides h.items h.accepted h.received old (SenderItem.Sent v id ∷ later) → (b : Bool) → b ≡ false
-    → Each (IsMeant old) f → sent later ≡ publishes f ++ more → Took (Forward.Publish id v) h.received old f more (accepting id v b h l)
+    → Each (IsMeant old) f → sent later ≡ publishes_in_transit f ++ more → Took (Forward.Publish id v) h.received old f more (receiver_accepts id v b h l)
 took_next h id v f l old later more s true e meant front = absurd (both_ways true e refl)
 took_next h id v f l old later more s false e meant front =
     record {
       old' = old ++ SenderItem.Sent v id ∷ [];
       new' = later;
-      next' = publishes f;
+      next' = publishes_in_transit f;
       sides = sides_accept h.items h.accepted h.received old later id v s;
       comes = record { again = []; is = refl; known = tt; meant = each_then (IsMeant old) (IsMeant (old ++ SenderItem.Sent v id ∷ [])) f (meant_more old (SenderItem.Sent v id ∷ [])) meant };
       front = front;
@@ -103,20 +103,20 @@ took_next h id v f l old later more s false e meant front =
     }
 
 took_publish : {V : Type 0} (h : Handshake V) (id : ℕ) (v : V) (f : List (Forward V)) (l : Transit V) (old new : List (SenderItem V)) (next more again : List (ℕ × V))
-    → AreSides h.items h.accepted h.received old new → (id, v) ∷ publishes f ≡ again ++ next → Each (IsSent old) again
-    → Each (IsMeant old) f → sent new ≡ next ++ more → Took (Forward.Publish id v) h.received old f more (accepting id v (h.received id) h l)
+    → AreSides h.items h.accepted h.received old new → (id, v) ∷ publishes_in_transit f ≡ again ++ next → Each (IsSent old) again
+    → Each (IsMeant old) f → sent new ≡ next ++ more → Took (Forward.Publish id v) h.received old f more (receiver_accepts id v (h.received id) h l)
 took_publish h id v f l old new next more (row ∷ again) s is known meant front =
-    let e = cons_is (id, v) row (publishes f) (again ++ next) is in
+    let e = cons_is (id, v) row (publishes_in_transit f) (again ++ next) is in
     let here : has_sent id old ≡ true = subst (λ (i : ℕ). has_sent i old ≡ true) (sym (pair_is (id, v) row e.0).0) (row_sent row old known.0) in
     took_again h id v f l old new next more again s (h.received id) (olds_sent h.received id old s.olds here) e.1 known.1 meant here front
 took_publish {V = X} h id v f l old new next more [] s is known meant front =
-    let front' : sent new ≡ (id, v) ∷ (publishes f ++ more) = front ∙ ap (λ z. z ++ more) (sym is) in
-    let first = first_sent h.received id v (publishes f ++ more) new s.news s.waits_last front' in
+    let front' : sent new ≡ (id, v) ∷ (publishes_in_transit f ++ more) = front ∙ ap (λ z. z ++ more) (sym is) in
+    let first = first_sent h.received id v (publishes_in_transit f ++ more) new s.news s.waits_last front' in
     let s' : AreSides h.items h.accepted h.received old (SenderItem.Sent v id ∷ first.later) = subst (λ (z : List (SenderItem X)). AreSides h.items h.accepted h.received old z) first.is s in
     took_next h id v f l old first.later more s' (h.received id) s'.news.0 meant first.sent_is
 
 pub took : {V : Type 0} (h : Handshake V) (m : Forward V) (f : List (Forward V)) (l : Transit V) (old new : List (SenderItem V)) (next more : List (ℕ × V))
-    → AreSides h.items h.accepted h.received old new → ComesToReceiver old (m ∷ f) next → sent new ≡ next ++ more → Took m h.received old f more (taking m h l)
+    → AreSides h.items h.accepted h.received old new → ComesToReceiver old (m ∷ f) next → sent new ≡ next ++ more → Took m h.received old f more (receiver_takes m h l)
 took h (Forward.Publish id v) f l old new next more s c front = took_publish h id v f l old new next more c.again s c.is c.known c.meant.1 front
 took h (Forward.Pubrel id) f l old new next more s c front =
     record {

@@ -18,15 +18,15 @@ use Rattle.broker_base.specs.broker_spec.Sends.{deliveries_to}
 use Rattle.broker_base.specs.broker_spec.Answers.{acknowledged}
 use Rattle.broker_base.specs.broker_spec.AnswersInOrder.{answers_at}
 use Rattle.broker_base.proofs.of_broker_spec.ClientsInOrder.{same_self}
-use Rattle.exactly_once.specs.Handshake.{Forward, Backward, Transit, Handshake, answer, taking, accepting}
+use Rattle.exactly_once.specs.Handshake.{Forward, Backward, Transit, Handshake, answer, receiver_takes, receiver_accepts}
 use Rattle.exactly_once.specs.HandshakeSteps.Advances.{takes}
 use Rattle.exactly_once.specs.HandshakeSteps.HandshakeRun.{stays, goes_on}
 use Rattle.exactly_once.specs.Sends.{sends_to, put_to}
 use Rattle.exactly_once.specs.Sides.{ClientConnection}
 use Rattle.client_base.specs.Keeper.{Keeper}
 use Rattle.exactly_once.specs.Story.{Story}
-use Rattle.exactly_once.specs.StoryCommands.{count_of}
-use Rattle.exactly_once.specs.Carried.{connection_named, number_at, number_of, more_by}
+use Rattle.exactly_once.specs.StoryCommands.{packet_count}
+use Rattle.exactly_once.specs.Carried.{connection_named, number_at, written_number, more_by}
 use Rattle.exactly_once.specs.Inside.Projections.{forward_of_own, carried_by, backward_of_own, to_come, is_current, as_publisher, GoesTo, IsLike}
 use Rattle.exactly_once.proofs.Hears.{joined_link, numbers_more}
 use Rattle.exactly_once.proofs.Packets.{at_packet, current_packet, received_packet, copies_none}
@@ -89,14 +89,14 @@ taken_once κ = record κ { taken = suc κ.taken }
 
 -- the handshake after an acceptance
 accepting_like : (id k : ℕ) (b : Bool) (h : Handshake ℕ) (l : Transit ℕ) (t : Handshake ℕ) → b ≡ false → h.items ≡ t.items → h.accepted ++ k ∷ [] ≡ t.accepted
-    → ((j : ℕ) → ((j == id) || h.received j) ≡ t.received j) → l ≡ t.transit → IsLike (accepting id k b h l) t
+    → ((j : ℕ) → ((j == id) || h.received j) ≡ t.received j) → l ≡ t.transit → IsLike (receiver_accepts id k b h l) t
 accepting_like id k true h l t n i a r e = absurd (both_ways true n refl)
 accepting_like id k false h l t n i a r e = record { items = i; accepted = a; received = r; transit = e }
 
 pub takes_new : (limits : Limits) (past : Past) (keeper : Keeper) (κ : ClientConnection) (others : List ClientConnection) (p : Publish) (k : ℕ) (dup : Bool) (id : ℕ) (clean : Bool)
     → keeper.is_online ≡ true → κ.confirmed ≡ true → is_current (current_connection past keeper.client) κ.name ≡ true
     → slice_get κ.written κ.taken ≡ Some (record { packet = packets.Publish p; number = Some k }) → p.delivery ≡ deliveries.ExactlyOnce dup id
-    → count_of κ.name past ≡ κ.taken → κ.taken ≤ length κ.written → κ.handled ≤ length (put_to limits past κ.name)
+    → packet_count κ.name past ≡ κ.taken → κ.taken ≤ length κ.written → κ.handled ≤ length (put_to limits past κ.name)
     → session_of past keeper.client ≡ Some clean → has_id id (received_of past keeper.client) ≡ false
     → GoesTo (as_publisher limits (record { past = past; connections = κ ∷ others; keeper = keeper }))
     (as_publisher limits (record { past = taken_place κ.name p keeper.client ∷ past; connections = taken_once κ ∷ others; keeper = keeper }))
@@ -124,8 +124,8 @@ takes_new limits past keeper κ others p k dup id clean on conf current next two
     sym (joined_link limits (place ∷ past) (current_connection (place ∷ past) c) keeper.is_online (taken_once κ) others on conf current'
     ∙ ap (λ z. Transit.Joined f z) come) in
     let named : connection_named κ.name (taken_once κ ∷ others) ≡ Some (taken_once κ) = ap (λ b. if b then Some (taken_once κ) else connection_named κ.name others) (same_name_self κ.name) in
-    let carried : number_at (count_of κ.name past) (connection_named κ.name (taken_once κ ∷ others)) ≡ Some k =
-    ap₂ (λ (n : ℕ) (o : Option ClientConnection). number_at n o) counted named ∙ ap number_of next in
+    let carried : number_at (packet_count κ.name past) (connection_named κ.name (taken_once κ ∷ others)) ≡ Some k =
+    ap₂ (λ (n : ℕ) (o : Option ClientConnection). number_at n o) counted named ∙ ap written_number next in
     let accepted : h.accepted ++ k ∷ [] ≡ (as_publisher limits t).accepted =
     sym (ap₂ (λ xs n. xs ++ more_by (is_exactly_once p.delivery) n)
     (numbers_more past κ (taken_once κ) others [] refl (sym (append-nil κ.written)) (subst (λ n. n ≤ length κ.written) (sym counted) within)) carried
@@ -134,7 +134,7 @@ takes_new limits past keeper κ others p k dup id clean on conf current next two
     received_packet past c κ.name (packets.Publish p) (Mark.Taken c) clean refl session
     ∙ ap (λ z. if z then receives p.delivery (received_of past c) else received_of past c) (same_self c) in
     record {
-      between = taking m h (Transit.Joined f (b ++ answer m ∷ []));
+      between = receiver_takes m h (Transit.Joined f (b ++ answer m ∷ []));
       run = goes_on stays (takes m f b transit);
       like = accepting_like id k (h.received id) h (Transit.Joined f (b ++ Backward.Pubrec id ∷ [])) (as_publisher limits t) new refl accepted
           (λ j. sym (ap (has_id j) received ∙ ap (λ (d : Delivery). has_id j (receives d (received_of past c))) two ∙ has_with j id (received_of past c))) transit';

@@ -24,8 +24,8 @@ accepted_on (κ ∷ connections) = accepted_on connections ++ κ.accepted
 accepted_on [] = []
 
 -- whether a PUBREC of the client has released an entry (MQTT 4.3.3)
-abbrev pub is_released : Entry → Bool
-is_released entry = is_there (release_place entry)
+abbrev pub is_entry_released : Entry → Bool
+is_entry_released entry = is_there (release_place entry)
   where
     is_there : Option ℕ → Bool
     is_there (Some n) = true
@@ -38,4 +38,4 @@ pub record AcceptedInOrder (limits : Limits) (s : Story) : Type 0 where
   pub others : List Entry
   pub is : two_entries (entries_of limits s.past s.keeper.client) ≡ prefix ++ others
   pub accepted : accepted_on s.connections ≡ map publication_in prefix
-  pub rest : Each (λ entry. is_released entry ≡ false) others
+  pub rest : Each (λ entry. is_entry_released entry ≡ false) others

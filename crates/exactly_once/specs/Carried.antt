@@ -12,7 +12,7 @@ use Rattle.broker_base.specs.broker_spec.declared.command.Command.TheVariants as
 use Rattle.client_base.specs.session_base.declared.publication.Publication.{Publication}
 use Rattle.client_base.specs.Keeper.{Own, Written, number_in}
 use Rattle.exactly_once.specs.Sides.{ClientConnection}
-use Rattle.exactly_once.specs.StoryCommands.{count_of}
+use Rattle.exactly_once.specs.StoryCommands.{packet_count}
 
 -- the client's connection of this name, if it has one
 abbrev pub connection_named : ConnectionName → List ClientConnection → Option ClientConnection
@@ -26,19 +26,19 @@ is_this k (Some j) = j == k
 is_this k None = false
 
 -- the number of the publication in a written packet, if it is one
-abbrev pub number_of : Option Written → Option ℕ
-number_of (Some w) = w.number
-number_of None = None
+abbrev pub written_number : Option Written → Option ℕ
+written_number (Some w) = w.number
+written_number None = None
 
 -- the number of the j-th packet that was written on a connection
 abbrev pub number_at : ℕ → Option ClientConnection → Option ℕ
-number_at j (Some κ) = number_of (slice_get κ.written j)
+number_at j (Some κ) = written_number (slice_get κ.written j)
 number_at j None = None
 
 -- the publication, if the command is a PUBLISH that the client wrote on one of its connections
 abbrev pub carries : List ClientConnection → Command → Past → Option ℕ
 carries connections (commands.Packet x (packets.Publish p)) past =
-    number_at (count_of x past) (connection_named x connections)
+    number_at (packet_count x past) (connection_named x connections)
 carries connections _ past = None
 
 -- the number, if the publication is new at its place
@@ -60,18 +60,19 @@ is_two qualities.AtLeastOnce = false
 is_two qualities.ExactlyOnce = true
 
 -- the publication itself
-abbrev pub publication_in : Own → Publication
-publication_in (Own.Unsent k p id) = p
-publication_in (Own.Sent k p id) = p
-publication_in (Own.Released k p id) = p
-publication_in (Own.Done k p) = p
+abbrev pub own_publication : Own → Publication
+own_publication (Own.Unsent k p id) = p
+own_publication (Own.Sent k p id) = p
+own_publication (Own.Released k p id) = p
+own_publication (Own.Done k p) = p
 
 -- all that it published, in the order of its calls: that of number k is at k
-abbrev pub publications_of : List Own → List Publication
-publications_of = map publication_in
+abbrev pub own_publications : List Own → List Publication
+own_publications = map own_publication
 
 -- the numbers of its QoS 2 publications, in the order of its calls
-abbrev pub published : List Own → List ℕ
-published (o ∷ own) =
-    if is_two (publication_in o).qos then number_in o ∷ published own else published own
-published [] = []
+abbrev pub own_qos2_numbers : List Own → List ℕ
+own_qos2_numbers (o ∷ own) =
+    if is_two (own_publication o).qos then number_in o ∷ own_qos2_numbers own
+    else own_qos2_numbers own
+own_qos2_numbers [] = []

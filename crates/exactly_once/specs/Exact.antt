@@ -3,15 +3,15 @@ use Rattle.std.specs.Prelude.{◌≡◌, ℕ, Bool, true, false, List, ◌∷◌
 use Rattle.client_base.specs.lists.Lists.{In, Each}
 use Rattle.exactly_once.specs.Items.{SenderItem, value_of}
 use Rattle.exactly_once.specs.Handshake.{Forward, Transit, Handshake}
-use Rattle.exactly_once.specs.HandshakeSteps.{HandshakeRun, opening}
+use Rattle.exactly_once.specs.HandshakeSteps.{HandshakeRun, opening_handshake}
 
 -- ---- what holds after every run
 
 -- whether the receiver's PUBREC for an item has come to the sender
-abbrev pub is_over : {V : Type 0} → SenderItem V → Bool
-is_over (SenderItem.Released v id) = true
-is_over (SenderItem.Finished v) = true
-is_over _ = false
+abbrev pub is_pubrec_received : {V : Type 0} → SenderItem V → Bool
+is_pubrec_received (SenderItem.Released v id) = true
+is_pubrec_received (SenderItem.Finished v) = true
+is_pubrec_received _ = false
 
 -- What is accepted is a prefix of the items, in order, and each that is released is among them.
 pub record IsExact {V : Type 0} (h : Handshake V) : Type 0 where
@@ -19,11 +19,11 @@ pub record IsExact {V : Type 0} (h : Handshake V) : Type 0 where
   pub others : List (SenderItem V)
   pub is : h.items ≡ prefix ++ others
   pub accepted : h.accepted ≡ map value_of prefix
-  pub rest : Each (λ item. is_over item ≡ false) others
+  pub rest : Each (λ item. is_pubrec_received item ≡ false) others
 
 -- each run from the opening leads to an exact handshake
 abbrev pub RunsAreExact : Type 0 → Type 0
-RunsAreExact V = (h : Handshake V) → HandshakeRun (opening V) h → IsExact h
+RunsAreExact V = (h : Handshake V) → HandshakeRun (opening_handshake V) h → IsExact h
 
 -- what comes next to the receiver
 abbrev pub next_of : {V : Type 0} → Transit V → Option (Forward V)
@@ -35,6 +35,6 @@ next_of _ = None
 -- one
 abbrev pub RepeatsWereAccepted : Type 0 → Type 0
 RepeatsWereAccepted V =
-    (h : Handshake V) → HandshakeRun (opening V) h → (id : ℕ) (v : V) →
+    (h : Handshake V) → HandshakeRun (opening_handshake V) h → (id : ℕ) (v : V) →
     next_of h.transit ≡ Some (Forward.Publish id v) →
     h.received id ≡ true → In v h.accepted

@@ -1,6 +1,6 @@
 -- The handshake of QoS 2 between two sides, over connections that come and go (MQTT 4.3.3, 4.4).
 use Rattle.std.specs.Prelude.{ℕ, Bool, true, false, not, ◌&&◌, ◌||◌, ◌==◌, List, [], ◌∷◌, ◌++◌, map}
-use Rattle.exactly_once.specs.Items.{SenderItem, sent, releasing, finishing}
+use Rattle.exactly_once.specs.Items.{SenderItem, sent, item_released, finishing}
 
 -- a packet from the sender to the receiver
 pub data Forward (V : Type 0) : Type 0 where
@@ -36,10 +36,10 @@ reply (Backward.Pubrec id) = Forward.Pubrel id ∷ []
 reply (Backward.Pubcomp id) = []
 
 -- the receiver accepts
-abbrev pub accepting : {V : Type 0} → ℕ → V → Bool → Handshake V → Transit V → Handshake V
-accepting id v true h l =
+abbrev pub receiver_accepts : {V : Type 0} → ℕ → V → Bool → Handshake V → Transit V → Handshake V
+receiver_accepts id v true h l =
     record { items = h.items; accepted = h.accepted; received = h.received; transit = l }
-accepting id v false h l =
+receiver_accepts id v false h l =
     record {
       items = h.items;
       accepted = h.accepted ++ v ∷ [];
@@ -48,9 +48,9 @@ accepting id v false h l =
     }
 
 -- the receiver takes a packet: it accepts a PUBLISH, or forgets a PUBREL's identifier
-abbrev pub taking : {V : Type 0} → Forward V → Handshake V → Transit V → Handshake V
-taking (Forward.Publish id v) h l = accepting id v (h.received id) h l
-taking (Forward.Pubrel id) h l =
+abbrev pub receiver_takes : {V : Type 0} → Forward V → Handshake V → Transit V → Handshake V
+receiver_takes (Forward.Publish id v) h l = receiver_accepts id v (h.received id) h l
+receiver_takes (Forward.Pubrel id) h l =
     record {
       items = h.items;
       accepted = h.accepted;
@@ -59,9 +59,9 @@ taking (Forward.Pubrel id) h l =
     }
 
 -- the sender receives an answer
-abbrev pub heard : {V : Type 0} → Backward → List (SenderItem V) → List (SenderItem V)
-heard (Backward.Pubrec id) items = map (releasing id) items
-heard (Backward.Pubcomp id) items = map (finishing id) items
+abbrev pub sender_hears : {V : Type 0} → Backward → List (SenderItem V) → List (SenderItem V)
+sender_hears (Backward.Pubrec id) items = map (item_released id) items
+sender_hears (Backward.Pubcomp id) items = map (finishing id) items
 
 -- a handshake with these items and this connection in place of its own
 abbrev pub with_items : {V : Type 0} → List (SenderItem V) → Transit V → Handshake V → Handshake V
@@ -69,15 +69,16 @@ with_items items l h =
     record { items = items; accepted = h.accepted; received = h.received; transit = l }
 
 -- what the sender sends on its connection, if the receiver may still take it
-abbrev pub sending : {V : Type 0} → Forward V → Transit V → Transit V
-sending m (Transit.Joined f b) = Transit.Joined (f ++ m ∷ []) b
-sending m (Transit.Behind b) = Transit.Behind b
-sending m (Transit.Ahead f) = Transit.Ahead f
+abbrev pub sender_sends : {V : Type 0} → Forward V → Transit V → Transit V
+sender_sends m (Transit.Joined f b) = Transit.Joined (f ++ m ∷ []) b
+sender_sends m (Transit.Behind b) = Transit.Behind b
+sender_sends m (Transit.Ahead f) = Transit.Ahead f
 
 -- the PUBLISH of an item that was sent
 abbrev pub publishing : {V : Type 0} → ℕ × V → Forward V
 publishing row = Forward.Publish row.0 row.1
 
 -- what the sender sends on a new connection: PUBRELs, and each PUBLISH again (MQTT 4.4)
-abbrev pub resend : {V : Type 0} → List ℕ → List (SenderItem V) → List (Forward V)
-resend releases items = map (λ id. Forward.Pubrel id) releases ++ map publishing (sent items)
+abbrev pub sender_resends : {V : Type 0} → List ℕ → List (SenderItem V) → List (Forward V)
+sender_resends releases items = map (λ id. Forward.Pubrel id) releases
+    ++ map publishing (sent items)

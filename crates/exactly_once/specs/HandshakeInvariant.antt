@@ -19,23 +19,23 @@ IsNew received (SenderItem.Released v id) = ⊥
 IsNew received (SenderItem.Finished v) = ⊥
 
 -- the item was not sent yet
-abbrev pub IsWaiting : {V : Type 0} → SenderItem V → Type 0
-IsWaiting (SenderItem.Waits v) = Unit {0}
-IsWaiting _ = ⊥
+abbrev pub IsUnsent : {V : Type 0} → SenderItem V → Type 0
+IsUnsent (SenderItem.Waits v) = Unit {0}
+IsUnsent _ = ⊥
 
 -- after one that waits, all wait
-abbrev pub WaitsLast : {V : Type 0} → List (SenderItem V) → Type 0
-WaitsLast (SenderItem.Waits v ∷ items) = Each IsWaiting items
-WaitsLast (_ ∷ items) = WaitsLast items
-WaitsLast [] = Unit {0}
+abbrev pub UnsentAreLast : {V : Type 0} → List (SenderItem V) → Type 0
+UnsentAreLast (SenderItem.Waits v ∷ items) = Each IsUnsent items
+UnsentAreLast (_ ∷ items) = UnsentAreLast items
+UnsentAreLast [] = Unit {0}
 
 -- ---- what is in transit
 
 -- the PUBLISH packets in transit, each as its identifier and value
-abbrev pub publishes : {V : Type 0} → List (Forward V) → List (ℕ × V)
-publishes (Forward.Publish id v ∷ f) = (id, v) ∷ publishes f
-publishes (Forward.Pubrel id ∷ f) = publishes f
-publishes [] = []
+abbrev pub publishes_in_transit : {V : Type 0} → List (Forward V) → List (ℕ × V)
+publishes_in_transit (Forward.Publish id v ∷ f) = (id, v) ∷ publishes_in_transit f
+publishes_in_transit (Forward.Pubrel id ∷ f) = publishes_in_transit f
+publishes_in_transit [] = []
 
 -- the identifier of a packet from the sender
 abbrev pub forward_id : {V : Type 0} → Forward V → ℕ
@@ -66,7 +66,7 @@ IsSent items row = In row (sent items)
 pub record ComesToReceiver {V : Type 0} (old : List (SenderItem V)) (f : List (Forward V))
     (next : List (ℕ × V)) : Type 0 where
   pub again : List (ℕ × V)
-  pub is : publishes f ≡ again ++ next
+  pub is : publishes_in_transit f ≡ again ++ next
   pub known : Each (IsSent old) again
   pub meant : Each (IsMeant old) f
 
@@ -106,7 +106,7 @@ pub record AreSides {V : Type 0} (items : List (SenderItem V)) (accepted : List 
   pub accepted_is : accepted ≡ map value_of old
   pub olds : Each (IsOld received) old
   pub news : Each (IsNew received) new
-  pub waits_last : WaitsLast new
+  pub waits_last : UnsentAreLast new
   pub apart : IsDistinct (busy (old ++ new))
   pub known : (id : ℕ) → received id ≡ true → has_id id (busy old) ≡ true
 

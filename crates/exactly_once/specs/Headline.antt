@@ -23,7 +23,7 @@ use Rattle.client_base.specs.lists.Lists.{In, IsPrefixOf}
 use Rattle.exactly_once.specs.Sides.{ClientConnection}
 use Rattle.exactly_once.specs.Story.{Story}
 use Rattle.exactly_once.specs.StoryTrace.{StoryTrace}
-use Rattle.exactly_once.specs.Carried.{is_this, carries, new_numbers, publications_of, published}
+use Rattle.exactly_once.specs.Carried.{is_this, carries, new_numbers, own_publications, own_qos2_numbers}
 use Rattle.exactly_once.specs.Acceptance.{AcceptedInOrder}
 
 -- ---- publishers
@@ -53,9 +53,9 @@ pub record PublishedOnce (limits : Limits) (s : Story) : Type 0 where
       StandsAt s.past place below →
       carries s.connections place.command below ≡ Some k →
       place.command ≡ commands.Packet x (packets.Publish p) →
-      slice_get (publications_of (all_own s.keeper)) k ≡ Some (publication_of p)
+      slice_get (own_publications (all_own s.keeper)) k ≡ Some (publication_of p)
   -- those at QoS 2 are new in the list in the order of the calls, each at most once
-  pub in_order : IsPrefixOf (new_numbers s.connections s.past) (published s.keeper.own)
+  pub in_order : IsPrefixOf (new_numbers s.connections s.past) (own_qos2_numbers s.keeper.own)
   -- each that is new is taken at a place
   pub taken : (k : ℕ) → In k (new_numbers s.connections s.past) →
       (place : Place) × (below : Past) × IsTakenAt s k place below
@@ -68,7 +68,7 @@ pub record PublishedOnce (limits : Limits) (s : Story) : Type 0 where
   -- each enters each session at most once: at any time a session is looked at, it has at most one
   -- entry of all the places that carry the publication
   pub enters_once : (later earlier : Past) (d : Client) (k : ℕ) → s.past ≡ later ++ earlier →
-      In k (published (all_own s.keeper)) →
+      In k (own_qos2_numbers (all_own s.keeper)) →
       made_by s.connections k s.past (entries_of limits earlier d) ≤ 1
   -- if a publication is taken, at any QoS, it enters exactly the sessions with an effective QoS
   -- over 0, once

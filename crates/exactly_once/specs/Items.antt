@@ -43,10 +43,10 @@ has_released i (_ ∷ items) = has_released i items
 has_released i [] = false
 
 -- PUBREC releases, PUBCOMP finishes
-abbrev pub releasing : {V : Type 0} → ℕ → SenderItem V → SenderItem V
-releasing i (SenderItem.Sent v id) =
+abbrev pub item_released : {V : Type 0} → ℕ → SenderItem V → SenderItem V
+item_released i (SenderItem.Sent v id) =
     if i == id then SenderItem.Released v id else SenderItem.Sent v id
-releasing i item = item
+item_released i item = item
 
 -- an item after a PUBCOMP with this identifier
 abbrev pub finishing : {V : Type 0} → ℕ → SenderItem V → SenderItem V

@@ -18,9 +18,9 @@ use Rattle.broker_base.specs.broker_spec.TakenLaws.{queued_at}
 use Rattle.broker_base.specs.broker_spec.declared.command.Command.TheVariants as commands
 use Rattle.client_base.specs.Keeper.{all_own}
 use Rattle.exactly_once.specs.Story.{Story, StoryStep, no_story}
-use Rattle.exactly_once.specs.Carried.{carries, new_numbers, publications_of, published}
+use Rattle.exactly_once.specs.Carried.{carries, new_numbers, own_publications, own_qos2_numbers}
 use Rattle.exactly_once.specs.Headline.{IsAnsweredBy, made_by, IsTakenAt}
-use Rattle.exactly_once.specs.Acceptance.{two_entries, is_released}
+use Rattle.exactly_once.specs.Acceptance.{two_entries, is_entry_released}
 use Rattle.exactly_once.specs.InStep.{sessions_begun, entries_in, accepted_in}
 
 -- what may happen in a story of one session, and an Expel of the client at any time
@@ -39,12 +39,12 @@ pub record AcceptedInSession (limits : Limits) (s : Story) (start : ℕ) : Type 
   pub others : List Entry
   pub is : two_entries (entries_in limits s.past s.keeper.client start) ≡ prefix ++ others
   pub accepted : accepted_in s.past s.keeper.client start s.connections ≡ map publication_in prefix
-  pub rest : Each (λ entry. is_released entry ≡ false) others
+  pub rest : Each (λ entry. is_entry_released entry ≡ false) others
 
 -- numbers that rise strictly
-abbrev pub IsRising : List ℕ → Type 0
-IsRising (n ∷ numbers) = Each (λ m. n < m) numbers × IsRising numbers
-IsRising [] = Unit {0}
+abbrev pub NumbersRise : List ℕ → Type 0
+NumbersRise (n ∷ numbers) = Each (λ m. n < m) numbers × NumbersRise numbers
+NumbersRise [] = Unit {0}
 
 -- the publisher's, over all its sessions: `PublishedOnce` but for `rises` and `in_order`
 pub record PublishedOverSessions (limits : Limits) (s : Story) : Type 0 where
@@ -53,12 +53,12 @@ pub record PublishedOverSessions (limits : Limits) (s : Story) : Type 0 where
       StandsAt s.past place below →
       carries s.connections place.command below ≡ Some k →
       place.command ≡ commands.Packet x (packets.Publish p) →
-      slice_get (publications_of (all_own s.keeper)) k ≡ Some (publication_of p)
+      slice_get (own_publications (all_own s.keeper)) k ≡ Some (publication_of p)
   -- those at QoS 2 are new in the list in the order of the calls, each at most once
-  pub rises : IsRising (new_numbers s.connections s.past)
+  pub rises : NumbersRise (new_numbers s.connections s.past)
   -- none is left out while the client has had one session
   pub in_order : sessions_begun s.past s.keeper.client ≤ 1 →
-      IsPrefixOf (new_numbers s.connections s.past) (published (all_own s.keeper))
+      IsPrefixOf (new_numbers s.connections s.past) (own_qos2_numbers (all_own s.keeper))
   -- each that is new is taken at a place
   pub taken : (k : ℕ) → In k (new_numbers s.connections s.past) →
       (place : Place) × (below : Past) × IsTakenAt s k place below
@@ -71,7 +71,7 @@ pub record PublishedOverSessions (limits : Limits) (s : Story) : Type 0 where
   -- each enters each session at most once: at any time a session is looked at, it has at most one
   -- entry of all the places that carry the publication
   pub enters_once : (later earlier : Past) (d : Client) (k : ℕ) → s.past ≡ later ++ earlier →
-      In k (published (all_own s.keeper)) →
+      In k (own_qos2_numbers (all_own s.keeper)) →
       made_by s.connections k s.past (entries_of limits earlier d) ≤ 1
   -- if a publication is taken, at any QoS, it enters exactly the sessions with an effective QoS
   -- over 0, once

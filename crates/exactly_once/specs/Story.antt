@@ -21,7 +21,7 @@ use Rattle.client_base.specs.Handled.{handled, lost}
 use Rattle.client_base.specs.Called.{adds_own, written_for}
 use Rattle.client_base.specs.Connected.{new_connection}
 use Rattle.client_base.specs.Written.{writes_first}
-use Rattle.exactly_once.specs.StoryCommands.{command_of, counted_at, names_client, is_packet_of, count_of, any_named}
+use Rattle.exactly_once.specs.StoryCommands.{command_of, with_one_counted, names_client, is_packet_of, packet_count, any_named}
 
 -- the connections, the newest first: the client holds the first one while it is open
 pub record Story : Type 0 where
@@ -50,7 +50,7 @@ pub data StoryStep (limits : Limits) (s : Story) : Story → Type 0 where
       slice_get κ.written κ.taken ≡ Some w →
       StoryStep limits s (record {
         past = place_of limits s.past (command_of κ.name κ.taken w.packet) ∷ s.past;
-        connections = counted_at i s.connections;
+        connections = with_one_counted i s.connections;
         keeper = s.keeper;
       })
   -- a command that does not concern the client comes next, and no packet of its connections
@@ -65,7 +65,7 @@ pub data StoryStep (limits : Limits) (s : Story) : Story → Type 0 where
       (with_side s others (handled packet (record { keeper = s.keeper; connection = κ })))
   -- it opens a connection with a name of which nothing is in the list or was sent
   opens_anew : (x : ConnectionName) → any_named (same_connection x) s.connections ≡ false →
-      put_to limits s.past x ≡ [] → count_of x s.past ≡ 0 →
+      put_to limits s.past x ≡ [] → packet_count x s.past ≡ 0 →
       StoryStep limits s (record {
         past = s.past;
         connections = new_connection s.keeper.client x ∷ s.connections;

@@ -16,10 +16,10 @@ command_of x zero (packets.Connect c) = commands.Connect x c.client c.clean
 command_of x taken packet = commands.Packet x packet
 
 -- the connection at this index of the list, one more packet of it taken
-abbrev pub counted_at : ℕ → List ClientConnection → List ClientConnection
-counted_at i [] = []
-counted_at zero (κ ∷ connections) = record κ { taken = suc κ.taken } ∷ connections
-counted_at (suc i) (κ ∷ connections) = κ ∷ counted_at i connections
+abbrev pub with_one_counted : ℕ → List ClientConnection → List ClientConnection
+with_one_counted i [] = []
+with_one_counted zero (κ ∷ connections) = record κ { taken = suc κ.taken } ∷ connections
+with_one_counted (suc i) (κ ∷ connections) = κ ∷ with_one_counted i connections
 
 -- a Connect of the client, and an Expel of it if it has a session
 abbrev pub names_client : Past → Client → Command → Type 0
@@ -34,10 +34,10 @@ is_packet_of (commands.Connect x d clean) y = same_connection x y
 is_packet_of _ y = false
 
 -- how many packets of a connection are in the list
-abbrev pub count_of : ConnectionName → Past → ℕ
-count_of x (place ∷ past) =
-    if is_packet_of place.command x then suc (count_of x past) else count_of x past
-count_of x [] = 0
+abbrev pub packet_count : ConnectionName → Past → ℕ
+packet_count x (place ∷ past) =
+    if is_packet_of place.command x then suc (packet_count x past) else packet_count x past
+packet_count x [] = 0
 
 -- whether the name of any of these connections passes a test
 abbrev pub any_named : (ConnectionName → Bool) → List ClientConnection → Bool

@@ -18,7 +18,7 @@ use Rattle.byte_world.specs.lists.Lists.{Each, has_id}
 use Rattle.byte_world.proofs.of_lists.OfEach.{each_append}
 use Rattle.byte_world.specs.exactly_once.Sides.{ClientConnection, Side}
 use Rattle.byte_world.specs.exactly_once.Story.{StoryStep, Story}
-use Rattle.byte_world.specs.exactly_once.StoryCommands.{counted_at}
+use Rattle.byte_world.specs.exactly_once.StoryCommands.{with_one_counted}
 use Rattle.byte_world.specs.exactly_once.Story.StoryStep.{takes, others_take, receives, opens_anew, loses, disconnects, publishes_one, subscribes, unsubscribes}
 use Rattle.byte_world.proofs.of_exactly_once.publishing.Answered.{counted_side}
 
@@ -114,7 +114,7 @@ handled_numbered κ keeper packet all = by keeper.is_online
 
 -- ---- every event
 
-counted_numbered : (i : ℕ) (connections : List ClientConnection) → AreNumbered connections → AreNumbered (counted_at i connections)
+counted_numbered : (i : ℕ) (connections : List ClientConnection) → AreNumbered connections → AreNumbered (with_one_counted i connections)
 counted_numbered i [] all = tt
 counted_numbered zero (κ ∷ connections) all = all
 counted_numbered (suc i) (κ ∷ connections) all = (all.0, counted_numbered i connections all.1)

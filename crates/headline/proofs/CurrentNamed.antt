@@ -10,7 +10,7 @@ use Rattle.byte_world.specs.broker_spec.Past.{accepts, current_connection}
 use Rattle.byte_world.specs.broker_spec.Place.{Client, Limits, Mark, Past, Place}
 use Rattle.byte_world.proofs.of_broker_spec.ClientsInOrder.{same_self}
 use Rattle.byte_world.specs.exactly_once.Sides.{ClientConnection}
-use Rattle.byte_world.specs.exactly_once.StoryCommands.{any_named, counted_at}
+use Rattle.byte_world.specs.exactly_once.StoryCommands.{any_named, with_one_counted}
 use Rattle.byte_world.proofs.of_exactly_once.places.After.{current_opens}
 use Rattle.byte_world.proofs.of_exactly_once.publishing.Last.{is_named}
 use Rattle.byte_world.proofs.of_exactly_once.publishing.kept.KeepsNames.{counted_named}
@@ -47,22 +47,22 @@ accepted_name x c Mark.Accepted opened e =
 accepted_name x c _ opened e = cc
 
 pub taken_named : (limits : Limits) (past : Past) (c : Client) (i : ℕ) (κ : ClientConnection) (packet : Packet) (command : Command) (connections : List ClientConnection) → IsOwnCommand c κ packet command
-    → slice_get connections i ≡ Some κ → IsCurrentNamed c connections past → IsCurrentNamed c (counted_at i connections) (place_of limits past command ∷ past)
+    → slice_get connections i ≡ Some κ → IsCurrentNamed c connections past → IsCurrentNamed c (with_one_counted i connections) (place_of limits past command ∷ past)
 taken_named limits past c i κ packet command connections kind at h = by (accepts command place.mark c) refl
   where
     place : Place
     place = place_of limits past command
 
-    later : IsCurrentNamed c (counted_at i connections) past
+    later : IsCurrentNamed c (with_one_counted i connections) past
     later y is = counted_named (same_connection y) i connections ∙ h y is
 
     named : IsOwnCommand c κ packet command → (opened : ConnectionName × Bool) → accepts command place.mark c ≡ Some opened → opened.0 ≡ κ.name
     named (inl k) opened e = accepted_name κ.name c place.mark opened (sym (ap (λ d. accepts d place.mark c) k.1) ∙ e)
     named (inr k) opened e = absurd (let f : None ≡ Some opened = sym (ap (λ d. accepts d place.mark c) k.1) ∙ e in cc)
 
-    by : (o : Option (ConnectionName × Bool)) → accepts command place.mark c ≡ o → IsCurrentNamed c (counted_at i connections) (place ∷ past)
-    by None e = stays_named place past c (counted_at i connections) e later
+    by : (o : Option (ConnectionName × Bool)) → accepts command place.mark c ≡ o → IsCurrentNamed c (with_one_counted i connections) (place ∷ past)
+    by None e = stays_named place past c (with_one_counted i connections) e later
     by (Some opened) e =
-        opens_named place past c (counted_at i connections) opened e
-        (subst (λ (x : ConnectionName). any_named (same_connection x) (counted_at i connections) ≡ true) (sym (named kind opened e))
+        opens_named place past c (with_one_counted i connections) opened e
+        (subst (λ (x : ConnectionName). any_named (same_connection x) (with_one_counted i connections) ≡ true) (sym (named kind opened e))
         (counted_named (same_connection κ.name) i connections ∙ is_named i connections κ at))

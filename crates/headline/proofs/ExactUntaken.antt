@@ -11,16 +11,16 @@ use Rattle.byte_world.specs.broker_spec.Place.{Client, Limits, Past, Place}
 use Rattle.byte_world.specs.broker_spec.Received.{is_new}
 use Rattle.byte_world.specs.broker_spec.Times.{entries_of}
 use Rattle.byte_world.specs.client_base.Keeper.{Keeper, all_own}
-use Rattle.byte_world.specs.exactly_once.Carried.{carries, connection_named, more_by, new_numbers, number_at, published, is_this}
+use Rattle.byte_world.specs.exactly_once.Carried.{carries, connection_named, more_by, new_numbers, number_at, own_qos2_numbers, is_this}
 use Rattle.byte_world.specs.exactly_once.Headline.{IsTakenAt, made_by}
 use Rattle.byte_world.specs.exactly_once.Acceptance.{accepted_on}
 use Rattle.byte_world.specs.exactly_once.InStep.{AreWelcome, IsFirstSession, IsInStep, WasWelcome, accepted_in, opened_in, starts_of}
-use Rattle.byte_world.specs.exactly_once.Lives.{AcceptedInSession, IsRising, PublishedOverSessions}
+use Rattle.byte_world.specs.exactly_once.Lives.{AcceptedInSession, NumbersRise, PublishedOverSessions}
 use Rattle.byte_world.specs.exactly_once.LivesAreExact.{ExactlyOnceOverSessions}
 use Rattle.byte_world.specs.exactly_once.Unexpelled.{HasOneSession}
 use Rattle.byte_world.specs.exactly_once.Sides.{ClientConnection}
 use Rattle.byte_world.specs.exactly_once.Story.{Story}
-use Rattle.byte_world.specs.exactly_once.StoryCommands.{count_of}
+use Rattle.byte_world.specs.exactly_once.StoryCommands.{packet_count}
 use Rattle.byte_world.proofs.of_exactly_once.sessions.InTurn.{flat_map_same}
 use Rattle.headline.proofs.Untaken.{AreSameUntaken, untaken_connection}
 
@@ -38,7 +38,7 @@ number_untaken x j (κ ∷ connections) = by (same_connection x κ.name) (number
     by false ih = ih
 
 carries_untaken : (command : Command) (past : Past) (connections : List ClientConnection) → carries (map untaken_connection connections) command past ≡ carries connections command past
-carries_untaken (commands.Packet x (packets.Publish p)) past connections = number_untaken x (count_of x past) connections
+carries_untaken (commands.Packet x (packets.Publish p)) past connections = number_untaken x (packet_count x past) connections
 carries_untaken _ past connections = refl
 
 numbers_untaken : (past : Past) (connections : List ClientConnection) → new_numbers (map untaken_connection connections) past ≡ new_numbers connections past
@@ -117,8 +117,8 @@ module _ (limits : Limits) (past : Past) (keeper : Keeper) (connections others :
   publishers once =
       record {
         carried = λ place below x p k stands is command. once.carried place below x p k stands (same_carries place.command below ∙ is) command;
-        rises = subst IsRising same_numbers once.rises;
-        in_order = λ one. subst (λ (l : List ℕ). IsPrefixOf l (published (all_own keeper))) same_numbers (once.in_order one);
+        rises = subst NumbersRise same_numbers once.rises;
+        in_order = λ one. subst (λ (l : List ℕ). IsPrefixOf l (own_qos2_numbers (all_own keeper))) same_numbers (once.in_order one);
         taken = λ k new.
             let at = once.taken k (subst (λ (l : List ℕ). In k l) (sym same_numbers) new) in
             (at.0, at.1, same_taken at.2);

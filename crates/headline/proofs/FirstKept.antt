@@ -10,9 +10,9 @@ use Rattle.byte_world.specs.client_base.Keeper.{Own, all_own}
 use Rattle.byte_world.specs.client_base.State.{ClientState}
 use Rattle.byte_world.specs.exactly_once.Items.{SenderItem, value_of}
 use Rattle.byte_world.specs.exactly_once.HandshakeInvariant.{IsGood}
-use Rattle.byte_world.specs.exactly_once.Carried.{new_numbers, publications_of}
+use Rattle.byte_world.specs.exactly_once.Carried.{new_numbers, own_publications}
 use Rattle.byte_world.specs.exactly_once.Inside.Projections.{as_publisher}
-use Rattle.byte_world.specs.exactly_once.Inside.Shape.{AreNumbered, IsSoundStory}
+use Rattle.byte_world.specs.exactly_once.Inside.Shape.{AreNumberedFrom, IsSoundStory}
 use Rattle.byte_world.specs.exactly_once.InStep.{IsFirstSession, IsInStep}
 use Rattle.byte_world.specs.exactly_once.Lives.{Lived}
 use Rattle.byte_world.specs.exactly_once.Story.{Story}
@@ -26,7 +26,7 @@ use Rattle.headline.proofs.StillKept.{kept_both, kept_values, new_kept, some_of,
 
 module _ (s : Story) (state : ClientState) (lived : Lived usual_limits s.keeper.client s) (step : IsInStep s) (first : IsFirstSession s.past s.keeper.client) where
   abbrev qs : List Publication
-  qs = publications_of s.keeper.own
+  qs = own_publications s.keeper.own
 
   -- the story of the session
   one : HasOneStory usual_limits s.keeper.client s
@@ -35,11 +35,11 @@ module _ (s : Story) (state : ClientState) (lived : Lived usual_limits s.keeper.
   sound : IsSoundStory usual_limits (beside one.flags s)
   sound = told_stories_are_sound usual_limits window_is_steady.0 s.keeper.client (beside one.flags s) one.told
 
-  numbered : AreNumbered 0 s.keeper.own
-  numbered = subst (λ (earlier : List Own). AreNumbered (length earlier) s.keeper.own) one.alone sound.shape.own.numbered
+  numbered : AreNumberedFrom 0 s.keeper.own
+  numbered = subst (λ (earlier : List Own). AreNumberedFrom (length earlier) s.keeper.own) one.alone sound.shape.own.numbered
 
-  all_said : publications_of (all_own s.keeper) ≡ qs
-  all_said = ap (λ (earlier : List Own). publications_of (earlier ++ s.keeper.own)) one.alone
+  all_said : own_publications (all_own s.keeper) ≡ qs
+  all_said = ap (λ (earlier : List Own). own_publications (earlier ++ s.keeper.own)) one.alone
 
   -- the two sides of its handshake
   good : IsGood (as_publisher usual_limits (beside one.flags s))
@@ -48,7 +48,7 @@ module _ (s : Story) (state : ClientState) (lived : Lived usual_limits s.keeper.
   abbrev rest : List (Option Publication)
   rest = map (slice_get qs) (map value_of good.new)
 
-  new_old : (new : List Publication) → map (slice_get (publications_of (all_own s.keeper))) (new_numbers s.connections s.past) ≡ some_of new
+  new_old : (new : List Publication) → map (slice_get (own_publications (all_own s.keeper))) (new_numbers s.connections s.past) ≡ some_of new
       → map (slice_get qs) (map value_of good.old) ≡ some_of new
   new_old new are =
       ap (map (slice_get qs)) (sym good.sides.accepted_is ∙ sym one.same)
@@ -67,8 +67,8 @@ module _ (s : Story) (state : ClientState) (lived : Lived usual_limits s.keeper.
       ∙ map-append (slice_get qs) (kept_values good.old) (map value_of good.new)
 
   pub first_kept : history.KeeperStandsFor s.keeper state → (new : List Publication)
-      → map (slice_get (publications_of (all_own s.keeper))) (new_numbers s.connections s.past) ≡ some_of new
-      → AreUnacknowledged (at_two (publications_of (all_own s.keeper))) new (at_two (unacknowledged_of state))
+      → map (slice_get (own_publications (all_own s.keeper))) (new_numbers s.connections s.past) ≡ some_of new
+      → AreUnacknowledged (at_two (own_publications (all_own s.keeper))) new (at_two (unacknowledged_of state))
   first_kept stands new are =
       let cut = split_map (λ (p : Publication). Some p) (at_two qs) (some_of new) rest (published_parts new (new_old new are)) in
       let kept = split_map (λ (p : Publication). Some p) (at_two (unacknowledged_of state)) (map (slice_get qs) (kept_values good.old)) rest (kept_parts stands) in

@@ -8,7 +8,7 @@ use Rattle.byte_world.specs.session_base.declared.publication.Publication.{Publi
 use Rattle.byte_world.specs.client_base.Keeper.{Own, all_own, number_in}
 use Rattle.byte_world.proofs.of_client_base.NumbersStay.{AreAllNumbered, joined_numbers}
 use Rattle.byte_world.specs.client_base.OrderLaws.{AreNumbered}
-use Rattle.byte_world.specs.exactly_once.Carried.{is_two, new_numbers, publication_in, publications_of, published}
+use Rattle.byte_world.specs.exactly_once.Carried.{is_two, new_numbers, own_publication, own_publications, own_qos2_numbers}
 use Rattle.byte_world.specs.exactly_once.Story.{Story}
 use Rattle.byte_world.proofs.of_exactly_once.Ends.{Split, split_map}
 use Rattle.headline.specs.Shown.{at_two}
@@ -30,22 +30,22 @@ same_some (x ∷ xs) (y ∷ ys) e =
 
 -- ---- by number
 
-published_numbered : (ps : List Publication) (n : ℕ) (own : List Own) → AreNumbered n own → StandFrom ps n own → map (slice_get ps) (published own) ≡ some_of (at_two (publications_of own))
+published_numbered : (ps : List Publication) (n : ℕ) (own : List Own) → AreNumbered n own → StandFrom ps n own → map (slice_get ps) (own_qos2_numbers own) ≡ some_of (at_two (own_publications own))
 published_numbered ps n [] h stand = refl
-published_numbered ps n (o ∷ own) h stand = by (is_two (publication_in o).qos) (published_numbered ps (suc n) own h.1 (after ps n o own stand))
+published_numbered ps n (o ∷ own) h stand = by (is_two (own_publication o).qos) (published_numbered ps (suc n) own h.1 (after ps n o own stand))
   where
-    by : (b : Bool) → map (slice_get ps) (published own) ≡ some_of (at_two (publications_of own))
-        → map (slice_get ps) (if b then number_in o ∷ published own else published own) ≡ some_of (if b then publication_in o ∷ at_two (publications_of own) else at_two (publications_of own))
+    by : (b : Bool) → map (slice_get ps) (own_qos2_numbers own) ≡ some_of (at_two (own_publications own))
+        → map (slice_get ps) (if b then number_in o ∷ own_qos2_numbers own else own_qos2_numbers own) ≡ some_of (if b then own_publication o ∷ at_two (own_publications own) else at_two (own_publications own))
     by true more = ap₂ (λ (x : Option Publication) l. x ∷ l) (first_is ps n (number_in o) o own h.0 stand) more
     by false more = more
 
-pub new_in_order : (s : Story) → AreAllNumbered s.keeper → (new : List Publication) → IsPrefixOf (new_numbers s.connections s.past) (published (all_own s.keeper))
-    → map (slice_get (publications_of (all_own s.keeper))) (new_numbers s.connections s.past) ≡ some_of new → IsPrefixOf new (at_two (publications_of (all_own s.keeper)))
+pub new_in_order : (s : Story) → AreAllNumbered s.keeper → (new : List Publication) → IsPrefixOf (new_numbers s.connections s.past) (own_qos2_numbers (all_own s.keeper))
+    → map (slice_get (own_publications (all_own s.keeper))) (new_numbers s.connections s.past) ≡ some_of new → IsPrefixOf new (at_two (own_publications (all_own s.keeper)))
 new_in_order s numbers new front are =
     record { rest = cut.behind; is = cut.is ∙ ap (λ (l : List Publication). l ++ cut.behind) (same_some cut.front new cut.front_is) }
   where
     ps : List Publication
-    ps = publications_of (all_own s.keeper)
+    ps = own_publications (all_own s.keeper)
 
     parts : some_of (at_two ps) ≡ some_of new ++ map (slice_get ps) front.rest
     parts =

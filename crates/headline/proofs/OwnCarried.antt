@@ -21,7 +21,7 @@ use Rattle.byte_world.specs.lists.Lists.{Each}
 use Rattle.byte_world.specs.exactly_once.Carried.{carries, connection_named, number_at}
 use Rattle.byte_world.specs.exactly_once.Sides.{ClientConnection}
 use Rattle.byte_world.specs.exactly_once.Story.{StoryStep, Story}
-use Rattle.byte_world.specs.exactly_once.StoryCommands.{any_named, command_of, counted_at, count_of, is_packet_of, names_client}
+use Rattle.byte_world.specs.exactly_once.StoryCommands.{any_named, command_of, with_one_counted, packet_count, is_packet_of, names_client}
 use Rattle.byte_world.specs.exactly_once.Lives.{Lived}
 use Rattle.byte_world.specs.exactly_once.Lives.Lived.{opens, goes_on, is_expelled}
 use Rattle.byte_world.specs.exactly_once.Story.StoryStep.{takes, others_take, receives, opens_anew, loses, disconnects, publishes_one, subscribes, unsubscribes}
@@ -74,22 +74,22 @@ has_number p (Some k) e = (k, refl)
 has_number p None e = absurd (both_ways true e refl)
 
 taken_carries : (i : ℕ) (limits : Limits) (c : Client) (s : Story) (κ : ClientConnection) (w : Written) → IsLife limits c s → slice_get s.connections i ≡ Some κ
-    → slice_get κ.written κ.taken ≡ Some w → IsNumbered w → (n : ℕ) → CarriesOwn c (counted_at i s.connections) (command_of κ.name n w.packet) s.past
+    → slice_get κ.written κ.taken ≡ Some w → IsNumbered w → (n : ℕ) → CarriesOwn c (with_one_counted i s.connections) (command_of κ.name n w.packet) s.past
 taken_carries i limits c s κ w life stands next numbered n x p is own = by n w.packet refl is
   where
     this : IsCounted s.past κ
     this = each_there (IsCounted s.past) i s.connections κ stands life.connections.counted
 
-    carried : number_at (count_of κ.name s.past) (connection_named κ.name (counted_at i s.connections)) ≡ w.number
+    carried : number_at (packet_count κ.name s.past) (connection_named κ.name (with_one_counted i s.connections)) ≡ w.number
     carried = carries_it s.past i s.connections κ w Mark.NoPart life.connections.names stands next this.counted
 
-    found : (q : Publish) → w.packet ≡ packets.Publish q → (k : ℕ) × (carries (counted_at i s.connections) (commands.Packet κ.name (packets.Publish q)) s.past ≡ Some k)
+    found : (q : Publish) → w.packet ≡ packets.Publish q → (k : ℕ) × (carries (with_one_counted i s.connections) (commands.Packet κ.name (packets.Publish q)) s.past ≡ Some k)
     found q e =
         let k = has_number q w.number (subst (λ (packet : Packet). is_unnumbered packet w.number ≡ false) e numbered) in
         (k.0, carried ∙ k.1)
 
     by : (n : ℕ) (packet : Packet) → w.packet ≡ packet → command_of κ.name n packet ≡ commands.Packet x (packets.Publish p)
-        → (k : ℕ) × (carries (counted_at i s.connections) (command_of κ.name n packet) s.past ≡ Some k)
+        → (k : ℕ) × (carries (with_one_counted i s.connections) (command_of κ.name n packet) s.past ≡ Some k)
     by zero (packets.Publish q) e is = found q e
     by (suc n) (packets.Publish q) e is = found q e
     by zero (packets.Connect q) e is = cc

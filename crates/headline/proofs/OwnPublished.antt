@@ -15,7 +15,7 @@ use Rattle.byte_world.specs.client_base.Called.{adds_own}
 use Rattle.byte_world.specs.client_base.Handled.{handled}
 use Rattle.byte_world.specs.client_base.Keeper.{Keeper, Own, all_own, ids_in_use, next_number}
 use Rattle.byte_world.specs.client_base.OrderLaws.{AreNumbered}
-use Rattle.byte_world.specs.exactly_once.Carried.{publication_in, publications_of}
+use Rattle.byte_world.specs.exactly_once.Carried.{own_publication, own_publications}
 use Rattle.byte_world.specs.exactly_once.Sides.{ClientConnection, Side}
 use Rattle.byte_world.specs.exactly_once.Story.{StoryStep, Story}
 use Rattle.byte_world.specs.exactly_once.Story.StoryStep.{takes, others_take, receives, opens_anew, loses, disconnects, publishes_one, subscribes, unsubscribes}
@@ -65,38 +65,38 @@ of_another i j (p ∷ ps) other = by (j == i) refl (of_another i j ps other)
 
 -- ---- a call
 
-said_more : (keeper : Keeper) (p : Publication) → publications_of (all_own (adds_own p keeper)) ≡ publications_of (all_own keeper) ++ p ∷ []
+said_more : (keeper : Keeper) (p : Publication) → own_publications (all_own (adds_own p keeper)) ≡ own_publications (all_own keeper) ++ p ∷ []
 said_more keeper p =
-    ap publications_of (sym (append_assoc keeper.earlier keeper.own (new (is_answered p.qos) keeper.is_online ∷ [])))
-    ∙ map-append publication_in (all_own keeper) (new (is_answered p.qos) keeper.is_online ∷ [])
-    ∙ ap (λ q. publications_of (all_own keeper) ++ q ∷ []) (same (is_answered p.qos) keeper.is_online)
+    ap own_publications (sym (append_assoc keeper.earlier keeper.own (new (is_answered p.qos) keeper.is_online ∷ [])))
+    ∙ map-append own_publication (all_own keeper) (new (is_answered p.qos) keeper.is_online ∷ [])
+    ∙ ap (λ q. own_publications (all_own keeper) ++ q ∷ []) (same (is_answered p.qos) keeper.is_online)
   where
     new : Bool → Bool → Own
     new a on =
         if a then (if on then Own.Sent (next_number keeper) p (least_free (ids_in_use keeper)) else Own.Unsent (next_number keeper) p (least_free (ids_in_use keeper)))
         else Own.Done (next_number keeper) p
 
-    same : (a on : Bool) → publication_in (new a on) ≡ p
+    same : (a on : Bool) → own_publication (new a on) ≡ p
     same true true = refl
     same true false = refl
     same false on = refl
 
-call_says : {s t : Story} (h : StoryStep usual_limits s t) → is_call h ≡ true → publications_of (all_own t.keeper) ≡ publications_of (all_own s.keeper) ++ published_by h
+call_says : {s t : Story} (h : StoryStep usual_limits s t) → is_call h ≡ true → own_publications (all_own t.keeper) ≡ own_publications (all_own s.keeper) ++ published_by h
 call_says (takes i κ w stands next) call = absurd (both_ways false refl call)
 call_says (others_take command other none) call = absurd (both_ways false refl call)
 call_says (receives κ others packet are opened next) call = absurd (both_ways false refl call)
 call_says (opens_anew x fresh none uncounted) call = absurd (both_ways false refl call)
-call_says {s = s} loses call = sym (append-nil (publications_of (all_own s.keeper)))
-call_says {s = s} disconnects call = sym (append-nil (publications_of (all_own s.keeper)))
+call_says {s = s} loses call = sym (append-nil (own_publications (all_own s.keeper)))
+call_says {s = s} disconnects call = sym (append-nil (own_publications (all_own s.keeper)))
 call_says {s = s} (publishes_one p needs) call = said_more s.keeper p
-call_says {s = s} (subscribes p on id) call = sym (append-nil (publications_of (all_own s.keeper)))
-call_says {s = s} (unsubscribes p on id) call = sym (append-nil (publications_of (all_own s.keeper)))
+call_says {s = s} (subscribes p on id) call = sym (append-nil (own_publications (all_own s.keeper)))
+call_says {s = s} (unsubscribes p on id) call = sym (append-nil (own_publications (all_own s.keeper)))
 
 -- ---- a packet
 
 packet_says : {nodes : ℕ} {config : Config} {cs : List Client} → ClientsAreApart cs → (v : World) (went : GroupTrace nodes config v.group) (s : GoesBeside nodes config cs v went) (i : ℕ)
     (c : ClientPipes) (κ : ClientConnection) (packet : Packet) → slice_get v.clients i ≡ Some c
-    → publications_of (all_own (handled packet (let side : Side = record { keeper = c.keeper; connection = κ } in side)).keeper) ≡ publications_of (all_own c.keeper)
+    → own_publications (all_own (handled packet (let side : Side = record { keeper = c.keeper; connection = κ } in side)).keeper) ≡ own_publications (all_own c.keeper)
 packet_says {config = config} apart v went s i c κ packet at =
     let list = has_agreed rules config (moment_of v.group) s.so.of.earlier s.so.of.past in
     let h = lived_beside apart v went s list.0 list.1 i c at in
@@ -107,7 +107,7 @@ packet_says {config = config} apart v went s i c κ packet at =
 
 -- of each client
 abbrev AllPublished : World → List (ℕ × Publication) → Type 0
-AllPublished w asked = (i : ℕ) (c : ClientPipes) → slice_get w.clients i ≡ Some c → publications_of (all_own c.keeper) ≡ published_of i asked
+AllPublished w asked = (i : ℕ) (c : ClientPipes) → slice_get w.clients i ≡ Some c → own_publications (all_own c.keeper) ≡ published_of i asked
 
 -- nothing is published, and what was is kept
 still : (w : World) (asked : List (ℕ × Publication)) → AllPublished w asked → AllPublished w (asked ++ [])
@@ -115,13 +115,13 @@ still w asked all i c at = all i c at ∙ ap (published_of i) (sym (append-nil a
 
 -- one client becomes another, which published this
 becomes : (v : World) (clients : List ClientPipes) (asked : List (ℕ × Publication)) (j : ℕ) (c later : ClientPipes) (more : List Publication) → clients ≡ set v.clients j later
-    → slice_get v.clients j ≡ Some c → publications_of (all_own later.keeper) ≡ publications_of (all_own c.keeper) ++ more → AllPublished v asked
-    → (i : ℕ) (d : ClientPipes) → slice_get clients i ≡ Some d → publications_of (all_own d.keeper) ≡ published_of i (asked ++ from_client j more)
+    → slice_get v.clients j ≡ Some c → own_publications (all_own later.keeper) ≡ own_publications (all_own c.keeper) ++ more → AllPublished v asked
+    → (i : ℕ) (d : ClientPipes) → slice_get clients i ≡ Some d → own_publications (all_own d.keeper) ≡ published_of i (asked ++ from_client j more)
 becomes v clients asked j c later more are at says all i d there = by (set_get v.clients j i c later d at (ap (λ l. slice_get l i) (sym are) ∙ there))
   where
-    by : ((i ≡ j) × (later ≡ d)) ⊎ ((i ≡ j → ⊥) × (slice_get v.clients i ≡ Some d)) → publications_of (all_own d.keeper) ≡ published_of i (asked ++ from_client j more)
+    by : ((i ≡ j) × (later ≡ d)) ⊎ ((i ≡ j → ⊥) × (slice_get v.clients i ≡ Some d)) → own_publications (all_own d.keeper) ≡ published_of i (asked ++ from_client j more)
     by (inl (same, is)) =
-        ap (λ (z : ClientPipes). publications_of (all_own z.keeper)) (sym is) ∙ says
+        ap (λ (z : ClientPipes). own_publications (all_own z.keeper)) (sym is) ∙ says
         ∙ ap₂ (λ (a b : List Publication). a ++ b) (all j c at) (sym (of_itself j more))
         ∙ sym (of_both j asked (from_client j more)) ∙ ap (λ (k : ℕ). published_of k (asked ++ from_client j more)) (sym same)
     by (inr (other, stood)) =
@@ -133,22 +133,22 @@ step_says : {nodes : ℕ} {config : Config} {cs : List Client} → ClientsAreApa
 step_says apart v w went s asked all (group_goes node_call d is_apart) = still w asked all
 step_says apart v w went s asked all (calls j c t h at call spelled) = becomes v w.clients asked j c _ (published_by h) refl at (call_says h call) all
 step_says apart v w went s asked all (connects j n c port now d core end at unused after there_so spelled) =
-    becomes v w.clients asked j c _ [] refl at (sym (append-nil (publications_of (all_own c.keeper)))) all
+    becomes v w.clients asked j c _ [] refl at (sym (append-nil (own_publications (all_own c.keeper)))) all
 step_says apart v w went s asked all (is_taken_back n port now d core unused after none) = still w asked all
-step_says apart v w went s asked all (comes_up j k c κ p piece rest now d has is) = becomes v w.clients asked j c _ [] refl has.client (sym (append-nil (publications_of (all_own c.keeper)))) all
-step_says apart v w went s asked all (goes_down j k c κ p d has) = becomes v w.clients asked j c _ [] refl has.client (sym (append-nil (publications_of (all_own c.keeper)))) all
-step_says apart v w went s asked all (arrives j k c κ p piece rest has is) = becomes v w.clients asked j c _ [] refl has.client (sym (append-nil (publications_of (all_own c.keeper)))) all
+step_says apart v w went s asked all (comes_up j k c κ p piece rest now d has is) = becomes v w.clients asked j c _ [] refl has.client (sym (append-nil (own_publications (all_own c.keeper)))) all
+step_says apart v w went s asked all (goes_down j k c κ p d has) = becomes v w.clients asked j c _ [] refl has.client (sym (append-nil (own_publications (all_own c.keeper)))) all
+step_says apart v w went s asked all (arrives j k c κ p piece rest has is) = becomes v w.clients asked j c _ [] refl has.client (sym (append-nil (own_publications (all_own c.keeper)))) all
 step_says apart v w went s asked all (handles j c κ others p pipes packet left at are piped opened cut spelled) =
-    becomes v w.clients asked j c _ [] refl at (packet_says apart v went s j c κ packet at ∙ sym (append-nil (publications_of (all_own c.keeper)))) all
+    becomes v w.clients asked j c _ [] refl at (packet_says apart v went s j c κ packet at ∙ sym (append-nil (own_publications (all_own c.keeper)))) all
 
-none_published : (cs : List Client) (i : ℕ) (c : ClientPipes) → slice_get (map new_client cs) i ≡ Some c → publications_of (all_own c.keeper) ≡ []
+none_published : (cs : List Client) (i : ℕ) (c : ClientPipes) → slice_get (map new_client cs) i ≡ Some c → own_publications (all_own c.keeper) ≡ []
 none_published cs i c at =
-    each_get (λ (d : ClientPipes). publications_of (all_own d.keeper) ≡ []) (map new_client cs) i c
-    (each_of_made new_client (λ (d : ClientPipes). publications_of (all_own d.keeper) ≡ []) cs (each_by (λ (d : Client). publications_of (all_own (new_client d).keeper) ≡ []) cs (λ k d there. refl))) at
+    each_get (λ (d : ClientPipes). own_publications (all_own d.keeper) ≡ []) (map new_client cs) i c
+    (each_of_made new_client (λ (d : ClientPipes). own_publications (all_own d.keeper) ≡ []) cs (each_by (λ (d : Client). own_publications (all_own (new_client d).keeper) ≡ []) cs (λ k d there. refl))) at
 
 -- what a client published is what the steps on the way say about it
 pub own_published : {nodes : ℕ} {config : Config} {cs : List Client} → ClientsAreApart cs → (w : World) (trail : Reached nodes config cs w) (i : ℕ) (c : ClientPipes)
-    → slice_get w.clients i ≡ Some c → publications_of (all_own c.keeper) ≡ published_of i (published_on trail)
+    → slice_get w.clients i ≡ Some c → own_publications (all_own c.keeper) ≡ published_of i (published_on trail)
 own_published {cs = cs} apart w (begins can) i c at = none_published cs i c at
 own_published apart w (goes_on {v = v} before step) i c at =
     step_says apart v w (trace_of before) (goes_beside apart v before) (published_on before) (own_published apart v before) step i c at

@@ -29,7 +29,7 @@ use Rattle.byte_world.proofs.of_broker_spec.PacketOfNobody.{window_is_steady}
 use Rattle.byte_world.specs.client_base.History as history
 use Rattle.byte_world.specs.client_base.Keeper.{all_own}
 use Rattle.byte_world.specs.client_base.State.{ClientState}
-use Rattle.byte_world.specs.exactly_once.Carried.{carries, more_by, new_numbers, publications_of}
+use Rattle.byte_world.specs.exactly_once.Carried.{carries, more_by, new_numbers, own_publications}
 use Rattle.byte_world.specs.exactly_once.InStep.{IsInStep, accepted_in, starts_of}
 use Rattle.byte_world.specs.exactly_once.Lives.{Lived}
 use Rattle.byte_world.specs.exactly_once.LivesAreExact.{ExactlyOnceOverSessions}
@@ -85,7 +85,7 @@ marked_below (place ∷ later) rest all = marked_below later rest all.1
 
 answered_new : (s : Story) (place : Place) (below : Past) (x : ConnectionName) (p : Publish) (id k : ℕ) → place.command ≡ commands.Packet x (packets.Publish p)
     → carries s.connections place.command below ≡ Some k → In (Send x (packets.Pubrec id)) (answers_at usual_limits place below)
-    → Says s.keeper.client (publications_of (all_own s.keeper)) s.connections place below → In k (new_numbers s.connections (place ∷ below))
+    → Says s.keeper.client (own_publications (all_own s.keeper)) s.connections place below → In k (new_numbers s.connections (place ∷ below))
 answered_new s place below x p id k is e i says =
     let same : place ≡ at_packet x (packets.Publish p) place.mark = ap (λ (command : Command). let z : Place = record { command = command; mark = place.mark } in z) is in
     let a = acknowledges usual_limits below x p place.mark x (packets.Pubrec id) refl (subst (λ (z : Place). In (Send x (packets.Pubrec id)) (answers_at usual_limits z below)) same i) in
@@ -109,7 +109,7 @@ module _ (s : Story) (lived : Lived usual_limits s.keeper.client s) (step : IsIn
   c = s.keeper.client
 
   abbrev ps : List Publication
-  ps = publications_of (all_own s.keeper)
+  ps = own_publications (all_own s.keeper)
 
   carried : IsCarried usual_limits s
   carried = (all_well usual_limits window_is_steady.0 c s lived step).carried
@@ -174,7 +174,7 @@ module _ (s : Story) (lived : Lived usual_limits s.keeper.client s) (step : IsIn
 
 -- ---- every life
 
-pub promise_kept : (s : Story) → Lived usual_limits s.keeper.client s → (published : List Publication) (state : ClientState) → publications_of (all_own s.keeper) ≡ published
+pub promise_kept : (s : Story) → Lived usual_limits s.keeper.client s → (published : List Publication) (state : ClientState) → own_publications (all_own s.keeper) ≡ published
     → history.KeeperStandsFor s.keeper state → accepted_once state.accepted ≡ accepted_on s.connections → ((x : ConnectionName) → connects_of x s.past ≤ 1)
     → EndsWithTheSession usual_limits s.past → PromiseBy s.keeper.client s.connections published s.past state
 promise_kept s lived published state same stands shown names ended =

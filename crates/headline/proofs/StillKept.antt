@@ -10,9 +10,9 @@ use Rattle.byte_world.specs.client_base.declared.unacknowledged_publication.Unac
 use Rattle.byte_world.specs.exactly_once.Items.{SenderItem, value_of}
 use Rattle.byte_world.specs.exactly_once.HandshakeInvariant.{IsNew}
 use Rattle.byte_world.specs.lists.Lists.{Each}
-use Rattle.byte_world.specs.exactly_once.Carried.{is_two, publication_in, publications_of}
+use Rattle.byte_world.specs.exactly_once.Carried.{is_two, own_publication, own_publications}
 use Rattle.byte_world.specs.exactly_once.Inside.Projections.{items_of_own}
-use Rattle.byte_world.specs.exactly_once.Inside.Shape.{AreNumbered}
+use Rattle.byte_world.specs.exactly_once.Inside.Shape.{AreNumberedFrom}
 use Rattle.headline.specs.Shown.{at_two, unacknowledged_of}
 
 -- ---- of a handshake
@@ -75,17 +75,17 @@ kept_is keeper state s = ap₂ (λ (a b : List UnacknowledgedPublication). map p
 
 -- these are in the whole from number n on
 abbrev pub StandFrom : List Publication → ℕ → List Own → Type 0
-StandFrom ps n own = (j : ℕ) → slice_get ps (n + j) ≡ slice_get (publications_of own) j
+StandFrom ps n own = (j : ℕ) → slice_get ps (n + j) ≡ slice_get (own_publications own) j
 
 pub after : (ps : List Publication) (n : ℕ) (o : Own) (own : List Own) → StandFrom ps n (o ∷ own) → StandFrom ps (suc n) own
 after ps n o own stand j =
     let same : n + suc j ≡ suc n + j = omega arith in
-    subst (λ (m : ℕ). slice_get ps m ≡ slice_get (publications_of own) j) same (stand (suc j))
+    subst (λ (m : ℕ). slice_get ps m ≡ slice_get (own_publications own) j) same (stand (suc j))
 
-pub first_is : (ps : List Publication) (n k : ℕ) (o : Own) (own : List Own) → k ≡ n → StandFrom ps n (o ∷ own) → slice_get ps k ≡ Some (publication_in o)
+pub first_is : (ps : List Publication) (n k : ℕ) (o : Own) (own : List Own) → k ≡ n → StandFrom ps n (o ∷ own) → slice_get ps k ≡ Some (own_publication o)
 first_is ps n k o own e stand =
     let same : n + 0 ≡ k = omega (arith, e) in
-    subst (λ (m : ℕ). slice_get ps m ≡ Some (publication_in o)) same (stand 0)
+    subst (λ (m : ℕ). slice_get ps m ≡ Some (own_publication o)) same (stand 0)
 
 abbrev pub some_of : List Publication → List (Option Publication)
 some_of = map (λ (p : Publication). Some p)
@@ -96,20 +96,20 @@ one_two get true item k p items ps value is more = ap₂ (λ (x : Option Publica
 one_two get false item k p items ps value is more = more
 
 -- all that it published at QoS 2
-pub two_numbered : (ps : List Publication) (n : ℕ) (own : List Own) → AreNumbered n own → StandFrom ps n own
-    → map (slice_get ps) (map value_of (items_of_own own)) ≡ some_of (at_two (publications_of own))
+pub two_numbered : (ps : List Publication) (n : ℕ) (own : List Own) → AreNumberedFrom n own → StandFrom ps n own
+    → map (slice_get ps) (map value_of (items_of_own own)) ≡ some_of (at_two (own_publications own))
 two_numbered ps n [] h stand = refl
 two_numbered ps n (Own.Unsent k p id ∷ own) h stand =
-    one_two (slice_get ps) (is_two p.qos) (SenderItem.Waits k) k p (items_of_own own) (at_two (publications_of own)) refl (first_is ps n k (Own.Unsent k p id) own h.0 stand)
+    one_two (slice_get ps) (is_two p.qos) (SenderItem.Waits k) k p (items_of_own own) (at_two (own_publications own)) refl (first_is ps n k (Own.Unsent k p id) own h.0 stand)
     (two_numbered ps (suc n) own h.1 (after ps n (Own.Unsent k p id) own stand))
 two_numbered ps n (Own.Sent k p id ∷ own) h stand =
-    one_two (slice_get ps) (is_two p.qos) (SenderItem.Sent k id) k p (items_of_own own) (at_two (publications_of own)) refl (first_is ps n k (Own.Sent k p id) own h.0 stand)
+    one_two (slice_get ps) (is_two p.qos) (SenderItem.Sent k id) k p (items_of_own own) (at_two (own_publications own)) refl (first_is ps n k (Own.Sent k p id) own h.0 stand)
     (two_numbered ps (suc n) own h.1 (after ps n (Own.Sent k p id) own stand))
 two_numbered ps n (Own.Released k p id ∷ own) h stand =
-    one_two (slice_get ps) (is_two p.qos) (SenderItem.Released k id) k p (items_of_own own) (at_two (publications_of own)) refl (first_is ps n k (Own.Released k p id) own h.0 stand)
+    one_two (slice_get ps) (is_two p.qos) (SenderItem.Released k id) k p (items_of_own own) (at_two (own_publications own)) refl (first_is ps n k (Own.Released k p id) own h.0 stand)
     (two_numbered ps (suc n) own h.2 (after ps n (Own.Released k p id) own stand))
 two_numbered ps n (Own.Done k p ∷ own) h stand =
-    one_two (slice_get ps) (is_two p.qos) (SenderItem.Finished k) k p (items_of_own own) (at_two (publications_of own)) refl (first_is ps n k (Own.Done k p) own h.0 stand)
+    one_two (slice_get ps) (is_two p.qos) (SenderItem.Finished k) k p (items_of_own own) (at_two (own_publications own)) refl (first_is ps n k (Own.Done k p) own h.0 stand)
     (two_numbered ps (suc n) own h.1 (after ps n (Own.Done k p) own stand))
 
 -- one that it keeps, and one that it does not
@@ -124,7 +124,7 @@ none_kept : (get : ℕ → Option Publication) (b : Bool) (item : SenderItem ℕ
 none_kept get true item items ps kept more = ap (map get) kept ∙ more
 none_kept get false item items ps kept more = more
 
-kept_numbered : (ps : List Publication) (n : ℕ) (own : List Own) → AreNumbered n own → StandFrom ps n own
+kept_numbered : (ps : List Publication) (n : ℕ) (own : List Own) → AreNumberedFrom n own → StandFrom ps n own
     → map (slice_get ps) (kept_values (items_of_own own)) ≡ some_of (at_two (kept_own own))
 kept_numbered ps n [] h stand = refl
 kept_numbered ps n (Own.Unsent k p id ∷ own) h stand =
@@ -142,13 +142,13 @@ kept_numbered ps n (Own.Done k p ∷ own) h stand =
 
 -- ---- both
 
-pub whole_stands : (own : List Own) → StandFrom (publications_of own) 0 own
-whole_stands own j = let same : 0 + j ≡ j = omega arith in ap (slice_get (publications_of own)) same
+pub whole_stands : (own : List Own) → StandFrom (own_publications own) 0 own
+whole_stands own j = let same : 0 + j ≡ j = omega arith in ap (slice_get (own_publications own)) same
 
-pub two_published : (own : List Own) → AreNumbered 0 own → map (slice_get (publications_of own)) (map value_of (items_of_own own)) ≡ some_of (at_two (publications_of own))
-two_published own numbered = two_numbered (publications_of own) 0 own numbered (whole_stands own)
+pub two_published : (own : List Own) → AreNumberedFrom 0 own → map (slice_get (own_publications own)) (map value_of (items_of_own own)) ≡ some_of (at_two (own_publications own))
+two_published own numbered = two_numbered (own_publications own) 0 own numbered (whole_stands own)
 
-pub two_kept : (keeper : Keeper) (state : ClientState) → history.KeeperStandsFor keeper state → AreNumbered 0 keeper.own
-    → map (slice_get (publications_of keeper.own)) (kept_values (items_of_own keeper.own)) ≡ some_of (at_two (unacknowledged_of state))
+pub two_kept : (keeper : Keeper) (state : ClientState) → history.KeeperStandsFor keeper state → AreNumberedFrom 0 keeper.own
+    → map (slice_get (own_publications keeper.own)) (kept_values (items_of_own keeper.own)) ≡ some_of (at_two (unacknowledged_of state))
 two_kept keeper state s numbered =
-    kept_numbered (publications_of keeper.own) 0 keeper.own numbered (whole_stands keeper.own) ∙ ap (λ (l : List Publication). some_of (at_two l)) (sym (kept_is keeper state s))
+    kept_numbered (own_publications keeper.own) 0 keeper.own numbered (whole_stands keeper.own) ∙ ap (λ (l : List Publication). some_of (at_two l)) (sym (kept_is keeper state s))

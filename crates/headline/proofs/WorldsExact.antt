@@ -10,7 +10,7 @@ use Rattle.byte_world.specs.broker_spec.Place.{Client, Past}
 use Rattle.byte_world.specs.client_base.History as history
 use Rattle.byte_world.specs.client_base.Keeper.{Keeper, all_own}
 use Rattle.byte_world.specs.client_base.State.{ClientState}
-use Rattle.byte_world.specs.exactly_once.Carried.{publications_of}
+use Rattle.byte_world.specs.exactly_once.Carried.{own_publications}
 use Rattle.byte_world.specs.exactly_once.Unexpelled.{IsUnexpelled}
 use Rattle.byte_world.proofs.of_exactly_once.sessions.FirstSession.{unexpelled_in_step}
 use Rattle.byte_world.proofs.of_snapshots.PastsAgree.{has_agreed}
@@ -86,7 +86,7 @@ promise_untaken c connections others published past state same p =
 
 -- what is promised for a client by what it shows
 promised : {nodes : ℕ} {config : Config} {cs : List Client} → ClientsAreApart cs → (w : World) (went : GroupTrace nodes config w.group) (s : GoesBeside nodes config cs w went) (agreed : List Command) → IsAgreedSo s.so agreed
-    → (published : List Publication) (i : ℕ) (c : ClientPipes) (state : ClientState) → slice_get w.clients i ≡ Some c → publications_of (all_own c.keeper) ≡ published → IsShownBy c state
+    → (published : List Publication) (i : ℕ) (c : ClientPipes) (state : ClientState) → slice_get w.clients i ≡ Some c → own_publications (all_own c.keeper) ≡ published → IsShownBy c state
     → Promise c.connections published agreed state
 promised apart w went s agreed is published i c state at said shown =
     let h = lived_beside apart w went s agreed is i c at in
@@ -94,7 +94,7 @@ promised apart w went s agreed is published i c state at said shown =
     subst (λ (d : Client). PromiseBy d c.connections published (past_of usual_limits agreed) state) (ap (λ (k : Keeper). k.client) h.keeper ∙ sym shown.keeper.client)
     (subst (λ (past : Past). PromiseBy h.story.keeper.client c.connections published past state) h.past
     (promise_untaken h.story.keeper.client h.story.connections c.connections published h.story.past state h.connections
-    (promise_kept h.story h.lived published state (ap (λ (k : Keeper). publications_of (all_own k)) h.keeper ∙ said) (subst (λ (k : Keeper). history.KeeperStandsFor k state) (sym h.keeper) shown.keeper)
+    (promise_kept h.story h.lived published state (ap (λ (k : Keeper). own_publications (all_own k)) h.keeper ∙ said) (subst (λ (k : Keeper). history.KeeperStandsFor k state) (sym h.keeper) shown.keeper)
     (shown.accepted ∙ sym (same_accepted_on h.story.connections c.connections h.connections))
     (λ x. subst (λ (past : Past). connects_of x past ≤ 1) (sym h.past) (exact.names x)) (subst (EndsWithTheSession usual_limits) (sym h.past) exact.sessions))))
 

@@ -8,7 +8,7 @@ use Rattle.byte_world.specs.broker_spec.Place.{Client, Past}
 use Rattle.byte_world.specs.broker_spec.Readings.{publication_in}
 use Rattle.byte_world.specs.broker_spec.Times.{entries_of}
 use Rattle.byte_world.specs.client_base.State.{ClientState}
-use Rattle.byte_world.specs.exactly_once.Acceptance.{is_released, two_entries}
+use Rattle.byte_world.specs.exactly_once.Acceptance.{is_entry_released, two_entries}
 use Rattle.byte_world.specs.exactly_once.InStep.{IsFirstSession}
 use Rattle.headline.specs.Promise.{PromiseInStep}
 use Rattle.headline.specs.Shown.{at_two, new_of, unacknowledged_of}
@@ -29,7 +29,7 @@ pub record PromiseOfOne (c : Client) (published : List Publication) (past : Past
   pub others : List Entry
   pub entries : two_entries (entries_of usual_limits past c) ≡ prefix ++ others
   pub accepted : accepted_once state.accepted ≡ map publication_in prefix
-  pub rest : Each (λ (entry : Entry). is_released entry ≡ false) others
+  pub rest : Each (λ (entry : Entry). is_entry_released entry ≡ false) others
 
 -- while a client's first session lasts, its promise over sessions says all of the promise for one
 abbrev pub OneSessionIsPromised : Type 0

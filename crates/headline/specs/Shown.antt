@@ -23,9 +23,9 @@ use Rattle.byte_world.specs.broker_spec.Received.{is_exactly_once}
 use Rattle.byte_world.specs.client_base.State.{ClientState}
 use Rattle.byte_world.specs.client_base.declared.unacknowledged_publication.UnacknowledgedPublication.{UnacknowledgedPublication}
 use Rattle.byte_world.specs.exactly_once.Carried.{is_two}
-use Rattle.byte_world.specs.exactly_once.Acceptance.{is_released, two_entries}
+use Rattle.byte_world.specs.exactly_once.Acceptance.{is_entry_released, two_entries}
 use Rattle.byte_world.specs.exactly_once.InStep.{entries_in, starts_of}
-use Rattle.byte_world.specs.exactly_once.Lives.{IsRising}
+use Rattle.byte_world.specs.exactly_once.Lives.{NumbersRise}
 use Rattle.byte_world.specs.Accepted.{accepted_once}
 
 -- ---- of its publications
@@ -66,7 +66,7 @@ pub record IsAnswered (past : Past) (c : Client) (packet : Packet) (place : Plac
 -- new ones are in the order in which the client published them, each once: their numbers rise
 pub record AreNewInOrder (published new : List Publication) : Type 0 where
   pub numbers : List ℕ
-  pub rise : IsRising numbers
+  pub rise : NumbersRise numbers
   pub are : map (slice_get published) numbers ≡ map (λ (p : Publication). Some p) new
 
 -- no publication is skipped: those that are not yet new are unacknowledged, and besides them only
@@ -85,7 +85,7 @@ pub record HasPrefix (c : Client) (past : Past) (start : ℕ) : Type 0 where
   pub prefix : List Entry
   pub others : List Entry
   pub entries : two_entries (entries_in usual_limits past c start) ≡ prefix ++ others
-  pub rest : Each (λ (entry : Entry). is_released entry ≡ false) others
+  pub rest : Each (λ (entry : Entry). is_entry_released entry ≡ false) others
 
 -- What the client accepted at QoS 2 is, session after session, a prefix of the QoS 2 entries of
 -- each, by the place at which it began.

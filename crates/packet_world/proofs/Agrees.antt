@@ -15,7 +15,7 @@ use Rattle.exactly_once.specs.client_base.Keeper.{Written}
 use Rattle.exactly_once.specs.client_base.Connected.{opens}
 use Rattle.exactly_once.specs.Sides.{ClientConnection}
 use Rattle.exactly_once.specs.Story.{Story}
-use Rattle.exactly_once.specs.StoryCommands.{any_named, is_packet_of, counted_at, command_of, names_client}
+use Rattle.exactly_once.specs.StoryCommands.{any_named, is_packet_of, with_one_counted, command_of, names_client}
 use Rattle.exactly_once.specs.Lives.{Lived}
 use Rattle.exactly_once.specs.Lives.Lived.{goes_on, is_expelled}
 use Rattle.exactly_once.specs.Story.StoryStep.{takes, others_take}
@@ -113,7 +113,7 @@ not_theirs c d κ v limits past untouched next other = by κ.taken refl
 pub keeps_agreed : (w : World) (i j : ℕ) (c : ClientEnds) (κ : ClientConnection) (e : End) (v : Written) → Holds w → HasPipe w i c j κ e → κ.taken < e.read → slice_get κ.written κ.taken ≡ Some v
     → Holds (record {
       agreed = w.agreed ++ command_of κ.name κ.taken v.packet ∷ [];
-      clients = set w.clients i (record c { connections = counted_at j c.connections });
+      clients = set w.clients i (record c { connections = with_one_counted j c.connections });
     })
 keeps_agreed w i j c κ e v h pipe less next =
     record {
@@ -128,7 +128,7 @@ keeps_agreed w i j c κ e v h pipe less next =
     command = command_of κ.name κ.taken v.packet
 
     later : ClientEnds
-    later = record c { connections = counted_at j c.connections }
+    later = record c { connections = with_one_counted j c.connections }
 
     past : Past
     past = past_of usual_limits w.agreed

@@ -15,7 +15,7 @@ use Rattle.snapshots.specs.lists.Lists.{In, IsPrefixOf}
 use Rattle.snapshots.specs.lists.Lists.In.{here, there}
 use Rattle.snapshots.proofs.of_lists.Prefixes.{prefix_same, prefix_then}
 use Rattle.exactly_once.specs.Sends.{sends_to, put_to}
-use Rattle.exactly_once.specs.StoryCommands.{count_of, is_packet_of}
+use Rattle.exactly_once.specs.StoryCommands.{packet_count, is_packet_of}
 use Rattle.exactly_once.proofs.places.Counts.{counted_here, current_counted}
 
 -- ---- one more command
@@ -59,22 +59,22 @@ put_front limits xs ys x front =
 abbrev pub of_name : ConnectionName → Command → Bool
 of_name x command = is_packet_of command x
 
-count_from : (limits : Limits) (x : ConnectionName) (past : Past) (xs : List Command) → count_of x (past_from limits past xs) ≡ count_of x past + length (filter (of_name x) xs)
+count_from : (limits : Limits) (x : ConnectionName) (past : Past) (xs : List Command) → packet_count x (past_from limits past xs) ≡ packet_count x past + length (filter (of_name x) xs)
 unfolding past_from
 count_from limits x past [] = omega arith
 count_from limits x past (command ∷ xs) = by (is_packet_of command x) refl (count_from limits x (place_of limits past command ∷ past) xs)
   where
-    by : (b : Bool) → is_packet_of command x ≡ b → count_of x (past_from limits (place_of limits past command ∷ past) xs) ≡ count_of x (place_of limits past command ∷ past) + length (filter (of_name x) xs)
-        → count_of x (past_from limits (place_of limits past command ∷ past) xs) ≡ count_of x past + length (if b then command ∷ filter (of_name x) xs else filter (of_name x) xs)
+    by : (b : Bool) → is_packet_of command x ≡ b → packet_count x (past_from limits (place_of limits past command ∷ past) xs) ≡ packet_count x (place_of limits past command ∷ past) + length (filter (of_name x) xs)
+        → packet_count x (past_from limits (place_of limits past command ∷ past) xs) ≡ packet_count x past + length (if b then command ∷ filter (of_name x) xs else filter (of_name x) xs)
     by true e ih =
-        let one : count_of x (place_of limits past command ∷ past) ≡ suc (count_of x past) = ap (λ b. if b then suc (count_of x past) else count_of x past) e in
+        let one : packet_count x (place_of limits past command ∷ past) ≡ suc (packet_count x past) = ap (λ b. if b then suc (packet_count x past) else packet_count x past) e in
         omega (arith, ih, one)
     by false e ih =
-        let none : count_of x (place_of limits past command ∷ past) ≡ count_of x past = ap (λ b. if b then suc (count_of x past) else count_of x past) e in
+        let none : packet_count x (place_of limits past command ∷ past) ≡ packet_count x past = ap (λ b. if b then suc (packet_count x past) else packet_count x past) e in
         omega (arith, ih, none)
 
 -- they are counted as they are in the list
-pub counted_in : (limits : Limits) (x : ConnectionName) (xs : List Command) → count_of x (past_of limits xs) ≡ length (filter (of_name x) xs)
+pub counted_in : (limits : Limits) (x : ConnectionName) (xs : List Command) → packet_count x (past_of limits xs) ≡ length (filter (of_name x) xs)
 counted_in limits x xs = let c = count_from limits x [] xs in omega (arith, c)
 
 -- ---- nothing is sent to a connection of which no packet is in the list
@@ -97,13 +97,13 @@ none_of [] h = refl
 none_of (x ∷ xs) h = absurd (h x here)
 
 -- at a place below which, and at which, there is no packet of it
-none_sent : (limits : Limits) (past : Past) (command : Command) (x : ConnectionName) → count_of x (place_of limits past command ∷ past) ≡ 0 → sends_to x (answers_of limits past command) ≡ []
+none_sent : (limits : Limits) (past : Past) (command : Command) (x : ConnectionName) → packet_count x (place_of limits past command ∷ past) ≡ 0 → sends_to x (answers_of limits past command) ≡ []
 none_sent limits past command x none = none_of (sends_to x (answers_of limits past command)) (λ p i. by (sent_at limits past command x p (in_sent x p (answers_of limits past command) i)))
   where
-    still : count_of x past ≤ count_of x (place_of limits past command ∷ past)
+    still : packet_count x past ≤ packet_count x (place_of limits past command ∷ past)
     still = by_test (is_packet_of command x)
       where
-        by_test : (b : Bool) → count_of x past ≤ (if b then suc (count_of x past) else count_of x past)
+        by_test : (b : Bool) → packet_count x past ≤ (if b then suc (packet_count x past) else packet_count x past)
         by_test true = omega arith
         by_test false = omega arith
 
@@ -116,12 +116,12 @@ none_sent limits past command x none = none_of (sends_to x (answers_of limits pa
         let more = still in
         omega (arith, some, none, more)
 
-nothing_from : (limits : Limits) (past : Past) (xs : List Command) (x : ConnectionName) → put_to limits past x ≡ [] → count_of x (past_from limits past xs) ≡ 0 → put_to limits (past_from limits past xs) x ≡ []
+nothing_from : (limits : Limits) (past : Past) (xs : List Command) (x : ConnectionName) → put_to limits past x ≡ [] → packet_count x (past_from limits past xs) ≡ 0 → put_to limits (past_from limits past xs) x ≡ []
 unfolding past_from
 nothing_from limits past [] x e none = e
 nothing_from limits past (command ∷ xs) x e none =
     let sum = count_from limits x (place_of limits past command ∷ past) xs in
-    let here : count_of x (place_of limits past command ∷ past) ≡ 0 = omega (arith, sum, none) in
+    let here : packet_count x (place_of limits past command ∷ past) ≡ 0 = omega (arith, sum, none) in
     nothing_from limits (place_of limits past command ∷ past) xs x
     (put_place limits past command x ∙ ap₂ (λ a b. a ++ b) e (none_sent limits past command x here)) none
 
@@ -129,5 +129,5 @@ empty_put : (limits : Limits) (x : ConnectionName) → put_to limits [] x ≡ []
 unfolding put_to
 empty_put limits x = refl
 
-pub nothing_put : (limits : Limits) (xs : List Command) (x : ConnectionName) → count_of x (past_of limits xs) ≡ 0 → put_to limits (past_of limits xs) x ≡ []
+pub nothing_put : (limits : Limits) (xs : List Command) (x : ConnectionName) → packet_count x (past_of limits xs) ≡ 0 → put_to limits (past_of limits xs) x ≡ []
 nothing_put limits xs x none = nothing_from limits [] xs x (empty_put limits x) none

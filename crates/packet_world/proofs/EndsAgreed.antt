@@ -11,7 +11,7 @@ use Rattle.snapshots.specs.lists.Lists.{Each}
 use Rattle.exactly_once.specs.client_base.Keeper.{Written}
 use Rattle.exactly_once.specs.Sends.{put_to}
 use Rattle.exactly_once.specs.Sides.{ClientConnection}
-use Rattle.exactly_once.specs.StoryCommands.{any_named, is_packet_of, counted_at, command_of}
+use Rattle.exactly_once.specs.StoryCommands.{any_named, is_packet_of, with_one_counted, command_of}
 use Rattle.exactly_once.specs.Inside.Shape.{NamesApart}
 use Rattle.exactly_once.proofs.publishing.Last.{none_named, each_there}
 use Rattle.exactly_once.proofs.publishing.kept.KeepsCounts.{packet_of}
@@ -89,7 +89,7 @@ next_agreed agreed κ e v h less next =
 -- of one of these connections
 pub one_agreed : (agreed : List Command) (connections : List ClientConnection) (ends : List End) (j : ℕ) (κ : ClientConnection) (e : End) (v : Written) → NamesApart connections → PipesHold agreed connections ends
     → slice_get connections j ≡ Some κ → slice_get ends j ≡ Some e → κ.taken < e.read → slice_get κ.written κ.taken ≡ Some v
-    → PipesHold (agreed ++ command_of κ.name κ.taken v.packet ∷ []) (counted_at j connections) ends
+    → PipesHold (agreed ++ command_of κ.name κ.taken v.packet ∷ []) (with_one_counted j connections) ends
 one_agreed agreed [] ends j κ e v apart h a b less next = cc
 one_agreed agreed (μ ∷ connections) [] j κ e v apart h a b less next = absurd h
 one_agreed agreed (μ ∷ connections) (f ∷ ends) zero κ e v apart h a b less next =

@@ -13,7 +13,7 @@ use Rattle.exactly_once.specs.client_base.Handled.{handled}
 use Rattle.exactly_once.specs.Sends.{put_to}
 use Rattle.exactly_once.specs.Sides.{ClientConnection}
 use Rattle.exactly_once.specs.Story.{StoryStep}
-use Rattle.exactly_once.specs.StoryCommands.{any_named, count_of}
+use Rattle.exactly_once.specs.StoryCommands.{any_named, packet_count}
 use Rattle.exactly_once.specs.Lives.{Lived}
 use Rattle.exactly_once.specs.Lives.Lived.{goes_on}
 use Rattle.exactly_once.specs.Story.StoryStep.{receives, opens_anew}
@@ -53,7 +53,7 @@ nothing_before : {X : Type 0} (xs ys : List X) → IsPrefixOf xs ys → ys ≡ [
 nothing_before [] ys front e = refl
 nothing_before (x ∷ xs) ys front e = let none : [] ≡ x ∷ (xs ++ front.rest) = sym e ∙ front.is in cc
 
-pub fresh_uncounted : (w : World) (x : ConnectionName) → Holds w → IsFresh x w.clients → count_of x (past_of usual_limits w.agreed) ≡ 0
+pub fresh_uncounted : (w : World) (x : ConnectionName) → Holds w → IsFresh x w.clients → packet_count x (past_of usual_limits w.agreed) ≡ 0
 fresh_uncounted w x h fresh = counted_in usual_limits x w.agreed ∙ ap length (h.fresh x fresh)
 
 opened_pipe : (w : World) (d : Client) (x : ConnectionName) (seen : ℕ) → Holds w → IsFresh x w.clients → seen ≤ length w.agreed → PipeHolds w.agreed (new_connection d x) (new_end seen)

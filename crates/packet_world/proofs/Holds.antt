@@ -8,7 +8,7 @@ use Rattle.exactly_once.specs.broker_spec.EndingLaws.{connects_of}
 use Rattle.exactly_once.specs.broker_spec.declared.command.Command.{Command}
 use Rattle.snapshots.specs.lists.Lists.{Each}
 use Rattle.exactly_once.specs.Story.{Story, no_story}
-use Rattle.exactly_once.specs.StoryCommands.{count_of}
+use Rattle.exactly_once.specs.StoryCommands.{packet_count}
 use Rattle.exactly_once.specs.Lives.{Lived}
 use Rattle.exactly_once.specs.Lives.Lived.{opens}
 use Rattle.packet_world.specs.World.{ClientEnds, World, new_client, opening, story_of, ClientsAreApart, IsFresh, with_client}
@@ -26,7 +26,7 @@ HasPipes agreed c = PipesHold agreed c.connections c.ends
 
 -- a name has one Connect at most, and none while no packet of it is there
 abbrev pub IsOnce : Past → ConnectionName → Type 0
-IsOnce past x = (count_of x past ≡ 0 → connects_of x past ≡ 0) × (connects_of x past ≤ 1)
+IsOnce past x = (packet_count x past ≡ 0 → connects_of x past ≡ 0) × (connects_of x past ≤ 1)
 
 pub record Holds (w : World) : Type 0 where
   pub told : Each (IsTold w.agreed) w.clients

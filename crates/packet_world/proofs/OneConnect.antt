@@ -10,7 +10,7 @@ use Rattle.exactly_once.specs.broker_spec.EndingLaws.{is_connect_of, connects_of
 use Rattle.exactly_once.specs.broker_spec.declared.command.Command.{Command}
 use Rattle.exactly_once.specs.broker_spec.declared.command.Command.TheVariants as commands
 use Rattle.exactly_once.proofs.of_broker_spec.ConnectionNames.{same_name, same_itself}
-use Rattle.exactly_once.specs.StoryCommands.{is_packet_of, count_of, command_of}
+use Rattle.exactly_once.specs.StoryCommands.{is_packet_of, packet_count, command_of}
 use Rattle.packet_world.proofs.Lists.{filter_push}
 use Rattle.packet_world.proofs.Answers.{of_name, past_push}
 use Rattle.packet_world.proofs.EndsAgreed.{command_is_of}
@@ -31,7 +31,7 @@ no_connect x (commands.Expel d) none e = both_ways false refl e
 pub once_other : (past : Past) (command : Command) (x : ConnectionName) → is_packet_of command x ≡ false → IsOnce past x → IsOnce (place_of usual_limits past command ∷ past) x
 once_other past command x none o =
     let few = o.1 in
-    let counts : count_of x (place_of usual_limits past command ∷ past) ≡ count_of x past = ap (λ b. if b then suc (count_of x past) else count_of x past) none in
+    let counts : packet_count x (place_of usual_limits past command ∷ past) ≡ packet_count x past = ap (λ b. if b then suc (packet_count x past) else packet_count x past) none in
     (λ e. by (is_connect_of x command) refl (o.0 (sym counts ∙ e)), less (is_connect_of x command) refl few)
   where
     by : (b : Bool) → is_connect_of x command ≡ b → connects_of x past ≡ 0 → (if b then 1 else 0) + connects_of x past ≡ 0
@@ -47,11 +47,11 @@ later_connect x y n (packets.Connect q) = refl
 later_connect x y n _ = refl
 
 -- the name whose command it is, if this many of it are there
-pub once_own : (past : Past) (x : ConnectionName) (n : ℕ) (packet : Packet) → count_of x past ≡ n → IsOnce past x → IsOnce (place_of usual_limits past (command_of x n packet) ∷ past) x
+pub once_own : (past : Past) (x : ConnectionName) (n : ℕ) (packet : Packet) → packet_count x past ≡ n → IsOnce past x → IsOnce (place_of usual_limits past (command_of x n packet) ∷ past) x
 once_own past x n packet counted o =
     let mine : is_packet_of (command_of x n packet) x ≡ true = command_is_of x x n packet ∙ same_itself x in
-    let counts : count_of x (place_of usual_limits past (command_of x n packet) ∷ past) ≡ suc (count_of x past) = ap (λ b. if b then suc (count_of x past) else count_of x past) mine in
-    (λ e. absurd (never (count_of x past) (sym counts ∙ e)), less n counted)
+    let counts : packet_count x (place_of usual_limits past (command_of x n packet) ∷ past) ≡ suc (packet_count x past) = ap (λ b. if b then suc (packet_count x past) else packet_count x past) mine in
+    (λ e. absurd (never (packet_count x past) (sym counts ∙ e)), less n counted)
   where
     never : (k : ℕ) → suc k ≡ 0 → ⊥
     never k e = cc
@@ -60,7 +60,7 @@ once_own past x n packet counted o =
     first true none = omega (arith, none)
     first false none = omega (arith, none)
 
-    less : (m : ℕ) → count_of x past ≡ m → (if is_connect_of x (command_of x m packet) then 1 else 0) + connects_of x past ≤ 1
+    less : (m : ℕ) → packet_count x past ≡ m → (if is_connect_of x (command_of x m packet) then 1 else 0) + connects_of x past ≤ 1
     less zero e = first (is_connect_of x (command_of x zero packet)) (o.0 e)
     less (suc m) e =
         let few = o.1 in

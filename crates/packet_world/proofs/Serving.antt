@@ -12,7 +12,7 @@ use Rattle.snapshots.proofs.of_lists.Members.{in_right}
 use Rattle.snapshots.proofs.of_lists.Places.{get_set, get_set_other}
 use Rattle.exactly_once.specs.client_base.Keeper.{Written}
 use Rattle.exactly_once.specs.Sides.{ClientConnection}
-use Rattle.exactly_once.specs.StoryCommands.{is_packet_of, counted_at, command_of}
+use Rattle.exactly_once.specs.StoryCommands.{is_packet_of, with_one_counted, command_of}
 use Rattle.packet_world.specs.World.{End, ClientEnds, World, ClientsAreApart}
 use Rattle.packet_world.specs.Steps.{HasPipe, Reached, is_of_connection}
 use Rattle.packet_world.specs.Steps.Goes.{agrees, agrees_else}
@@ -31,7 +31,7 @@ abbrev after : World → ℕ → ℕ → ClientEnds → ClientConnection → Wri
 after w i j c κ v =
     record {
       agreed = w.agreed ++ command_of κ.name κ.taken v.packet ∷ [];
-      clients = set w.clients i (record c { connections = counted_at j c.connections });
+      clients = set w.clients i (record c { connections = with_one_counted j c.connections });
     }
 
 some_is : {X : Type 0} (x y : X) → Some x ≡ Some y → x ≡ y
@@ -51,7 +51,7 @@ pipe_before : (w : World) (i j : ℕ) (c : ClientEnds) (κ : ClientConnection) (
 pipe_before w i j c κ v there' k l d μ f pipe = by (set_get w.clients i k c later d there' pipe.client)
   where
     later : ClientEnds
-    later = record c { connections = counted_at j c.connections }
+    later = record c { connections = with_one_counted j c.connections }
 
     by : ((k ≡ i) × (later ≡ d)) ⊎ ((k ≡ i → ⊥) × (slice_get w.clients k ≡ Some d)) → WasPipe w μ f
     by (inl (s, is)) =
@@ -72,7 +72,7 @@ pipe_after : (w : World) (i j : ℕ) (c : ClientEnds) (κ : ClientConnection) (v
 pipe_after w i j c κ v there' command of = by (same_or_other of.i i)
   where
     later : ClientEnds
-    later = record c { connections = counted_at j c.connections }
+    later = record c { connections = with_one_counted j c.connections }
 
     by : (of.i ≡ i) ⊎ (of.i ≡ i → ⊥) → IsOfPipe (after w i j c κ v) command
     by (inr other) =
@@ -165,7 +165,7 @@ comes_to cs (y ∷ rest) w later apart reached served is = by (cases_Bool (is_of
           reached = came.reached;
           agreed = came.agreed;
           clients = came.clients
-              ∙ map_set untaken w.clients of.i of.client (record of.client { connections = counted_at of.j of.client.connections }) of.pipe.client
+              ∙ map_set untaken w.clients of.i of.client (record of.client { connections = with_one_counted of.j of.client.connections }) of.pipe.client
               (ap (λ l. let z : ClientEnds = record of.client { connections = l } in z) (counted_untaken of.j of.client.connections));
         }
 

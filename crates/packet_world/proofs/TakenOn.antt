@@ -2,7 +2,7 @@
 use Rattle.std.proofs.Common.{◌≡◌, ℕ, zero, suc, List, [], ◌∷◌, map, set, Some, refl, ap, sym, ◌∙◌}
 use Rattle.std.specs.Prelude.{slice_get}
 use Rattle.exactly_once.specs.Sides.{ClientConnection}
-use Rattle.exactly_once.specs.StoryCommands.{counted_at}
+use Rattle.exactly_once.specs.StoryCommands.{with_one_counted}
 
 -- ---- one more of a connection's packets is taken: names and what was written stay
 
@@ -10,7 +10,7 @@ pub record IsKept (κ later : ClientConnection) : Type 0 where
   pub name : later.name ≡ κ.name
   pub written : later.written ≡ κ.written
 
-pub counted_back : (j k : ℕ) (connections : List ClientConnection) (later : ClientConnection) → slice_get (counted_at j connections) k ≡ Some later → (κ : ClientConnection) × (slice_get connections k ≡ Some κ) × IsKept κ later
+pub counted_back : (j k : ℕ) (connections : List ClientConnection) (later : ClientConnection) → slice_get (with_one_counted j connections) k ≡ Some later → (κ : ClientConnection) × (slice_get connections k ≡ Some κ) × IsKept κ later
 counted_back j k [] later e = cc
 counted_back zero zero (κ ∷ connections) later e =
     let same : record κ { taken = suc κ.taken } ≡ later = cc in
@@ -19,7 +19,7 @@ counted_back zero (suc k) (κ ∷ connections) later e = (later, e, record { nam
 counted_back (suc j) zero (κ ∷ connections) later e = (later, e, record { name = refl; written = refl })
 counted_back (suc j) (suc k) (κ ∷ connections) later e = counted_back j k connections later e
 
-pub counted_on : (j k : ℕ) (connections : List ClientConnection) (κ : ClientConnection) → slice_get connections k ≡ Some κ → (later : ClientConnection) × (slice_get (counted_at j connections) k ≡ Some later) × IsKept κ later
+pub counted_on : (j k : ℕ) (connections : List ClientConnection) (κ : ClientConnection) → slice_get connections k ≡ Some κ → (later : ClientConnection) × (slice_get (with_one_counted j connections) k ≡ Some later) × IsKept κ later
 counted_on j k [] κ e = cc
 counted_on zero zero (μ ∷ connections) κ e =
     let same : μ ≡ κ = cc in
@@ -28,7 +28,7 @@ counted_on zero (suc k) (μ ∷ connections) κ e = (κ, e, record { name = refl
 counted_on (suc j) zero (μ ∷ connections) κ e = (κ, e, record { name = refl; written = refl })
 counted_on (suc j) (suc k) (μ ∷ connections) κ e = counted_on j k connections κ e
 
-pub counted_untaken : (j : ℕ) (connections : List ClientConnection) → map (λ (κ : ClientConnection). record κ { taken = 0 }) (counted_at j connections) ≡ map (λ (κ : ClientConnection). record κ { taken = 0 }) connections
+pub counted_untaken : (j : ℕ) (connections : List ClientConnection) → map (λ (κ : ClientConnection). record κ { taken = 0 }) (with_one_counted j connections) ≡ map (λ (κ : ClientConnection). record κ { taken = 0 }) connections
 counted_untaken j [] = refl
 counted_untaken zero (κ ∷ connections) = refl
 counted_untaken (suc j) (κ ∷ connections) = ap (λ l. (let z : ClientConnection = record κ { taken = 0 } in z) ∷ l) (counted_untaken j connections)

@@ -13,7 +13,7 @@ use Rattle.exactly_once.specs.client_base.Handled.{handled, lost}
 use Rattle.exactly_once.specs.Sends.{sends_to}
 use Rattle.exactly_once.specs.Sides.{ClientConnection, Side}
 use Rattle.exactly_once.specs.Story.{Story, StoryStep}
-use Rattle.exactly_once.specs.StoryCommands.{command_of, counted_at}
+use Rattle.exactly_once.specs.StoryCommands.{command_of, with_one_counted}
 use Rattle.exactly_once.specs.Story.StoryStep.{takes, others_take, receives, opens_anew, loses, disconnects, publishes_one, subscribes, unsubscribes}
 use Rattle.packet_world.specs.World.{End, ClientEnds, World, new_end, story_of, opening, IsFresh, with_client}
 
@@ -105,7 +105,7 @@ pub data Goes (w : World) : World → Type 0 where
       slice_get κ.written κ.taken ≡ Some v →
       Goes w (record {
         agreed = w.agreed ++ command_of κ.name κ.taken v.packet ∷ [];
-        clients = set w.clients i (record c { connections = counted_at j c.connections });
+        clients = set w.clients i (record c { connections = with_one_counted j c.connections });
       })
   -- the loss of a connection, the start of a ballot, or an Expel comes next in the agreed list
   agrees_else : (command : Command) → is_of_connection command ≡ false →

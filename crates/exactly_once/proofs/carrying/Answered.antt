@@ -23,7 +23,7 @@ use Rattle.client_base.specs.lists.Lists.In.{here, there}
 use Rattle.client_base.proofs.of_lists.Members.{in_left, in_right, in_append}
 use Rattle.exactly_once.specs.Sides.{ClientConnection}
 use Rattle.exactly_once.specs.Story.{Story}
-use Rattle.exactly_once.specs.Carried.{carries, more_by, new_numbers, publications_of}
+use Rattle.exactly_once.specs.Carried.{carries, more_by, new_numbers, own_publications}
 use Rattle.exactly_once.specs.Headline.{IsAnsweredBy, IsTakenAt}
 use Rattle.exactly_once.proofs.Packets.{at_packet}
 use Rattle.exactly_once.proofs.carrying.PlacesSay.{is_again, Says, PlacesSay}
@@ -46,11 +46,11 @@ pub answered_is_new : (limits : Limits) (s : Story) → IsCarried limits s → (
     → carries s.connections place.command below ≡ Some k → IsAnsweredBy limits place below x (packets.Pubrec id) → In k (new_numbers s.connections s.past)
 answered_is_new limits s c place below x id k stands e i =
     let publish = carried_publish s.connections place.command below k e in
-    let says = says_at s.keeper.client (publications_of (all_own s.keeper)) s.connections s.past place below c.places stands in
+    let says = says_at s.keeper.client (own_publications (all_own s.keeper)) s.connections s.past place below c.places stands in
     let a = acknowledged_at limits place below x publish.on publish.publish (packets.Pubrec id) publish.is refl i in
     subst (λ (z : Past). In k (new_numbers s.connections z)) (sym stands.is) (new_later s.connections k stands.later (place ∷ below) (by says publish.on publish.publish publish.is a.0 (pubrec_two x publish.on id publish.publish.delivery a.1)))
   where
-    by : Says s.keeper.client (publications_of (all_own s.keeper)) s.connections place below → (y : ConnectionName) (p : Publish) → place.command ≡ commands.Packet y (packets.Publish p)
+    by : Says s.keeper.client (own_publications (all_own s.keeper)) s.connections place below → (y : ConnectionName) (p : Publish) → place.command ≡ commands.Packet y (packets.Publish p)
         → (is_again place.mark ≡ true) ⊎ ((d : Client) × (place.mark ≡ Mark.Taken d)) → is_exactly_once p.delivery ≡ true → In k (new_numbers s.connections (place ∷ below))
     by says y p is (inl again) two = in_left (more_by (is_new place.command place.mark) (carries s.connections place.command below)) (says.known k e again)
     by says y p is (inr (d, taken)) two =
@@ -62,11 +62,11 @@ pub acknowledged_is_taken : (limits : Limits) (s : Story) → IsCarried limits s
     → carries s.connections place.command below ≡ Some k → IsAnsweredBy limits place below x (packets.Puback id) → IsTakenAt s k place below
 acknowledged_is_taken limits s c place below x id k stands e i =
     let publish = carried_publish s.connections place.command below k e in
-    let says = says_at s.keeper.client (publications_of (all_own s.keeper)) s.connections s.past place below c.places stands in
+    let says = says_at s.keeper.client (own_publications (all_own s.keeper)) s.connections s.past place below c.places stands in
     let a = acknowledged_at limits place below x publish.on publish.publish (packets.Puback id) publish.is refl i in
     record { stands = stands; carried = e; taken = by says publish.on publish.publish publish.is a.0 (puback_one x publish.on id publish.publish.delivery a.1) }
   where
-    by : Says s.keeper.client (publications_of (all_own s.keeper)) s.connections place below → (y : ConnectionName) (p : Publish) → place.command ≡ commands.Packet y (packets.Publish p)
+    by : Says s.keeper.client (own_publications (all_own s.keeper)) s.connections place below → (y : ConnectionName) (p : Publish) → place.command ≡ commands.Packet y (packets.Publish p)
         → (is_again place.mark ≡ true) ⊎ ((d : Client) × (place.mark ≡ Mark.Taken d)) → is_exactly_once p.delivery ≡ false → place.mark ≡ Mark.Taken s.keeper.client
     by says y p is (inr (d, taken)) one = taken ∙ ap (λ z. Mark.Taken z) (says.own k e d taken)
     by says y p is (inl again) one =
@@ -112,11 +112,11 @@ taken_in c ps connections k (place ∷ past) all i =
 
 pub new_taken : (limits : Limits) (s : Story) → IsCarried limits s → (k : ℕ) → In k (new_numbers s.connections s.past) → (place : Place) × (below : Past) × IsTakenAt s k place below
 new_taken limits s c k i =
-    let t = taken_in s.keeper.client (publications_of (all_own s.keeper)) s.connections k s.past c.places i in
+    let t = taken_in s.keeper.client (own_publications (all_own s.keeper)) s.connections k s.past c.places i in
     (t.0, t.1, record { stands = t.2; carried = t.3; taken = t.4 })
 
 -- what is carried is the publication's own PUBLISH
 pub carried_is_own : (limits : Limits) (s : Story) → IsCarried limits s → (place : Place) (below : Past) (x : ConnectionName) (p : Publish) (k : ℕ) → StandsAt s.past place below
-    → carries s.connections place.command below ≡ Some k → place.command ≡ commands.Packet x (packets.Publish p) → slice_get (publications_of (all_own s.keeper)) k ≡ Some (publication_of p)
+    → carries s.connections place.command below ≡ Some k → place.command ≡ commands.Packet x (packets.Publish p) → slice_get (own_publications (all_own s.keeper)) k ≡ Some (publication_of p)
 carried_is_own limits s c place below x p k stands e is =
-    (says_at s.keeper.client (publications_of (all_own s.keeper)) s.connections s.past place below c.places stands).of k x p e is
+    (says_at s.keeper.client (own_publications (all_own s.keeper)) s.connections s.past place below c.places stands).of k x p e is

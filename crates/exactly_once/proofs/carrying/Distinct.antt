@@ -8,14 +8,14 @@ use Rattle.client_base.specs.lists.Lists.{In, has_id, IsDistinct}
 use Rattle.client_base.specs.lists.Lists.In.{here, there}
 use Rattle.client_base.proofs.of_lists.Tests.{none_or, or_none, eq_turn}
 use Rattle.client_base.specs.Keeper.{Own, number_in}
-use Rattle.exactly_once.specs.Carried.{is_two, published, publications_of, publication_in}
+use Rattle.exactly_once.specs.Carried.{is_two, own_qos2_numbers, own_publications, own_publication}
 use Rattle.client_base.specs.OrderLaws.{AreNumbered}
 use Rattle.exactly_once.specs.Inside.Shape as shape
 
 -- ---- numbers
 
 -- only the numbers
-pub numbers_alone : (n : ℕ) (own : List Own) → shape.AreNumbered n own → AreNumbered n own
+pub numbers_alone : (n : ℕ) (own : List Own) → shape.AreNumberedFrom n own → AreNumbered n own
 numbers_alone n [] h = tt
 numbers_alone n (Own.Unsent k p id ∷ own) h = (h.0, numbers_alone (suc n) own h.1)
 numbers_alone n (Own.Sent k p id ∷ own) h = (h.0, numbers_alone (suc n) own h.1)
@@ -32,25 +32,25 @@ number_first n (Own.Done k p) own h = (h.0, h.1)
 not_same : (j k : ℕ) → j < k → (j == k) ≡ false
 not_same j k less = grind (arith, less)
 
-less_none : (j n : ℕ) (own : List Own) → AreNumbered n own → j < n → has_id j (published own) ≡ false
+less_none : (j n : ℕ) (own : List Own) → AreNumbered n own → j < n → has_id j (own_qos2_numbers own) ≡ false
 less_none j n [] h less = refl
 less_none j n (o ∷ own) h less =
     let first = number_first n o own h in
     let is = first.0 in
-    by (is_two (publication_in o).qos) (less_none j (suc n) own first.1 (omega (arith, less))) (not_same j (number_in o) (omega (arith, less, is)))
+    by (is_two (own_publication o).qos) (less_none j (suc n) own first.1 (omega (arith, less))) (not_same j (number_in o) (omega (arith, less, is)))
   where
-    by : (b : Bool) → has_id j (published own) ≡ false → (j == number_in o) ≡ false → has_id j (if b then number_in o ∷ published own else published own) ≡ false
-    by true ih other = none_or (j == number_in o) (has_id j (published own)) other ih
+    by : (b : Bool) → has_id j (own_qos2_numbers own) ≡ false → (j == number_in o) ≡ false → has_id j (if b then number_in o ∷ own_qos2_numbers own else own_qos2_numbers own) ≡ false
+    by true ih other = none_or (j == number_in o) (has_id j (own_qos2_numbers own)) other ih
     by false ih other = ih
 
-pub published_apart : (n : ℕ) (own : List Own) → AreNumbered n own → IsDistinct (published own)
+pub published_apart : (n : ℕ) (own : List Own) → AreNumbered n own → IsDistinct (own_qos2_numbers own)
 published_apart n [] h = tt
 published_apart n (o ∷ own) h =
     let first = number_first n o own h in
     let is = first.0 in
-    by (is_two (publication_in o).qos) (less_none (number_in o) (suc n) own first.1 (omega (arith, is))) (published_apart (suc n) own first.1)
+    by (is_two (own_publication o).qos) (less_none (number_in o) (suc n) own first.1 (omega (arith, is))) (published_apart (suc n) own first.1)
   where
-    by : (b : Bool) → has_id (number_in o) (published own) ≡ false → IsDistinct (published own) → IsDistinct (if b then number_in o ∷ published own else published own)
+    by : (b : Bool) → has_id (number_in o) (own_qos2_numbers own) ≡ false → IsDistinct (own_qos2_numbers own) → IsDistinct (if b then number_in o ∷ own_qos2_numbers own else own_qos2_numbers own)
     by true none ih = (none, ih)
     by false none ih = ih
 
@@ -60,27 +60,27 @@ pub record IsTwo (ps : List Publication) (j : ℕ) : Type 0 where
   pub there' : slice_get ps j ≡ Some publication
   pub two : is_two publication.qos ≡ true
 
-two_from : (n k : ℕ) (own : List Own) → AreNumbered n own → In k (published own) → (j : ℕ) × (k ≡ n + j) × IsTwo (publications_of own) j
+two_from : (n k : ℕ) (own : List Own) → AreNumbered n own → In k (own_qos2_numbers own) → (j : ℕ) × (k ≡ n + j) × IsTwo (own_publications own) j
 two_from n k [] h i = elim i [ ]
 two_from n k (o ∷ own) h i =
     let first = number_first n o own h in
-    by (is_two (publication_in o).qos) refl (number_in o) first.0 (two_from (suc n) k own first.1) i
+    by (is_two (own_publication o).qos) refl (number_in o) first.0 (two_from (suc n) k own first.1) i
   where
-    behind : (j : ℕ) × (k ≡ suc n + j) × IsTwo (publications_of own) j → (j : ℕ) × (k ≡ n + j) × IsTwo (publications_of (o ∷ own)) j
+    behind : (j : ℕ) × (k ≡ suc n + j) × IsTwo (own_publications own) j → (j : ℕ) × (k ≡ n + j) × IsTwo (own_publications (o ∷ own)) j
     behind (j, e, two) = (suc j, (omega (arith, e)), record { publication = two.publication; there' = two.there'; two = two.two })
 
-    by : (b : Bool) → is_two (publication_in o).qos ≡ b → (m : ℕ) → m ≡ n → (In k (published own) → (j : ℕ) × (k ≡ suc n + j) × IsTwo (publications_of own) j)
-        → In k (if b then m ∷ published own else published own) → (j : ℕ) × (k ≡ n + j) × IsTwo (publications_of (o ∷ own)) j
-    by true e m is ih here = (0, (omega (arith, is)), record { publication = publication_in o; there' = refl; two = e })
+    by : (b : Bool) → is_two (own_publication o).qos ≡ b → (m : ℕ) → m ≡ n → (In k (own_qos2_numbers own) → (j : ℕ) × (k ≡ suc n + j) × IsTwo (own_publications own) j)
+        → In k (if b then m ∷ own_qos2_numbers own else own_qos2_numbers own) → (j : ℕ) × (k ≡ n + j) × IsTwo (own_publications (o ∷ own)) j
+    by true e m is ih here = (0, (omega (arith, is)), record { publication = own_publication o; there' = refl; two = e })
     by true e m is ih (there i) = behind (ih i)
     by false e m is ih i = behind (ih i)
 
-pub two_is : (k : ℕ) (own : List Own) → AreNumbered 0 own → In k (published own) → IsTwo (publications_of own) k
+pub two_is : (k : ℕ) (own : List Own) → AreNumbered 0 own → In k (own_qos2_numbers own) → IsTwo (own_publications own) k
 two_is k own h i =
     let t = two_from 0 k own h i in
     let e = t.1 in
     let same : t.0 ≡ k = omega (arith, e) in
-    subst (λ (j : ℕ). IsTwo (publications_of own) j) same t.2
+    subst (λ (j : ℕ). IsTwo (own_publications own) j) same t.2
 
 -- ---- how often one comes
 

@@ -23,7 +23,7 @@ use Rattle.broker_base.proofs.of_broker_spec.EntersOnce.{one_if, MadeBelow, none
 use Rattle.broker_base.proofs.of_broker_spec.EntersWhereTaken.{enters_where_taken}
 use Rattle.client_base.specs.lists.Lists.{In, IsDistinct}
 use Rattle.exactly_once.specs.Story.{Story}
-use Rattle.exactly_once.specs.Carried.{carries, is_two, more_by, new_numbers, published, publications_of, is_this}
+use Rattle.exactly_once.specs.Carried.{carries, is_two, more_by, new_numbers, own_qos2_numbers, own_publications, is_this}
 use Rattle.exactly_once.specs.Headline.{made_by}
 use Rattle.exactly_once.proofs.carrying.PlacesSay.{Says}
 use Rattle.exactly_once.proofs.carrying.KeepsPlaces.{IsCarried}
@@ -90,14 +90,14 @@ some_same : {A : Type 0} (a b : A) → Some a ≡ Some b → a ≡ b
 some_same a b e = cc
 
 -- what enters from a place that carries it is new there
-pub one_place : (limits : Limits) (s : Story) → IsCarried limits s → (later front earlier below : Past) (place : Place) (d : Client) (k : ℕ) → IsTwo (publications_of (all_own s.keeper)) k
+pub one_place : (limits : Limits) (s : Story) → IsCarried limits s → (later front earlier below : Past) (place : Place) (d : Client) (k : ℕ) → IsTwo (own_publications (all_own s.keeper)) k
     → s.past ≡ later ++ earlier → s.past ≡ front ++ place ∷ below
     → (if is_this k (carries s.connections place.command below) then entered limits earlier d (length below) else 0)
     ≤ count_id k (more_by (is_new place.command place.mark) (carries s.connections place.command below))
 one_place limits s c later front earlier below place d k two cut stands = by (carries s.connections place.command below) refl
   where
-    says : Says s.keeper.client (publications_of (all_own s.keeper)) s.connections place below
-    says = says_at s.keeper.client (publications_of (all_own s.keeper)) s.connections s.past place below c.places (record { later = front; is = stands })
+    says : Says s.keeper.client (own_publications (all_own s.keeper)) s.connections place below
+    says = says_at s.keeper.client (own_publications (all_own s.keeper)) s.connections s.past place below c.places (record { later = front; is = stands })
 
     n : ℕ
     n = entered limits earlier d (length below)
@@ -142,7 +142,7 @@ one_place limits s c later front earlier below place d k two cut stands = by (ca
 
 -- ---- all places
 
-all_places : (limits : Limits) (s : Story) → IsCarried limits s → (later earlier : Past) (d : Client) (k : ℕ) → IsTwo (publications_of (all_own s.keeper)) k → s.past ≡ later ++ earlier
+all_places : (limits : Limits) (s : Story) → IsCarried limits s → (later earlier : Past) (d : Client) (k : ℕ) → IsTwo (own_publications (all_own s.keeper)) k → s.past ≡ later ++ earlier
     → (front past : Past) → s.past ≡ front ++ past → made_by s.connections k past (entries_of limits earlier d) ≤ count_id k (new_numbers s.connections past)
 all_places limits s c later earlier d k two cut front [] e = omega arith
 all_places limits s c later earlier d k two cut front (place ∷ below) e =
@@ -152,7 +152,7 @@ all_places limits s c later earlier d k two cut front (place ∷ below) e =
     omega (arith, ih, here, sum)
 
 pub publication_enters_once : (limits : Limits) (s : Story) → IsCarried limits s → IsDistinct (new_numbers s.connections s.past)
-    → (later earlier : Past) (d : Client) (k : ℕ) → s.past ≡ later ++ earlier → In k (published (all_own s.keeper)) → made_by s.connections k s.past (entries_of limits earlier d) ≤ 1
+    → (later earlier : Past) (d : Client) (k : ℕ) → s.past ≡ later ++ earlier → In k (own_qos2_numbers (all_own s.keeper)) → made_by s.connections k s.past (entries_of limits earlier d) ≤ 1
 publication_enters_once limits s c apart later earlier d k cut i =
     let few = count_apart k (new_numbers s.connections s.past) apart in
     let all = all_places limits s c later earlier d k (two_is k (all_own s.keeper) (joined_numbers s.keeper.earlier s.keeper.own c.numbers.0 c.numbers.1) i) cut [] s.past refl in

@@ -14,20 +14,20 @@ use Rattle.client_base.specs.Written.{plain, writing, resent, sent_all}
 use Rattle.client_base.specs.Handled.{discarded, confirmed, handled, handled_online, handled_first}
 use Rattle.client_base.specs.Handshakes.{at_pubrec, is_sent_with, takes_in, releasing, at_puback, at_pubcomp}
 use Rattle.exactly_once.specs.Sides.{ClientConnection, Side}
-use Rattle.exactly_once.specs.Carried.{publications_of}
+use Rattle.exactly_once.specs.Carried.{own_publications}
 use Rattle.client_base.specs.OrderLaws.{AreNumbered}
 use Rattle.std.proofs.lemmas.List.{append-nil}
 use Rattle.exactly_once.proofs.publishing.Answered.{counted_side}
 use Rattle.exactly_once.proofs.carrying.Publications.{IsOfOwn, plain_of, said_puback, said_pubrec, said_pubcomp, said_sent, resent_of, said_after}
 
 pub record Handles (keeper : Keeper) (κ : ClientConnection) (side : Side) : Type 0 where
-  pub said : publications_of (all_own side.keeper) ≡ publications_of (all_own keeper)
-  pub of : Each (IsOfOwn (publications_of (all_own keeper))) κ.written → Each (IsOfOwn (publications_of (all_own keeper))) side.connection.written
+  pub said : own_publications (all_own side.keeper) ≡ own_publications (all_own keeper)
+  pub of : Each (IsOfOwn (own_publications (all_own keeper))) κ.written → Each (IsOfOwn (own_publications (all_own keeper))) side.connection.written
 
 -- one packet more is written
-one_more : (keeper : Keeper) (κ : ClientConnection) (packet : Packet) → Each (IsOfOwn (publications_of (all_own keeper))) κ.written
-    → Each (IsOfOwn (publications_of (all_own keeper))) (κ.written ++ plain packet ∷ [])
-one_more keeper κ packet all = each_append (IsOfOwn (publications_of (all_own keeper))) κ.written (plain packet ∷ []) all (plain_of (publications_of (all_own keeper)) packet, tt)
+one_more : (keeper : Keeper) (κ : ClientConnection) (packet : Packet) → Each (IsOfOwn (own_publications (all_own keeper))) κ.written
+    → Each (IsOfOwn (own_publications (all_own keeper))) (κ.written ++ plain packet ∷ [])
+one_more keeper κ packet all = each_append (IsOfOwn (own_publications (all_own keeper))) κ.written (plain packet ∷ []) all (plain_of (own_publications (all_own keeper)) packet, tt)
 
 -- after a PUBLISH
 publish_handles : (keeper : Keeper) (κ : ClientConnection) (d : Delivery) (p : Publication) → Handles keeper κ (takes_in d p (counted_side keeper κ))
@@ -71,13 +71,13 @@ confirmed_handles keeper κ present numbered = by (not present && keeper.was_ser
     })
     by true =
         record {
-          said = ap publications_of (append-nil (all_own keeper));
-          of = λ all. each_append (IsOfOwn (publications_of (all_own keeper))) κ.written [] all tt;
+          said = ap own_publications (append-nil (all_own keeper));
+          of = λ all. each_append (IsOfOwn (own_publications (all_own keeper))) κ.written [] all tt;
         }
     by false =
         record {
           said = said_after keeper.earlier keeper.own (sent_all keeper.own) (said_sent keeper.own);
-          of = λ all. each_append (IsOfOwn (publications_of (all_own keeper))) κ.written (resent keeper) all (resent_of keeper numbered);
+          of = λ all. each_append (IsOfOwn (own_publications (all_own keeper))) κ.written (resent keeper) all (resent_of keeper numbered);
         }
 
 first_handles : (keeper : Keeper) (κ : ClientConnection) (packet : Packet) → AreNumbered (length keeper.earlier) keeper.own → Handles keeper κ (handled_first packet (counted_side keeper κ))

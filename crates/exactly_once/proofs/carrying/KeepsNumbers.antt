@@ -10,7 +10,7 @@ use Rattle.client_base.specs.Connected.{new_connection}
 use Rattle.client_base.specs.Handled.{handled}
 use Rattle.exactly_once.specs.Sides.{ClientConnection}
 use Rattle.exactly_once.specs.Story.{Story, StoryStep}
-use Rattle.exactly_once.specs.StoryCommands.{count_of}
+use Rattle.exactly_once.specs.StoryCommands.{packet_count}
 use Rattle.exactly_once.specs.Story.StoryStep.{takes, others_take, receives, opens_anew, loses, disconnects, publishes_one, subscribes, unsubscribes}
 use Rattle.exactly_once.specs.Inside.Shape.{HasShape}
 use Rattle.exactly_once.specs.Inside.ConnectionShape.{ConnectionInShape}
@@ -25,7 +25,7 @@ same_itself past connections x j less = refl
 
 -- the packets that are taken are among those written
 abbrev pub AreWithin : Past → List ClientConnection → Type 0
-AreWithin past = Each (λ (κ : ClientConnection). count_of κ.name past ≤ length κ.written)
+AreWithin past = Each (λ (κ : ClientConnection). packet_count κ.name past ≤ length κ.written)
 
 -- more is written on the newest one
 pub first_written : (past : Past) (connections : List ClientConnection) (more : List Written) → AreWithin past connections → SameNumbers connections (writes_first more connections) past
@@ -54,7 +54,7 @@ numbers_keep limits s t within (unsubscribes p on id) = first_written s.past s.c
 -- so in every story
 pub shape_within : (limits : Limits) (s : Story) → HasShape limits s → AreWithin s.past s.connections
 shape_within limits s shape =
-    each_then (ConnectionInShape limits s.past s.keeper.client) (λ (κ : ClientConnection). count_of κ.name s.past ≤ length κ.written) s.connections (λ κ. counted_within limits s.past s.keeper κ) shape.connections
+    each_then (ConnectionInShape limits s.past s.keeper.client) (λ (κ : ClientConnection). packet_count κ.name s.past ≤ length κ.written) s.connections (λ κ. counted_within limits s.past s.keeper κ) shape.connections
 
 pub events_keep_numbers : (limits : Limits) (s t : Story) → HasShape limits s → StoryStep limits s t → SameNumbers s.connections t.connections s.past
 events_keep_numbers limits s t shape = numbers_keep limits s t (shape_within limits s shape)

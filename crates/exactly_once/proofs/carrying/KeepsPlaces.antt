@@ -12,11 +12,11 @@ use Rattle.client_base.specs.lists.Lists.{Each}
 use Rattle.client_base.proofs.of_lists.Tests.{or_none}
 use Rattle.exactly_once.specs.Sides.{ClientConnection}
 use Rattle.exactly_once.specs.Story.{Story, StoryStep}
-use Rattle.exactly_once.specs.StoryCommands.{any_named, is_packet_of, counted_at, command_of}
+use Rattle.exactly_once.specs.StoryCommands.{any_named, is_packet_of, with_one_counted, command_of}
 use Rattle.exactly_once.specs.StoryTrace.{StoryTrace}
 use Rattle.exactly_once.specs.StoryTrace.StoryTrace.{begins, goes_on, begins_at}
 use Rattle.exactly_once.specs.Story.StoryStep.{takes, others_take, receives, opens_anew, loses, disconnects, publishes_one, subscribes, unsubscribes}
-use Rattle.exactly_once.specs.Carried.{carries, connection_named, number_at, publications_of}
+use Rattle.exactly_once.specs.Carried.{carries, connection_named, number_at, own_publications}
 use Rattle.exactly_once.specs.Inside.Shape.{IsSoundStory}
 use Rattle.exactly_once.proofs.keeping.KeepsShape.{same_story}
 use Rattle.exactly_once.proofs.keeping.StoryTrace.{told_stories_are_sound}
@@ -36,8 +36,8 @@ use Rattle.exactly_once.proofs.Beginnings.{numbered}
 
 -- what this page keeps
 pub record IsCarried (limits : Limits) (s : Story) : Type 0 where
-  pub written : AreOfOwn (publications_of (all_own s.keeper)) s.connections
-  pub places : PlacesSay s.keeper.client (publications_of (all_own s.keeper)) s.connections s.past
+  pub written : AreOfOwn (own_publications (all_own s.keeper)) s.connections
+  pub places : PlacesSay s.keeper.client (own_publications (all_own s.keeper)) s.connections s.past
   pub marked : AreMarked limits s.past
   pub numbers : AreAllNumbered s.keeper
 
@@ -64,9 +64,9 @@ stays_carried : (limits : Limits) (s t : Story) → AreWithin s.past s.connectio
 stays_carried limits s t within h same c =
     record {
       written = events_keep_of limits s t c.numbers.1 h c.written;
-      places = subst (λ (z : Past). PlacesSay t.keeper.client (publications_of (all_own t.keeper)) t.connections z) (sym same)
-          (subst (λ (d : Client). PlacesSay d (publications_of (all_own t.keeper)) t.connections s.past) (sym (same_story limits s t h))
-          (places_later s.keeper.client (publications_of (all_own s.keeper)) (publications_of (all_own t.keeper)) s.connections t.connections s.past (events_say limits s t c.numbers.1 h)
+      places = subst (λ (z : Past). PlacesSay t.keeper.client (own_publications (all_own t.keeper)) t.connections z) (sym same)
+          (subst (λ (d : Client). PlacesSay d (own_publications (all_own t.keeper)) t.connections s.past) (sym (same_story limits s t h))
+          (places_later s.keeper.client (own_publications (all_own s.keeper)) (own_publications (all_own t.keeper)) s.connections t.connections s.past (events_say limits s t c.numbers.1 h)
           (numbers_keep limits s t within h) c.places));
       marked = subst (AreMarked limits) (sym same) c.marked;
       numbers = numbers_go_on limits s t h c.numbers;
@@ -77,7 +77,7 @@ pub place_carried : (limits : Limits) (s : Story) (command : Command) → carrie
 place_carried limits s command none c =
     record {
       written = c.written;
-      places = (says_nothing s.keeper.client (publications_of (all_own s.keeper)) s.connections (place_of limits s.past command) s.past none, c.places);
+      places = (says_nothing s.keeper.client (own_publications (all_own s.keeper)) s.connections (place_of limits s.past command) s.past none, c.places);
       marked = (refl, c.marked);
       numbers = c.numbers;
     }
@@ -85,12 +85,12 @@ place_carried limits s command none c =
 -- what is left to show: what the place says if the client's next packet is taken
 abbrev pub SaysNext : {limits : Limits} {s t : Story} → StoryStep limits s t → Type 0
 SaysNext {limits = limits} {s = s} (takes i κ w stands next) =
-    Says s.keeper.client (publications_of (all_own s.keeper)) (counted_at i s.connections) (place_of limits s.past (command_of κ.name κ.taken w.packet)) s.past
+    Says s.keeper.client (own_publications (all_own s.keeper)) (with_one_counted i s.connections) (place_of limits s.past (command_of κ.name κ.taken w.packet)) s.past
 SaysNext _ = Unit {0}
 
 pub keeps_carried : (limits : Limits) (s t : Story) → AreWithin s.past s.connections → (h : StoryStep limits s t) → SaysNext h → IsCarried limits s → IsCarried limits t
 keeps_carried limits s t within (takes i κ w stands next) says c =
-    let ps = publications_of (all_own s.keeper) in
+    let ps = own_publications (all_own s.keeper) in
     record {
       written = events_keep_of limits s t c.numbers.1 (takes i κ w stands next) c.written;
       places = (says, places_later s.keeper.client ps ps s.connections t.connections s.past (events_say limits s t c.numbers.1 (takes i κ w stands next)) (numbers_keep limits s t within (takes i κ w stands next)) c.places);
@@ -109,7 +109,7 @@ keeps_carried limits s t within (unsubscribes p on id) says c = stays_carried li
 -- in a story of one session
 says_next : (limits : Limits) (s t : Story) → IsSoundStory limits s → IsCarried limits s → (h : StoryStep limits s t) → SaysNext h
 says_next limits s t sound c (takes i κ w stands next) =
-    let ps = publications_of (all_own s.keeper) in
+    let ps = own_publications (all_own s.keeper) in
     taken_says limits s.past s.keeper s.connections ps i κ w.packet w.number κ.taken sound.shape sound.publisher stands next refl
     (each_at (IsOfOwn ps) κ.taken κ.written w next (each_there (λ (μ : ClientConnection). Each (IsOfOwn ps) μ.written) i s.connections κ stands c.written))
 says_next limits s t sound c (others_take command other none) = tt
@@ -135,7 +135,7 @@ told_carried limits steady c s begins = record { written = tt; places = tt; mark
 told_carried limits steady c s (begins_at list earlier own none numbers unsent apart) =
     record {
       written = tt;
-      places = nothing_said c (publications_of (earlier ++ own)) (past_of limits list);
+      places = nothing_said c (own_publications (earlier ++ own)) (past_of limits list);
       marked = past_is_marked limits list;
       numbers = (numbers, numbers_alone (length earlier) own (numbered (length earlier) own unsent));
     }

@@ -15,9 +15,9 @@ use Rattle.client_base.specs.Keeper.{Own, Written, Keeper, ids_in_use, all_own, 
 use Rattle.client_base.specs.Written.{plain, publishes, writes_first}
 use Rattle.client_base.specs.Called.{adds_own, written_for}
 use Rattle.exactly_once.specs.Sides.{ClientConnection}
-use Rattle.exactly_once.specs.Carried.{publication_in, publications_of}
+use Rattle.exactly_once.specs.Carried.{own_publication, own_publications}
 use Rattle.exactly_once.specs.Story.{Story, StoryStep}
-use Rattle.exactly_once.specs.StoryCommands.{counted_at}
+use Rattle.exactly_once.specs.StoryCommands.{with_one_counted}
 use Rattle.exactly_once.specs.Story.StoryStep.{takes, others_take, receives, opens_anew, loses, disconnects, publishes_one, subscribes, unsubscribes}
 use Rattle.client_base.specs.OrderLaws.{AreNumbered}
 use Rattle.exactly_once.proofs.carrying.Publications.{IsOfOwn, AreOfOwn, of_more, carried_is}
@@ -25,17 +25,17 @@ use Rattle.exactly_once.proofs.carrying.Handles.{handles}
 
 -- ---- what is published
 
-said_more : (keeper : Keeper) (p : Publication) → publications_of (all_own (adds_own p keeper)) ≡ publications_of (all_own keeper) ++ p ∷ []
+said_more : (keeper : Keeper) (p : Publication) → own_publications (all_own (adds_own p keeper)) ≡ own_publications (all_own keeper) ++ p ∷ []
 said_more keeper p =
-    ap publications_of (sym (append_assoc keeper.earlier keeper.own (new (is_answered p.qos) keeper.is_online ∷ [])))
-    ∙ map-append publication_in (all_own keeper) (new (is_answered p.qos) keeper.is_online ∷ []) ∙ ap (λ q. publications_of (all_own keeper) ++ q ∷ []) (same (is_answered p.qos) keeper.is_online)
+    ap own_publications (sym (append_assoc keeper.earlier keeper.own (new (is_answered p.qos) keeper.is_online ∷ [])))
+    ∙ map-append own_publication (all_own keeper) (new (is_answered p.qos) keeper.is_online ∷ []) ∙ ap (λ q. own_publications (all_own keeper) ++ q ∷ []) (same (is_answered p.qos) keeper.is_online)
   where
     new : Bool → Bool → Own
     new a on =
         if a then (if on then Own.Sent (next_number keeper) p (least_free (ids_in_use keeper)) else Own.Unsent (next_number keeper) p (least_free (ids_in_use keeper)))
         else Own.Done (next_number keeper) p
 
-    same : (a on : Bool) → publication_in (new a on) ≡ p
+    same : (a on : Bool) → own_publication (new a on) ≡ p
     same true true = refl
     same true false = refl
     same false on = refl
@@ -48,17 +48,17 @@ same_said : (ps qs : List Publication) → qs ≡ ps → IsPrefixOf ps qs
 same_said ps qs e = subst (λ (rs : List Publication). IsPrefixOf ps rs) (sym e) (prefix_same ps)
 
 -- no event loses what was published
-pub events_say : (limits : Limits) (s t : Story) → IsNumbered s.keeper → StoryStep limits s t → IsPrefixOf (publications_of (all_own s.keeper)) (publications_of (all_own t.keeper))
-events_say limits s t numbered (takes i κ w stands next) = prefix_same (publications_of (all_own s.keeper))
-events_say limits s t numbered (others_take command other none) = prefix_same (publications_of (all_own s.keeper))
+pub events_say : (limits : Limits) (s t : Story) → IsNumbered s.keeper → StoryStep limits s t → IsPrefixOf (own_publications (all_own s.keeper)) (own_publications (all_own t.keeper))
+events_say limits s t numbered (takes i κ w stands next) = prefix_same (own_publications (all_own s.keeper))
+events_say limits s t numbered (others_take command other none) = prefix_same (own_publications (all_own s.keeper))
 events_say limits s t numbered (receives κ others packet are opened next) =
-    same_said (publications_of (all_own s.keeper)) (publications_of (all_own t.keeper)) (handles s.keeper κ packet numbered).said
-events_say limits s t numbered (opens_anew x fresh none uncounted) = prefix_same (publications_of (all_own s.keeper))
-events_say limits s t numbered loses = prefix_same (publications_of (all_own s.keeper))
-events_say limits s t numbered disconnects = prefix_same (publications_of (all_own s.keeper))
+    same_said (own_publications (all_own s.keeper)) (own_publications (all_own t.keeper)) (handles s.keeper κ packet numbered).said
+events_say limits s t numbered (opens_anew x fresh none uncounted) = prefix_same (own_publications (all_own s.keeper))
+events_say limits s t numbered loses = prefix_same (own_publications (all_own s.keeper))
+events_say limits s t numbered disconnects = prefix_same (own_publications (all_own s.keeper))
 events_say limits s t numbered (publishes_one p needs) = record { rest = p ∷ []; is = said_more s.keeper p }
-events_say limits s t numbered (subscribes p on id) = prefix_same (publications_of (all_own s.keeper))
-events_say limits s t numbered (unsubscribes p on id) = prefix_same (publications_of (all_own s.keeper))
+events_say limits s t numbered (subscribes p on id) = prefix_same (own_publications (all_own s.keeper))
+events_say limits s t numbered (unsubscribes p on id) = prefix_same (own_publications (all_own s.keeper))
 
 -- ---- what is written
 
@@ -74,43 +74,43 @@ more_written ps more [] of all = tt
 more_written ps more (κ ∷ connections) of all = (each_append (IsOfOwn ps) κ.written more all.0 of, all.1)
 
 -- one more is taken
-counted_of : (ps : List Publication) (i : ℕ) (connections : List ClientConnection) → AreOfOwn ps connections → AreOfOwn ps (counted_at i connections)
+counted_of : (ps : List Publication) (i : ℕ) (connections : List ClientConnection) → AreOfOwn ps connections → AreOfOwn ps (with_one_counted i connections)
 counted_of ps i [] all = tt
 counted_of ps zero (κ ∷ connections) all = all
 counted_of ps (suc i) (κ ∷ connections) all = (all.0, counted_of ps i connections all.1)
 
-published_of : (keeper : Keeper) (p : Publication) → Each (IsOfOwn (publications_of (all_own (adds_own p keeper)))) (written_for p keeper)
+published_of : (keeper : Keeper) (p : Publication) → Each (IsOfOwn (own_publications (all_own (adds_own p keeper)))) (written_for p keeper)
 published_of keeper p = by keeper.is_online
   where
     id : ℕ
     id = least_free (ids_in_use keeper)
 
-    there' : slice_get (publications_of (all_own (adds_own p keeper))) (next_number keeper) ≡ Some (publication_of (publish_of false (least_free (ids_in_use keeper)) p))
+    there' : slice_get (own_publications (all_own (adds_own p keeper))) (next_number keeper) ≡ Some (publication_of (publish_of false (least_free (ids_in_use keeper)) p))
     there' =
         ap (λ ps. slice_get ps (next_number keeper)) (said_more keeper p)
-        ∙ ap (λ n. slice_get (publications_of (all_own keeper) ++ p ∷ []) n) (sym (length-map (all_own keeper) publication_in ∙ length-append keeper.earlier keeper.own))
-        ∙ get_pushed (publications_of (all_own keeper)) p ∙ ap (λ q. Some q) (sym (carried_is false id p))
+        ∙ ap (λ n. slice_get (own_publications (all_own keeper) ++ p ∷ []) n) (sym (length-map (all_own keeper) own_publication ∙ length-append keeper.earlier keeper.own))
+        ∙ get_pushed (own_publications (all_own keeper)) p ∙ ap (λ q. Some q) (sym (carried_is false id p))
 
-    by : (b : Bool) → Each (IsOfOwn (publications_of (all_own (adds_own p keeper)))) (if b then publishes false (next_number keeper) (least_free (ids_in_use keeper)) p ∷ [] else [])
+    by : (b : Bool) → Each (IsOfOwn (own_publications (all_own (adds_own p keeper)))) (if b then publishes false (next_number keeper) (least_free (ids_in_use keeper)) p ∷ [] else [])
     by true = (there', tt)
     by false = tt
 
-pub events_keep_of : (limits : Limits) (s t : Story) → IsNumbered s.keeper → StoryStep limits s t → AreOfOwn (publications_of (all_own s.keeper)) s.connections → AreOfOwn (publications_of (all_own t.keeper)) t.connections
-events_keep_of limits s t numbered (takes i κ w stands next) all = counted_of (publications_of (all_own s.keeper)) i s.connections all
+pub events_keep_of : (limits : Limits) (s t : Story) → IsNumbered s.keeper → StoryStep limits s t → AreOfOwn (own_publications (all_own s.keeper)) s.connections → AreOfOwn (own_publications (all_own t.keeper)) t.connections
+events_keep_of limits s t numbered (takes i κ w stands next) all = counted_of (own_publications (all_own s.keeper)) i s.connections all
 events_keep_of limits s t numbered (others_take command other none) all = all
 events_keep_of limits s t numbered (receives κ others packet are opened next) all =
-    let mine = subst (AreOfOwn (publications_of (all_own s.keeper))) are all in
+    let mine = subst (AreOfOwn (own_publications (all_own s.keeper))) are all in
     let h = handles s.keeper κ packet numbered in
     subst (λ (ps : List Publication). AreOfOwn ps t.connections) (sym h.said) (h.of mine.0, mine.1)
 events_keep_of limits s t numbered (opens_anew x fresh none uncounted) all = ((tt, tt), all)
 events_keep_of limits s t numbered loses all = all
 events_keep_of limits s t numbered disconnects all = by s.keeper.is_online
   where
-    by : (b : Bool) → AreOfOwn (publications_of (all_own s.keeper)) (if b then writes_first (plain packets.Disconnect ∷ []) s.connections else s.connections)
-    by true = more_written (publications_of (all_own s.keeper)) (plain packets.Disconnect ∷ []) s.connections (tt, tt) all
+    by : (b : Bool) → AreOfOwn (own_publications (all_own s.keeper)) (if b then writes_first (plain packets.Disconnect ∷ []) s.connections else s.connections)
+    by true = more_written (own_publications (all_own s.keeper)) (plain packets.Disconnect ∷ []) s.connections (tt, tt) all
     by false = all
 events_keep_of limits s t numbered (publishes_one p needs) all =
-    more_written (publications_of (all_own t.keeper)) (written_for p s.keeper) s.connections (published_of s.keeper p)
-    (more_published (publications_of (all_own s.keeper)) (publications_of (all_own t.keeper)) s.connections (events_say limits s t numbered (publishes_one p needs)) all)
-events_keep_of limits s t numbered (subscribes p on id) all = more_written (publications_of (all_own s.keeper)) (plain (packets.Subscribe p) ∷ []) s.connections (tt, tt) all
-events_keep_of limits s t numbered (unsubscribes p on id) all = more_written (publications_of (all_own s.keeper)) (plain (packets.Unsubscribe p) ∷ []) s.connections (tt, tt) all
+    more_written (own_publications (all_own t.keeper)) (written_for p s.keeper) s.connections (published_of s.keeper p)
+    (more_published (own_publications (all_own s.keeper)) (own_publications (all_own t.keeper)) s.connections (events_say limits s t numbered (publishes_one p needs)) all)
+events_keep_of limits s t numbered (subscribes p on id) all = more_written (own_publications (all_own s.keeper)) (plain (packets.Subscribe p) ∷ []) s.connections (tt, tt) all
+events_keep_of limits s t numbered (unsubscribes p on id) all = more_written (own_publications (all_own s.keeper)) (plain (packets.Unsubscribe p) ∷ []) s.connections (tt, tt) all

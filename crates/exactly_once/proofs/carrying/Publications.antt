@@ -15,7 +15,7 @@ use Rattle.client_base.specs.Keeper.{Own, Written, Keeper, all_own}
 use Rattle.client_base.specs.Written.{plain, sent_again, sent_first, sent_all, resent}
 use Rattle.client_base.specs.Handshakes.{at_puback, at_pubrec, at_pubcomp}
 use Rattle.exactly_once.specs.Sides.{ClientConnection}
-use Rattle.exactly_once.specs.Carried.{publication_in, publications_of}
+use Rattle.exactly_once.specs.Carried.{own_publication, own_publications}
 use Rattle.client_base.specs.OrderLaws.{AreNumbered}
 use Rattle.std.proofs.lemmas.List.{map-append, length-map}
 
@@ -54,40 +54,40 @@ carried_is dup id p = λ i. record { retain = p.retain; qos = level p.qos i; top
 
 -- ---- answers change none of it
 
-pub said_puback : (i : ℕ) (own : List Own) → publications_of (map (at_puback i) own) ≡ publications_of own
+pub said_puback : (i : ℕ) (own : List Own) → own_publications (map (at_puback i) own) ≡ own_publications own
 said_puback i [] = refl
 said_puback i (Own.Unsent k p id ∷ own) = ap (λ l. p ∷ l) (said_puback i own)
 said_puback i (Own.Sent k p id ∷ own) = ap₂ (λ q l. q ∷ l) (by ((i == id) && is_acknowledged p.qos)) (said_puback i own)
   where
-    by : (b : Bool) → publication_in (if b then Own.Done k p else Own.Sent k p id) ≡ p
+    by : (b : Bool) → own_publication (if b then Own.Done k p else Own.Sent k p id) ≡ p
     by true = refl
     by false = refl
 said_puback i (Own.Released k p id ∷ own) = ap (λ l. p ∷ l) (said_puback i own)
 said_puback i (Own.Done k p ∷ own) = ap (λ l. p ∷ l) (said_puback i own)
 
-pub said_pubrec : (i : ℕ) (own : List Own) → publications_of (map (at_pubrec i) own) ≡ publications_of own
+pub said_pubrec : (i : ℕ) (own : List Own) → own_publications (map (at_pubrec i) own) ≡ own_publications own
 said_pubrec i [] = refl
 said_pubrec i (Own.Unsent k p id ∷ own) = ap (λ l. p ∷ l) (said_pubrec i own)
 said_pubrec i (Own.Sent k p id ∷ own) = ap₂ (λ q l. q ∷ l) (by ((i == id) && not (is_acknowledged p.qos))) (said_pubrec i own)
   where
-    by : (b : Bool) → publication_in (if b then Own.Released k p id else Own.Sent k p id) ≡ p
+    by : (b : Bool) → own_publication (if b then Own.Released k p id else Own.Sent k p id) ≡ p
     by true = refl
     by false = refl
 said_pubrec i (Own.Released k p id ∷ own) = ap (λ l. p ∷ l) (said_pubrec i own)
 said_pubrec i (Own.Done k p ∷ own) = ap (λ l. p ∷ l) (said_pubrec i own)
 
-pub said_pubcomp : (i : ℕ) (own : List Own) → publications_of (map (at_pubcomp i) own) ≡ publications_of own
+pub said_pubcomp : (i : ℕ) (own : List Own) → own_publications (map (at_pubcomp i) own) ≡ own_publications own
 said_pubcomp i [] = refl
 said_pubcomp i (Own.Unsent k p id ∷ own) = ap (λ l. p ∷ l) (said_pubcomp i own)
 said_pubcomp i (Own.Sent k p id ∷ own) = ap (λ l. p ∷ l) (said_pubcomp i own)
 said_pubcomp i (Own.Released k p id ∷ own) = ap₂ (λ q l. q ∷ l) (by (i == id)) (said_pubcomp i own)
   where
-    by : (b : Bool) → publication_in (if b then Own.Done k p else Own.Released k p id) ≡ p
+    by : (b : Bool) → own_publication (if b then Own.Done k p else Own.Released k p id) ≡ p
     by true = refl
     by false = refl
 said_pubcomp i (Own.Done k p ∷ own) = ap (λ l. p ∷ l) (said_pubcomp i own)
 
-pub said_sent : (own : List Own) → publications_of (sent_all own) ≡ publications_of own
+pub said_sent : (own : List Own) → own_publications (sent_all own) ≡ own_publications own
 said_sent [] = refl
 said_sent (Own.Unsent k p id ∷ own) = ap (λ l. p ∷ l) (said_sent own)
 said_sent (Own.Sent k p id ∷ own) = ap (λ l. p ∷ l) (said_sent own)
@@ -111,21 +111,21 @@ first_of ps n k p qs dup id e stand =
     let same : n + 0 ≡ k = omega (arith, e) in
     subst (λ (m : ℕ). slice_get ps m ≡ Some p) same (stand 0 p refl) ∙ ap (λ q. Some q) (sym (carried_is dup id p))
 
-again_of : (ps : List Publication) (n : ℕ) (own : List Own) → AreNumbered n own → StandFrom ps n (publications_of own) → Each (IsOfOwn ps) (sent_again own)
+again_of : (ps : List Publication) (n : ℕ) (own : List Own) → AreNumbered n own → StandFrom ps n (own_publications own) → Each (IsOfOwn ps) (sent_again own)
 again_of ps n [] h stand = tt
-again_of ps n (Own.Unsent k p id ∷ own) h stand = again_of ps (suc n) own h.1 (behind ps n p (publications_of own) stand)
+again_of ps n (Own.Unsent k p id ∷ own) h stand = again_of ps (suc n) own h.1 (behind ps n p (own_publications own) stand)
 again_of ps n (Own.Sent k p id ∷ own) h stand =
-    (first_of ps n k p (publications_of own) true id h.0 stand, again_of ps (suc n) own h.1 (behind ps n p (publications_of own) stand))
-again_of ps n (Own.Released k p id ∷ own) h stand = again_of ps (suc n) own h.1 (behind ps n p (publications_of own) stand)
-again_of ps n (Own.Done k p ∷ own) h stand = again_of ps (suc n) own h.1 (behind ps n p (publications_of own) stand)
+    (first_of ps n k p (own_publications own) true id h.0 stand, again_of ps (suc n) own h.1 (behind ps n p (own_publications own) stand))
+again_of ps n (Own.Released k p id ∷ own) h stand = again_of ps (suc n) own h.1 (behind ps n p (own_publications own) stand)
+again_of ps n (Own.Done k p ∷ own) h stand = again_of ps (suc n) own h.1 (behind ps n p (own_publications own) stand)
 
-unsent_of : (ps : List Publication) (n : ℕ) (own : List Own) → AreNumbered n own → StandFrom ps n (publications_of own) → Each (IsOfOwn ps) (sent_first own)
+unsent_of : (ps : List Publication) (n : ℕ) (own : List Own) → AreNumbered n own → StandFrom ps n (own_publications own) → Each (IsOfOwn ps) (sent_first own)
 unsent_of ps n [] h stand = tt
 unsent_of ps n (Own.Unsent k p id ∷ own) h stand =
-    (first_of ps n k p (publications_of own) false id h.0 stand, unsent_of ps (suc n) own h.1 (behind ps n p (publications_of own) stand))
-unsent_of ps n (Own.Sent k p id ∷ own) h stand = unsent_of ps (suc n) own h.1 (behind ps n p (publications_of own) stand)
-unsent_of ps n (Own.Released k p id ∷ own) h stand = unsent_of ps (suc n) own h.1 (behind ps n p (publications_of own) stand)
-unsent_of ps n (Own.Done k p ∷ own) h stand = unsent_of ps (suc n) own h.1 (behind ps n p (publications_of own) stand)
+    (first_of ps n k p (own_publications own) false id h.0 stand, unsent_of ps (suc n) own h.1 (behind ps n p (own_publications own) stand))
+unsent_of ps n (Own.Sent k p id ∷ own) h stand = unsent_of ps (suc n) own h.1 (behind ps n p (own_publications own) stand)
+unsent_of ps n (Own.Released k p id ∷ own) h stand = unsent_of ps (suc n) own h.1 (behind ps n p (own_publications own) stand)
+unsent_of ps n (Own.Done k p ∷ own) h stand = unsent_of ps (suc n) own h.1 (behind ps n p (own_publications own) stand)
 
 releases_of : (ps : List Publication) (ids : List ℕ) → Each (IsOfOwn ps) (map (λ id. plain (packets.Pubrel id)) ids)
 releases_of ps [] = tt
@@ -136,17 +136,17 @@ get_after : (xs ys : List Publication) (j : ℕ) → slice_get (xs ++ ys) (lengt
 get_after [] ys j = let same : 0 + j ≡ j = omega arith in ap (slice_get ys) same
 get_after (x ∷ xs) ys j = let same : suc (length xs) + j ≡ suc (length xs + j) = omega arith in ap (slice_get (x ∷ xs ++ ys)) same ∙ get_after xs ys j
 
-pub said_after : (earlier own later : List Own) → publications_of later ≡ publications_of own → publications_of (earlier ++ later) ≡ publications_of (earlier ++ own)
-said_after earlier own later e = map-append publication_in earlier later ∙ ap (λ l. publications_of earlier ++ l) e ∙ sym (map-append publication_in earlier own)
+pub said_after : (earlier own later : List Own) → own_publications later ≡ own_publications own → own_publications (earlier ++ later) ≡ own_publications (earlier ++ own)
+said_after earlier own later e = map-append own_publication earlier later ∙ ap (λ l. own_publications earlier ++ l) e ∙ sym (map-append own_publication earlier own)
 
-pub resent_of : (keeper : Keeper) → AreNumbered (length keeper.earlier) keeper.own → Each (IsOfOwn (publications_of (all_own keeper))) (resent keeper)
+pub resent_of : (keeper : Keeper) → AreNumbered (length keeper.earlier) keeper.own → Each (IsOfOwn (own_publications (all_own keeper))) (resent keeper)
 resent_of keeper numbered =
-    let ps = publications_of (all_own keeper) in
+    let ps = own_publications (all_own keeper) in
     let n = length keeper.earlier in
-    let stand : StandFrom ps n (publications_of keeper.own) = λ j q e.
-    ap (λ l. slice_get l (n + j)) (map-append publication_in keeper.earlier keeper.own)
-    ∙ ap (λ m. slice_get (publications_of keeper.earlier ++ publications_of keeper.own) (m + j)) (sym (length-map keeper.earlier publication_in))
-    ∙ get_after (publications_of keeper.earlier) (publications_of keeper.own) j ∙ e in
+    let stand : StandFrom ps n (own_publications keeper.own) = λ j q e.
+    ap (λ l. slice_get l (n + j)) (map-append own_publication keeper.earlier keeper.own)
+    ∙ ap (λ m. slice_get (own_publications keeper.earlier ++ own_publications keeper.own) (m + j)) (sym (length-map keeper.earlier own_publication))
+    ∙ get_after (own_publications keeper.earlier) (own_publications keeper.own) j ∙ e in
     each_append (IsOfOwn ps) (map (λ id. plain (packets.Pubrel id)) keeper.releases ++ sent_again keeper.own) (sent_first keeper.own)
     (each_append (IsOfOwn ps) (map (λ id. plain (packets.Pubrel id)) keeper.releases) (sent_again keeper.own) (releases_of ps keeper.releases)
     (again_of ps n keeper.own numbered stand))

@@ -25,7 +25,7 @@ use Rattle.exactly_once.proofs.Repeats.{good_repeat}
 use Rattle.client_base.specs.Keeper.{Written, Keeper}
 use Rattle.client_base.specs.Connected.{opens}
 use Rattle.exactly_once.specs.Sides.{ClientConnection}
-use Rattle.exactly_once.specs.StoryCommands.{counted_at, count_of, command_of}
+use Rattle.exactly_once.specs.StoryCommands.{with_one_counted, packet_count, command_of}
 use Rattle.exactly_once.specs.Carried.{connection_named, number_at, new_numbers}
 use Rattle.exactly_once.specs.Inside.Projections.{forward_of_own, forward_of_one, backward_of_own, to_come, is_current, transit_of_own, as_publisher}
 use Rattle.exactly_once.specs.Inside.Shape.{HasShape}
@@ -90,15 +90,15 @@ only_own false false c d e = cc
 publish_says : (limits : Limits) (past : Past) (keeper : Keeper) (connections : List ClientConnection) (ps : List Publication) (i n : ℕ) (κ : ClientConnection) (p : Publish) (number : Option ℕ)
     → HasShape limits (story_by past connections keeper) → IsGood (as_publisher limits (story_by past connections keeper)) → slice_get connections i ≡ Some κ
     → slice_get κ.written κ.taken ≡ Some (record { packet = packets.Publish p; number = number }) → κ.taken ≡ suc n → IsOf ps (packets.Publish p) number
-    → Says keeper.client ps (counted_at i connections) (place_of limits past (commands.Packet κ.name (packets.Publish p))) past
+    → Says keeper.client ps (with_one_counted i connections) (place_of limits past (commands.Packet κ.name (packets.Publish p))) past
 publish_says limits past keeper connections ps i n κ p None shape good stands next some of =
     let this = each_there (ConnectionInShape limits past keeper.client) i connections κ stands shape.connections in
-    says_nothing keeper.client ps (counted_at i connections) (place_of limits past (commands.Packet κ.name (packets.Publish p))) past
+    says_nothing keeper.client ps (with_one_counted i connections) (place_of limits past (commands.Packet κ.name (packets.Publish p))) past
     (carries_it past i connections κ (record { packet = packets.Publish p; number = None }) Mark.NoPart shape.names_apart stands next this.counted)
 publish_says limits past keeper connections ps i n κ p (Some j) shape good stands next some of =
     record {
-      known = λ k e again. subst (λ (m : ℕ). In m (new_numbers (counted_at i connections) past)) (number_is k e)
-          (subst (In j) (sym (same_numbers connections (counted_at i connections) past (same_counted past i connections))) (known again));
+      known = λ k e again. subst (λ (m : ℕ). In m (new_numbers (with_one_counted i connections) past)) (number_is k e)
+          (subst (In j) (sym (same_numbers connections (with_one_counted i connections) past (same_counted past i connections))) (known again));
       own = λ k e d taken. own d taken;
       of = λ k x q e is.
           let same : p ≡ q = publish_is q x is in
@@ -117,10 +117,10 @@ publish_says limits past keeper connections ps i n κ p (Some j) shape good stan
     publish_is : (q : Publish) (x : ConnectionName) → commands.Packet κ.name (packets.Publish p) ≡ commands.Packet x (packets.Publish q) → p ≡ q
     publish_is q x e = cc
 
-    carried : number_at (count_of κ.name past) (connection_named κ.name (counted_at i connections)) ≡ Some j
+    carried : number_at (packet_count κ.name past) (connection_named κ.name (with_one_counted i connections)) ≡ Some j
     carried = carries_it past i connections κ w Mark.NoPart shape.names_apart stands next (each_there (ConnectionInShape limits past keeper.client) i connections κ stands shape.connections).counted
 
-    number_is : (k : ℕ) → number_at (count_of κ.name past) (connection_named κ.name (counted_at i connections)) ≡ Some k → j ≡ k
+    number_is : (k : ℕ) → number_at (packet_count κ.name past) (connection_named κ.name (with_one_counted i connections)) ≡ Some k → j ≡ k
     number_is k e = let found : Some j ≡ Some k = sym carried ∙ e in cc
 
     -- the connection is the current one, or it has no client
@@ -161,15 +161,15 @@ no_publish c p number e =
 pub taken_says : (limits : Limits) (past : Past) (keeper : Keeper) (connections : List ClientConnection) (ps : List Publication) (i : ℕ) (κ : ClientConnection) (packet : Packet) (number : Option ℕ) (n : ℕ)
     → HasShape limits (story_by past connections keeper) → IsGood (as_publisher limits (story_by past connections keeper)) → slice_get connections i ≡ Some κ
     → slice_get κ.written κ.taken ≡ Some (record { packet = packet; number = number }) → κ.taken ≡ n → IsOf ps packet number
-    → Says keeper.client ps (counted_at i connections) (place_of limits past (command_of κ.name n packet)) past
+    → Says keeper.client ps (with_one_counted i connections) (place_of limits past (command_of κ.name n packet)) past
 taken_says limits past keeper connections ps i κ (packets.Publish p) number zero shape good stands next some of =
     let this = each_there (ConnectionInShape limits past keeper.client) i connections κ stands shape.connections in
     absurd (no_publish keeper.client p number (sym (ap (λ ws. slice_get ws 0) this.written) ∙ ap (slice_get κ.written) (sym some) ∙ next))
 taken_says limits past keeper connections ps i κ (packets.Publish p) number (suc n) shape good stands next some of =
     publish_says limits past keeper connections ps i n κ p number shape good stands next some of
 taken_says limits past keeper connections ps i κ (packets.Connect q) number zero shape good stands next some of =
-    says_nothing keeper.client ps (counted_at i connections) (place_of limits past (command_of κ.name zero (packets.Connect q))) past refl
+    says_nothing keeper.client ps (with_one_counted i connections) (place_of limits past (command_of κ.name zero (packets.Connect q))) past refl
 taken_says limits past keeper connections ps i κ packet number zero shape good stands next some of =
-    says_nothing keeper.client ps (counted_at i connections) (place_of limits past (command_of κ.name zero packet)) past refl
+    says_nothing keeper.client ps (with_one_counted i connections) (place_of limits past (command_of κ.name zero packet)) past refl
 taken_says limits past keeper connections ps i κ packet number (suc n) shape good stands next some of =
-    says_nothing keeper.client ps (counted_at i connections) (place_of limits past (command_of κ.name (suc n) packet)) past refl
+    says_nothing keeper.client ps (with_one_counted i connections) (place_of limits past (command_of κ.name (suc n) packet)) past refl

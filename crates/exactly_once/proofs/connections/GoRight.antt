@@ -19,7 +19,7 @@ use Rattle.broker_base.specs.broker_spec.declared.command.Output.TheVariants.{Se
 use Rattle.client_base.specs.lists.Lists.{Each}
 use Rattle.client_base.proofs.of_lists.OfEach.{each_append}
 use Rattle.exactly_once.specs.Sends.{sends_to}
-use Rattle.exactly_once.specs.StoryCommands.{is_packet_of, count_of}
+use Rattle.exactly_once.specs.StoryCommands.{is_packet_of, packet_count}
 use Rattle.exactly_once.specs.Inside.ConnectionShape.{is_connack, no_connacks}
 use Rattle.broker_base.proofs.of_broker_spec.ConnectionNames.{same_name, same_itself}
 use Rattle.exactly_once.proofs.places.Counts.{current_counted}
@@ -112,7 +112,7 @@ nothing_sent command past y other none (Send z packet ∷ answers) h =
     by (inl e) (inr f) = absurd (none f.0 (f.1 ∙ ap (λ x. Some x) (sym (same_name y z e))))
 
 -- if none of its packets was taken it has no client
-uncounted_nobody : (past : Past) (y : ConnectionName) → count_of y past ≡ 0 → (d : Client) → current_connection past d ≡ Some y → ⊥
+uncounted_nobody : (past : Past) (y : ConnectionName) → packet_count y past ≡ 0 → (d : Client) → current_connection past d ≡ Some y → ⊥
 uncounted_nobody past y none d e = let some = current_counted past d y e in absurd (omega (arith, some, none))
 
 -- a command that is not its own is no Connect of it
@@ -133,5 +133,5 @@ pub place_to_nobody : (limits : Limits) (place : Place) (past : Past) (y : Conne
 place_to_nobody limits place past y other none = nothing_sent place.command past y other none (answers_at limits place past) (all_right limits place past)
 
 -- as before a packet of it is taken
-pub place_nothing : (limits : Limits) (place : Place) (past : Past) (y : ConnectionName) → is_packet_of place.command y ≡ false → count_of y past ≡ 0 → sends_to y (answers_at limits place past) ≡ []
+pub place_nothing : (limits : Limits) (place : Place) (past : Past) (y : ConnectionName) → is_packet_of place.command y ≡ false → packet_count y past ≡ 0 → sends_to y (answers_at limits place past) ≡ []
 place_nothing limits place past y other none = place_to_nobody limits place past y other (uncounted_nobody past y none)

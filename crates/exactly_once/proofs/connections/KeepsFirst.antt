@@ -20,7 +20,7 @@ use Rattle.exactly_once.specs.Sides.{ClientConnection}
 use Rattle.client_base.specs.Written.{plain}
 use Rattle.client_base.specs.Handled.{handled}
 use Rattle.exactly_once.specs.Story.{Story, StoryStep}
-use Rattle.exactly_once.specs.StoryCommands.{is_packet_of, count_of, command_of, counted_at, any_named}
+use Rattle.exactly_once.specs.StoryCommands.{is_packet_of, packet_count, command_of, with_one_counted, any_named}
 use Rattle.client_base.specs.Written.{writes_first}
 use Rattle.client_base.specs.Called.{written_for}
 use Rattle.exactly_once.specs.Story.StoryStep.{takes, others_take, receives, opens_anew, loses, disconnects, publishes_one, subscribes, unsubscribes}
@@ -56,7 +56,7 @@ place_none limits place past y = by place.command
 
 -- what a connection keeps
 abbrev pub KeptFirst : Limits → Past → ClientConnection → Type 0
-KeptFirst limits past κ = (count_of κ.name past ≡ κ.taken) × FirstOf limits past κ
+KeptFirst limits past κ = (packet_count κ.name past ≡ κ.taken) × FirstOf limits past κ
 
 -- so it keeps its rows
 first_other : (limits : Limits) (place : Place) (past : Past) (κ : ClientConnection) → is_packet_of place.command κ.name ≡ false → KeptFirst limits past κ → FirstOf limits (place ∷ past) κ
@@ -73,7 +73,7 @@ first_other limits place past κ other r =
     sends : List Packet
     sends = sends_to κ.name (answers_at limits place past)
 
-    by : (n : ℕ) → count_of κ.name past ≡ n → ConnackFirst n put → ConnackFirst n (put ++ sends)
+    by : (n : ℕ) → packet_count κ.name past ≡ n → ConnackFirst n put → ConnackFirst n (put ++ sends)
     by zero e h = ap (λ l. put ++ l) (place_nothing limits place past κ.name other e) ∙ append-nil put ∙ h
     by (suc n) e h = connack_more n n put sends h (place_no_connack limits place past κ.name (not_its_connect place.command κ.name other))
 
@@ -91,7 +91,7 @@ each_other limits place past connections e rows = both connections (none_named (
 -- it is one of them, and the place is not of one of the others
 first_taken : (limits : Limits) (place : Place) (past : Past) (i : ℕ) (connections : List ClientConnection) (κ : ClientConnection) → ((y : ConnectionName) → is_packet_of place.command y ≡ same_connection κ.name y)
     → NamesApart connections → slice_get connections i ≡ Some κ → FirstOf limits (place ∷ past) (taken_more κ) → Each (KeptFirst limits past) connections
-    → Each (FirstOf limits (place ∷ past)) (counted_at i connections)
+    → Each (FirstOf limits (place ∷ past)) (with_one_counted i connections)
 first_taken limits place past i [] κ is apart stands own rows = tt
 first_taken limits place past zero (μ ∷ connections) κ is apart stands own rows =
     let same : κ ≡ μ = cc in (

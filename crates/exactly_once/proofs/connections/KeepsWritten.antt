@@ -12,7 +12,7 @@ use Rattle.exactly_once.specs.Sides.{ClientConnection}
 use Rattle.client_base.specs.Written.{plain, publishes, writes}
 use Rattle.client_base.specs.Handled.{handled}
 use Rattle.exactly_once.specs.Story.{Story, StoryStep}
-use Rattle.exactly_once.specs.StoryCommands.{counted_at}
+use Rattle.exactly_once.specs.StoryCommands.{with_one_counted}
 use Rattle.client_base.specs.Connected.{opens}
 use Rattle.client_base.specs.Written.{writes_first}
 use Rattle.exactly_once.specs.Story.StoryStep.{takes, others_take, receives, opens_anew, loses, disconnects, publishes_one, subscribes, unsubscribes}
@@ -47,7 +47,7 @@ writes_grown c κ after n g still some r =
     }
 
 -- one more is taken
-writes_counted : (c : Client) (i : ℕ) (connections : List ClientConnection) → Each (WritesOf c) connections → Each (WritesOf c) (counted_at i connections)
+writes_counted : (c : Client) (i : ℕ) (connections : List ClientConnection) → Each (WritesOf c) connections → Each (WritesOf c) (with_one_counted i connections)
 writes_counted c i [] rows = tt
 writes_counted c zero (κ ∷ connections) rows =
     (record { more = rows.0.more; written = rows.0.written; one_connect = rows.0.one_connect; silent = rows.0.silent; handled_some = rows.0.handled_some }, rows.1)

@@ -15,7 +15,7 @@ use Rattle.client_base.proofs.of_lists.Tests.{or_right}
 use Rattle.client_base.specs.Keeper.{Written}
 use Rattle.exactly_once.specs.Sides.{ClientConnection}
 use Rattle.exactly_once.specs.Story.{Story}
-use Rattle.exactly_once.specs.StoryCommands.{any_named, names_client, command_of, counted_at}
+use Rattle.exactly_once.specs.StoryCommands.{any_named, names_client, command_of, with_one_counted}
 use Rattle.client_base.specs.Written.{writes_first}
 use Rattle.exactly_once.specs.Inside.Shape.{LastIsCurrent, NewestIsServed, NamesApart, HasShape}
 use Rattle.exactly_once.specs.Inside.ConnectionShape.{ConnackFirst, ConnectionInShape}
@@ -51,7 +51,7 @@ top_stays before behind connections h (inl e) = subst (λ (o : Option Connection
 top_stays before behind connections h (inr e) = subst (λ (o : Option ConnectionName). IsTopOne o connections) (sym e) tt
 
 -- one more is taken
-one_counted : (current : Option ConnectionName) (i : ℕ) (connections : List ClientConnection) → IsTopOne current connections → IsTopOne current (counted_at i connections)
+one_counted : (current : Option ConnectionName) (i : ℕ) (connections : List ClientConnection) → IsTopOne current connections → IsTopOne current (with_one_counted i connections)
 one_counted None i connections h = tt
 one_counted (Some x) i connections h = (counted_named (same_connection x) i connections ∙ h.0, top_counted x i connections h.1)
 
@@ -75,7 +75,7 @@ none_opened past c (commands.Connect x d clean) mark other = not_accepted x d c 
 
 -- a CONNECT of the client, accepted or not
 one_opened : (past : Past) (c : Client) (connections : List ClientConnection) (i : ℕ) (κ : ClientConnection) (mark : Mark) → NamesApart connections → slice_get connections i ≡ Some κ → κ.confirmed ≡ false
-    → IsTopOne (current_connection past c) connections → IsTopOne (current_connection (at_connect κ.name c false mark ∷ past) c) (counted_at i connections)
+    → IsTopOne (current_connection past c) connections → IsTopOne (current_connection (at_connect κ.name c false mark ∷ past) c) (with_one_counted i connections)
 one_opened past c connections i κ mark apart at u h = by (accepts (commands.Connect κ.name c false) mark c) refl (of mark)
   where
     place : Place
@@ -87,23 +87,23 @@ one_opened past c connections i κ mark apart at u h = by (accepts (commands.Con
 
     by : (o : Option (ConnectionName × Bool)) → accepts (commands.Connect κ.name c false) mark c ≡ o
         → (accepts (commands.Connect κ.name c false) mark c ≡ None) ⊎ (accepts (commands.Connect κ.name c false) mark c ≡ Some (κ.name, false))
-        → IsTopOne (current_connection (place ∷ past) c) (counted_at i connections)
+        → IsTopOne (current_connection (place ∷ past) c) (with_one_counted i connections)
     by o e (inl f) =
-        top_stays (current_connection past c) (current_connection (place ∷ past) c) (counted_at i connections) (one_counted (current_connection past c) i connections h) (stays_or_none place past c f)
+        top_stays (current_connection past c) (current_connection (place ∷ past) c) (with_one_counted i connections) (one_counted (current_connection past c) i connections h) (stays_or_none place past c f)
     by o e (inr f) =
-        subst (λ (x : Option ConnectionName). IsTopOne x (counted_at i connections)) (sym (current_opens place past c (κ.name, false) f)) (
+        subst (λ (x : Option ConnectionName). IsTopOne x (with_one_counted i connections)) (sym (current_opens place past c (κ.name, false) f)) (
           counted_named (same_connection κ.name) i connections ∙ is_named i connections κ at,
-          unconfirmed_top κ.name (counted_at i connections) (one_unconfirmed connections i κ apart at u),
+          unconfirmed_top κ.name (with_one_counted i connections) (one_unconfirmed connections i κ apart at u),
         )
 
 -- the next written packet is taken
 pub one_taken : (limits : Limits) (s : Story) → HasShape limits s → IsTopOne (current_connection s.past s.keeper.client) s.connections → (i : ℕ) (κ : ClientConnection) (w : Written)
     → slice_get s.connections i ≡ Some κ → slice_get κ.written κ.taken ≡ Some w
-    → IsTopOne (current_connection (place_of limits s.past (command_of κ.name κ.taken w.packet) ∷ s.past) s.keeper.client) (counted_at i s.connections)
+    → IsTopOne (current_connection (place_of limits s.past (command_of κ.name κ.taken w.packet) ∷ s.past) s.keeper.client) (with_one_counted i s.connections)
 one_taken limits s shape h i κ w at next = by κ.taken refl
   where
     goal : Command → Type 0
-    goal command = IsTopOne (current_connection (place_of limits s.past command ∷ s.past) s.keeper.client) (counted_at i s.connections)
+    goal command = IsTopOne (current_connection (place_of limits s.past command ∷ s.past) s.keeper.client) (with_one_counted i s.connections)
 
     by : (taken : ℕ) → κ.taken ≡ taken → goal (command_of κ.name taken w.packet)
     by zero e =
@@ -112,7 +112,7 @@ one_taken limits s shape h i κ w at next = by κ.taken refl
         subst (λ (z : Written). goal (command_of κ.name zero z.packet)) (sym new.first)
         (one_opened s.past s.keeper.client s.connections i κ (mark_of limits s.past (commands.Connect κ.name s.keeper.client false)) shape.names_apart at new.unconfirmed h)
     by (suc n) e =
-        top_stays (current_connection s.past s.keeper.client) (current_connection (place_of limits s.past (commands.Packet κ.name w.packet) ∷ s.past) s.keeper.client) (counted_at i s.connections)
+        top_stays (current_connection s.past s.keeper.client) (current_connection (place_of limits s.past (commands.Packet κ.name w.packet) ∷ s.past) s.keeper.client) (with_one_counted i s.connections)
         (one_counted (current_connection s.past s.keeper.client) i s.connections h)
         (stays_or_none (place_of limits s.past (commands.Packet κ.name w.packet)) s.past s.keeper.client refl)
 

@@ -22,7 +22,7 @@ use Rattle.exactly_once.specs.Sides.{ClientConnection, Side}
 use Rattle.client_base.specs.Written.{plain}
 use Rattle.client_base.specs.Handled.{handled, lost}
 use Rattle.exactly_once.specs.Story.{Story, StoryStep}
-use Rattle.exactly_once.specs.StoryCommands.{any_named, is_packet_of, command_of, counted_at}
+use Rattle.exactly_once.specs.StoryCommands.{any_named, is_packet_of, command_of, with_one_counted}
 use Rattle.client_base.specs.Written.{writes_first}
 use Rattle.client_base.specs.Called.{written_for, adds_own}
 use Rattle.exactly_once.specs.Story.StoryStep.{takes, others_take, receives, opens_anew, loses, disconnects, publishes_one, subscribes, unsubscribes}
@@ -66,7 +66,7 @@ held_placed limits place past keeper (κ ∷ others) sends h =
     (h.0, h.1, λ opened off served. put_each IsPresent limits place past κ.name (h.2 opened off served) (sends served).0)
 
 -- one more is taken of one
-held_counted : (limits : Limits) (past : Past) (keeper : Keeper) (i : ℕ) (connections : List ClientConnection) → HeldInShape limits past keeper connections → HeldInShape limits past keeper (counted_at i connections)
+held_counted : (limits : Limits) (past : Past) (keeper : Keeper) (i : ℕ) (connections : List ClientConnection) → HeldInShape limits past keeper connections → HeldInShape limits past keeper (with_one_counted i connections)
 held_counted limits past keeper i [] h = h
 held_counted limits past keeper zero (κ ∷ others) h = h
 held_counted limits past keeper (suc i) (κ ∷ others) h = h

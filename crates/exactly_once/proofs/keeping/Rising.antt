@@ -8,7 +8,7 @@ use Rattle.client_base.proofs.of_lists.Tests.{or_none}
 use Rattle.client_base.proofs.of_lists.OfEach.{each_then}
 use Rattle.client_base.specs.Keeper.{Written}
 use Rattle.exactly_once.specs.Sides.{ClientConnection}
-use Rattle.exactly_once.specs.StoryCommands.{any_named, counted_at}
+use Rattle.exactly_once.specs.StoryCommands.{any_named, with_one_counted}
 use Rattle.client_base.specs.Written.{writes_first}
 use Rattle.exactly_once.specs.Inside.Projections.{last_confirmed}
 use Rattle.exactly_once.specs.Inside.Shape.{NamesApart}
@@ -86,13 +86,13 @@ this_of x (κ ∷ others) h = by (cases_Bool κ.confirmed) (this_of x others h.1
 -- ---- it is kept
 
 -- one more is taken
-unconfirmed_counted : (x : ConnectionName) (i : ℕ) (connections : List ClientConnection) → Unconfirmed x connections → Unconfirmed x (counted_at i connections)
+unconfirmed_counted : (x : ConnectionName) (i : ℕ) (connections : List ClientConnection) → Unconfirmed x connections → Unconfirmed x (with_one_counted i connections)
 unconfirmed_counted x i [] h = tt
 unconfirmed_counted x zero (κ ∷ others) h = (h.0, h.1)
 unconfirmed_counted x (suc i) (κ ∷ others) h = (h.0, unconfirmed_counted x i others h.1)
 
 -- and the row stays
-pub top_counted : (x : ConnectionName) (i : ℕ) (connections : List ClientConnection) → IsTop x connections → IsTop x (counted_at i connections)
+pub top_counted : (x : ConnectionName) (i : ℕ) (connections : List ClientConnection) → IsTop x connections → IsTop x (with_one_counted i connections)
 top_counted x i [] h = tt
 top_counted x zero (κ ∷ others) h = (h.0, h.1)
 top_counted x (suc i) (κ ∷ others) h = (λ e. unconfirmed_counted x i others (h.0 e), top_counted x i others h.1)
@@ -103,7 +103,7 @@ top_written x more [] h = tt
 top_written x more (κ ∷ others) h = (h.0, h.1)
 
 -- the one that has it is unconfirmed
-pub one_unconfirmed : (connections : List ClientConnection) (i : ℕ) (κ : ClientConnection) → NamesApart connections → slice_get connections i ≡ Some κ → κ.confirmed ≡ false → Unconfirmed κ.name (counted_at i connections)
+pub one_unconfirmed : (connections : List ClientConnection) (i : ℕ) (κ : ClientConnection) → NamesApart connections → slice_get connections i ≡ Some κ → κ.confirmed ≡ false → Unconfirmed κ.name (with_one_counted i connections)
 one_unconfirmed [] i κ a at u = absurd (cc)
 one_unconfirmed (first ∷ others) zero κ a at u =
     let f : first ≡ κ = cc in

@@ -20,7 +20,7 @@ use Rattle.exactly_once.specs.Sides.{ClientConnection, Side}
 use Rattle.client_base.specs.Written.{plain}
 use Rattle.client_base.specs.Handled.{handled}
 use Rattle.exactly_once.specs.Story.{Story, StoryStep}
-use Rattle.exactly_once.specs.StoryCommands.{any_named, is_packet_of, command_of, counted_at}
+use Rattle.exactly_once.specs.StoryCommands.{any_named, is_packet_of, command_of, with_one_counted}
 use Rattle.client_base.specs.Written.{writes_first}
 use Rattle.client_base.specs.Called.{written_for}
 use Rattle.exactly_once.specs.Story.StoryStep.{takes, others_take, receives, opens_anew, loses, disconnects, publishes_one, subscribes, unsubscribes}
@@ -66,7 +66,7 @@ meant_before limits place past c x spared kept = each_then (IsMeant c past) (IsM
 -- ---- connections
 
 -- one more is taken of one
-pub welcomed_counted : (limits : Limits) (past : Past) (c : Client) (i : ℕ) (connections : List ClientConnection) → AreWelcomed limits past c connections → AreWelcomed limits past c (counted_at i connections)
+pub welcomed_counted : (limits : Limits) (past : Past) (c : Client) (i : ℕ) (connections : List ClientConnection) → AreWelcomed limits past c connections → AreWelcomed limits past c (with_one_counted i connections)
 welcomed_counted limits past c i [] h = tt
 welcomed_counted limits past c zero (κ ∷ others) h = (h.0, h.1)
 welcomed_counted limits past c (suc i) (κ ∷ others) h = (h.0, welcomed_counted limits past c i others h.1)

@@ -7,22 +7,22 @@ use Rattle.broker_base.specs.broker_spec.Place.{Client, Mark, Place, Past, only_
 use Rattle.broker_base.specs.broker_spec.Past.{accepts, ends_any, newest_connection, current_connection}
 use Rattle.broker_base.specs.broker_spec.declared.command.Command.{Command}
 use Rattle.broker_base.specs.broker_spec.declared.command.Command.TheVariants as commands
-use Rattle.exactly_once.specs.StoryCommands.{is_packet_of, count_of}
+use Rattle.exactly_once.specs.StoryCommands.{is_packet_of, packet_count}
 use Rattle.broker_base.proofs.of_broker_spec.ConnectionNames.{same_itself}
 
 -- a packet of x counts
-pub counted_here : (x : ConnectionName) (place : Place) (past : Past) → is_packet_of place.command x ≡ true → count_of x past < count_of x (place ∷ past)
+pub counted_here : (x : ConnectionName) (place : Place) (past : Past) → is_packet_of place.command x ≡ true → packet_count x past < packet_count x (place ∷ past)
 counted_here x place past e = by (is_packet_of place.command x) e
   where
-    by : (b : Bool) → b ≡ true → count_of x past < (if b then suc (count_of x past) else count_of x past)
+    by : (b : Bool) → b ≡ true → packet_count x past < (if b then suc (packet_count x past) else packet_count x past)
     by true e = omega arith
     by false e = absurd (both_ways false refl e)
 
 -- a place takes none away
-pub counted_still : (x : ConnectionName) (place : Place) (past : Past) → count_of x past ≤ count_of x (place ∷ past)
+pub counted_still : (x : ConnectionName) (place : Place) (past : Past) → packet_count x past ≤ packet_count x (place ∷ past)
 counted_still x place past = by (is_packet_of place.command x)
   where
-    by : (b : Bool) → count_of x past ≤ (if b then suc (count_of x past) else count_of x past)
+    by : (b : Bool) → packet_count x past ≤ (if b then suc (packet_count x past) else packet_count x past)
     by true = omega arith
     by false = omega arith
 
@@ -51,13 +51,13 @@ opened_or_old command mark c over old x e = by (accepts command mark c) refl e
     by None a f = inr (only_there (not over) old x f).1
 
 -- so a current connection has its Connect in the list
-pub current_counted : (past : Past) (c : Client) (x : ConnectionName) → current_connection past c ≡ Some x → 1 ≤ count_of x past
+pub current_counted : (past : Past) (c : Client) (x : ConnectionName) → current_connection past c ≡ Some x → 1 ≤ packet_count x past
 unfolding current_connection
 current_counted [] c x e = cc
 current_counted (place ∷ past) c x e =
     by (opened_or_old place.command place.mark c (ends_any place c (current_connection past c)) (current_connection past c) x e) (current_counted past c x)
   where
-    by : (is_packet_of place.command x ≡ true) ⊎ (current_connection past c ≡ Some x) → (current_connection past c ≡ Some x → 1 ≤ count_of x past) → 1 ≤ count_of x (place ∷ past)
+    by : (is_packet_of place.command x ≡ true) ⊎ (current_connection past c ≡ Some x) → (current_connection past c ≡ Some x → 1 ≤ packet_count x past) → 1 ≤ packet_count x (place ∷ past)
     by (inl here) ih = let more = counted_here x place past here in omega (arith, more)
     by (inr old) ih =
         let more = counted_still x place past in

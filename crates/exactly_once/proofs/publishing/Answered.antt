@@ -8,7 +8,7 @@ use Rattle.client_base.specs.lists.Lists.{has_id}
 use Rattle.broker_base.specs.broker_spec.Place.{Past, Limits}
 use Rattle.broker_base.specs.broker_spec.Past.{current_connection}
 use Rattle.exactly_once.specs.Items.{SenderItem, has_sent}
-use Rattle.exactly_once.specs.Handshake.{Forward, Backward, Transit, Handshake, heard, reply}
+use Rattle.exactly_once.specs.Handshake.{Forward, Backward, Transit, Handshake, sender_hears, reply}
 use Rattle.exactly_once.specs.HandshakeInvariant.{IsGood, IsDue, FitsTransit}
 use Rattle.client_base.proofs.of_lists.Tests.{or_then}
 use Rattle.exactly_once.specs.Sends.{put_to}
@@ -79,9 +79,9 @@ hears_pubrec limits past keeper κ others i shape on conf next good =
     let more = plain (packets.Pubrel i) ∷ [] in
     let later : Keeper = record keeper { own = map (at_pubrec i) keeper.own; releases = keeper.releases ++ i ∷ [] } in
     let goes =
-    goes_first limits past keeper later κ others (κ.written ++ more) more (suc κ.handled) κ.confirmed κ.accepted (heard (Backward.Pubrec i) h.items) (f ++ reply (Backward.Pubrec i)) b
+    goes_first limits past keeper later κ others (κ.written ++ more) more (suc κ.handled) κ.confirmed κ.accepted (sender_hears (Backward.Pubrec i) h.items) (f ++ reply (Backward.Pubrec i)) b
     shape refl conf refl
-    (subst (λ (online : Bool). Reaches h (heard (Backward.Pubrec i) h.items) (link_by cur online (f ++ reply (Backward.Pubrec i)) b)) (sym on) (hears_one h cur (Backward.Pubrec i) f b transit))
+    (subst (λ (online : Bool). Reaches h (sender_hears (Backward.Pubrec i) h.items) (link_by cur online (f ++ reply (Backward.Pubrec i)) b)) (sym on) (hears_one h cur (Backward.Pubrec i) f b transit))
     (sym (items_released i keeper.own)) refl refl in
     subst (λ (z : Bool). GoesTo h (as_publisher limits (with_side s others (releasing_by z i keeper κ)))) (sym has) goes
 
@@ -97,7 +97,7 @@ hears_pubcomp limits past keeper κ others i shape on conf next =
     let transit : h.transit ≡ link_by cur true f (Backward.Pubcomp i ∷ b) =
     answer_link limits past keeper κ others (Backward.Pubcomp i) b on conf (ap backward_of_own (dropped_next κ.handled (put_to limits past κ.name) (packets.Pubcomp i) next)) in
     let later : Keeper = record keeper { own = map (at_pubcomp i) keeper.own; releases = without_id i keeper.releases } in
-    goes_first limits past keeper later κ others κ.written [] (suc κ.handled) κ.confirmed κ.accepted (heard (Backward.Pubcomp i) h.items) (f ++ []) b
+    goes_first limits past keeper later κ others κ.written [] (suc κ.handled) κ.confirmed κ.accepted (sender_hears (Backward.Pubcomp i) h.items) (f ++ []) b
     shape refl conf (sym (append-nil κ.written))
-    (subst (λ (online : Bool). Reaches h (heard (Backward.Pubcomp i) h.items) (link_by cur online (f ++ []) b)) (sym on) (hears_one h cur (Backward.Pubcomp i) f b transit))
+    (subst (λ (online : Bool). Reaches h (sender_hears (Backward.Pubcomp i) h.items) (link_by cur online (f ++ []) b)) (sym on) (hears_one h cur (Backward.Pubcomp i) f b transit))
     (sym (items_finished i keeper.own)) refl refl

@@ -14,7 +14,7 @@ use Rattle.exactly_once.specs.Sides.{ClientConnection}
 use Rattle.client_base.specs.Written.{plain}
 use Rattle.client_base.specs.Handled.{lost}
 use Rattle.exactly_once.specs.Story.{Story}
-use Rattle.exactly_once.specs.StoryCommands.{count_of}
+use Rattle.exactly_once.specs.StoryCommands.{packet_count}
 use Rattle.client_base.specs.Connected.{new_connection}
 use Rattle.client_base.specs.Written.{writes_first}
 use Rattle.exactly_once.specs.Inside.Projections.{items_of_own, forward_of_own, backward_of_own, to_come, to_be_taken, is_current, transit_of_own, last_confirmed, as_publisher, GoesTo}
@@ -44,7 +44,7 @@ pub loses_it : (limits : Limits) (s : Story) → GoesTo (as_publisher limits s) 
 loses_it limits s = leaves_all limits s.past s.keeper (lost s.keeper) s.connections s.connections refl refl refl refl refl
 
 -- it opens another
-pub opens_another : (limits : Limits) (s : Story) (x : ConnectionName) → count_of x s.past ≡ 0
+pub opens_another : (limits : Limits) (s : Story) (x : ConnectionName) → packet_count x s.past ≡ 0
     → GoesTo (as_publisher limits s)
     (as_publisher limits (story_by s.past (new_connection s.keeper.client x ∷ s.connections) (record (lost s.keeper) { is_open = true })))
 opens_another limits s x none =

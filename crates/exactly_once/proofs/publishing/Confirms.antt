@@ -8,7 +8,7 @@ use Rattle.client_base.specs.lists.Lists.{has_id, IsDistinct, Each}
 use Rattle.broker_base.specs.broker_spec.Place.{Past, Limits}
 use Rattle.broker_base.specs.broker_spec.Past.{current_connection}
 use Rattle.exactly_once.specs.Items.{SenderItem, has_released}
-use Rattle.exactly_once.specs.Handshake.{Forward, Transit, Handshake, resend}
+use Rattle.exactly_once.specs.Handshake.{Forward, Transit, Handshake, sender_resends}
 use Rattle.exactly_once.specs.HandshakeSteps.Advances.{parts, restarts}
 use Rattle.client_base.proofs.of_lists.Tests.{eq_same, or_left, or_right}
 use Rattle.client_base.proofs.of_lists.Identifiers.{distinct_front}
@@ -42,23 +42,23 @@ each_among own (id ∷ ids) all among same =
 
 -- all is sent again, if any client accepts it
 restarts_by : (h : Handshake ℕ) (cur : Bool) (releases : List ℕ) → IsDistinct releases → Each (λ id. has_released id h.items ≡ true) releases
-    → Reaches h h.items (link_by cur true (resend releases h.items) [])
-restarts_by h true releases d e = reaches_by h h.items (Transit.Joined (resend releases h.items) []) (Transit.Joined (resend releases h.items) []) (restarts releases d e) refl
+    → Reaches h h.items (link_by cur true (sender_resends releases h.items) [])
+restarts_by h true releases d e = reaches_by h h.items (Transit.Joined (sender_resends releases h.items) []) (Transit.Joined (sender_resends releases h.items) []) (restarts releases d e) refl
 restarts_by h false releases d e = reaches_by h h.items (Transit.Behind []) (Transit.Behind []) parts refl
 
 pub begins_again : (h : Handshake ℕ) (cur : Bool) (keeper : Keeper) → OwnInShape keeper → h.items ≡ items_of_own keeper.own
     → Reaches h (items_of_own (sent_all keeper.own)) (link_by cur true (forward_of_own (resent keeper)) [])
 begins_again h cur keeper shape items =
-    let again = resend keeper.releases (items_of_own keeper.own) in
+    let again = sender_resends keeper.releases (items_of_own keeper.own) in
     let all = items_of_own (sent_all keeper.own) in
     let known : Each (λ id. has_released id h.items ≡ true) keeper.releases =
     subst (λ (xs : List (SenderItem ℕ)). Each (λ id. has_released id xs ≡ true) keeper.releases) (sym items) (each_among keeper.own keeper.releases keeper.releases (λ id e. e) shape.releases_are) in
     subst (λ (f : List (Forward ℕ)). Reaches h all (link_by cur true f [])) (sym (forward_resent keeper))
-    (reaches_then h h.items all (link_by cur true (resend keeper.releases h.items) []) (link_by cur true (again ++ forward_of_own (sent_first keeper.own)) [])
+    (reaches_then h h.items all (link_by cur true (sender_resends keeper.releases h.items) []) (link_by cur true (again ++ forward_of_own (sent_first keeper.own)) [])
     (restarts_by h cur keeper.releases (shape.releases_apart) known)
     (λ k e l. starts_unsent keeper.own [] k cur again [] (e ∙ items) tt (λ i g. refl)
     (distinct_front (ids_of_own keeper.own) (map id_of_request keeper.requests) (shape.ids_apart))
-    (l ∙ ap (λ xs. link_by cur true (resend keeper.releases xs) []) items)))
+    (l ∙ ap (λ xs. link_by cur true (sender_resends keeper.releases xs) []) items)))
 
 -- ---- the event
 

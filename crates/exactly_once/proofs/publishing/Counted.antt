@@ -15,7 +15,7 @@ use Rattle.broker_base.specs.broker_spec.Commands.{place_of}
 use Rattle.broker_base.specs.broker_spec.declared.command.Command.TheVariants as commands
 use Rattle.exactly_once.specs.Sides.{ClientConnection}
 use Rattle.client_base.specs.Keeper.{Keeper}
-use Rattle.exactly_once.specs.StoryCommands.{counted_at}
+use Rattle.exactly_once.specs.StoryCommands.{with_one_counted}
 use Rattle.exactly_once.specs.Inside.Projections.{is_current, last_confirmed, as_publisher, GoesTo}
 use Rattle.exactly_once.specs.Inside.Shape.{HasShape}
 use Rattle.exactly_once.proofs.Packets.{at_packet}
@@ -32,18 +32,18 @@ use Rattle.exactly_once.proofs.publishing.AtPlaces.{no_number, NoneToLast, come_
 -- if no packet of the handshake is taken
 pub goes_counted : (limits : Limits) (place : Place) (past : Past) (keeper : Keeper) (connections : List ClientConnection) (i : ℕ) (κ : ClientConnection) → HasShape limits (story_by past connections keeper)
     → slice_get connections i ≡ Some κ → is_new place.command place.mark ≡ false → received_of past keeper.client ≡ received_of (place ∷ past) keeper.client → NoneToLast limits place past connections
-    → (LastAfter (last_confirmed connections) (last_confirmed (counted_at i connections)) κ
+    → (LastAfter (last_confirmed connections) (last_confirmed (with_one_counted i connections)) κ
     → StaysOrLeaves (current_last (current_connection past keeper.client) (last_confirmed connections))
-    (current_last (current_connection (place ∷ past) keeper.client) (last_confirmed (counted_at i connections)))
-    (forward_last (last_confirmed connections)) (forward_last (last_confirmed (counted_at i connections))))
-    → GoesTo (as_publisher limits (story_by past connections keeper)) (as_publisher limits (story_by (place ∷ past) (counted_at i connections) keeper))
+    (current_last (current_connection (place ∷ past) keeper.client) (last_confirmed (with_one_counted i connections)))
+    (forward_last (last_confirmed connections)) (forward_last (last_confirmed (with_one_counted i connections))))
+    → GoesTo (as_publisher limits (story_by past connections keeper)) (as_publisher limits (story_by (place ∷ past) (with_one_counted i connections) keeper))
 goes_counted limits place past keeper connections i κ shape stands old received none choice =
     let after = last_counted i connections κ shape.names_apart stands in
-    goes_place limits place past keeper connections (counted_at i connections) (no_number connections (counted_at i connections) place past old (same_counted past i connections)) received
+    goes_place limits place past keeper connections (with_one_counted i connections) (no_number connections (with_one_counted i connections) place past old (same_counted past i connections)) received
     (come_same limits place past keeper connections shape.connections none ∙ come after) (choice after)
   where
-    come : LastAfter (last_confirmed connections) (last_confirmed (counted_at i connections)) κ
-        → backward_last limits (place ∷ past) (last_confirmed connections) ≡ backward_last limits (place ∷ past) (last_confirmed (counted_at i connections))
+    come : LastAfter (last_confirmed connections) (last_confirmed (with_one_counted i connections)) κ
+        → backward_last limits (place ∷ past) (last_confirmed connections) ≡ backward_last limits (place ∷ past) (last_confirmed (with_one_counted i connections))
     come (inl same) = ap (backward_last limits (place ∷ past)) (sym same.0)
     come (inr this) = ap (backward_last limits (place ∷ past)) this.0 ∙ sym (ap (backward_last limits (place ∷ past)) this.1)
 
@@ -84,7 +84,7 @@ never_ended x packet (Some y) = by (same_connection x y)
 pub takes_nobodys : (limits : Limits) (past : Past) (keeper : Keeper) (connections : List ClientConnection) (i : ℕ) (κ : ClientConnection) (packet : Packet) → HasShape limits (story_by past connections keeper)
     → slice_get connections i ≡ Some κ → (current_connection past keeper.client ≡ Some κ.name → ⊥)
     → GoesTo (as_publisher limits (story_by past connections keeper))
-    (as_publisher limits (story_by (place_of limits past (commands.Packet κ.name packet) ∷ past) (counted_at i connections) keeper))
+    (as_publisher limits (story_by (place_of limits past (commands.Packet κ.name packet) ∷ past) (with_one_counted i connections) keeper))
 takes_nobodys limits past keeper connections i κ packet shape stands not =
     let h = as_publisher limits (story_by past connections keeper) in
     let c = keeper.client in
@@ -94,11 +94,11 @@ takes_nobodys limits past keeper connections i κ packet shape stands not =
     goes_counted limits place past keeper connections i κ shape stands (new_nobodys κ.name packet)
     (sym (received_stays place past c refl refl shape.session (received_nobodys κ.name packet c (received_of past c)))) (λ μ e. answers_nobodys μ.name limits past κ.name packet)
     (choice (current_connection (place ∷ past) c) current) in
-    subst (λ (m : Mark). GoesTo h (as_publisher limits (story_by (at_packet κ.name packet m ∷ past) (counted_at i connections) keeper)))
+    subst (λ (m : Mark). GoesTo h (as_publisher limits (story_by (at_packet κ.name packet m ∷ past) (with_one_counted i connections) keeper)))
     (sym (ap (packet_mark_of limits past packet) (none_owns past c connections κ.name shape.nobody_else (is_named i connections κ stands) not))) goes
   where
-    choice : (later : Option ConnectionName) → later ≡ current_connection past keeper.client → LastAfter (last_confirmed connections) (last_confirmed (counted_at i connections)) κ
-        → StaysOrLeaves (current_last (current_connection past keeper.client) (last_confirmed connections)) (current_last later (last_confirmed (counted_at i connections)))
-        (forward_last (last_confirmed connections)) (forward_last (last_confirmed (counted_at i connections)))
+    choice : (later : Option ConnectionName) → later ≡ current_connection past keeper.client → LastAfter (last_confirmed connections) (last_confirmed (with_one_counted i connections)) κ
+        → StaysOrLeaves (current_last (current_connection past keeper.client) (last_confirmed connections)) (current_last later (last_confirmed (with_one_counted i connections)))
+        (forward_last (last_confirmed connections)) (forward_last (last_confirmed (with_one_counted i connections)))
     choice later e (inl same) = inr (sym (ap₂ current_last e same.0), sym (ap forward_last same.0))
     choice later e (inr this) = inl (ap₂ current_last e this.1 ∙ not_current (current_connection past keeper.client) κ.name not)

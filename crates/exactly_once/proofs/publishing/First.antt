@@ -14,7 +14,7 @@ use Rattle.exactly_once.specs.Sends.{put_to}
 use Rattle.client_base.specs.Keeper.{Written, Keeper}
 use Rattle.exactly_once.specs.Sides.{ClientConnection}
 use Rattle.exactly_once.specs.Story.{Story}
-use Rattle.exactly_once.specs.StoryCommands.{count_of}
+use Rattle.exactly_once.specs.StoryCommands.{packet_count}
 use Rattle.exactly_once.specs.Inside.Projections.{items_of_own, forward_of_own, backward_of_own, to_come, to_be_taken, is_current, transit_of_own, last_confirmed, as_publisher, GoesTo}
 use Rattle.exactly_once.specs.Inside.ConnectionShape.{ConnectionInShape}
 use Rattle.exactly_once.proofs.publishing.Links.{link_by, link_is, Reaches, reaches_itself, goes_of, sender_goes}
@@ -37,7 +37,7 @@ first_link limits past keeper κ others e =
     ∙ link_is limits past (current_connection past keeper.client) keeper.is_online (Some κ)
 
 -- the packets that are taken are among those written
-pub counted_within : (limits : Limits) (past : Past) (keeper : Keeper) (κ : ClientConnection) → ConnectionInShape limits past keeper.client κ → count_of κ.name past ≤ length κ.written
+pub counted_within : (limits : Limits) (past : Past) (keeper : Keeper) (κ : ClientConnection) → ConnectionInShape limits past keeper.client κ → packet_count κ.name past ≤ length κ.written
 counted_within limits past keeper κ shape = subst (λ n. n ≤ length κ.written) (sym shape.counted) shape.within
 
 pub goes_first : (limits : Limits) (past : Past) (keeper later : Keeper) (κ : ClientConnection) (others : List ClientConnection) (ws more : List Written) (n : ℕ) (confirmed : Bool)

@@ -7,7 +7,7 @@ use Rattle.broker_base.proofs.ConnectionsOfSessions.{same_turned}
 use Rattle.client_base.specs.lists.Lists.{Each}
 use Rattle.client_base.proofs.of_lists.Tests.{or_none, or_left, or_right}
 use Rattle.exactly_once.specs.Sides.{ClientConnection}
-use Rattle.exactly_once.specs.StoryCommands.{any_named, counted_at}
+use Rattle.exactly_once.specs.StoryCommands.{any_named, with_one_counted}
 use Rattle.exactly_once.specs.Inside.Projections.{last_confirmed}
 use Rattle.exactly_once.specs.Inside.Shape.{NamesApart}
 use Rattle.broker_base.proofs.of_broker_spec.ConnectionNames.{same_itself}
@@ -63,11 +63,11 @@ LastAfter last after κ =
     ((after ≡ last) × ((μ : ClientConnection) → last ≡ Some μ → same_connection κ.name μ.name ≡ false)) ⊎ ((last ≡ Some κ) × (after ≡ Some (taken_more κ)))
 
 pub last_counted : (i : ℕ) (connections : List ClientConnection) (κ : ClientConnection) → NamesApart connections → slice_get connections i ≡ Some κ
-    → LastAfter (last_confirmed connections) (last_confirmed (counted_at i connections)) κ
+    → LastAfter (last_confirmed connections) (last_confirmed (with_one_counted i connections)) κ
 last_counted i [] κ apart e = cc
 last_counted zero (μ ∷ connections) κ apart e =
     let same : μ ≡ κ = cc in
-    subst (LastAfter (last_confirmed (μ ∷ connections)) (last_confirmed (counted_at zero (μ ∷ connections)))) same (by (cases_Bool μ.confirmed))
+    subst (LastAfter (last_confirmed (μ ∷ connections)) (last_confirmed (with_one_counted zero (μ ∷ connections)))) same (by (cases_Bool μ.confirmed))
   where
     by : (μ.confirmed ≡ true) ⊎ (μ.confirmed ≡ false) → LastAfter (last_confirmed (μ ∷ connections)) (last_confirmed (taken_more μ ∷ connections)) μ
     by (inl c) = inr (ap (λ b. if b then Some μ else last_confirmed connections) c, ap (λ b. if b then Some (taken_more μ) else last_confirmed connections) c)
@@ -79,12 +79,12 @@ last_counted zero (μ ∷ connections) κ apart e =
         )
 last_counted (suc i) (μ ∷ connections) κ apart e = by (cases_Bool μ.confirmed) (last_counted i connections κ apart.1 e)
   where
-    by : (μ.confirmed ≡ true) ⊎ (μ.confirmed ≡ false) → LastAfter (last_confirmed connections) (last_confirmed (counted_at i connections)) κ
-        → LastAfter (last_confirmed (μ ∷ connections)) (last_confirmed (μ ∷ counted_at i connections)) κ
+    by : (μ.confirmed ≡ true) ⊎ (μ.confirmed ≡ false) → LastAfter (last_confirmed connections) (last_confirmed (with_one_counted i connections)) κ
+        → LastAfter (last_confirmed (μ ∷ connections)) (last_confirmed (μ ∷ with_one_counted i connections)) κ
     by (inl c) ih =
         let here : last_confirmed (μ ∷ connections) ≡ Some μ = ap (λ b. if b then Some μ else last_confirmed connections) c in
         inl (
-          ap (λ b. if b then Some μ else last_confirmed (counted_at i connections)) c ∙ sym here,
+          ap (λ b. if b then Some μ else last_confirmed (with_one_counted i connections)) c ∙ sym here,
           λ ν l.
               let found : Some μ ≡ Some ν = sym here ∙ l in
               let same : μ ≡ ν = cc in
@@ -93,6 +93,6 @@ last_counted (suc i) (μ ∷ connections) κ apart e = by (cases_Bool μ.confirm
         )
     by (inr n) ih =
         let here = ap (λ b. if b then Some μ else last_confirmed connections) n in
-        let there = ap (λ b. if b then Some μ else last_confirmed (counted_at i connections)) n in
-        subst (λ (l : Option ClientConnection). LastAfter l (last_confirmed (μ ∷ counted_at i connections)) κ) (sym here)
+        let there = ap (λ b. if b then Some μ else last_confirmed (with_one_counted i connections)) n in
+        subst (λ (l : Option ClientConnection). LastAfter l (last_confirmed (μ ∷ with_one_counted i connections)) κ) (sym here)
         (subst (λ (l : Option ClientConnection). LastAfter (last_confirmed connections) l κ) (sym there) ih)

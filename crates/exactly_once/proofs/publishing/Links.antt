@@ -3,7 +3,7 @@ use Rattle.std.proofs.Common.{◌≡◌, ℕ, Bool, true, false, if◌then◌els
 use Rattle.broker_base.specs.broker_spec.Connection.{ConnectionName}
 use Rattle.broker_base.specs.broker_spec.Place.{Past, Limits}
 use Rattle.exactly_once.specs.Items.{SenderItem}
-use Rattle.exactly_once.specs.Handshake.{Forward, Backward, Transit, Handshake, with_items, heard, reply}
+use Rattle.exactly_once.specs.Handshake.{Forward, Backward, Transit, Handshake, with_items, sender_hears, reply}
 use Rattle.exactly_once.specs.HandshakeSteps.{HandshakeRun, Advances}
 use Rattle.exactly_once.specs.HandshakeSteps.Advances.{hears, hears_alone, sender_leaves, receiver_leaves, parts}
 use Rattle.exactly_once.specs.HandshakeSteps.HandshakeRun.{stays, goes_on}
@@ -110,6 +110,6 @@ receiver_goes h false false f b e = reaches_itself h (Transit.Behind []) e
 
 -- the sender, while it is there, receives an answer
 pub hears_one : (h : Handshake ℕ) (cur : Bool) (m : Backward) (f : List (Forward ℕ)) (b : List Backward) → h.transit ≡ link_by cur true f (m ∷ b)
-    → Reaches h (heard m h.items) (link_by cur true (f ++ reply m) b)
-hears_one h true m f b e = reaches_by h (heard m h.items) (Transit.Joined (f ++ reply m) b) (Transit.Joined (f ++ reply m) b) (hears m f b e) refl
-hears_one h false m f b e = reaches_by h (heard m h.items) (Transit.Behind b) (Transit.Behind b) (hears_alone m b e) refl
+    → Reaches h (sender_hears m h.items) (link_by cur true (f ++ reply m) b)
+hears_one h true m f b e = reaches_by h (sender_hears m h.items) (Transit.Joined (f ++ reply m) b) (Transit.Joined (f ++ reply m) b) (hears m f b e) refl
+hears_one h false m f b e = reaches_by h (sender_hears m h.items) (Transit.Behind b) (Transit.Behind b) (hears_alone m b e) refl

@@ -5,7 +5,7 @@ use Rattle.client_base.specs.packet.packet_base.declared.qos.QoS.{QoS}
 use Rattle.client_base.specs.packet.packet_base.declared.qos.QoS.TheVariants as qualities
 use Rattle.client_base.specs.session_base.declared.publication.Publication.{Publication}
 use Rattle.client_base.specs.session_base.Publication.{is_acknowledged}
-use Rattle.exactly_once.specs.Items.{SenderItem, releasing, finishing, has_sent}
+use Rattle.exactly_once.specs.Items.{SenderItem, item_released, finishing, has_sent}
 use Rattle.client_base.proofs.of_lists.Tests.{or_right}
 use Rattle.client_base.specs.Keeper.{Own}
 use Rattle.client_base.specs.Handshakes.{at_puback, at_pubrec, at_pubcomp, is_sent_with}
@@ -26,14 +26,14 @@ own_map g p x y es fs e f = by (is_two p.qos)
     by false = f
 
 -- a PUBREC releases
-pub items_released : (i : ℕ) (own : List Own) → items_of_own (map (at_pubrec i) own) ≡ map (releasing i) (items_of_own own)
+pub items_released : (i : ℕ) (own : List Own) → items_of_own (map (at_pubrec i) own) ≡ map (item_released i) (items_of_own own)
 items_released i [] = refl
-items_released i (Own.Unsent k p id ∷ own) = own_map (releasing i) p (SenderItem.Waits k) (SenderItem.Waits k) (items_of_own own) (items_of_own (map (at_pubrec i) own)) refl (items_released i own)
+items_released i (Own.Unsent k p id ∷ own) = own_map (item_released i) p (SenderItem.Waits k) (SenderItem.Waits k) (items_of_own own) (items_of_own (map (at_pubrec i) own)) refl (items_released i own)
 items_released i (Own.Sent k p id ∷ own) = by (cases_Bool (i == id)) (is_acknowledged p.qos) (cases_Bool (is_two p.qos)) (two_unacknowledged p.qos) (items_released i own)
   where
     by : ((i == id) ≡ true) ⊎ ((i == id) ≡ false) → (a : Bool) → (is_two p.qos ≡ true) ⊎ (is_two p.qos ≡ false) → (is_two p.qos ≡ true → a ≡ false)
-        → items_of_own (map (at_pubrec i) own) ≡ map (releasing i) (items_of_own own)
-        → items_of_own ((if (i == id) && not a then Own.Released k p id else Own.Sent k p id) ∷ map (at_pubrec i) own) ≡ map (releasing i) (own_item p (SenderItem.Sent k id) (items_of_own own))
+        → items_of_own (map (at_pubrec i) own) ≡ map (item_released i) (items_of_own own)
+        → items_of_own ((if (i == id) && not a then Own.Released k p id else Own.Sent k p id) ∷ map (at_pubrec i) own) ≡ map (item_released i) (own_item p (SenderItem.Sent k id) (items_of_own own))
     by (inl b) true (inl t) n ih = absurd (both_ways true (n t) refl)
     by (inl b) false (inl t) n ih = rw (b, t) (rw b (ap (λ l. SenderItem.Released k id ∷ l) ih))
     by (inl b) true (inr t) n ih = rw (b, t) ih
@@ -41,8 +41,8 @@ items_released i (Own.Sent k p id ∷ own) = by (cases_Bool (i == id)) (is_ackno
     by (inr b) a (inl t) n ih = rw (b, t) (rw b (ap (λ l. SenderItem.Sent k id ∷ l) ih))
     by (inr b) a (inr t) n ih = rw (b, t) ih
 items_released i (Own.Released k p id ∷ own) =
-    own_map (releasing i) p (SenderItem.Released k id) (SenderItem.Released k id) (items_of_own own) (items_of_own (map (at_pubrec i) own)) refl (items_released i own)
-items_released i (Own.Done k p ∷ own) = own_map (releasing i) p (SenderItem.Finished k) (SenderItem.Finished k) (items_of_own own) (items_of_own (map (at_pubrec i) own)) refl (items_released i own)
+    own_map (item_released i) p (SenderItem.Released k id) (SenderItem.Released k id) (items_of_own own) (items_of_own (map (at_pubrec i) own)) refl (items_released i own)
+items_released i (Own.Done k p ∷ own) = own_map (item_released i) p (SenderItem.Finished k) (SenderItem.Finished k) (items_of_own own) (items_of_own (map (at_pubrec i) own)) refl (items_released i own)
 
 -- a PUBCOMP finishes
 pub items_finished : (i : ℕ) (own : List Own) → items_of_own (map (at_pubcomp i) own) ≡ map (finishing i) (items_of_own own)

@@ -1,7 +1,7 @@
 -- Which identifiers are released after a PUBREC and a PUBCOMP.
 use Rattle.std.proofs.Common.{◌≡◌, ℕ, Bool, true, false, not, ◌&&◌, ◌||◌, ◌==◌, List, [], ◌∷◌, map, refl, ap, sym, ◌∙◌, arith, inl, inr, ◌⊎◌}
 use Rattle.std.proofs.lemmas.Bool.{cases_Bool}
-use Rattle.exactly_once.specs.Items.{SenderItem, has_sent, has_released, releasing, finishing}
+use Rattle.exactly_once.specs.Items.{SenderItem, has_sent, has_released, item_released, finishing}
 use Rattle.client_base.proofs.of_lists.Tests.{eq_is}
 use Rattle.exactly_once.proofs.ItemsReleased.{now_released}
 
@@ -29,21 +29,21 @@ released_finished j i (SenderItem.Released v id ∷ items) = by (cases_Bool (i =
     by (inr e) (inr f) ih = rw (e, f) (ap (λ b. (j == id) || b) (ih ∙ ap (λ b. not b && has_released j items) f))
 
 -- a PUBREC adds its own
-other_released : (j i : ℕ) (items : List (SenderItem ℕ)) → (j == i) ≡ false → has_released j (map (releasing i) items) ≡ has_released j items
+other_released : (j i : ℕ) (items : List (SenderItem ℕ)) → (j == i) ≡ false → has_released j (map (item_released i) items) ≡ has_released j items
 other_released j i [] f = refl
 other_released j i (SenderItem.Waits v ∷ items) f = other_released j i items f
 other_released j i (SenderItem.Finished v ∷ items) f = other_released j i items f
 other_released j i (SenderItem.Released v id ∷ items) f = ap (λ b. (j == id) || b) (other_released j i items f)
 other_released j i (SenderItem.Sent v id ∷ items) f = by (cases_Bool (i == id)) (other_released j i items f)
   where
-    by : ((i == id) ≡ true) ⊎ ((i == id) ≡ false) → has_released j (map (releasing i) items) ≡ has_released j items
-        → has_released j (releasing i (SenderItem.Sent v id) ∷ map (releasing i) items) ≡ has_released j items
+    by : ((i == id) ≡ true) ⊎ ((i == id) ≡ false) → has_released j (map (item_released i) items) ≡ has_released j items
+        → has_released j (item_released i (SenderItem.Sent v id) ∷ map (item_released i) items) ≡ has_released j items
     by (inl e) ih =
         let apart : (j == id) ≡ false = grind (arith, e, f) in
         rw e (rw apart ih)
     by (inr e) ih = rw e ih
 
-pub released_more : (j i : ℕ) (items : List (SenderItem ℕ)) → has_sent i items ≡ true → (has_released j items || ((j == i) || false)) ≡ has_released j (map (releasing i) items)
+pub released_more : (j i : ℕ) (items : List (SenderItem ℕ)) → has_sent i items ≡ true → (has_released j items || ((j == i) || false)) ≡ has_released j (map (item_released i) items)
 released_more j i items s = by (cases_Bool (j == i))
   where
     last : (b : Bool) → (b || true) ≡ true
@@ -54,8 +54,8 @@ released_more j i items s = by (cases_Bool (j == i))
     first true = refl
     first false = refl
 
-    by : ((j == i) ≡ true) ⊎ ((j == i) ≡ false) → (has_released j items || ((j == i) || false)) ≡ has_released j (map (releasing i) items)
+    by : ((j == i) ≡ true) ⊎ ((j == i) ≡ false) → (has_released j items || ((j == i) || false)) ≡ has_released j (map (item_released i) items)
     by (inl e) =
         ap (λ b. has_released j items || (b || false)) e ∙ last (has_released j items)
-        ∙ sym (ap (λ k. has_released k (map (releasing i) items)) (eq_is j i e) ∙ now_released i items s)
+        ∙ sym (ap (λ k. has_released k (map (item_released i) items)) (eq_is j i e) ∙ now_released i items s)
     by (inr e) = ap (λ b. has_released j items || (b || false)) e ∙ first (has_released j items) ∙ sym (other_released j i items e)

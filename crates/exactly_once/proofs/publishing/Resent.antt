@@ -3,7 +3,7 @@ use Rattle.std.proofs.Common.{◌≡◌, ℕ, Bool, true, false, if◌then◌els
 use Rattle.client_base.specs.packet.declared.packet.Packet.TheVariants as packets
 use Rattle.client_base.specs.session_base.declared.publication.Publication.{Publication}
 use Rattle.exactly_once.specs.Items.{SenderItem, sent}
-use Rattle.exactly_once.specs.Handshake.{Forward, publishing, resend}
+use Rattle.exactly_once.specs.Handshake.{Forward, publishing, sender_resends}
 use Rattle.client_base.specs.Keeper.{Own, Keeper}
 use Rattle.client_base.specs.Written.{plain, sent_again, sent_first, resent}
 use Rattle.exactly_once.specs.Carried.{is_two}
@@ -37,7 +37,7 @@ publishes_again (Own.Sent k p id ∷ own) = forward_publishes true k id p (sent_
 publishes_again (Own.Released k p id ∷ own) = publishes_again own ∙ ap (map publishing) (not_again p (SenderItem.Released k id) (items_of_own own) refl)
 publishes_again (Own.Done k p ∷ own) = publishes_again own ∙ ap (map publishing) (not_again p (SenderItem.Finished k) (items_of_own own) refl)
 
-pub forward_resent : (keeper : Keeper) → forward_of_own (resent keeper) ≡ resend keeper.releases (items_of_own keeper.own) ++ forward_of_own (sent_first keeper.own)
+pub forward_resent : (keeper : Keeper) → forward_of_own (resent keeper) ≡ sender_resends keeper.releases (items_of_own keeper.own) ++ forward_of_own (sent_first keeper.own)
 forward_resent keeper =
     let rels = map (λ id. plain (packets.Pubrel id)) keeper.releases in
     forward_append (rels ++ sent_again keeper.own) (sent_first keeper.own)

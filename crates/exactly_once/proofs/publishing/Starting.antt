@@ -2,7 +2,7 @@
 use Rattle.std.proofs.Common.{◌≡◌, ℕ, Bool, true, false, List, [], ◌∷◌, ◌++◌, Some, refl, ap, sym, ◌∙◌, subst, append_assoc}
 use Rattle.client_base.specs.lists.Lists.{has_id}
 use Rattle.exactly_once.specs.Items.{SenderItem, busy, start_first, first_waiting}
-use Rattle.exactly_once.specs.Handshake.{sending, Forward, Backward, Handshake}
+use Rattle.exactly_once.specs.Handshake.{sender_sends, Forward, Backward, Handshake}
 use Rattle.exactly_once.specs.HandshakeSteps.Advances.{starts}
 use Rattle.client_base.proofs.of_lists.Identifiers.{has_join}
 use Rattle.exactly_once.proofs.BusyIdentifiers.{busy_append}
@@ -36,7 +36,7 @@ first_starts id (SenderItem.Released v i ∷ pre) more n = ap (λ l. SenderItem.
 first_starts id (SenderItem.Finished v ∷ pre) more n = ap (λ l. SenderItem.Finished v ∷ l) (first_starts id pre more n)
 
 -- the sender is there
-sending_by : (cur : Bool) (m : Forward ℕ) (f : List (Forward ℕ)) (b : List Backward) → sending m (link_by cur true f b) ≡ link_by cur true (f ++ m ∷ []) b
+sending_by : (cur : Bool) (m : Forward ℕ) (f : List (Forward ℕ)) (b : List Backward) → sender_sends m (link_by cur true f b) ≡ link_by cur true (f ++ m ∷ []) b
 sending_by true m f b = refl
 sending_by false m f b = refl
 
@@ -50,5 +50,5 @@ starts_one k pre behind v id cur f b e n free clear l =
     let first : first_waiting k.items ≡ Some v = ap first_waiting e ∙ first_waits pre (SenderItem.Waits v ∷ behind) n in
     subst (λ (items : List (SenderItem ℕ)). Reaches k items (link_by cur true (f ++ Forward.Publish id v ∷ []) b))
     (ap (start_first id) e ∙ first_starts id pre (SenderItem.Waits v ∷ behind) n ∙ sym (append_assoc pre (SenderItem.Sent v id ∷ []) behind))
-    (reaches_by k (start_first id k.items) (sending (Forward.Publish id v) k.transit) (link_by cur true (f ++ Forward.Publish id v ∷ []) b) (starts id v fresh first)
-    (ap (sending (Forward.Publish id v)) l ∙ sending_by cur (Forward.Publish id v) f b))
+    (reaches_by k (start_first id k.items) (sender_sends (Forward.Publish id v) k.transit) (link_by cur true (f ++ Forward.Publish id v ∷ []) b) (starts id v fresh first)
+    (ap (sender_sends (Forward.Publish id v)) l ∙ sending_by cur (Forward.Publish id v) f b))

@@ -7,7 +7,7 @@ use Rattle.broker_base.specs.broker_spec.Place.{Client, Place, Past, Limits}
 use Rattle.client_base.specs.Keeper.{Written, new_keeper}
 use Rattle.client_base.specs.Written.{writes_first}
 use Rattle.exactly_once.specs.Sides.{ClientConnection}
-use Rattle.exactly_once.specs.StoryCommands.{counted_at}
+use Rattle.exactly_once.specs.StoryCommands.{with_one_counted}
 use Rattle.exactly_once.specs.Acceptance.{two_entries, accepted_on}
 use Rattle.exactly_once.specs.Carried.{is_this}
 use Rattle.exactly_once.specs.InStep.{opened_in, entries_in, accepted_in}
@@ -59,12 +59,12 @@ pub accepted_placed : (place : Place) (past : Past) (c : Client) (start : ℕ) (
 accepted_placed place past c start [] h = refl
 accepted_placed place past c start (κ ∷ connections) h = ap₂ (λ a b. a ++ b) (accepted_placed place past c start connections h.1) (share_fresh place past c start κ h.0)
 
-pub accepted_counted : (past : Past) (c : Client) (start i : ℕ) (connections : List ClientConnection) → accepted_in past c start (counted_at i connections) ≡ accepted_in past c start connections
+pub accepted_counted : (past : Past) (c : Client) (start i : ℕ) (connections : List ClientConnection) → accepted_in past c start (with_one_counted i connections) ≡ accepted_in past c start connections
 accepted_counted past c start i [] = refl
 accepted_counted past c start zero (κ ∷ connections) = refl
 accepted_counted past c start (suc i) (κ ∷ connections) = ap (λ l. l ++ share past c start κ) (accepted_counted past c start i connections)
 
-pub kept_counted : (flags : List Bool) (i : ℕ) (connections : List ClientConnection) → accepted_on (kept_of flags (counted_at i connections)) ≡ accepted_on (kept_of flags connections)
+pub kept_counted : (flags : List Bool) (i : ℕ) (connections : List ClientConnection) → accepted_on (kept_of flags (with_one_counted i connections)) ≡ accepted_on (kept_of flags connections)
 kept_counted [] i [] = refl
 kept_counted [] zero (κ ∷ connections) = refl
 kept_counted [] (suc i) (κ ∷ connections) = ap (λ l. l ++ κ.accepted) (kept_counted [] i connections)

@@ -14,7 +14,7 @@ use Rattle.client_base.specs.Connected.{new_connection}
 use Rattle.client_base.specs.Handled.{handled}
 use Rattle.exactly_once.specs.Sides.{ClientConnection, Side}
 use Rattle.exactly_once.specs.Sends.{put_to}
-use Rattle.exactly_once.specs.StoryCommands.{count_of, any_named}
+use Rattle.exactly_once.specs.StoryCommands.{packet_count, any_named}
 use Rattle.exactly_once.specs.StoryTrace.{StoryTrace, AreUnsent, unserved}
 use Rattle.exactly_once.specs.StoryTrace.StoryTrace.{begins_at, goes_on}
 use Rattle.exactly_once.specs.Story.StoryStep.{opens_anew, loses}
@@ -35,7 +35,7 @@ flags_of [] = []
 pub record IsUntouched (limits : Limits) (past : Past) (c : Client) (κ : ClientConnection) : Type 0 where
   pub is : κ ≡ new_connection c κ.name
   pub unsent : put_to limits past κ.name ≡ []
-  pub uncounted : count_of κ.name past ≡ 0
+  pub uncounted : packet_count κ.name past ≡ 0
 
 abbrev pub AreUntouched : Limits → Past → Client → List ClientConnection → Type 0
 AreUntouched limits past c = Each (λ (κ : ClientConnection). κ.taken ≡ 0 → IsUntouched limits past c κ)

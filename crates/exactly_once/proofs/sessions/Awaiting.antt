@@ -14,7 +14,7 @@ use Rattle.client_base.specs.Written.{plain, writes_first, publishes}
 use Rattle.exactly_once.specs.Sides.{ClientConnection, Side}
 use Rattle.exactly_once.specs.Sends.{sends_to, put_to}
 use Rattle.exactly_once.specs.Story.{Story, StoryStep, with_side}
-use Rattle.exactly_once.specs.StoryCommands.{command_of, counted_at, any_named, is_packet_of, names_client}
+use Rattle.exactly_once.specs.StoryCommands.{command_of, with_one_counted, any_named, is_packet_of, names_client}
 use Rattle.exactly_once.specs.StoryTrace.{StoryTrace}
 use Rattle.exactly_once.specs.StoryTrace.StoryTrace.{goes_on}
 use Rattle.exactly_once.specs.Story.StoryStep.{takes, others_take, receives, opens_anew, loses, disconnects, publishes_one, subscribes, unsubscribes}
@@ -82,7 +82,7 @@ placed limits c flags past keeper κ κ' others later place a name confirmed han
 -- a packet of one that is kept, or of one that is left out
 told_taken : (limits : Limits) (c : Client) (flags : List Bool) (past : Past) (keeper : Keeper) (connections : List ClientConnection) (i : ℕ) (μ : ClientConnection) (w : Written) → keeper.client ≡ c
     → slice_get μ.written μ.taken ≡ Some w → StoryTrace limits c (with_connections past keeper (kept_of flags connections)) → IsKept flags connections i μ ⊎ IsLeft flags connections i μ
-    → StoryTrace limits c (with_connections (place_of limits past (command_of μ.name μ.taken w.packet) ∷ past) keeper (kept_of flags (counted_at i connections)))
+    → StoryTrace limits c (with_connections (place_of limits past (command_of μ.name μ.taken w.packet) ∷ past) keeper (kept_of flags (with_one_counted i connections)))
 told_taken limits c flags past keeper connections i μ w client next told (inl k) =
     subst (λ (l : List ClientConnection). StoryTrace limits c (with_connections (place_of limits past (command_of μ.name μ.taken w.packet) ∷ past) keeper l)) (sym k.counted) (goes_on told (takes k.j μ w k.stands next))
 told_taken limits c flags past keeper connections i μ w client next told (inr l) =
@@ -93,7 +93,7 @@ told_taken limits c flags past keeper connections i μ w client next told (inr l
 
 taken_next : (limits : Limits) (c : Client) (flags : List Bool) (past : Past) (keeper : Keeper) (κ : ClientConnection) (others : List ClientConnection) (i : ℕ) (μ : ClientConnection) (w : Written) → NamesApart (κ ∷ others)
     → (a : Awaits limits c flags past keeper κ others) → slice_get (κ ∷ others) i ≡ Some μ → slice_get μ.written μ.taken ≡ Some w
-    → HasAwaiting limits c flags (with_connections (place_of limits past (command_of μ.name μ.taken w.packet) ∷ past) keeper (counted_at i (κ ∷ others)))
+    → HasAwaiting limits c flags (with_connections (place_of limits past (command_of μ.name μ.taken w.packet) ∷ past) keeper (with_one_counted i (κ ∷ others)))
 taken_next limits c flags past keeper κ others zero μ w apart a stands next =
     record {
       newest = record κ { taken = suc κ.taken };
@@ -106,9 +106,9 @@ taken_next limits c flags past keeper κ others zero μ w apart a stands next =
 taken_next limits c flags past keeper κ others (suc i) μ w apart a stands next =
     record {
       newest = κ;
-      others = counted_at i others;
+      others = with_one_counted i others;
       are = refl;
-      awaits = placed limits c flags past keeper κ κ others (counted_at i others) (place_of limits past (command_of μ.name μ.taken w.packet)) a refl refl refl
+      awaits = placed limits c flags past keeper κ κ others (with_one_counted i others) (place_of limits past (command_of μ.name μ.taken w.packet)) a refl refl refl
           (gone_counted (suc i) flags (κ ∷ others) a.gone)
           (λ earlier numbers. told_taken limits c flags past (waiting c earlier [] keeper.is_open) (κ ∷ others) (suc i) μ w refl next (a.told earlier numbers) (find flags (κ ∷ others) (suc i) μ apart a.gone stands));
     }
@@ -188,7 +188,7 @@ moves keeper κ offline served = rw (offline, served) refl
 pub awaiting_goes : (limits : Limits) (c : Client) (flags : List Bool) (s t : Story) → NamesApart s.connections → HasAwaiting limits c flags s → (h : StoryStep limits s t) → AreAllNumbered s.keeper → IsInStep t
     → HasAwaiting limits c (flags_after flags h) t ⊎ IsSettled limits c (flags_after flags h) s t
 awaiting_goes limits c flags s t apart b (takes i κ w stands next) numbers step =
-    inl (subst (λ (l : List ClientConnection). HasAwaiting limits c flags (with_connections (place_of limits s.past (command_of κ.name κ.taken w.packet) ∷ s.past) s.keeper (counted_at i l))) (sym b.are)
+    inl (subst (λ (l : List ClientConnection). HasAwaiting limits c flags (with_connections (place_of limits s.past (command_of κ.name κ.taken w.packet) ∷ s.past) s.keeper (with_one_counted i l))) (sym b.are)
     (taken_next limits c flags s.past s.keeper b.newest b.others i κ w (subst NamesApart b.are apart) b.awaits (sym (ap (λ (l : List ClientConnection). slice_get l i) b.are) ∙ stands) next))
 awaiting_goes limits c flags s t apart b (others_take command other none) numbers step =
     inl (record {

@@ -14,7 +14,7 @@ use Rattle.client_base.specs.Called.{written_for}
 use Rattle.client_base.specs.Written.{plain, writes_first}
 use Rattle.exactly_once.specs.Sides.{ClientConnection}
 use Rattle.exactly_once.specs.Story.{Story, StoryStep, with_side}
-use Rattle.exactly_once.specs.StoryCommands.{command_of, counted_at, names_client, any_named, is_packet_of}
+use Rattle.exactly_once.specs.StoryCommands.{command_of, with_one_counted, names_client, any_named, is_packet_of}
 use Rattle.exactly_once.specs.StoryTrace.{StoryTrace}
 use Rattle.exactly_once.specs.StoryTrace.StoryTrace.{goes_on}
 use Rattle.exactly_once.specs.Story.StoryStep.{takes, others_take, receives, opens_anew, loses, disconnects, publishes_one, subscribes, unsubscribes}
@@ -80,7 +80,7 @@ gone_writes more (true ∷ flags) (κ ∷ connections) h g = g
 gone_writes more (true ∷ flags) [] h g = tt
 gone_writes more (false ∷ flags) connections h g = absurd h
 
-pub gone_counted : (i : ℕ) (flags : List Bool) (connections : List ClientConnection) → AreGone flags connections → AreGone flags (counted_at i connections)
+pub gone_counted : (i : ℕ) (flags : List Bool) (connections : List ClientConnection) → AreGone flags connections → AreGone flags (with_one_counted i connections)
 gone_counted i [] connections g = tt
 gone_counted i (true ∷ flags) [] g = tt
 gone_counted i (false ∷ flags) [] g = tt
@@ -95,13 +95,13 @@ gone_counted (suc i) (false ∷ flags) (κ ∷ connections) g = (g.0, gone_count
 pub record IsKept (flags : List Bool) (connections : List ClientConnection) (i : ℕ) (κ : ClientConnection) : Type 0 where
   pub j : ℕ
   pub stands : slice_get (kept_of flags connections) j ≡ Some κ
-  pub counted : kept_of flags (counted_at i connections) ≡ counted_at j (kept_of flags connections)
+  pub counted : kept_of flags (with_one_counted i connections) ≡ with_one_counted j (kept_of flags connections)
 
 -- of one that is left out
 pub record IsLeft (flags : List Bool) (connections : List ClientConnection) (i : ℕ) (κ : ClientConnection) : Type 0 where
   pub taken : 1 ≤ κ.taken
   pub none : any_named (same_connection κ.name) (kept_of flags connections) ≡ false
-  pub counted : kept_of flags (counted_at i connections) ≡ kept_of flags connections
+  pub counted : kept_of flags (with_one_counted i connections) ≡ kept_of flags connections
 
 pub other_name : (x : ConnectionName) (connections : List ClientConnection) (i : ℕ) (κ : ClientConnection) → any_named (same_connection x) connections ≡ false → slice_get connections i ≡ Some κ → same_connection κ.name x ≡ false
 other_name x [] i κ e at = absurd (cc)
@@ -147,7 +147,7 @@ with_connections past keeper connections = record { past = past; connections = c
 
 goes_taken : (limits : Limits) (c : Client) (flags : List Bool) (s : Story) (b : HasBeside limits c flags s) (i : ℕ) (κ : ClientConnection) (w : Written) → slice_get κ.written κ.taken ≡ Some w
     → IsKept flags s.connections i κ ⊎ IsLeft flags s.connections i κ
-    → StoryTrace limits c (with_connections (place_of limits s.past (command_of κ.name κ.taken w.packet) ∷ s.past) s.keeper (kept_of flags (counted_at i s.connections)))
+    → StoryTrace limits c (with_connections (place_of limits s.past (command_of κ.name κ.taken w.packet) ∷ s.past) s.keeper (kept_of flags (with_one_counted i s.connections)))
 goes_taken limits c flags s b i κ w next (inl k) =
     subst (λ (l : List ClientConnection). StoryTrace limits c (with_connections (place_of limits s.past (command_of κ.name κ.taken w.packet) ∷ s.past) s.keeper l)) (sym k.counted)
     (goes_on b.told (takes k.j κ w k.stands next))

@@ -24,7 +24,7 @@ use Rattle.client_base.specs.Written.{plain, writes_first}
 use Rattle.client_base.specs.Handled.{handled}
 use Rattle.exactly_once.specs.Sides.{ClientConnection}
 use Rattle.exactly_once.specs.Story.{Story, StoryStep}
-use Rattle.exactly_once.specs.StoryCommands.{any_named, counted_at, count_of}
+use Rattle.exactly_once.specs.StoryCommands.{any_named, with_one_counted, packet_count}
 use Rattle.exactly_once.specs.Story.StoryStep.{takes, others_take, receives, opens_anew, loses, disconnects, publishes_one, subscribes, unsubscribes}
 use Rattle.exactly_once.specs.Carried.{carries, connection_named, number_at, more_by}
 use Rattle.exactly_once.specs.Inside.Shape.{NamesApart, LastIsCurrent}
@@ -45,13 +45,13 @@ use Rattle.exactly_once.proofs.sessions.EachPlaced.{IsOwnCommand}
 
 -- two lists of connections with its own
 pub both_carry : (past : Past) (c : Client) (i j : ℕ) (connections kept : List ClientConnection) (κ : ClientConnection) (w : Written) (command : Command) → IsOwnCommand c κ w.packet command → NamesApart connections → NamesApart kept
-    → slice_get connections i ≡ Some κ → slice_get kept j ≡ Some κ → slice_get κ.written κ.taken ≡ Some w → count_of κ.name past ≡ κ.taken
-    → carries (counted_at i connections) command past ≡ carries (counted_at j kept) command past
-both_carry past c i j connections kept κ w command (inl k) apart apart' stands stands' next counted = ap (λ d. carries (counted_at i connections) d past) k.1 ∙ sym (ap (λ d. carries (counted_at j kept) d past) k.1)
+    → slice_get connections i ≡ Some κ → slice_get kept j ≡ Some κ → slice_get κ.written κ.taken ≡ Some w → packet_count κ.name past ≡ κ.taken
+    → carries (with_one_counted i connections) command past ≡ carries (with_one_counted j kept) command past
+both_carry past c i j connections kept κ w command (inl k) apart apart' stands stands' next counted = ap (λ d. carries (with_one_counted i connections) d past) k.1 ∙ sym (ap (λ d. carries (with_one_counted j kept) d past) k.1)
 both_carry past c i j connections kept κ w command (inr k) apart apart' stands stands' next counted =
-    ap (λ d. carries (counted_at i connections) d past) k.1 ∙ by w.packet ∙ sym (ap (λ d. carries (counted_at j kept) d past) k.1)
+    ap (λ d. carries (with_one_counted i connections) d past) k.1 ∙ by w.packet ∙ sym (ap (λ d. carries (with_one_counted j kept) d past) k.1)
   where
-    by : (packet : Packet) → carries (counted_at i connections) (commands.Packet κ.name packet) past ≡ carries (counted_at j kept) (commands.Packet κ.name packet) past
+    by : (packet : Packet) → carries (with_one_counted i connections) (commands.Packet κ.name packet) past ≡ carries (with_one_counted j kept) (commands.Packet κ.name packet) past
     by (packets.Publish p) = carries_it past i connections κ w Mark.NoPart apart stands next counted ∙ sym (carries_it past j kept κ w Mark.NoPart apart' stands' next counted)
     by _ = refl
 
@@ -66,7 +66,7 @@ none_more false = refl
 
 -- says nothing but what it is
 says_by : (c : Client) (ps : List Publication) (past : Past) (connections : List ClientConnection) (x : ConnectionName) (packet : Packet) (number : Option ℕ)
-    → number_at (count_of x past) (connection_named x connections) ≡ number → IsOf ps packet number → Says c ps connections (at_packet x packet Mark.NoPart) past
+    → number_at (packet_count x past) (connection_named x connections) ≡ number → IsOf ps packet number → Says c ps connections (at_packet x packet Mark.NoPart) past
 says_by c ps past connections x (packets.Publish q) number carried of =
     record {
       known = λ k e again. absurd (both_ways false refl again);
@@ -82,11 +82,11 @@ says_by c ps past connections x (packets.Publish q) number carried of =
 says_by c ps past connections x packet number carried of = says_nothing c ps connections (at_packet x packet Mark.NoPart) past refl
 
 pub nobodys_says : (limits : Limits) (past : Past) (c : Client) (ps : List Publication) (i : ℕ) (connections : List ClientConnection) (κ : ClientConnection) (w : Written) → NamesApart connections → NobodyElse past c connections
-    → slice_get connections i ≡ Some κ → slice_get κ.written κ.taken ≡ Some w → count_of κ.name past ≡ κ.taken → (current_connection past c ≡ Some κ.name → ⊥) → IsOf ps w.packet w.number
-    → Says c ps (counted_at i connections) (place_of limits past (commands.Packet κ.name w.packet)) past
+    → slice_get connections i ≡ Some κ → slice_get κ.written κ.taken ≡ Some w → packet_count κ.name past ≡ κ.taken → (current_connection past c ≡ Some κ.name → ⊥) → IsOf ps w.packet w.number
+    → Says c ps (with_one_counted i connections) (place_of limits past (commands.Packet κ.name w.packet)) past
 nobodys_says limits past c ps i connections κ w apart nobody stands next counted not of =
-    subst (λ (p : Place). Says c ps (counted_at i connections) p past) (sym (nobodys_mark limits past c connections κ.name w.packet nobody (is_named i connections κ stands) not))
-    (says_by c ps past (counted_at i connections) κ.name w.packet w.number (carries_it past i connections κ w Mark.NoPart apart stands next counted) of)
+    subst (λ (p : Place). Says c ps (with_one_counted i connections) p past) (sym (nobodys_mark limits past c connections κ.name w.packet nobody (is_named i connections κ stands) not))
+    (says_by c ps past (with_one_counted i connections) κ.name w.packet w.number (carries_it past i connections κ w Mark.NoPart apart stands next counted) of)
 
 pub nobodys_new : (limits : Limits) (past : Past) (c : Client) (i : ℕ) (connections : List ClientConnection) (κ : ClientConnection) (packet : Packet) → NobodyElse past c connections → slice_get connections i ≡ Some κ
     → (current_connection past c ≡ Some κ.name → ⊥) → is_new (commands.Packet κ.name packet) (mark_of limits past (commands.Packet κ.name packet)) ≡ false
@@ -110,7 +110,7 @@ kept_each P (true ∷ flags) (κ ∷ connections) h = (h.0, kept_each P flags co
 kept_each P (false ∷ flags) (κ ∷ connections) h = kept_each P flags connections h.1
 
 kept_taken : (past : Past) (flags : List Bool) (connections : List ClientConnection) (i : ℕ) (κ : ClientConnection) → IsKept flags connections i κ ⊎ IsLeft flags connections i κ
-    → SameNumbers (kept_of flags connections) (kept_of flags (counted_at i connections)) past
+    → SameNumbers (kept_of flags connections) (kept_of flags (with_one_counted i connections)) past
 kept_taken past flags connections i κ (inl k) = subst (λ (l : List ClientConnection). SameNumbers (kept_of flags connections) l past) (sym k.counted) (same_counted past k.j (kept_of flags connections))
 kept_taken past flags connections i κ (inr l) = subst (λ (z : List ClientConnection). SameNumbers (kept_of flags connections) z past) (sym l.counted) (same_itself past (kept_of flags connections))
 
@@ -118,10 +118,10 @@ kept_written : (past : Past) (flags : List Bool) (connections : List ClientConne
     → SameNumbers (kept_of flags connections) (kept_of flags (writes_first more connections)) past
 kept_written past flags connections more head within =
     subst (λ (l : List ClientConnection). SameNumbers (kept_of flags connections) l past) (sym (kept_writes more flags connections head))
-    (first_written past (kept_of flags connections) more (kept_each (λ (κ : ClientConnection). count_of κ.name past ≤ length κ.written) flags connections within))
+    (first_written past (kept_of flags connections) more (kept_each (λ (κ : ClientConnection). packet_count κ.name past ≤ length κ.written) flags connections within))
 
 kept_handled : (past : Past) (flags : List Bool) (κ after : ClientConnection) (others : List ClientConnection) (more : List Written) → IsHeadKept flags → after.name ≡ κ.name → after.written ≡ κ.written ++ more
-    → count_of κ.name past ≤ length κ.written → SameNumbers (kept_of flags (κ ∷ others)) (kept_of flags (after ∷ others)) past
+    → packet_count κ.name past ≤ length κ.written → SameNumbers (kept_of flags (κ ∷ others)) (kept_of flags (after ∷ others)) past
 kept_handled past [] κ after others more head name written within = same_written past κ after others more name written within
 kept_handled past (true ∷ flags) κ after others more head name written within = same_written past κ after (kept_of flags others) more name written within
 kept_handled past (false ∷ flags) κ after others more head name written within = absurd head

@@ -15,7 +15,7 @@ use Rattle.broker_base.specs.broker_spec.declared.command.Command.TheVariants as
 use Rattle.client_base.specs.Keeper.{Written}
 use Rattle.client_base.specs.Connected.{opens}
 use Rattle.exactly_once.specs.Sides.{ClientConnection}
-use Rattle.exactly_once.specs.StoryCommands.{any_named, counted_at, command_of, count_of, is_packet_of}
+use Rattle.exactly_once.specs.StoryCommands.{any_named, with_one_counted, command_of, packet_count, is_packet_of}
 use Rattle.broker_base.proofs.of_broker_spec.ConnectionNames.{same_itself}
 use Rattle.exactly_once.specs.InStep.{opens_on}
 use Rattle.exactly_once.specs.Inside.Shape.{NamesApart}
@@ -36,7 +36,7 @@ each_other P Q test (μ ∷ connections) none f h =
 
 -- one more packet of κ is taken
 pub each_own : (P Q : ClientConnection → Type 0) (i : ℕ) (κ : ClientConnection) (connections : List ClientConnection) → slice_get connections i ≡ Some κ → NamesApart connections
-    → ((μ : ClientConnection) → same_connection κ.name μ.name ≡ false → P μ → Q μ) → (P κ → Q (record κ { taken = suc κ.taken })) → Each P connections → Each Q (counted_at i connections)
+    → ((μ : ClientConnection) → same_connection κ.name μ.name ≡ false → P μ → Q μ) → (P κ → Q (record κ { taken = suc κ.taken })) → Each P connections → Each Q (with_one_counted i connections)
 each_own P Q i κ [] at apart f g h = absurd (cc)
 each_own P Q zero κ (μ ∷ connections) at apart f g h =
     let same : μ ≡ κ = cc in (
@@ -46,7 +46,7 @@ each_own P Q zero κ (μ ∷ connections) at apart f g h =
 each_own P Q (suc i) κ (μ ∷ connections) at apart f g h = (f μ (other_name μ.name connections i κ apart.0 at) h.0, each_own P Q i κ connections at apart.1 f g h.1)
 
 -- none is taken after the last one
-pub counted_none : (connections : List ClientConnection) → counted_at (length connections) connections ≡ connections
+pub counted_none : (connections : List ClientConnection) → with_one_counted (length connections) connections ≡ connections
 counted_none [] = refl
 counted_none (κ ∷ connections) = ap (λ l. κ ∷ l) (counted_none connections)
 
@@ -100,7 +100,7 @@ fresh_own limits past c κ packet command (inr k) untouched = inl (ap (λ d. ope
 -- ---- rows of all connections
 
 pub own_untouched : (limits : Limits) (past : Past) (c : Client) (i : ℕ) (κ : ClientConnection) (packet : Packet) (command : Command) (connections : List ClientConnection) → IsOwnCommand c κ packet command
-    → slice_get connections i ≡ Some κ → NamesApart connections → AreUntouched limits past c connections → AreUntouched limits (place_of limits past command ∷ past) c (counted_at i connections)
+    → slice_get connections i ≡ Some κ → NamesApart connections → AreUntouched limits past c connections → AreUntouched limits (place_of limits past command ∷ past) c (with_one_counted i connections)
 own_untouched limits past c i κ packet command connections kind at apart =
     let place = place_of limits past command in
     each_own (λ (μ : ClientConnection). μ.taken ≡ 0 → IsUntouched limits past c μ) (λ (μ : ClientConnection). μ.taken ≡ 0 → IsUntouched limits (place ∷ past) c μ) i κ connections at apart
@@ -108,7 +108,7 @@ own_untouched limits past c i κ packet command connections kind at apart =
 
 pub own_shut : (limits : Limits) (past : Past) (c : Client) (i : ℕ) (κ : ClientConnection) (packet : Packet) (command : Command) (connections : List ClientConnection) → IsOwnCommand c κ packet command
     → (κ.taken ≡ 0 → IsUntouched limits past c κ) → slice_get connections i ≡ Some κ → NamesApart connections → AreShutUnopened limits past c connections
-    → AreShutUnopened limits (place_of limits past command ∷ past) c (counted_at i connections)
+    → AreShutUnopened limits (place_of limits past command ∷ past) c (with_one_counted i connections)
 own_shut limits past c i κ packet command connections kind untouched at apart =
     let place = place_of limits past command in
     each_own (IsShutUnopened limits past c) (IsShutUnopened limits (place ∷ past) c) i κ connections at apart
@@ -146,15 +146,15 @@ own_itself c κ packet command (inl k) = ap (λ d. is_packet_of d κ.name) k.1 �
 own_itself c κ packet command (inr k) = ap (λ d. is_packet_of d κ.name) k.1 ∙ same_itself κ.name
 
 pub counted_other : (place : Place) (past : Past) (κ : ClientConnection) → is_packet_of place.command κ.name ≡ false → IsCounted past κ → IsCounted (place ∷ past) κ
-counted_other place past κ other h = record { counted = ap (λ b. if b then suc (count_of κ.name past) else count_of κ.name past) other ∙ h.counted; within = h.within }
+counted_other place past κ other h = record { counted = ap (λ b. if b then suc (packet_count κ.name past) else packet_count κ.name past) other ∙ h.counted; within = h.within }
 
 pub own_counted : (limits : Limits) (past : Past) (c : Client) (i : ℕ) (κ : ClientConnection) (w : Written) (command : Command) (connections : List ClientConnection) → IsOwnCommand c κ w.packet command
     → slice_get κ.written κ.taken ≡ Some w → slice_get connections i ≡ Some κ → NamesApart connections → Each (IsCounted past) connections
-    → Each (IsCounted (place_of limits past command ∷ past)) (counted_at i connections)
+    → Each (IsCounted (place_of limits past command ∷ past)) (with_one_counted i connections)
 own_counted limits past c i κ w command connections kind next at apart =
     let place = place_of limits past command in
     each_own (IsCounted past) (IsCounted (place ∷ past)) i κ connections at apart (λ μ other h. counted_other place past μ (own_alone c κ w.packet command μ.name kind other) h)
     (λ h. record {
-      counted = ap (λ b. if b then suc (count_of κ.name past) else count_of κ.name past) (own_itself c κ w.packet command kind) ∙ ap (λ n. suc n) h.counted;
+      counted = ap (λ b. if b then suc (packet_count κ.name past) else packet_count κ.name past) (own_itself c κ w.packet command kind) ∙ ap (λ n. suc n) h.counted;
       within = is_within κ.written κ.taken w next;
     })

@@ -12,7 +12,7 @@ use Rattle.broker_base.specs.broker_spec.Past.{begins}
 use Rattle.client_base.specs.Keeper.{Written}
 use Rattle.client_base.specs.Written.{writes_first}
 use Rattle.exactly_once.specs.Sides.{ClientConnection}
-use Rattle.exactly_once.specs.StoryCommands.{counted_at}
+use Rattle.exactly_once.specs.StoryCommands.{with_one_counted}
 use Rattle.exactly_once.specs.Acceptance.{accepted_on}
 use Rattle.exactly_once.specs.Carried.{is_this}
 use Rattle.exactly_once.specs.InStep.{opened_in, accepted_in, starts_of}
@@ -80,14 +80,14 @@ after_place place past c connections fresh = by (begins place past c)
     by false = ap (flat_map now) (append-nil (starts_of past c)) ∙ flat_map_same now was same (starts_of past c)
 
 turn_placed : (place : Place) (past : Past) (c : Client) (i : ℕ) (connections : List ClientConnection) → Each (IsFresh place c) connections → IsInTurn past c connections
-    → IsInTurn (place ∷ past) c (counted_at i connections)
+    → IsInTurn (place ∷ past) c (with_one_counted i connections)
 turn_placed place past c i connections fresh h =
     kept_counted [] i connections ∙ h ∙ sym (after_place place past c connections fresh)
-    ∙ flat_map_same (λ start. accepted_in (place ∷ past) c start connections) (λ start. accepted_in (place ∷ past) c start (counted_at i connections))
+    ∙ flat_map_same (λ start. accepted_in (place ∷ past) c start connections) (λ start. accepted_in (place ∷ past) c start (with_one_counted i connections))
     (λ start. sym (accepted_counted (place ∷ past) c start i connections)) (starts_of (place ∷ past) c)
 
 pub tail_placed : (place : Place) (past : Past) (c : Client) (i : ℕ) (connections : List ClientConnection) → Each (IsFresh place c) connections → IsTailInTurn past c connections
-    → IsTailInTurn (place ∷ past) c (counted_at i connections)
+    → IsTailInTurn (place ∷ past) c (with_one_counted i connections)
 tail_placed place past c i [] fresh h = tt
 tail_placed place past c zero (κ ∷ others) fresh h =
     subst (λ (l : List ClientConnection). IsInTurn (place ∷ past) c l) (counted_none others) (turn_placed place past c (length others) others fresh.1 h)

@@ -10,7 +10,7 @@ use Rattle.broker_base.specs.broker_spec.Place.{Client, Place, Past, Limits}
 use Rattle.broker_base.specs.broker_spec.Past.{accepts, session_of, session_start, begins}
 use Rattle.broker_base.specs.broker_spec.Times.{entries_of}
 use Rattle.exactly_once.specs.Sides.{ClientConnection}
-use Rattle.exactly_once.specs.StoryCommands.{counted_at}
+use Rattle.exactly_once.specs.StoryCommands.{with_one_counted}
 use Rattle.exactly_once.specs.Acceptance.{accepted_on}
 use Rattle.exactly_once.specs.Carried.{is_this}
 use Rattle.exactly_once.specs.InStep.{has_begun, opens_on, opened_in, entries_in, accepted_in}
@@ -74,14 +74,14 @@ head_placed place past c (κ ∷ others) keeps h = by (opens_on κ.name (accepts
     by true e = inr (opened_here place past c κ.name e)
     by false e = two (session_start past c) refl (opened_same place past c κ.name e) h
 
-head_counted : (past : Past) (c : Client) (i : ℕ) (connections : List ClientConnection) → IsHeadOpened past c connections → IsHeadOpened past c (counted_at i connections)
+head_counted : (past : Past) (c : Client) (i : ℕ) (connections : List ClientConnection) → IsHeadOpened past c connections → IsHeadOpened past c (with_one_counted i connections)
 head_counted past c i [] h = h
 head_counted past c zero (κ ∷ others) h = h
 head_counted past c (suc i) (κ ∷ others) h = h
 
 -- if the session was there
 tail_placed : (place : Place) (past : Past) (c : Client) (start i : ℕ) (flags : List Bool) (connections : List ClientConnection) → Each (IsFresh place c) connections → IsTailKept past c start flags connections
-    → IsTailKept (place ∷ past) c start flags (counted_at i connections)
+    → IsTailKept (place ∷ past) c start flags (with_one_counted i connections)
 tail_placed place past c start i flags [] fresh h = tt
 tail_placed place past c start zero flags (κ ∷ others) fresh h = accepted_placed place past c start others fresh.1 ∙ h
 tail_placed place past c start (suc i) flags (κ ∷ others) fresh h =
@@ -96,7 +96,7 @@ nothing_kept past c start flags others h =
     ∙ sym (none_on flags others h)
 
 tail_begins : (place : Place) (past : Past) (c : Client) (start i : ℕ) (flags : List Bool) (connections : List ClientConnection) → Each (λ (κ : ClientConnection). κ.accepted ≡ []) connections
-    → IsTailKept (place ∷ past) c start flags (counted_at i connections)
+    → IsTailKept (place ∷ past) c start flags (with_one_counted i connections)
 tail_begins place past c start i flags [] h = tt
 tail_begins place past c start zero flags (κ ∷ others) h = nothing_kept (place ∷ past) c start (after_first flags) others h.1
 tail_begins place past c start (suc i) flags (κ ∷ others) h =
@@ -107,14 +107,14 @@ entries_over limits place past c start e = ap (λ b. if b then entries_of limits
 
 pub lasts_placed : (limits : Limits) (c : Client) (flags : List Bool) (place : Place) (past : Past) (i : ℕ) (connections : List ClientConnection) → IsKeptSession (session_of past c) → OpensKept c place
     → IsSpared place.command past c → Each (IsFresh place c) connections → AreShutUnopened limits past c connections → Lasts limits c flags past connections
-    → Lasts limits c flags (place ∷ past) (counted_at i connections)
+    → Lasts limits c flags (place ∷ past) (with_one_counted i connections)
 lasts_placed limits c flags place past i connections kept opens spared fresh shut h =
     record {
       head = head_counted (place ∷ past) c i connections (head_placed place past c connections keeps h.head);
       tail = λ start e. tail start e (session_start past c) refl;
       unbegun = λ e. unbegun e (session_start past c) refl;
       elsewhere = λ start e.
-          accepts_same limits c past (place ∷ past) connections (counted_at i connections) start (entries_over limits place past c start e)
+          accepts_same limits c past (place ∷ past) connections (with_one_counted i connections) start (entries_over limits place past c start e)
           (accepted_counted (place ∷ past) c start i connections ∙ accepted_placed place past c start connections fresh) (h.elsewhere start (before start e (session_start past c) refl));
     }
   where
@@ -125,7 +125,7 @@ lasts_placed limits c flags place past i connections kept opens spared fresh shu
     before start e None f = ap (is_this start) f
     before start e (Some n) f = ap (is_this start) (f ∙ sym (keeps n f)) ∙ e
 
-    tail : (start : ℕ) → session_start (place ∷ past) c ≡ Some start → (o : Option ℕ) → session_start past c ≡ o → IsTailKept (place ∷ past) c start flags (counted_at i connections)
+    tail : (start : ℕ) → session_start (place ∷ past) c ≡ Some start → (o : Option ℕ) → session_start past c ≡ o → IsTailKept (place ∷ past) c start flags (with_one_counted i connections)
     tail start e None f = tail_begins place past c start i flags connections (nothing_yet limits past c connections (h.unbegun f) shut)
     tail start e (Some n) f =
         let both : Some n ≡ Some start = sym (keeps n f) ∙ e in

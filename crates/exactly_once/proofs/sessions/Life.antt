@@ -12,7 +12,7 @@ use Rattle.client_base.specs.Keeper.{Keeper, ids_in_use}
 use Rattle.exactly_once.specs.Sides.{ClientConnection}
 use Rattle.exactly_once.specs.Sends.{put_to}
 use Rattle.exactly_once.specs.Story.{Story}
-use Rattle.exactly_once.specs.StoryCommands.{count_of}
+use Rattle.exactly_once.specs.StoryCommands.{packet_count}
 use Rattle.exactly_once.specs.StoryTrace.{AreUnsent, unserved}
 use Rattle.client_base.specs.Connected.{opens}
 use Rattle.client_base.proofs.NumbersStay.{AreAllNumbered}
@@ -48,7 +48,7 @@ AreShutUnopened limits past c = Each (IsShutUnopened limits past c)
 
 -- as many of its packets are in the list as were taken of those that it wrote
 pub record IsCounted (past : Past) (κ : ClientConnection) : Type 0 where
-  pub counted : count_of κ.name past ≡ κ.taken
+  pub counted : packet_count κ.name past ≡ κ.taken
   pub within : κ.taken ≤ length κ.written
 
 -- the first one is open if the client holds one, and confirmed if it is online

@@ -12,7 +12,7 @@ use Rattle.broker_base.specs.broker_spec.declared.command.Command.TheVariants as
 use Rattle.client_base.specs.Keeper.{Written, Keeper}
 use Rattle.exactly_once.specs.Sides.{ClientConnection}
 use Rattle.exactly_once.specs.Story.{Story}
-use Rattle.exactly_once.specs.StoryCommands.{any_named, counted_at, command_of, is_packet_of, names_client}
+use Rattle.exactly_once.specs.StoryCommands.{any_named, with_one_counted, command_of, is_packet_of, names_client}
 use Rattle.exactly_once.specs.InStep.{has_begun}
 use Rattle.exactly_once.proofs.places.After.{IsSpared}
 use Rattle.exactly_once.proofs.places.Spared.{other_spares}
@@ -38,17 +38,17 @@ one_more limits past list command is = ap (λ p. place_of limits p command ∷ p
 
 -- ---- the client
 
-held_counted : (keeper : Keeper) (i : ℕ) (connections : List ClientConnection) → IsHeld keeper connections → IsHeld keeper (counted_at i connections)
+held_counted : (keeper : Keeper) (i : ℕ) (connections : List ClientConnection) → IsHeld keeper connections → IsHeld keeper (with_one_counted i connections)
 held_counted keeper i [] h = h
 held_counted keeper zero (κ ∷ connections) h = h
 held_counted keeper (suc i) (κ ∷ connections) h = h
 
-silent_counted : (c : Client) (i : ℕ) (connections : List ClientConnection) → Each (λ (κ : ClientConnection). κ.written ≡ opens c ∷ []) connections → Each (λ (κ : ClientConnection). κ.written ≡ opens c ∷ []) (counted_at i connections)
+silent_counted : (c : Client) (i : ℕ) (connections : List ClientConnection) → Each (λ (κ : ClientConnection). κ.written ≡ opens c ∷ []) connections → Each (λ (κ : ClientConnection). κ.written ≡ opens c ∷ []) (with_one_counted i connections)
 silent_counted c i [] h = tt
 silent_counted c zero (κ ∷ connections) h = (h.0, h.1)
 silent_counted c (suc i) (κ ∷ connections) h = (h.0, silent_counted c i connections h.1)
 
-pub keeper_placed : (c : Client) (place : Place) (past : Past) (keeper : Keeper) (i : ℕ) (connections : List ClientConnection) → HasKeeper c past keeper connections → HasKeeper c (place ∷ past) keeper (counted_at i connections)
+pub keeper_placed : (c : Client) (place : Place) (past : Past) (keeper : Keeper) (i : ℕ) (connections : List ClientConnection) → HasKeeper c past keeper connections → HasKeeper c (place ∷ past) keeper (with_one_counted i connections)
 keeper_placed c place past keeper i connections k =
     record {
       client = k.client;
@@ -79,7 +79,7 @@ own_alone_opens limits past c connections κ packet command (inl k) =
 own_alone_opens limits past c connections κ packet command (inr k) = subst (λ (d : Command). OpensOwn c connections (place_of limits past d)) (sym k.1) (λ d opened e named. cc)
 
 own_connections : (limits : Limits) (past : Past) (c : Client) (i : ℕ) (κ : ClientConnection) (w : Written) (command : Command) (connections : List ClientConnection) → IsOwnCommand c κ w.packet command → slice_get κ.written κ.taken ≡ Some w
-    → slice_get connections i ≡ Some κ → HasConnections limits c past connections → HasConnections limits c (place_of limits past command ∷ past) (counted_at i connections)
+    → slice_get connections i ≡ Some κ → HasConnections limits c past connections → HasConnections limits c (place_of limits past command ∷ past) (with_one_counted i connections)
 own_connections limits past c i κ w command connections kind next at h =
     let packet = w.packet in
     let untouched = each_there (λ (μ : ClientConnection). μ.taken ≡ 0 → IsUntouched limits past c μ) i connections κ at h.untouched in
@@ -87,7 +87,7 @@ own_connections limits past c i κ w command connections kind next at h =
       names = counted_apart i connections h.names;
       untouched = own_untouched limits past c i κ packet command connections kind at h.names h.untouched;
       shut = own_shut limits past c i κ packet command connections kind untouched at h.names h.shut;
-      nobody = nobody_named (place_of limits past command ∷ past) c connections (counted_at i connections) (λ test. counted_named test i connections)
+      nobody = nobody_named (place_of limits past command ∷ past) c connections (with_one_counted i connections) (λ test. counted_named test i connections)
           (nobody_placed (place_of limits past command) past c connections (own_alone_opens limits past c connections κ packet command kind) h.nobody);
       counted = own_counted limits past c i κ w command connections kind next at h.names h.counted;
     }
@@ -99,7 +99,7 @@ life_command limits c s i κ w life at next =
     own_command limits s.past c κ w (each_there (λ (μ : ClientConnection). μ.taken ≡ 0 → IsUntouched limits s.past c μ) i s.connections κ at life.connections.untouched) next
 
 pub life_taken : (limits : Limits) (c : Client) (s : Story) (i : ℕ) (κ : ClientConnection) (w : Written) → IsLife limits c s → slice_get s.connections i ≡ Some κ → slice_get κ.written κ.taken ≡ Some w
-    → IsLife limits c (record { past = place_of limits s.past (command_of κ.name κ.taken w.packet) ∷ s.past; connections = counted_at i s.connections; keeper = s.keeper })
+    → IsLife limits c (record { past = place_of limits s.past (command_of κ.name κ.taken w.packet) ∷ s.past; connections = with_one_counted i s.connections; keeper = s.keeper })
 life_taken limits c s i κ w life at next =
     let command = command_of κ.name κ.taken w.packet in
     let kind = life_command limits c s i κ w life at next in

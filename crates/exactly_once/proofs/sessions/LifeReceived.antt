@@ -9,7 +9,7 @@ use Rattle.client_base.specs.Keeper.{Keeper, Written}
 use Rattle.client_base.specs.Handled.{handled}
 use Rattle.exactly_once.specs.Sides.{ClientConnection, Side}
 use Rattle.exactly_once.specs.Sends.{put_to}
-use Rattle.exactly_once.specs.StoryCommands.{any_named, count_of}
+use Rattle.exactly_once.specs.StoryCommands.{any_named, packet_count}
 use Rattle.exactly_once.specs.InStep.{has_begun, opened_in}
 use Rattle.exactly_once.proofs.publishing.kept.KeepsNobody.{nobody_named}
 use Rattle.exactly_once.proofs.subscribing.Given.{Stays, one_handled, stays_handled}
@@ -58,7 +58,7 @@ counted_handled : (past : Past) (keeper : Keeper) (κ : ClientConnection) (packe
 counted_handled past keeper κ packet h =
     let grown = handled_grows κ keeper packet in
     record {
-      counted = ap (λ x. count_of x past) grown.name ∙ h.counted ∙ sym grown.taken;
+      counted = ap (λ x. packet_count x past) grown.name ∙ h.counted ∙ sym grown.taken;
       within = let w = h.within in let l = length-append κ.written grown.more in let m = ap (λ (ws : List Written). length ws) grown.written in let t = grown.taken in omega (arith, w, l, m, t);
     }
 

@@ -13,7 +13,7 @@ use Rattle.client_base.specs.Keeper.{Keeper}
 use Rattle.exactly_once.specs.Sides.{ClientConnection}
 use Rattle.exactly_once.specs.Sends.{sends_to, put_to}
 use Rattle.exactly_once.specs.Story.{Story, StoryStep}
-use Rattle.exactly_once.specs.StoryCommands.{counted_at}
+use Rattle.exactly_once.specs.StoryCommands.{with_one_counted}
 use Rattle.exactly_once.specs.Carried.{is_this}
 use Rattle.exactly_once.specs.InStep.{has_begun, WasWelcome, AreWelcome, IsInStep, opens_on, opened_in, entries_in, accepted_in, starts_of}
 use Rattle.exactly_once.proofs.places.After.{none_opens}
@@ -110,18 +110,18 @@ since_counted limits c past earlier x count others before i =
     record { none = i.none; begun = i.begun; some = let h = i.some in omega (arith, h); put = i.put; opened = i.opened; starts = i.starts; entries = i.entries; rest = i.rest }
 
 rest_counted : (limits : Limits) (c : Client) (past earlier : Past) (x : ConnectionName) (count j : ℕ) (others before : List ClientConnection) → IsSince limits c past earlier x count others before
-    → IsSince limits c past earlier x count (counted_at j others) before
+    → IsSince limits c past earlier x count (with_one_counted j others) before
 rest_counted limits c past earlier x count j others before i =
     record { none = i.none; begun = i.begun; some = i.some; put = i.put; opened = i.opened; starts = i.starts; entries = i.entries; rest = λ start. accepted_counted past c start j others ∙ i.rest start }
 
 pub lingers_placed : (limits : Limits) (c : Client) (place : Place) (past : Past) (keeper : Keeper) (i : ℕ) (connections : List ClientConnection) → accepts place.command place.mark c ≡ None
-    → (l : Lingers limits c (with_connections past keeper connections)) → sends_to l.newest.name (answers_at limits place past) ≡ [] → Lingers limits c (with_connections (place ∷ past) keeper (counted_at i connections))
+    → (l : Lingers limits c (with_connections past keeper connections)) → sends_to l.newest.name (answers_at limits place past) ≡ [] → Lingers limits c (with_connections (place ∷ past) keeper (with_one_counted i connections))
 lingers_placed limits c place past keeper i connections closed l silent = by i
   where
     since : IsSince limits c (place ∷ past) l.earlier l.newest.name l.count l.others l.before
     since = rest_placed limits c place past l.earlier l.newest.name l.count l.others l.before closed silent l.since
 
-    by : (i : ℕ) → Lingers limits c (with_connections (place ∷ past) keeper (counted_at i connections))
+    by : (i : ℕ) → Lingers limits c (with_connections (place ∷ past) keeper (with_one_counted i connections))
     by zero =
         record {
           flags = l.flags;
@@ -130,7 +130,7 @@ lingers_placed limits c place past keeper i connections closed l silent = by i
           count = suc l.count;
           others = l.others;
           before = l.before;
-          are = ap (counted_at 0) l.are;
+          are = ap (with_one_counted 0) l.are;
           frozen = l.frozen;
           since = since_counted limits c (place ∷ past) l.earlier l.newest.name l.count l.others l.before since;
         }
@@ -140,9 +140,9 @@ lingers_placed limits c place past keeper i connections closed l silent = by i
           earlier = l.earlier;
           newest = l.newest;
           count = l.count;
-          others = counted_at j l.others;
+          others = with_one_counted j l.others;
           before = l.before;
-          are = ap (counted_at (suc j)) l.are;
+          are = ap (with_one_counted (suc j)) l.are;
           frozen = l.frozen;
           since = rest_counted limits c (place ∷ past) l.earlier l.newest.name l.count j l.others l.before since;
         }

@@ -16,7 +16,7 @@ use Rattle.client_base.specs.Written.{plain, writes_first}
 use Rattle.exactly_once.specs.Sides.{ClientConnection, Side}
 use Rattle.exactly_once.specs.Sends.{put_to}
 use Rattle.exactly_once.specs.Story.{Story, StoryStep, with_side}
-use Rattle.exactly_once.specs.StoryCommands.{command_of, counted_at, names_client, is_packet_of}
+use Rattle.exactly_once.specs.StoryCommands.{command_of, with_one_counted, names_client, is_packet_of}
 use Rattle.exactly_once.specs.Story.StoryStep.{takes, others_take, receives, opens_anew, loses, disconnects, publishes_one, subscribes, unsubscribes}
 use Rattle.exactly_once.specs.InStep.{AreWelcome, IsInStep}
 use Rattle.exactly_once.proofs.keeping.CurrentOnes.{none_opened}
@@ -96,7 +96,7 @@ with_handled limits c s κ others packet are opened next l =
 pub lingers_goes : (limits : Limits) → IsSteady limits → (c : Client) (s t : Story) → IsLife limits c s → Lingers limits c s → StoryStep limits s t → IsInStep t → Lingers limits c t ⊎ Parts limits c t.past t.connections
 lingers_goes limits steady c s t life l (takes i κ w stands next) step =
     inl (lingers_takes limits c s i κ w life l stands next
-    (subst (λ (d : Client). AreWelcome (place_of limits s.past (command_of κ.name κ.taken w.packet) ∷ s.past) d (counted_at i s.connections)) life.keeper.client step))
+    (subst (λ (d : Client). AreWelcome (place_of limits s.past (command_of κ.name κ.taken w.packet) ∷ s.past) d (with_one_counted i s.connections)) life.keeper.client step))
 lingers_goes limits steady c s t life l (others_take command other none) step =
     let mine = subst (λ (d : Client). names_client s.past d command → ⊥) life.keeper.client other in
     inl (lingers_other limits c s command life l (none_opened s.past c command (mark_of limits s.past command) mine) (none_of_head (is_packet_of command) s.connections l.newest l.count l.others l.are none))

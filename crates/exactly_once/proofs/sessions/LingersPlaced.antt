@@ -18,7 +18,7 @@ use Rattle.client_base.specs.Keeper.{Written}
 use Rattle.exactly_once.specs.Sides.{ClientConnection}
 use Rattle.exactly_once.specs.Sends.{sends_to}
 use Rattle.exactly_once.specs.Story.{Story}
-use Rattle.exactly_once.specs.StoryCommands.{any_named, command_of, counted_at, is_packet_of}
+use Rattle.exactly_once.specs.StoryCommands.{any_named, command_of, with_one_counted, is_packet_of}
 use Rattle.exactly_once.specs.InStep.{has_begun, AreWelcome}
 use Rattle.exactly_once.proofs.connections.GoRight.{place_to_nobody}
 use Rattle.exactly_once.proofs.places.Sessions.{current_has_session}
@@ -76,7 +76,7 @@ first_taken i connections κ newest count others names at are some new name =
 -- nor is an older one's accepted, if the client is in step
 after_newest : (limits : Limits) (c : Client) (past : Past) (i : ℕ) (κ newest : ClientConnection) (count : ℕ) (others : List ClientConnection) → session_of past c ≡ None → has_begun past c ≡ true
     → slice_get (record newest { taken = count } ∷ others) i ≡ Some κ → 1 ≤ count → κ.taken ≡ 0 → κ.confirmed ≡ false
-    → AreWelcome (accepted_at κ.name c ∷ past) c (counted_at i (record newest { taken = count } ∷ others)) → ⊥
+    → AreWelcome (accepted_at κ.name c ∷ past) c (with_one_counted i (record newest { taken = count } ∷ others)) → ⊥
 after_newest limits c past zero κ newest count others none begun at some new unconfirmed step =
     let same : record newest { taken = count } ≡ κ = cc in
     let e : count ≡ κ.taken = ap (λ (z : ClientConnection). z.taken) same in
@@ -85,8 +85,8 @@ after_newest limits c past (suc j) κ newest count others none begun at some new
     none_older past c j κ (record newest { taken = count }) others none begun at unconfirmed step
 
 pub lingers_takes : (limits : Limits) (c : Client) (s : Story) (i : ℕ) (κ : ClientConnection) (w : Written) → IsLife limits c s → (l : Lingers limits c s) → slice_get s.connections i ≡ Some κ → slice_get κ.written κ.taken ≡ Some w
-    → AreWelcome (place_of limits s.past (command_of κ.name κ.taken w.packet) ∷ s.past) c (counted_at i s.connections)
-    → Lingers limits c (with_connections (place_of limits s.past (command_of κ.name κ.taken w.packet) ∷ s.past) s.keeper (counted_at i s.connections))
+    → AreWelcome (place_of limits s.past (command_of κ.name κ.taken w.packet) ∷ s.past) c (with_one_counted i s.connections)
+    → Lingers limits c (with_connections (place_of limits s.past (command_of κ.name κ.taken w.packet) ∷ s.past) s.keeper (with_one_counted i s.connections))
 lingers_takes limits c s i κ w life l stands next step = by (life_command limits c s i κ w life stands next)
   where
     command : Command
@@ -105,7 +105,7 @@ lingers_takes limits c s i κ w life l stands next step = by (life_command limit
     nobody = nobody_there s.past c x s.connections l.since.none life.connections.nobody named
 
     Goal : Type 0
-    Goal = Lingers limits c (with_connections (place_of limits s.past command ∷ s.past) s.keeper (counted_at i s.connections))
+    Goal = Lingers limits c (with_connections (place_of limits s.past command ∷ s.past) s.keeper (with_one_counted i s.connections))
 
     silent : (b : Bool) → is_packet_of command x ≡ b → IsOwnCommand c κ w.packet command → sends_to x (answers_at limits (place_of limits s.past command) s.past) ≡ []
     silent false e kind = place_to_nobody limits (place_of limits s.past command) s.past x e nobody
@@ -124,8 +124,8 @@ lingers_takes limits c s i κ w life l stands next step = by (life_command limit
     older new at =
         after_newest limits c s.past i κ l.newest l.count l.others l.since.none l.since.begun (subst (λ (cs : List ClientConnection). slice_get cs i ≡ Some κ) l.are stands) l.since.some new
         (ap (λ (z : ClientConnection). z.confirmed) (untouched new).is)
-        (subst (λ (q : Place). AreWelcome (q ∷ s.past) c (counted_at i (record l.newest { taken = l.count } ∷ l.others))) at
-        (subst (λ (cs : List ClientConnection). AreWelcome (place_of limits s.past command ∷ s.past) c (counted_at i cs)) l.are step))
+        (subst (λ (q : Place). AreWelcome (q ∷ s.past) c (with_one_counted i (record l.newest { taken = l.count } ∷ l.others))) at
+        (subst (λ (cs : List ClientConnection). AreWelcome (place_of limits s.past command ∷ s.past) c (with_one_counted i cs)) l.are step))
 
     by : IsOwnCommand c κ w.packet command → Goal
     by (inr k) = stays (inr k) (ap (λ d. accepts d (mark_of limits s.past d) c) k.1)

@@ -9,11 +9,11 @@ use Rattle.broker_base.specs.broker_spec.declared.command.Command.TheVariants as
 use Rattle.client_base.specs.Keeper.{all_own}
 use Rattle.exactly_once.specs.Sides.{ClientConnection}
 use Rattle.exactly_once.specs.Story.{Story, StoryStep, no_story}
-use Rattle.exactly_once.specs.StoryCommands.{counted_at, command_of}
+use Rattle.exactly_once.specs.StoryCommands.{with_one_counted, command_of}
 use Rattle.exactly_once.specs.Story.StoryStep.{takes, others_take, receives, opens_anew, loses, disconnects, publishes_one, subscribes, unsubscribes}
 use Rattle.exactly_once.specs.StoryTrace.{StoryTrace}
 use Rattle.exactly_once.specs.StoryTrace.StoryTrace.{begins}
-use Rattle.exactly_once.specs.Carried.{publications_of, new_numbers}
+use Rattle.exactly_once.specs.Carried.{own_publications, new_numbers}
 use Rattle.exactly_once.specs.InStep.{IsInStep, AreWelcome, IsFirstSession, has_begun, sessions_begun}
 use Rattle.exactly_once.specs.Lives.{Lived, PublishedOverSessions}
 use Rattle.exactly_once.specs.LivesAreExact.{LivesAreExact}
@@ -125,8 +125,8 @@ stage_expelled limits steady c s life later (over (lingers l) r) step = over (li
 lasting_says : (limits : Limits) → IsSteady limits → (c : Client) (flags : List Bool) (s t : Story) → IsLife limits c s → Numbered limits c flags s → (olds : List ℕ)
     → new_numbers s.connections s.past ≡ olds ++ new_numbers (kept_of flags s.connections) s.past → IsCarried limits s → (h : StoryStep limits s t) → SaysNext h
 lasting_says limits steady c flags s t life n olds is carried (takes i κ w stands next) =
-    let ps = publications_of (all_own s.keeper) in
-    subst (λ (d : Client). Says d ps (counted_at i s.connections) (place_of limits s.past (command_of κ.name κ.taken w.packet)) s.past) (sym life.keeper.client)
+    let ps = own_publications (all_own s.keeper) in
+    subst (λ (d : Client). Says d ps (with_one_counted i s.connections) (place_of limits s.past (command_of κ.name κ.taken w.packet)) s.past) (sym life.keeper.client)
     (says_lasting limits c flags s i κ w ps olds life (stands_sound limits steady c flags s life (stands_numbered limits c flags s n)) is stands next
     (each_at (IsOfOwn ps) κ.taken κ.written w next (each_there (λ (μ : ClientConnection). Each (IsOfOwn ps) μ.written) i s.connections κ stands carried.written)))
 lasting_says limits steady c flags s t life n olds is carried (others_take command other none) = tt

@@ -11,8 +11,8 @@ use Rattle.broker_base.specs.broker_spec.declared.command.Command.{Command}
 use Rattle.broker_base.specs.broker_spec.declared.command.Command.TheVariants as commands
 use Rattle.client_base.specs.Connected.{opens}
 use Rattle.exactly_once.specs.Sides.{ClientConnection}
-use Rattle.exactly_once.specs.StoryCommands.{any_named, count_of, is_packet_of}
-use Rattle.exactly_once.specs.Carried.{carries, connection_named, number_of, number_at, more_by, new_numbers}
+use Rattle.exactly_once.specs.StoryCommands.{any_named, packet_count, is_packet_of}
+use Rattle.exactly_once.specs.Carried.{carries, connection_named, written_number, number_at, more_by, new_numbers}
 use Rattle.exactly_once.specs.InStep.{has_begun, sessions_begun}
 use Rattle.exactly_once.proofs.carrying.KeepsPlaces.{none_carried}
 use Rattle.exactly_once.proofs.sessions.Beside.{kept_of}
@@ -23,7 +23,7 @@ use Rattle.exactly_once.proofs.sessions.CarriedAlike.{none_more}
 -- ---- nothing was taken
 
 abbrev AreUncounted : Past → List ClientConnection → Type 0
-AreUncounted past = Each (λ (κ : ClientConnection). count_of κ.name past ≡ 0)
+AreUncounted past = Each (λ (κ : ClientConnection). packet_count κ.name past ≡ 0)
 
 uncounted_here : (b : Bool) (n : ℕ) → (if b then suc n else n) ≡ 0 → (b ≡ false) × (n ≡ 0)
 uncounted_here true n e = absurd (omega (arith, e))
@@ -33,7 +33,7 @@ none_here : (command : Command) (mark : Mark) (past : Past) (connections : List 
     → (any_named (is_packet_of command) connections ≡ false) × AreUncounted past connections
 none_here command mark past [] h = (refl, tt)
 none_here command mark past (κ ∷ connections) h =
-    let two = uncounted_here (is_packet_of command κ.name) (count_of κ.name past) h.0 in
+    let two = uncounted_here (is_packet_of command κ.name) (packet_count κ.name past) h.0 in
     let rest = none_here command mark past connections h.1 in
     (ap₂ (λ a b. a || b) two.0 rest.0, (two.1, rest.1))
 
@@ -64,16 +64,16 @@ silent_number : (c : Client) (connections : List ClientConnection) → Each (λ 
 silent_number c [] h x j = refl
 silent_number c (κ ∷ connections) h x j = by (same_connection x κ.name) (silent_number c connections h.1 x j)
   where
-    of : (j : ℕ) → number_of (slice_get (opens c ∷ []) j) ≡ None
+    of : (j : ℕ) → written_number (slice_get (opens c ∷ []) j) ≡ None
     of zero = refl
     of (suc j) = refl
 
     by : (b : Bool) → number_at j (connection_named x connections) ≡ None → number_at j (if b then Some κ else connection_named x connections) ≡ None
-    by true ih = ap (λ ws. number_of (slice_get ws j)) h.0 ∙ of j
+    by true ih = ap (λ ws. written_number (slice_get ws j)) h.0 ∙ of j
     by false ih = ih
 
 silent_carries : (c : Client) (connections : List ClientConnection) → Each (λ (κ : ClientConnection). κ.written ≡ opens c ∷ []) connections → (command : Command) (past : Past) → carries connections command past ≡ None
-silent_carries c connections h (commands.Packet x (packets.Publish p)) past = silent_number c connections h x (count_of x past)
+silent_carries c connections h (commands.Packet x (packets.Publish p)) past = silent_number c connections h x (packet_count x past)
 silent_carries c connections h (commands.Packet x _) past = refl
 silent_carries c connections h (commands.Connect x d clean) past = refl
 silent_carries c connections h (commands.Lost x) past = refl

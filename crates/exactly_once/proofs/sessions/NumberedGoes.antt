@@ -18,7 +18,7 @@ use Rattle.exactly_once.proofs.keeping.StoryTrace.{told_stories_are_sound}
 use Rattle.exactly_once.specs.Sends.{put_to}
 use Rattle.exactly_once.specs.Sides.{ClientConnection}
 use Rattle.exactly_once.specs.Story.{Story, StoryStep}
-use Rattle.exactly_once.specs.StoryCommands.{command_of, count_of, is_packet_of}
+use Rattle.exactly_once.specs.StoryCommands.{command_of, packet_count, is_packet_of}
 use Rattle.exactly_once.specs.Story.StoryStep.{takes, others_take, receives, opens_anew, loses, disconnects, publishes_one, subscribes, unsubscribes}
 use Rattle.exactly_once.specs.Carried.{carries, more_by, new_numbers}
 use Rattle.exactly_once.specs.InStep.{sessions_begun, IsInStep}
@@ -41,7 +41,7 @@ use Rattle.exactly_once.proofs.sessions.Numbered.Numbered.{lasts, awaits}
 
 pub counted_all_within : (past : Past) (connections : List ClientConnection) → Each (IsCounted past) connections → AreWithin past connections
 counted_all_within past connections h =
-    each_then (IsCounted past) (λ (κ : ClientConnection). count_of κ.name past ≤ length κ.written) connections (λ κ g. let a = g.counted in let b = g.within in omega (arith, a, b)) h
+    each_then (IsCounted past) (λ (κ : ClientConnection). packet_count κ.name past ≤ length κ.written) connections (λ κ g. let a = g.counted in let b = g.within in omega (arith, a, b)) h
 
 placed : (new : Bool) (command : Command) (past : Past) (l l' k k' : List ClientConnection) (olds : List ℕ) → new_numbers l' past ≡ new_numbers l past → new_numbers k' past ≡ new_numbers k past
     → more_by new (carries l' command past) ≡ more_by new (carries k' command past) → new_numbers l past ≡ olds ++ new_numbers k past

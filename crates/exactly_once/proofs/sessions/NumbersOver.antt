@@ -18,10 +18,10 @@ use Rattle.client_base.specs.session_base.declared.publication.Publication.{Publ
 use Rattle.client_base.specs.Keeper.{Written, all_own, next_number}
 use Rattle.exactly_once.specs.Sides.{ClientConnection}
 use Rattle.exactly_once.specs.Story.{Story, StoryStep}
-use Rattle.exactly_once.specs.StoryCommands.{command_of, counted_at}
+use Rattle.exactly_once.specs.StoryCommands.{command_of, with_one_counted}
 use Rattle.exactly_once.specs.Story.StoryStep.{takes, others_take, receives, opens_anew, loses, disconnects, publishes_one, subscribes, unsubscribes}
-use Rattle.exactly_once.specs.Carried.{carries, more_by, new_numbers, published, publications_of}
-use Rattle.exactly_once.specs.Lives.{IsRising}
+use Rattle.exactly_once.specs.Carried.{carries, more_by, new_numbers, own_qos2_numbers, own_publications}
+use Rattle.exactly_once.specs.Lives.{NumbersRise}
 use Rattle.exactly_once.proofs.publishing.Last.{each_there}
 use Rattle.exactly_once.proofs.publishing.events.Receives.{each_at}
 use Rattle.exactly_once.proofs.publishing.kept.Numbers.{same_numbers}
@@ -49,11 +49,11 @@ nobody_current : (past : Past) (c : Client) (x : ConnectionName) → session_of 
 nobody_current past c x none e = let f : None ≡ Some x = sym (no_connection past c none) ∙ e in cc
 
 takes_nothing : (limits : Limits) (c : Client) (s : Story) (i : ℕ) (κ : ClientConnection) (w : Written) → IsLife limits c s → session_of s.past c ≡ None → slice_get s.connections i ≡ Some κ → (command : Command)
-    → IsOwnCommand c κ w.packet command → more_by (is_new command (mark_of limits s.past command)) (carries (counted_at i s.connections) command s.past) ≡ []
+    → IsOwnCommand c κ w.packet command → more_by (is_new command (mark_of limits s.past command)) (carries (with_one_counted i s.connections) command s.past) ≡ []
 takes_nothing limits c s i κ w life none stands command (inl k) =
-    ap (λ d. more_by (is_new d (mark_of limits s.past d)) (carries (counted_at i s.connections) d s.past)) k.1
+    ap (λ d. more_by (is_new d (mark_of limits s.past d)) (carries (with_one_counted i s.connections) d s.past)) k.1
 takes_nothing limits c s i κ w life none stands command (inr k) =
-    more_none (is_new command (mark_of limits s.past command)) (carries (counted_at i s.connections) command s.past)
+    more_none (is_new command (mark_of limits s.past command)) (carries (with_one_counted i s.connections) command s.past)
     (ap (λ d. is_new d (mark_of limits s.past d)) k.1 ∙ nobodys_new limits s.past c i s.connections κ w.packet life.connections.nobody stands (nobody_current s.past c κ.name none))
 
 over_same : (limits : Limits) (c : Client) (s t : Story) → IsLife limits c s → session_of s.past c ≡ None → StoryStep limits s t → new_numbers t.connections s.past ≡ new_numbers s.connections s.past
@@ -78,11 +78,11 @@ rises_over limits c s t life later none h r =
     let same = over_same limits c s t life none h (same_numbers s.connections t.connections s.past (numbers_keep limits s t within h)) in
     let grows = next_grows limits s t life.keeper.numbers h in
     record {
-      rising = subst IsRising (sym same) r.rising;
+      rising = subst NumbersRise (sym same) r.rising;
       below = subst (Each (λ n. n < next_number t.keeper)) (sym same)
           (each_then (λ n. n < next_number s.keeper) (λ n. n < next_number t.keeper) (new_numbers s.connections s.past) (λ n less. omega (arith, less, grows)) r.below);
       first = λ one.
-          subst (λ (l : List ℕ). IsPrefixOf l (published (all_own t.keeper))) (sym same)
+          subst (λ (l : List ℕ). IsPrefixOf l (own_qos2_numbers (all_own t.keeper))) (sym same)
           (prefix_then (r.first (one_before limits c s t h one)) (published_grows limits s t life.keeper.numbers later.keeper.numbers h));
     }
 
@@ -94,28 +94,28 @@ rises_placed limits c s command none r =
     let same : new_numbers s.connections (place_of limits s.past command ∷ s.past) ≡ new_numbers s.connections s.past =
     ap (λ o. new_numbers s.connections s.past ++ more_by new o) none ∙ ap (λ l. new_numbers s.connections s.past ++ l) (none_more new) ∙ append-nil (new_numbers s.connections s.past) in
     record {
-      rising = subst IsRising (sym same) r.rising;
+      rising = subst NumbersRise (sym same) r.rising;
       below = subst (Each (λ n. n < next_number s.keeper)) (sym same) r.below;
-      first = λ one. subst (λ (l : List ℕ). IsPrefixOf l (published (all_own s.keeper))) (sym same) (r.first (one_below (place_of limits s.past command) s.past c one));
+      first = λ one. subst (λ (l : List ℕ). IsPrefixOf l (own_qos2_numbers (all_own s.keeper))) (sym same) (r.first (one_below (place_of limits s.past command) s.past c one));
     }
 
 -- ---- what the places say
 
 pub says_over : (limits : Limits) (c : Client) (s t : Story) → IsLife limits c s → session_of s.past c ≡ None → IsCarried limits s → (h : StoryStep limits s t) → SaysNext h
 says_over limits c s t life none carried (takes i κ w stands next) =
-    subst (λ (d : Client). Says d ps (counted_at i s.connections) (place_of limits s.past command) s.past) (sym life.keeper.client) (by (life_command limits c s i κ w life stands next))
+    subst (λ (d : Client). Says d ps (with_one_counted i s.connections) (place_of limits s.past command) s.past) (sym life.keeper.client) (by (life_command limits c s i κ w life stands next))
   where
     ps : List Publication
-    ps = publications_of (all_own s.keeper)
+    ps = own_publications (all_own s.keeper)
 
     command : Command
     command = command_of κ.name κ.taken w.packet
 
-    by : IsOwnCommand c κ w.packet command → Says c ps (counted_at i s.connections) (place_of limits s.past command) s.past
+    by : IsOwnCommand c κ w.packet command → Says c ps (with_one_counted i s.connections) (place_of limits s.past command) s.past
     by (inl k) =
-        says_nothing c ps (counted_at i s.connections) (place_of limits s.past command) s.past (ap (λ d. carries (counted_at i s.connections) d s.past) k.1)
+        says_nothing c ps (with_one_counted i s.connections) (place_of limits s.past command) s.past (ap (λ d. carries (with_one_counted i s.connections) d s.past) k.1)
     by (inr k) =
-        subst (λ (d : Command). Says c ps (counted_at i s.connections) (place_of limits s.past d) s.past) (sym k.1)
+        subst (λ (d : Command). Says c ps (with_one_counted i s.connections) (place_of limits s.past d) s.past) (sym k.1)
         (nobodys_says limits s.past c ps i s.connections κ w life.connections.names life.connections.nobody stands next (each_there (IsCounted s.past) i s.connections κ stands life.connections.counted).counted
         (nobody_current s.past c κ.name none) (each_at (IsOfOwn ps) κ.taken κ.written w next (each_there (λ (μ : ClientConnection). Each (IsOfOwn ps) μ.written) i s.connections κ stands carried.written)))
 says_over limits c s t life none carried (others_take command other unnamed) = tt

@@ -8,7 +8,7 @@ use Rattle.broker_base.specs.broker_spec.Place.{Client, Mark, Place, Past, only_
 use Rattle.broker_base.specs.broker_spec.Past.{accepts, expels, ends_any, newest_session, is_beginning, current_connection, session_of, session_start, begins}
 use Rattle.broker_base.specs.broker_spec.declared.command.Command.{Command}
 use Rattle.broker_base.proofs.of_broker_spec.ConnectionNames.{same_name}
-use Rattle.exactly_once.specs.StoryCommands.{is_packet_of, count_of}
+use Rattle.exactly_once.specs.StoryCommands.{is_packet_of, packet_count}
 use Rattle.exactly_once.specs.InStep.{has_begun, opens_on, opened_in}
 use Rattle.exactly_once.proofs.places.Counts.{accepted_counts}
 use Rattle.exactly_once.proofs.sessions.Starts.{began_below}
@@ -87,11 +87,11 @@ pub opened_here : (place : Place) (past : Past) (c : Client) (x : ConnectionName
 opened_here place past c x e = ap (λ b. if b then session_start (place ∷ past) c else opened_in past c x) e
 
 -- one of which nothing is in the list was not opened
-pub unopened : (past : Past) (c : Client) (x : ConnectionName) → count_of x past ≡ 0 → opened_in past c x ≡ None
+pub unopened : (past : Past) (c : Client) (x : ConnectionName) → packet_count x past ≡ 0 → opened_in past c x ≡ None
 unopened [] c x e = refl
 unopened (place ∷ past) c x e = by (is_packet_of place.command x) refl e (unopened past c x)
   where
-    by : (b : Bool) → is_packet_of place.command x ≡ b → (if b then suc (count_of x past) else count_of x past) ≡ 0 → (count_of x past ≡ 0 → opened_in past c x ≡ None) → opened_in (place ∷ past) c x ≡ None
+    by : (b : Bool) → is_packet_of place.command x ≡ b → (if b then suc (packet_count x past) else packet_count x past) ≡ 0 → (packet_count x past ≡ 0 → opened_in past c x ≡ None) → opened_in (place ∷ past) c x ≡ None
     by true f g ih = absurd (omega (arith, g))
     by false f g ih = opened_same place past c x (opens_packet place.command place.mark c x f) ∙ ih g
 

@@ -13,7 +13,7 @@ use Rattle.broker_base.specs.broker_spec.declared.command.Command.{Command}
 use Rattle.broker_base.specs.broker_spec.declared.command.Command.TheVariants as commands
 use Rattle.broker_base.specs.broker_spec.Connection.{ConnectionName}
 use Rattle.exactly_once.specs.Sides.{ClientConnection}
-use Rattle.exactly_once.specs.StoryCommands.{counted_at}
+use Rattle.exactly_once.specs.StoryCommands.{with_one_counted}
 use Rattle.exactly_once.specs.Carried.{is_this}
 use Rattle.exactly_once.specs.InStep.{has_begun, WasWelcome, AreWelcome, opens_on, opened_in, entries_in}
 use Rattle.exactly_once.proofs.places.After.{none_opens}
@@ -40,13 +40,13 @@ pub entries_parted : (limits : Limits) (place : Place) (past : Past) (c : Client
 entries_parted limits place past c start none = entries_over limits place past c start (ap (is_this start) (no_start (place ∷ past) c none))
 
 head_placed : (place : Place) (past : Past) (c : Client) (i : ℕ) (connections : List ClientConnection) → accepts place.command place.mark c ≡ None → IsHeadUnopened past c connections
-    → IsHeadUnopened (place ∷ past) c (counted_at i connections)
+    → IsHeadUnopened (place ∷ past) c (with_one_counted i connections)
 head_placed place past c i [] closed h = h
 head_placed place past c zero (κ ∷ others) closed h = opened_same place past c κ.name (ap (opens_on κ.name) closed) ∙ h
 head_placed place past c (suc i) (κ ∷ others) closed h = opened_same place past c κ.name (ap (opens_on κ.name) closed) ∙ h
 
 pub parts_placed : (limits : Limits) (c : Client) (place : Place) (past : Past) (i : ℕ) (connections : List ClientConnection) → accepts place.command place.mark c ≡ None → Parts limits c past connections
-    → Parts limits c (place ∷ past) (counted_at i connections)
+    → Parts limits c (place ∷ past) (with_one_counted i connections)
 parts_placed limits c place past i connections closed p =
     let none = none_opens place past c closed p.none in
     record {
@@ -54,7 +54,7 @@ parts_placed limits c place past i connections closed p =
       begun = or_right (begins place past c) (has_begun past c) p.begun;
       head = head_placed place past c i connections closed p.head;
       all = λ start.
-          accepts_same limits c past (place ∷ past) connections (counted_at i connections) start (entries_parted limits place past c start none)
+          accepts_same limits c past (place ∷ past) connections (with_one_counted i connections) start (entries_parted limits place past c start none)
           (accepted_counted (place ∷ past) c start i connections ∙ accepted_placed place past c start connections (all_fresh place c connections closed)) (p.all start);
     }
 
@@ -64,14 +64,14 @@ pub accepted_or_not : (x : ConnectionName) (d c : Client) (clean : Bool) (mark :
 accepted_or_not x d c clean Mark.Accepted = inl refl
 accepted_or_not x d c clean _ = inr refl
 
-welcome_at : (P : ClientConnection → Type 0) (j : ℕ) (κ : ClientConnection) (others : List ClientConnection) → slice_get others j ≡ Some κ → Each P (counted_at j others) → P (record κ { taken = suc κ.taken })
+welcome_at : (P : ClientConnection → Type 0) (j : ℕ) (κ : ClientConnection) (others : List ClientConnection) → slice_get others j ≡ Some κ → Each P (with_one_counted j others) → P (record κ { taken = suc κ.taken })
 welcome_at P j κ [] at h = absurd (cc)
 welcome_at P zero κ (μ ∷ others) at h = let same : μ ≡ κ = cc in subst (λ (z : ClientConnection). P (record z { taken = suc z.taken })) same h.0
 welcome_at P (suc j) κ (μ ∷ others) at h = welcome_at P j κ others at h.1
 
 -- in step, no Connect of an older connection begins a session again
 pub none_older : (past : Past) (c : Client) (j : ℕ) (κ μ : ClientConnection) (others : List ClientConnection) → session_of past c ≡ None → has_begun past c ≡ true → slice_get others j ≡ Some κ → κ.confirmed ≡ false
-    → AreWelcome (accepted_at κ.name c ∷ past) c (counted_at (suc j) (μ ∷ others)) → ⊥
+    → AreWelcome (accepted_at κ.name c ∷ past) c (with_one_counted (suc j) (μ ∷ others)) → ⊥
 none_older past c j κ μ others none begun at unconfirmed step =
     both_ways κ.confirmed unconfirmed (welcome_at (WasWelcome (accepted_at κ.name c ∷ past) c) j κ others at step (again_there past c κ.name none begun))
 

@@ -17,7 +17,7 @@ use Rattle.client_base.specs.Handled.{handled}
 use Rattle.client_base.specs.Written.{plain, writes_first}
 use Rattle.exactly_once.specs.Sides.{ClientConnection, Side}
 use Rattle.exactly_once.specs.Story.{Story, StoryStep}
-use Rattle.exactly_once.specs.StoryCommands.{command_of, counted_at, names_client}
+use Rattle.exactly_once.specs.StoryCommands.{command_of, with_one_counted, names_client}
 use Rattle.exactly_once.specs.Story.StoryStep.{takes, others_take, receives, opens_anew, loses, disconnects, publishes_one, subscribes, unsubscribes}
 use Rattle.exactly_once.specs.InStep.{AreWelcome, IsInStep, opened_in, sessions_begun}
 use Rattle.exactly_once.proofs.keeping.CurrentOnes.{none_opened}
@@ -61,9 +61,9 @@ begins_first limits c list past keeper κ others place is at mark new h k fresh 
 
 parted_takes : (limits : Limits) (c : Client) (s : Story) (i : ℕ) (κ : ClientConnection) (w : Written) (connections : List ClientConnection) → IsLife limits c (record s { connections = connections })
     → Parts limits c s.past connections → slice_get connections i ≡ Some κ → slice_get κ.written κ.taken ≡ Some w
-    → AreWelcome (place_of limits s.past (command_of κ.name κ.taken w.packet) ∷ s.past) c (counted_at i connections)
-    → Parts limits c (place_of limits s.past (command_of κ.name κ.taken w.packet) ∷ s.past) (counted_at i connections)
-    ⊎ Begins limits c (with_connections (place_of limits s.past (command_of κ.name κ.taken w.packet) ∷ s.past) s.keeper (counted_at i connections))
+    → AreWelcome (place_of limits s.past (command_of κ.name κ.taken w.packet) ∷ s.past) c (with_one_counted i connections)
+    → Parts limits c (place_of limits s.past (command_of κ.name κ.taken w.packet) ∷ s.past) (with_one_counted i connections)
+    ⊎ Begins limits c (with_connections (place_of limits s.past (command_of κ.name κ.taken w.packet) ∷ s.past) s.keeper (with_one_counted i connections))
 parted_takes limits c s i κ w connections life p stands next step = by (life_command limits c (record s { connections = connections }) i κ w life stands next)
   where
     command : Command
@@ -73,7 +73,7 @@ parted_takes limits c s i κ w connections life p stands next step = by (life_co
     untouched = each_there (λ (μ : ClientConnection). μ.taken ≡ 0 → IsUntouched limits s.past c μ) i connections κ stands life.connections.untouched
 
     Goal : Type 0
-    Goal = Parts limits c (place_of limits s.past command ∷ s.past) (counted_at i connections) ⊎ Begins limits c (with_connections (place_of limits s.past command ∷ s.past) s.keeper (counted_at i connections))
+    Goal = Parts limits c (place_of limits s.past command ∷ s.past) (with_one_counted i connections) ⊎ Begins limits c (with_connections (place_of limits s.past command ∷ s.past) s.keeper (with_one_counted i connections))
 
     stays : accepts command (mark_of limits s.past command) c ≡ None → Goal
     stays closed = inl (parts_placed limits c (place_of limits s.past command) s.past i connections closed p)
@@ -82,12 +82,12 @@ parted_takes limits c s i κ w connections life p stands next step = by (life_co
     begin kind new at mark = where_it_is i connections life p stands step
       where
         where_it_is : (j : ℕ) (l : List ClientConnection) → IsLife limits c (record s { connections = l }) → Parts limits c s.past l → slice_get l j ≡ Some κ
-            → AreWelcome (place_of limits s.past command ∷ s.past) c (counted_at j l)
-            → Parts limits c (place_of limits s.past command ∷ s.past) (counted_at j l) ⊎ Begins limits c (with_connections (place_of limits s.past command ∷ s.past) s.keeper (counted_at j l))
+            → AreWelcome (place_of limits s.past command ∷ s.past) c (with_one_counted j l)
+            → Parts limits c (place_of limits s.past command ∷ s.past) (with_one_counted j l) ⊎ Begins limits c (with_connections (place_of limits s.past command ∷ s.past) s.keeper (with_one_counted j l))
         where_it_is j [] life p stands step = absurd (cc)
         where_it_is (suc j) (μ ∷ others) life p stands step =
             absurd (none_older s.past c j κ μ others p.none p.begun stands (ap (λ (z : ClientConnection). z.confirmed) (untouched new).is)
-            (subst (λ (q : Place). AreWelcome (q ∷ s.past) c (counted_at (suc j) (μ ∷ others))) at step))
+            (subst (λ (q : Place). AreWelcome (q ∷ s.past) c (with_one_counted (suc j) (μ ∷ others))) at step))
         where_it_is zero (μ ∷ others) life p stands step =
             let same : κ ≡ μ = cc in
             let fresh = own_fresh limits s.past c 0 κ w.packet command (μ ∷ others) kind untouched stands life.connections.names in
@@ -128,7 +128,7 @@ parts_maybe limits c past false more connections p = p
 pub parted_goes : (limits : Limits) (c : Client) (s t : Story) → IsLife limits c s → Parts limits c s.past s.connections → StoryStep limits s t → IsInStep t → Parts limits c t.past t.connections ⊎ Begins limits c t
 parted_goes limits c s t life p (takes i κ w stands next) step =
     parted_takes limits c s i κ w s.connections life p stands next
-    (subst (λ (d : Client). AreWelcome (place_of limits s.past (command_of κ.name κ.taken w.packet) ∷ s.past) d (counted_at i s.connections)) life.keeper.client step)
+    (subst (λ (d : Client). AreWelcome (place_of limits s.past (command_of κ.name κ.taken w.packet) ∷ s.past) d (with_one_counted i s.connections)) life.keeper.client step)
 parted_goes limits c s t life p (others_take command other none) step =
     let place = place_of limits s.past command in
     let mine = subst (λ (d : Client). names_client s.past d command → ⊥) life.keeper.client other in

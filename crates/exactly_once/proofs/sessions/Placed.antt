@@ -12,7 +12,7 @@ use Rattle.broker_base.specs.broker_spec.AnswersInOrder.{answers_at}
 use Rattle.broker_base.proofs.of_broker_spec.ConnectionNames.{same_itself}
 use Rattle.exactly_once.specs.Sides.{ClientConnection}
 use Rattle.exactly_once.specs.Sends.{sends_to, put_to}
-use Rattle.exactly_once.specs.StoryCommands.{count_of, is_packet_of}
+use Rattle.exactly_once.specs.StoryCommands.{packet_count, is_packet_of}
 use Rattle.exactly_once.specs.InStep.{opens_on, opened_in}
 use Rattle.exactly_once.specs.Inside.ConnectionShape.{no_connacks}
 use Rattle.exactly_once.proofs.places.After.{session_opens}
@@ -32,7 +32,7 @@ untouched_other limits place past c κ other u =
     record {
       is = u.is;
       unsent = put_more limits place past κ.name ∙ ap₂ (λ a b. a ++ b) u.unsent (place_nothing limits place past κ.name other u.uncounted);
-      uncounted = ap (λ b. if b then suc (count_of κ.name past) else count_of κ.name past) other ∙ u.uncounted;
+      uncounted = ap (λ b. if b then suc (packet_count κ.name past) else packet_count κ.name past) other ∙ u.uncounted;
     }
 
 -- what is no CONNACK is no CONNACK 0

@@ -19,7 +19,7 @@ use Rattle.client_base.specs.Handshakes.{at_pubrec, is_sent_with, takes_in, rele
 use Rattle.client_base.proofs.NumbersStay.{AreAllNumbered, joined_numbers}
 use Rattle.exactly_once.specs.Sides.{Side}
 use Rattle.exactly_once.specs.Story.{Story, StoryStep}
-use Rattle.exactly_once.specs.Carried.{is_two, published, publications_of, publication_in}
+use Rattle.exactly_once.specs.Carried.{is_two, own_qos2_numbers, own_publications, own_publication}
 use Rattle.exactly_once.proofs.carrying.Distinct.{number_first}
 use Rattle.exactly_once.proofs.carrying.KeepsWritten.{events_say}
 use Rattle.exactly_once.proofs.subscribing.Given.{one_handled}
@@ -30,11 +30,11 @@ abbrev twos : ℕ → List Publication → List ℕ
 twos n (p ∷ ps) = if is_two p.qos then n ∷ twos (suc n) ps else twos (suc n) ps
 twos n [] = []
 
-published_is : (n : ℕ) (own : List Own) → AreNumbered n own → published own ≡ twos n (publications_of own)
+published_is : (n : ℕ) (own : List Own) → AreNumbered n own → own_qos2_numbers own ≡ twos n (own_publications own)
 published_is n [] h = refl
 published_is n (o ∷ own) h =
     let first = number_first n o own h in
-    ap₂ (λ k l. if is_two (publication_in o).qos then k ∷ l else l) first.0 (published_is (suc n) own first.1)
+    ap₂ (λ k l. if is_two (own_publication o).qos then k ∷ l else l) first.0 (published_is (suc n) own first.1)
 
 twos_more : (n : ℕ) (ps qs : List Publication) → twos n (ps ++ qs) ≡ twos n ps ++ twos (n + length ps) qs
 twos_more n [] qs = let same : n ≡ n + 0 = omega arith in ap (λ m. twos m qs) same
@@ -48,18 +48,18 @@ twos_more n (p ∷ ps) qs = by (is_two p.qos) (twos_more (suc n) ps qs ∙ (let 
 all_numbered : (keeper : Keeper) → AreAllNumbered keeper → AreNumbered 0 (all_own keeper)
 all_numbered keeper h = joined_numbers keeper.earlier keeper.own h.0 h.1
 
-pub published_grows : (limits : Limits) (s t : Story) → AreAllNumbered s.keeper → AreAllNumbered t.keeper → StoryStep limits s t → IsPrefixOf (published (all_own s.keeper)) (published (all_own t.keeper))
+pub published_grows : (limits : Limits) (s t : Story) → AreAllNumbered s.keeper → AreAllNumbered t.keeper → StoryStep limits s t → IsPrefixOf (own_qos2_numbers (all_own s.keeper)) (own_qos2_numbers (all_own t.keeper))
 published_grows limits s t before after h =
     let p = events_say limits s t before.1 h in
-    let ps = publications_of (all_own s.keeper) in
+    let ps = own_publications (all_own s.keeper) in
     record {
       rest = twos (0 + length ps) p.rest;
       is = published_is 0 (all_own t.keeper) (all_numbered t.keeper after) ∙ ap (twos 0) p.is ∙ twos_more 0 ps p.rest
           ∙ ap (λ l. l ++ twos (0 + length ps) p.rest) (sym (published_is 0 (all_own s.keeper) (all_numbered s.keeper before)));
     }
 
-long : (keeper : Keeper) → length (publications_of (all_own keeper)) ≡ next_number keeper
-long keeper = length-map (all_own keeper) publication_in ∙ length-append keeper.earlier keeper.own
+long : (keeper : Keeper) → length (own_publications (all_own keeper)) ≡ next_number keeper
+long keeper = length-map (all_own keeper) own_publication ∙ length-append keeper.earlier keeper.own
 
 pub next_grows : (limits : Limits) (s t : Story) → AreAllNumbered s.keeper → StoryStep limits s t → next_number s.keeper ≤ next_number t.keeper
 next_grows limits s t before h =

@@ -16,7 +16,7 @@ use Rattle.client_base.specs.session_base.declared.publication.Publication.{Publ
 use Rattle.client_base.specs.Keeper.{Written, Keeper}
 use Rattle.exactly_once.specs.Sides.{ClientConnection}
 use Rattle.exactly_once.specs.Story.{Story}
-use Rattle.exactly_once.specs.StoryCommands.{count_of, counted_at, command_of}
+use Rattle.exactly_once.specs.StoryCommands.{packet_count, with_one_counted, command_of}
 use Rattle.exactly_once.specs.Carried.{carries, more_by, new_numbers}
 use Rattle.exactly_once.specs.Inside.Shape.{NamesApart, LastIsCurrent, IsSoundStory}
 use Rattle.exactly_once.proofs.keeping.StoryTrace.{told_stories_are_sound}
@@ -83,15 +83,15 @@ more_none false None e = refl
 
 pub takes_alike : (limits : Limits) (c : Client) (flags : List Bool) (s : Story) (i : ℕ) (κ : ClientConnection) (w : Written) → IsLife limits c s → HasSound limits c flags s → slice_get s.connections i ≡ Some κ
     → slice_get κ.written κ.taken ≡ Some w → (command : Command) → IsOwnCommand c κ w.packet command
-    → more_by (is_new command (mark_of limits s.past command)) (carries (counted_at i s.connections) command s.past)
-    ≡ more_by (is_new command (mark_of limits s.past command)) (carries (kept_of flags (counted_at i s.connections)) command s.past)
+    → more_by (is_new command (mark_of limits s.past command)) (carries (with_one_counted i s.connections) command s.past)
+    ≡ more_by (is_new command (mark_of limits s.past command)) (carries (kept_of flags (with_one_counted i s.connections)) command s.past)
 takes_alike limits c flags s i κ w life h stands next command kind = by (find flags s.connections i κ life.connections.names h.gone stands) kind
   where
     new : Bool
     new = is_new command (mark_of limits s.past command)
 
     Goal : Type 0
-    Goal = more_by new (carries (counted_at i s.connections) command s.past) ≡ more_by new (carries (kept_of flags (counted_at i s.connections)) command s.past)
+    Goal = more_by new (carries (with_one_counted i s.connections) command s.past) ≡ more_by new (carries (kept_of flags (with_one_counted i s.connections)) command s.past)
 
     by : IsKept flags s.connections i κ ⊎ IsLeft flags s.connections i κ → IsOwnCommand c κ w.packet command → Goal
     by (inl k) kind =
@@ -103,13 +103,13 @@ takes_alike limits c flags s i κ w life h stands next command kind = by (find f
     by (inr l) (inr k) =
         let old : new ≡ false =
         ap (λ d. is_new d (mark_of limits s.past d)) k.1 ∙ nobodys_new limits s.past c i s.connections κ w.packet life.connections.nobody stands (not_current limits c flags s i κ h l) in
-        more_none new (carries (counted_at i s.connections) command s.past) old ∙ sym (more_none new (carries (kept_of flags (counted_at i s.connections)) command s.past) old)
+        more_none new (carries (with_one_counted i s.connections) command s.past) old ∙ sym (more_none new (carries (kept_of flags (with_one_counted i s.connections)) command s.past) old)
 
 -- ---- what the place says
 
 pub says_lasting : (limits : Limits) (c : Client) (flags : List Bool) (s : Story) (i : ℕ) (κ : ClientConnection) (w : Written) (ps : List Publication) (olds : List ℕ) → IsLife limits c s → HasSound limits c flags s
     → new_numbers s.connections s.past ≡ olds ++ new_numbers (kept_of flags s.connections) s.past → slice_get s.connections i ≡ Some κ → slice_get κ.written κ.taken ≡ Some w → IsOf ps w.packet w.number
-    → Says c ps (counted_at i s.connections) (place_of limits s.past (command_of κ.name κ.taken w.packet)) s.past
+    → Says c ps (with_one_counted i s.connections) (place_of limits s.past (command_of κ.name κ.taken w.packet)) s.past
 says_lasting limits c flags s i κ w ps olds life h is stands next of = by (find flags s.connections i κ life.connections.names h.gone stands) (life_command limits c s i κ w life stands next)
   where
     command : Command
@@ -118,11 +118,11 @@ says_lasting limits c flags s i κ w ps olds life h is stands next of = by (find
     kept : List ClientConnection
     kept = kept_of flags s.connections
 
-    counted : count_of κ.name s.past ≡ κ.taken
+    counted : packet_count κ.name s.past ≡ κ.taken
     counted = (each_there (IsCounted s.past) i s.connections κ stands life.connections.counted).counted
 
     Goal : Type 0
-    Goal = Says c ps (counted_at i s.connections) (place_of limits s.past command) s.past
+    Goal = Says c ps (with_one_counted i s.connections) (place_of limits s.past command) s.past
 
     by : IsKept flags s.connections i κ ⊎ IsLeft flags s.connections i κ → IsOwnCommand c κ w.packet command → Goal
     by (inl k) kind =
@@ -131,12 +131,12 @@ says_lasting limits c flags s i κ w ps olds life h is stands next of = by (find
         let says = taken_says limits s.past h.keeper kept ps k.j κ w.packet w.number κ.taken h.sound.shape h.sound.publisher k.stands next refl of in
         record {
           known = λ n e again.
-              subst (In n) (sym (same_numbers s.connections (counted_at i s.connections) s.past (same_counted s.past i s.connections) ∙ is))
-              (in_right olds (subst (In n) (same_numbers kept (counted_at k.j kept) s.past (same_counted s.past k.j kept)) (says.known n (sym same ∙ e) again)));
+              subst (In n) (sym (same_numbers s.connections (with_one_counted i s.connections) s.past (same_counted s.past i s.connections) ∙ is))
+              (in_right olds (subst (In n) (same_numbers kept (with_one_counted k.j kept) s.past (same_counted s.past k.j kept)) (says.known n (sym same ∙ e) again)));
           own = λ n e d taken. says.own n (sym same ∙ e) d taken ∙ h.client;
           of = λ n x p e is. says.of n x p (sym same ∙ e) is;
         }
     by (inr l) (inl k) = absurd (let a = l.taken in let b = k.0 in omega (arith, a, b))
     by (inr l) (inr k) =
-        subst (λ (d : Command). Says c ps (counted_at i s.connections) (place_of limits s.past d) s.past) (sym k.1)
+        subst (λ (d : Command). Says c ps (with_one_counted i s.connections) (place_of limits s.past d) s.past) (sym k.1)
         (nobodys_says limits s.past c ps i s.connections κ w life.connections.names life.connections.nobody stands next counted (not_current limits c flags s i κ h l) of)

@@ -12,7 +12,7 @@ use Rattle.client_base.specs.Called.{written_for}
 use Rattle.client_base.specs.Written.{plain, writes_first}
 use Rattle.exactly_once.specs.Sides.{ClientConnection, Side}
 use Rattle.exactly_once.specs.Story.{Story, StoryStep}
-use Rattle.exactly_once.specs.StoryCommands.{command_of, counted_at}
+use Rattle.exactly_once.specs.StoryCommands.{command_of, with_one_counted}
 use Rattle.exactly_once.specs.Story.StoryStep.{takes, others_take, receives, opens_anew, loses, disconnects, publishes_one, subscribes, unsubscribes}
 use Rattle.exactly_once.specs.InStep.{opens_on, has_begun, began_again, WasWelcome, AreWelcome, IsInStep}
 use Rattle.exactly_once.proofs.subscribing.Given.{stays_handled}
@@ -35,12 +35,12 @@ below_welcome place past c [] h = tt
 below_welcome place past c (κ ∷ connections) h = below_all place past c connections h
 
 -- one packet fewer is taken
-fewer_all : (past : Past) (c : Client) (i : ℕ) (connections : List ClientConnection) → Each (WasWelcome past c) (counted_at i connections) → Each (WasWelcome past c) connections
+fewer_all : (past : Past) (c : Client) (i : ℕ) (connections : List ClientConnection) → Each (WasWelcome past c) (with_one_counted i connections) → Each (WasWelcome past c) connections
 fewer_all past c i [] h = tt
 fewer_all past c zero (κ ∷ connections) h = (h.0, h.1)
 fewer_all past c (suc i) (κ ∷ connections) h = (h.0, fewer_all past c i connections h.1)
 
-fewer_welcome : (past : Past) (c : Client) (i : ℕ) (connections : List ClientConnection) → AreWelcome past c (counted_at i connections) → AreWelcome past c connections
+fewer_welcome : (past : Past) (c : Client) (i : ℕ) (connections : List ClientConnection) → AreWelcome past c (with_one_counted i connections) → AreWelcome past c connections
 fewer_welcome past c i [] h = tt
 fewer_welcome past c zero (κ ∷ connections) h = h
 fewer_welcome past c (suc i) (κ ∷ connections) h = fewer_all past c i connections h

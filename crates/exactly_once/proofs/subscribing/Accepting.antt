@@ -10,35 +10,35 @@ use Rattle.client_base.specs.session_base.declared.publication.Publication.{Publ
 use Rattle.client_base.specs.session_base.Publication.{publication_of}
 use Rattle.client_base.specs.lists.Lists.{has_id}
 use Rattle.broker_base.specs.broker_spec.Place.{Limits}
-use Rattle.exactly_once.specs.Handshake.{Forward, Transit, Handshake, taking, accepting}
+use Rattle.exactly_once.specs.Handshake.{Forward, Transit, Handshake, receiver_takes, receiver_accepts}
 use Rattle.exactly_once.specs.Sides.{ClientConnection, Side}
 use Rattle.client_base.specs.Written.{plain, writing}
 use Rattle.client_base.specs.Handshakes.{takes_in}
 use Rattle.exactly_once.specs.Story.{Story, with_side}
 use Rattle.exactly_once.specs.Inside.Projections.{IsLike, GoesTo}
-use Rattle.exactly_once.specs.Inside.AsSubscriber.{published_in, as_subscriber}
+use Rattle.exactly_once.specs.Inside.AsSubscriber.{publish_before, as_subscriber}
 use Rattle.exactly_once.proofs.subscribing.events.Handling.{handles_one}
 use Rattle.exactly_once.proofs.subscribing.events.Receiving.{IsNext, counted, next_quiet, next_other}
 
 -- a PUBLISH of QoS 2 is first
-first_two : (d : Delivery) (dup : Bool) (id : ℕ) (p : Publication) (f : List (Forward Publication)) → d ≡ deliveries.ExactlyOnce dup id → published_in d p f ≡ Forward.Publish id p ∷ f
-first_two d dup id p f e = ap (λ (z : Delivery). published_in z p f) e
+first_two : (d : Delivery) (dup : Bool) (id : ℕ) (p : Publication) (f : List (Forward Publication)) → d ≡ deliveries.ExactlyOnce dup id → publish_before d p f ≡ Forward.Publish id p ∷ f
+first_two d dup id p f e = ap (λ (z : Delivery). publish_before z p f) e
 
 -- one whose identifier is known is not accepted again
 again : (h t : Handshake Publication) (id : ℕ) (p : Publication) (l : Transit Publication) → h.received id ≡ true
-    → IsLike (record { items = h.items; accepted = h.accepted ++ []; received = h.received; transit = l }) t → IsLike (taking (Forward.Publish id p) h l) t
+    → IsLike (record { items = h.items; accepted = h.accepted ++ []; received = h.received; transit = l }) t → IsLike (receiver_takes (Forward.Publish id p) h l) t
 again h t id p l e like = by (h.received id) e
   where
-    by : (b : Bool) → b ≡ true → IsLike (accepting id p b h l) t
+    by : (b : Bool) → b ≡ true → IsLike (receiver_accepts id p b h l) t
     by true e = record { items = like.items; accepted = sym (append-nil h.accepted) ∙ like.accepted; received = like.received; transit = like.transit }
     by false e = absurd (both_ways false refl e)
 
 -- any other is accepted
 anew : (h t : Handshake Publication) (id : ℕ) (p : Publication) (l : Transit Publication) → h.received id ≡ false
-    → IsLike (record { items = h.items; accepted = h.accepted ++ p ∷ []; received = λ j. (j == id) || h.received j; transit = l }) t → IsLike (taking (Forward.Publish id p) h l) t
+    → IsLike (record { items = h.items; accepted = h.accepted ++ p ∷ []; received = λ j. (j == id) || h.received j; transit = l }) t → IsLike (receiver_takes (Forward.Publish id p) h l) t
 anew h t id p l e like = by (h.received id) e
   where
-    by : (b : Bool) → b ≡ false → IsLike (accepting id p b h l) t
+    by : (b : Bool) → b ≡ false → IsLike (receiver_accepts id p b h l) t
     by true e = absurd (both_ways true e refl)
     by false e = record { items = like.items; accepted = like.accepted; received = like.received; transit = like.transit }
 
@@ -76,7 +76,7 @@ next_publish limits s κ others p i = by p.delivery refl
   where
     by : (d : Delivery) → p.delivery ≡ d → GoesTo (as_subscriber limits s) (as_subscriber limits (with_side s others (takes_in d (publication_of p) (counted s.keeper κ))))
     by deliveries.AtMostOnce e =
-        next_quiet limits s κ others (packets.Publish p) i s.keeper.own s.keeper.releases s.keeper.requests (λ f. ap (λ (z : Delivery). published_in z (publication_of p) f) e)
+        next_quiet limits s κ others (packets.Publish p) i s.keeper.own s.keeper.releases s.keeper.requests (λ f. ap (λ (z : Delivery). publish_before z (publication_of p) f) e)
     by (deliveries.AtLeastOnce dup id) e =
-        next_other limits s κ others (packets.Publish p) i s.keeper.own s.keeper.releases s.keeper.requests (plain (packets.Puback id) ∷ []) (λ f. ap (λ (z : Delivery). published_in z (publication_of p) f) e) refl
+        next_other limits s κ others (packets.Publish p) i s.keeper.own s.keeper.releases s.keeper.requests (plain (packets.Puback id) ∷ []) (λ f. ap (λ (z : Delivery). publish_before z (publication_of p) f) e) refl
     by (deliveries.ExactlyOnce dup id) e = next_two limits s κ others p dup id i e

@@ -17,25 +17,25 @@ use Rattle.exactly_once.specs.HandshakeSteps.HandshakeRun.{stays, goes_on}
 use Rattle.exactly_once.proofs.Exact.{run_then}
 use Rattle.exactly_once.specs.Carried.{is_two}
 use Rattle.exactly_once.specs.Inside.Projections.{GoesTo}
-use Rattle.exactly_once.specs.Inside.AsSubscriber.{items_of}
+use Rattle.exactly_once.specs.Inside.AsSubscriber.{items_of_entries}
 use Rattle.exactly_once.proofs.Items.{items_append}
 use Rattle.exactly_once.proofs.Starts.{Starts, rows_started, sending_all, all_starts}
 
 -- ---- new entries
 
 -- those of QoS 2 are added, one after another
-pub adds_all : (n : ℕ) (ps : List Publication) (h : Handshake Publication) → Starts h (h.items ++ items_of (map (Entry.Waits n) ps)) []
+pub adds_all : (n : ℕ) (ps : List Publication) (h : Handshake Publication) → Starts h (h.items ++ items_of_entries (map (Entry.Waits n) ps)) []
 adds_all n [] h = record { after = h; run = stays; items_are = sym (append-nil h.items); accepted = refl; received = refl; transit = refl }
 adds_all n (p ∷ ps) h = by (is_two p.qos) (adds_all n ps (with_items (h.items ++ SenderItem.Waits p ∷ []) h.transit h)) (adds_all n ps h)
   where
-    by : (b : Bool) → Starts (with_items (h.items ++ SenderItem.Waits p ∷ []) h.transit h) ((h.items ++ SenderItem.Waits p ∷ []) ++ items_of (map (Entry.Waits n) ps)) []
-        → Starts h (h.items ++ items_of (map (Entry.Waits n) ps)) []
-        → Starts h (h.items ++ (if b then SenderItem.Waits p ∷ items_of (map (Entry.Waits n) ps) else items_of (map (Entry.Waits n) ps))) []
+    by : (b : Bool) → Starts (with_items (h.items ++ SenderItem.Waits p ∷ []) h.transit h) ((h.items ++ SenderItem.Waits p ∷ []) ++ items_of_entries (map (Entry.Waits n) ps)) []
+        → Starts h (h.items ++ items_of_entries (map (Entry.Waits n) ps)) []
+        → Starts h (h.items ++ (if b then SenderItem.Waits p ∷ items_of_entries (map (Entry.Waits n) ps) else items_of_entries (map (Entry.Waits n) ps))) []
     by true r q =
         record {
           after = r.after;
           run = run_then (goes_on stays (adds p)) r.run;
-          items_are = r.items_are ∙ append_assoc h.items (SenderItem.Waits p ∷ []) (items_of (map (Entry.Waits n) ps));
+          items_are = r.items_are ∙ append_assoc h.items (SenderItem.Waits p ∷ []) (items_of_entries (map (Entry.Waits n) ps));
           accepted = r.accepted;
           received = r.received;
           transit = r.transit;
@@ -66,15 +66,15 @@ waits_last (Entry.Released made p id start release ∷ es) h = waits_last es h
 waits_last (Entry.Finished made p id start release finish ∷ es) h = waits_last es h
 
 -- a place adds, then starts
-pub place_starts : (w n : ℕ) (current : Option ConnectionName) (es : List Entry) (ps : List Publication) (h : Handshake Publication) → h.items ≡ items_of es → Sound (suc n) es
-    → Starts h (items_of (started w n current (es ++ map (Entry.Waits n) ps))) (rows_at w current (es ++ map (Entry.Waits n) ps))
+pub place_starts : (w n : ℕ) (current : Option ConnectionName) (es : List Entry) (ps : List Publication) (h : Handshake Publication) → h.items ≡ items_of_entries es → Sound (suc n) es
+    → Starts h (items_of_entries (started w n current (es ++ map (Entry.Waits n) ps))) (rows_at w current (es ++ map (Entry.Waits n) ps))
 place_starts w n current es ps h e s = by current (adds_all n ps h)
   where
-    items : h.items ++ items_of (map (Entry.Waits n) ps) ≡ items_of (es ++ map (Entry.Waits n) ps)
-    items = ap (λ l. l ++ items_of (map (Entry.Waits n) ps)) e ∙ sym (items_append es (map (Entry.Waits n) ps))
+    items : h.items ++ items_of_entries (map (Entry.Waits n) ps) ≡ items_of_entries (es ++ map (Entry.Waits n) ps)
+    items = ap (λ l. l ++ items_of_entries (map (Entry.Waits n) ps)) e ∙ sym (items_append es (map (Entry.Waits n) ps))
 
-    by : (current : Option ConnectionName) → Starts h (h.items ++ items_of (map (Entry.Waits n) ps)) []
-        → Starts h (items_of (started w n current (es ++ map (Entry.Waits n) ps))) (rows_at w current (es ++ map (Entry.Waits n) ps))
+    by : (current : Option ConnectionName) → Starts h (h.items ++ items_of_entries (map (Entry.Waits n) ps)) []
+        → Starts h (items_of_entries (started w n current (es ++ map (Entry.Waits n) ps))) (rows_at w current (es ++ map (Entry.Waits n) ps))
     by None r = record { after = r.after; run = r.run; items_are = r.items_are ∙ items; accepted = r.accepted; received = r.received; transit = r.transit }
     by (Some x) r =
         let q = all_starts w n [] [] (es ++ map (Entry.Waits n) ps) r.after (r.items_are ∙ items) tt (λ i e. refl) (waits_last (es ++ map (Entry.Waits n) ps) (sound_new n es ps s).in_order) in
@@ -89,8 +89,8 @@ place_starts w n current es ps h e s = by current (adds_all n ps h)
 
 -- after a run
 pub goes_started : (h k t : Handshake Publication) (w n : ℕ) (current : Option ConnectionName) (es : List Entry) (ps : List Publication)
-    → HandshakeRun h k → k.items ≡ items_of es → Sound (suc n) es → k.accepted ≡ t.accepted → ((id : ℕ) → k.received id ≡ t.received id)
-    → t.items ≡ items_of (started w n current (es ++ map (Entry.Waits n) ps)) → t.transit ≡ sending_all (rows_at w current (es ++ map (Entry.Waits n) ps)) k.transit → GoesTo h t
+    → HandshakeRun h k → k.items ≡ items_of_entries es → Sound (suc n) es → k.accepted ≡ t.accepted → ((id : ℕ) → k.received id ≡ t.received id)
+    → t.items ≡ items_of_entries (started w n current (es ++ map (Entry.Waits n) ps)) → t.transit ≡ sending_all (rows_at w current (es ++ map (Entry.Waits n) ps)) k.transit → GoesTo h t
 goes_started h k t w n current es ps run e s a r i l =
     let q = place_starts w n current es ps k e s in
     record {

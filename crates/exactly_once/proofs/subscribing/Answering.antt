@@ -5,14 +5,14 @@ use Rattle.client_base.specs.packet.declared.packet.Packet.TheVariants as packet
 use Rattle.broker_base.specs.broker_spec.Place.{Limits}
 use Rattle.broker_base.specs.broker_spec.Past.{current_connection}
 use Rattle.broker_base.specs.broker_spec.Times.{at_puback, at_pubcomp, window_at, entries_of}
-use Rattle.exactly_once.specs.Handshake.{Backward, heard, reply, with_items}
+use Rattle.exactly_once.specs.Handshake.{Backward, sender_hears, reply, with_items}
 use Rattle.exactly_once.specs.HandshakeSteps.HandshakeRun.{stays}
 use Rattle.client_base.specs.Keeper.{Written}
 use Rattle.exactly_once.specs.Sides.{ClientConnection}
 use Rattle.exactly_once.specs.Story.{Story}
-use Rattle.exactly_once.specs.StoryCommands.{counted_at}
+use Rattle.exactly_once.specs.StoryCommands.{with_one_counted}
 use Rattle.exactly_once.specs.Inside.Projections.{GoesTo}
-use Rattle.exactly_once.specs.Inside.AsSubscriber.{items_of, left_behind, as_subscriber}
+use Rattle.exactly_once.specs.Inside.AsSubscriber.{items_of_entries, left_behind, as_subscriber}
 use Rattle.exactly_once.proofs.Items.{items_pubcomp}
 use Rattle.exactly_once.proofs.subscribing.Written.{backward_one}
 use Rattle.exactly_once.proofs.subscribing.Standing.{Stands, stands}
@@ -27,7 +27,7 @@ use Rattle.exactly_once.proofs.subscribing.Answers.{at_own, answered, none_start
 
 -- a PUBACK
 pub own_puback : (limits : Limits) (s : Story) (i : ℕ) (κ : ClientConnection) (w : Written) (id : ℕ) → IsOwn limits s i κ w → w.packet ≡ packets.Puback id
-    → GoesTo (as_subscriber limits s) (as_subscriber limits (placed s (at_own s κ.name (packets.Puback id)) (counted_at i s.connections)))
+    → GoesTo (as_subscriber limits s) (as_subscriber limits (placed s (at_own s κ.name (packets.Puback id)) (with_one_counted i s.connections)))
 own_puback limits s i κ w id o e =
     let place = at_own s κ.name (packets.Puback id) in
     let current = current_connection s.past s.keeper.client in
@@ -37,23 +37,23 @@ own_puback limits s i κ w id o e =
     let g = answers_on limits s κ.name (packets.Puback id) [] o.current refl
     (λ x h. started_sends (window_at limits (place ∷ s.past)) (length s.past) κ.name x current (all ++ []) (entries_of limits (place ∷ s.past) s.keeper.client) o.current
     (entries_answered limits s κ.name (packets.Puback id) o.current refl) (none_started limits s κ.name (packets.Puback id))) in
-    place_goes limits s place (counted_at i s.connections) all [] [] (as_subscriber limits s) o.shape g
+    place_goes limits s place (with_one_counted i s.connections) all [] [] (as_subscriber limits s) o.shape g
     (view_counted limits (place ∷ s.past) current s.keeper s.connections i o.n κ o.at o.taken) (accepted_counted i s.connections) stays
-    (sym (ap items_of (own_if s (map (at_puback (length s.past) id) es) es) ∙ items_puback (length s.past) id es)) refl (λ j. refl)
+    (sym (ap items_of_entries (own_if s (map (at_puback (length s.past) id) es) es) ∙ items_puback (length s.past) id es)) refl (λ j. refl)
     (link_is limits s.past current s.keeper s.connections
-    ∙ ap₂ link_as (sym (grown_none v)) (own_left limits s i κ w o ∙ ap (λ (z : Packet). backward_one z (left_behind current (counted_at i s.connections))) e))
+    ∙ ap₂ link_as (sym (grown_none v)) (own_left limits s i κ w o ∙ ap (λ (z : Packet). backward_one z (left_behind current (with_one_counted i s.connections))) e))
 
 -- the sender receives the answer
 pub own_hears : (limits : Limits) (s : Story) (i : ℕ) (κ : ClientConnection) (w : Written) (packet : Packet) (m : Backward) → IsOwn limits s i κ w → w.packet ≡ packet → ((b : List Backward) → backward_one packet b ≡ m ∷ b)
-    → GoesOn limits s (at_own s κ.name packet) (answered s limits κ.name packet) [] (reply m) → heard m (items_of (entries_of limits s.past s.keeper.client)) ≡ items_of (answered s limits κ.name packet)
-    → GoesTo (as_subscriber limits s) (as_subscriber limits (placed s (at_own s κ.name packet) (counted_at i s.connections)))
+    → GoesOn limits s (at_own s κ.name packet) (answered s limits κ.name packet) [] (reply m) → sender_hears m (items_of_entries (entries_of limits s.past s.keeper.client)) ≡ items_of_entries (answered s limits κ.name packet)
+    → GoesTo (as_subscriber limits s) (as_subscriber limits (placed s (at_own s κ.name packet) (with_one_counted i s.connections)))
 own_hears limits s i κ w packet m o e first g items =
     let current = current_connection s.past s.keeper.client in
     let v = view limits s.past current s.keeper s.connections in
-    let b = left_behind current (counted_at i s.connections) in
+    let b = left_behind current (with_one_counted i s.connections) in
     let left : left_behind current s.connections ≡ m ∷ b = own_left limits s i κ w o ∙ ap (λ (z : Packet). backward_one z b) e ∙ first b in
     let h = as_subscriber limits s in
-    place_goes limits s (at_own s κ.name packet) (counted_at i s.connections) (answered s limits κ.name packet) [] (reply m) (with_items (heard m h.items) (link_as (grown (reply m) v) b) h) o.shape g
+    place_goes limits s (at_own s κ.name packet) (with_one_counted i s.connections) (answered s limits κ.name packet) [] (reply m) (with_items (sender_hears m h.items) (link_as (grown (reply m) v) b) h) o.shape g
     (view_counted limits (at_own s κ.name packet ∷ s.past) current s.keeper s.connections i o.n κ o.at o.taken) (accepted_counted i s.connections)
     (hears_view h v m b (link_is limits s.past current s.keeper s.connections ∙ ap (link_as v) left)
     (subst (Stands h.transit) left (stands limits s.past s.keeper.client s.keeper s.connections current o.shape.connections o.shape.newest_is_served)))
@@ -61,7 +61,7 @@ own_hears limits s i κ w packet m o e first g items =
 
 -- a PUBCOMP
 pub own_pubcomp : (limits : Limits) (s : Story) (i : ℕ) (κ : ClientConnection) (w : Written) (id : ℕ) → IsOwn limits s i κ w → w.packet ≡ packets.Pubcomp id
-    → GoesTo (as_subscriber limits s) (as_subscriber limits (placed s (at_own s κ.name (packets.Pubcomp id)) (counted_at i s.connections)))
+    → GoesTo (as_subscriber limits s) (as_subscriber limits (placed s (at_own s κ.name (packets.Pubcomp id)) (with_one_counted i s.connections)))
 own_pubcomp limits s i κ w id o e =
     let place = at_own s κ.name (packets.Pubcomp id) in
     let es = entries_of limits s.past s.keeper.client in
@@ -69,4 +69,4 @@ own_pubcomp limits s i κ w id o e =
     (answers_on limits s κ.name (packets.Pubcomp id) [] o.current refl
     (λ x h. started_sends (window_at limits (place ∷ s.past)) (length s.past) κ.name x (current_connection s.past s.keeper.client) (answered s limits κ.name (packets.Pubcomp id) ++ [])
     (entries_of limits (place ∷ s.past) s.keeper.client) o.current (entries_answered limits s κ.name (packets.Pubcomp id) o.current refl) (none_started limits s κ.name (packets.Pubcomp id))))
-    (sym (ap items_of (own_if s (map (at_pubcomp (length s.past) id) es) es) ∙ items_pubcomp (length s.past) id es))
+    (sym (ap items_of_entries (own_if s (map (at_pubcomp (length s.past) id) es) es) ∙ items_pubcomp (length s.past) id es))

@@ -8,7 +8,7 @@ use Rattle.client_base.specs.lists.Lists.{Each}
 use Rattle.client_base.proofs.of_lists.Tests.{or_right, or_left}
 use Rattle.client_base.specs.Keeper.{Written, Keeper}
 use Rattle.exactly_once.specs.Sides.{ClientConnection}
-use Rattle.exactly_once.specs.StoryCommands.{any_named, counted_at}
+use Rattle.exactly_once.specs.StoryCommands.{any_named, with_one_counted}
 use Rattle.exactly_once.specs.Acceptance.{accepted_on}
 use Rattle.exactly_once.specs.Inside.Projections.{to_be_taken}
 use Rattle.exactly_once.specs.Inside.AsSubscriber.{backward_of, left_behind}
@@ -31,7 +31,7 @@ named_at test (first ∷ others) zero κ e t =
 named_at test (first ∷ others) (suc i) κ e t = or_right (test first.name) (any_named test others) (named_at test others i κ e t)
 
 -- nothing more is accepted
-pub accepted_counted : (i : ℕ) (connections : List ClientConnection) → accepted_on (counted_at i connections) ≡ accepted_on connections
+pub accepted_counted : (i : ℕ) (connections : List ClientConnection) → accepted_on (with_one_counted i connections) ≡ accepted_on connections
 accepted_counted zero [] = refl
 accepted_counted (suc i) [] = refl
 accepted_counted zero (κ ∷ others) = refl
@@ -39,7 +39,7 @@ accepted_counted (suc i) (κ ∷ others) = ap (λ l. l ++ κ.accepted) (accepted
 
 -- the client's connection shows the same
 pub view_counted : (limits : Limits) (past : Past) (current : Option ConnectionName) (keeper : Keeper) (connections : List ClientConnection) (i n : ℕ) (κ : ClientConnection)
-    → slice_get connections i ≡ Some κ → κ.taken ≡ suc n → view limits past current keeper (counted_at i connections) ≡ view limits past current keeper connections
+    → slice_get connections i ≡ Some κ → κ.taken ≡ suc n → view limits past current keeper (with_one_counted i connections) ≡ view limits past current keeper connections
 view_counted limits past current keeper [] i n κ e t = absurd (cc)
 view_counted limits past current keeper (first ∷ others) (suc i) n κ e t = refl
 view_counted limits past current keeper (first ∷ others) zero n κ e t = by first.taken (let f : first ≡ κ = cc in ap (λ (z : ClientConnection). z.taken) f ∙ t)
@@ -50,7 +50,7 @@ view_counted limits past current keeper (first ∷ others) zero n κ e t = by fi
 
 -- what comes back on another connection stays
 pub left_other : (x : ConnectionName) (connections : List ClientConnection) (i : ℕ) (κ : ClientConnection) → slice_get connections i ≡ Some κ → same_connection x κ.name ≡ false
-    → left_behind (Some x) (counted_at i connections) ≡ left_behind (Some x) connections
+    → left_behind (Some x) (with_one_counted i connections) ≡ left_behind (Some x) connections
 left_other x [] i κ e n = absurd (cc)
 left_other x (first ∷ others) zero κ e n =
     let f : first ≡ κ = cc in
@@ -61,7 +61,7 @@ left_other x (first ∷ others) (suc i) κ e n = ap (λ l. if same_connection x 
 
 -- what comes back on the connection, before and after
 pub left_own : (x : ConnectionName) (connections : List ClientConnection) (i : ℕ) (κ : ClientConnection) → NamesApart connections → slice_get connections i ≡ Some κ → same_connection x κ.name ≡ true
-    → (left_behind (Some x) connections ≡ backward_of (to_be_taken κ)) × (left_behind (Some x) (counted_at i connections) ≡ backward_of (drop (suc κ.taken) κ.written))
+    → (left_behind (Some x) connections ≡ backward_of (to_be_taken κ)) × (left_behind (Some x) (with_one_counted i connections) ≡ backward_of (drop (suc κ.taken) κ.written))
 left_own x [] i κ a e n = absurd (cc)
 left_own x (first ∷ others) zero κ a e n =
     let f : first ≡ κ = cc in
@@ -72,7 +72,7 @@ left_own x (first ∷ others) zero κ a e n =
 left_own x (first ∷ others) (suc i) κ a e n =
     let p = left_own x others i κ a.1 e n in
     let g : same_connection x first.name ≡ false = apart (cases_Bool (same_connection x first.name)) in
-    (ap (λ b. if b then backward_of (to_be_taken first) else left_behind (Some x) others) g ∙ p.0, ap (λ b. if b then backward_of (to_be_taken first) else left_behind (Some x) (counted_at i others)) g ∙ p.1)
+    (ap (λ b. if b then backward_of (to_be_taken first) else left_behind (Some x) others) g ∙ p.0, ap (λ b. if b then backward_of (to_be_taken first) else left_behind (Some x) (with_one_counted i others)) g ∙ p.1)
   where
     apart : (same_connection x first.name ≡ true) ⊎ (same_connection x first.name ≡ false) → same_connection x first.name ≡ false
     apart (inr f) = f

@@ -7,14 +7,14 @@ use Rattle.client_base.specs.packet.declared.packet.Packet.TheVariants as packet
 use Rattle.client_base.specs.session_base.declared.publication.Publication.{Publication}
 use Rattle.client_base.specs.session_base.Publication.{publication_of}
 use Rattle.exactly_once.specs.Handshake.{Forward}
-use Rattle.exactly_once.specs.Inside.AsSubscriber.{published_in, forward_of}
+use Rattle.exactly_once.specs.Inside.AsSubscriber.{publish_before, forward_of}
 use Rattle.exactly_once.proofs.subscribing.events.Handling.{forward_one, forward_first}
 
 -- one packet in front of two lists
 one_of_two : (packet : Packet) (f g : List (Forward Publication)) → forward_one packet (f ++ g) ≡ forward_one packet f ++ g
 one_of_two (packets.Publish p) f g = by p.delivery
   where
-    by : (d : Delivery) → published_in d (publication_of p) (f ++ g) ≡ published_in d (publication_of p) f ++ g
+    by : (d : Delivery) → publish_before d (publication_of p) (f ++ g) ≡ publish_before d (publication_of p) f ++ g
     by deliveries.AtMostOnce = refl
     by (deliveries.AtLeastOnce dup id) = refl
     by (deliveries.ExactlyOnce dup id) = refl

@@ -21,7 +21,7 @@ use Rattle.client_base.specs.Handshakes.{releasing}
 use Rattle.client_base.specs.Handshakes.{takes_in}
 use Rattle.client_base.specs.Handshakes.{is_sent_with}
 use Rattle.exactly_once.specs.Story.{Story, StoryStep}
-use Rattle.exactly_once.specs.StoryCommands.{counted_at}
+use Rattle.exactly_once.specs.StoryCommands.{with_one_counted}
 use Rattle.client_base.specs.Written.{writes_first}
 use Rattle.exactly_once.specs.Story.StoryStep.{takes, others_take, receives, opens_anew, loses, disconnects, publishes_one, subscribes, unsubscribes}
 use Rattle.exactly_once.specs.Inside.Shape.{HasShape}
@@ -41,7 +41,7 @@ more_given limits place past κ h = let l = longer (put_to limits past κ.name) 
     longer (x ∷ xs) ys = let l = longer xs ys in omega (arith, l)
 
 -- one packet more taken
-given_counted : (limits : Limits) (past : Past) (i : ℕ) (connections : List ClientConnection) → Each (IsGiven limits past) connections → Each (IsGiven limits past) (counted_at i connections)
+given_counted : (limits : Limits) (past : Past) (i : ℕ) (connections : List ClientConnection) → Each (IsGiven limits past) connections → Each (IsGiven limits past) (with_one_counted i connections)
 given_counted limits past zero [] h = tt
 given_counted limits past (suc i) [] h = tt
 given_counted limits past zero (κ ∷ others) h = (h.0, h.1)

@@ -3,7 +3,7 @@ use Rattle.std.proofs.Common.{◌≡◌, ℕ, true, false, ◌==◌, List, [], �
 use Rattle.std.proofs.lemmas.Bool.{both_ways}
 use Rattle.client_base.specs.session_base.declared.publication.Publication.{Publication}
 use Rattle.exactly_once.specs.Items.{SenderItem, has_sent}
-use Rattle.exactly_once.specs.Handshake.{Forward, Backward, Transit, Handshake, heard, reply, with_items}
+use Rattle.exactly_once.specs.Handshake.{Forward, Backward, Transit, Handshake, sender_hears, reply, with_items}
 use Rattle.exactly_once.specs.HandshakeSteps.{HandshakeRun}
 use Rattle.exactly_once.specs.HandshakeSteps.Advances.{hears, hears_alone}
 use Rattle.exactly_once.specs.HandshakeSteps.HandshakeRun.{stays, goes_on}
@@ -32,7 +32,7 @@ never_ahead l f m b e (inr (inr (k, g, n))) = no_cons m b n
 
 -- the sender receives what comes first
 pub hears_view : (h : Handshake Publication) (v : View) (m : Backward) (b : List Backward) → h.transit ≡ link_as v (m ∷ b) → Stands h.transit (m ∷ b)
-    → HandshakeRun h (with_items (heard m h.items) (link_as (grown (reply m) v) b) h)
+    → HandshakeRun h (with_items (sender_hears m h.items) (link_as (grown (reply m) v) b) h)
 hears_view h None m b e st = goes_on stays (hears_alone m b e)
 hears_view h (Some (f, true)) m b e st = goes_on stays (hears m f b e)
 hears_view h (Some (f, false)) m b e st = absurd (never_ahead h.transit f m b e st)

@@ -19,7 +19,7 @@ use Rattle.exactly_once.specs.Sides.{ClientConnection, Side}
 use Rattle.client_base.specs.Written.{plain}
 use Rattle.client_base.specs.Handled.{handled}
 use Rattle.exactly_once.specs.Story.{Story, StoryStep}
-use Rattle.exactly_once.specs.StoryCommands.{names_client, command_of, count_of, counted_at}
+use Rattle.exactly_once.specs.StoryCommands.{names_client, command_of, packet_count, with_one_counted}
 use Rattle.client_base.specs.Called.{written_for}
 use Rattle.client_base.specs.Connected.{new_connection}
 use Rattle.client_base.specs.Written.{writes_first}
@@ -68,14 +68,14 @@ newest_new (Some x) κ connections t = λ l e. absurd (omega (arith, l, t))
 
 -- a CONNECT of the client
 newest_connect : (limits : Limits) (s : Story) (i : ℕ) (κ : ClientConnection) → HasShape limits s → slice_get s.connections i ≡ Some κ → κ.taken ≡ 0 → κ.confirmed ≡ false
-    → NewestIsServed (current_connection (at_connect κ.name s.keeper.client false (connect_mark limits s.past s.keeper.client (owner_of s.past κ.name)) ∷ s.past) s.keeper.client) (counted_at i s.connections)
+    → NewestIsServed (current_connection (at_connect κ.name s.keeper.client false (connect_mark limits s.past s.keeper.client (owner_of s.past κ.name)) ∷ s.past) s.keeper.client) (with_one_counted i s.connections)
 newest_connect limits s i κ shape at taken unconfirmed = by (owner_of s.past κ.name) refl
   where
     goal : Mark → Type 0
-    goal mark = NewestIsServed (current_connection (at_connect κ.name s.keeper.client false mark ∷ s.past) s.keeper.client) (counted_at i s.connections)
+    goal mark = NewestIsServed (current_connection (at_connect κ.name s.keeper.client false mark ∷ s.past) s.keeper.client) (with_one_counted i s.connections)
 
     accepted : goal Mark.Accepted
-    accepted = subst (λ (o : Option ConnectionName). NewestIsServed o (counted_at i s.connections)) (sym (accepted_current s.past κ.name s.keeper.client)) (newest_opened s.connections i κ shape.names_apart at unconfirmed)
+    accepted = subst (λ (o : Option ConnectionName). NewestIsServed o (with_one_counted i s.connections)) (sym (accepted_current s.past κ.name s.keeper.client)) (newest_opened s.connections i κ shape.names_apart at unconfirmed)
 
     none_now : current_connection s.past s.keeper.client ≡ None → current_connection (at_connect κ.name s.keeper.client false Mark.Full ∷ s.past) s.keeper.client ≡ None
     none_now e = two (stays_or_none (at_connect κ.name s.keeper.client false Mark.Full) s.past s.keeper.client refl)
@@ -87,7 +87,7 @@ newest_connect limits s i κ shape at taken unconfirmed = by (owner_of s.past κ
         two (inr f) = f
 
     turned : (session : Option Bool) → session_of s.past s.keeper.client ≡ session → is_some (session_of s.past s.keeper.client) ≡ false → goal Mark.Full
-    turned None e f = subst (λ (o : Option ConnectionName). NewestIsServed o (counted_at i s.connections)) (sym (none_now (no_connection s.past s.keeper.client e))) tt
+    turned None e f = subst (λ (o : Option ConnectionName). NewestIsServed o (with_one_counted i s.connections)) (sym (none_now (no_connection s.past s.keeper.client e))) tt
     turned (Some clean) e f = absurd (both_ways true (sym (ap is_some e) ∙ f) refl)
 
     room : (a b : Bool) → is_some (session_of s.past s.keeper.client) ≡ a → goal (if a || b then Mark.Accepted else Mark.Full)
@@ -98,17 +98,17 @@ newest_connect limits s i κ shape at taken unconfirmed = by (owner_of s.past κ
     by : (owner : Option Client) → owner_of s.past κ.name ≡ owner → goal (connect_mark limits s.past s.keeper.client owner)
     by (Some d) e =
         let f = served_counted s.past d κ.name (owner_is s.past κ.name d e) in
-        let g : count_of κ.name s.past ≡ 0 = (each_at (ConnectionInShape limits s.past s.keeper.client) s.connections i κ shape.connections at).counted ∙ taken in
+        let g : packet_count κ.name s.past ≡ 0 = (each_at (ConnectionInShape limits s.past s.keeper.client) s.connections i κ shape.connections at).counted ∙ taken in
         absurd (omega (arith, f, g))
     by None e = room (is_some (session_of s.past s.keeper.client)) (nat_lt (length (clients s.past)) limits.sessions) refl
 
 -- the next written packet is taken
 newest_taken : (limits : Limits) (s : Story) → HasShape limits s → (i : ℕ) (κ : ClientConnection) (w : Written) → slice_get s.connections i ≡ Some κ → slice_get κ.written κ.taken ≡ Some w
-    → NewestIsServed (current_connection (place_of limits s.past (command_of κ.name κ.taken w.packet) ∷ s.past) s.keeper.client) (counted_at i s.connections)
+    → NewestIsServed (current_connection (place_of limits s.past (command_of κ.name κ.taken w.packet) ∷ s.past) s.keeper.client) (with_one_counted i s.connections)
 newest_taken limits s shape i κ w at next = by κ.taken refl
   where
     goal : Command → Type 0
-    goal command = NewestIsServed (current_connection (place_of limits s.past command ∷ s.past) s.keeper.client) (counted_at i s.connections)
+    goal command = NewestIsServed (current_connection (place_of limits s.past command ∷ s.past) s.keeper.client) (with_one_counted i s.connections)
 
     in_shape : ConnectionInShape limits s.past s.keeper.client κ
     in_shape = each_at (ConnectionInShape limits s.past s.keeper.client) s.connections i κ shape.connections at
@@ -118,7 +118,7 @@ newest_taken limits s shape i κ w at next = by κ.taken refl
         let new = is_new_one limits s.past s.keeper.client κ w in_shape e next in
         subst (λ (z : Written). goal (command_of κ.name zero z.packet)) (sym new.first) (newest_connect limits s i κ shape at e new.unconfirmed)
     by (suc n) e =
-        newest_stays (current_connection s.past s.keeper.client) (current_connection (place_of limits s.past (commands.Packet κ.name w.packet) ∷ s.past) s.keeper.client) (counted_at i s.connections)
+        newest_stays (current_connection s.past s.keeper.client) (current_connection (place_of limits s.past (commands.Packet κ.name w.packet) ∷ s.past) s.keeper.client) (with_one_counted i s.connections)
         (newest_counted (current_connection s.past s.keeper.client) s.connections i n κ at e shape.newest_is_served)
         (stays_or_none (place_of limits s.past (commands.Packet κ.name w.packet)) s.past s.keeper.client refl)
 

@@ -9,7 +9,7 @@ use Rattle.broker_base.specs.broker_spec.Past.{accepts, ends_any, current_connec
 use Rattle.client_base.specs.lists.Lists.{Each}
 use Rattle.client_base.proofs.of_lists.Tests.{or_none}
 use Rattle.exactly_once.specs.Sides.{ClientConnection}
-use Rattle.exactly_once.specs.StoryCommands.{any_named, counted_at}
+use Rattle.exactly_once.specs.StoryCommands.{any_named, with_one_counted}
 use Rattle.exactly_once.specs.Inside.Shape.{NamesApart, NewestIsServed}
 use Rattle.exactly_once.proofs.Takes.{same_name_self}
 use Rattle.exactly_once.proofs.subscribing.events.Leaving.{same_name}
@@ -36,7 +36,7 @@ abbrev pub Unconfirmed : ConnectionName → List ClientConnection → Type 0
 Unconfirmed x connections = Each (λ (other : ClientConnection). same_connection x other.name ≡ true → other.confirmed ≡ false) connections
 
 -- taking a packet confirms none
-unconfirmed_counted : (x : ConnectionName) (connections : List ClientConnection) (i : ℕ) → Unconfirmed x connections → Unconfirmed x (counted_at i connections)
+unconfirmed_counted : (x : ConnectionName) (connections : List ClientConnection) (i : ℕ) → Unconfirmed x connections → Unconfirmed x (with_one_counted i connections)
 unconfirmed_counted x [] zero h = tt
 unconfirmed_counted x [] (suc i) h = tt
 unconfirmed_counted x (κ ∷ others) zero h = (h.0, h.1)
@@ -44,7 +44,7 @@ unconfirmed_counted x (κ ∷ others) (suc i) h = (h.0, unconfirmed_counted x ot
 
 -- a packet after the CONNECT is taken
 pub newest_counted : (current : Option ConnectionName) (connections : List ClientConnection) (i n : ℕ) (κ : ClientConnection) → slice_get connections i ≡ Some κ → κ.taken ≡ suc n
-    → NewestIsServed current connections → NewestIsServed current (counted_at i connections)
+    → NewestIsServed current connections → NewestIsServed current (with_one_counted i connections)
 newest_counted None connections i n κ at t h = tt
 newest_counted (Some x) [] i n κ at t h = absurd (cc)
 newest_counted (Some x) (first ∷ others) zero n κ at t h = λ l e. h (let f : first ≡ κ = cc in let g : first.taken ≡ suc n = ap (λ (z : ClientConnection). z.taken) f ∙ t in omega (arith, g)) e
@@ -58,7 +58,7 @@ none_has x (κ ∷ others) h =
     (λ e. absurd (both_ways (same_connection x κ.name) g.0 e), none_has x others g.1)
 
 -- the one that has it is unconfirmed
-one_has : (connections : List ClientConnection) (i : ℕ) (κ : ClientConnection) → NamesApart connections → slice_get connections i ≡ Some κ → κ.confirmed ≡ false → Unconfirmed κ.name (counted_at i connections)
+one_has : (connections : List ClientConnection) (i : ℕ) (κ : ClientConnection) → NamesApart connections → slice_get connections i ≡ Some κ → κ.confirmed ≡ false → Unconfirmed κ.name (with_one_counted i connections)
 one_has [] i κ a at u = absurd (cc)
 one_has (first ∷ others) zero κ a at u =
     let f : first ≡ κ = cc in
@@ -71,7 +71,7 @@ one_has (first ∷ others) (suc i) κ a at u = (
 
 -- the CONNECT of an unconfirmed connection is accepted
 pub newest_opened : (connections : List ClientConnection) (i : ℕ) (κ : ClientConnection) → NamesApart connections → slice_get connections i ≡ Some κ → κ.confirmed ≡ false
-    → NewestIsServed (Some κ.name) (counted_at i connections)
+    → NewestIsServed (Some κ.name) (with_one_counted i connections)
 newest_opened [] i κ a at u = absurd (cc)
 newest_opened (first ∷ others) zero κ a at u =
     λ l e. let f : first ≡ κ = cc in absurd (both_ways (same_connection κ.name κ.name) (ap (λ (z : ClientConnection). same_connection κ.name z.name) (sym f) ∙ e) (same_name_self κ.name))

@@ -18,7 +18,7 @@ use Rattle.exactly_once.specs.Story.{Story}
 use Rattle.exactly_once.specs.StoryCommands.{any_named}
 use Rattle.exactly_once.specs.Acceptance.{accepted_on}
 use Rattle.exactly_once.specs.Inside.Projections.{to_come, is_current, GoesTo}
-use Rattle.exactly_once.specs.Inside.AsSubscriber.{items_of, forward_of, held, left_behind, transit_to, as_subscriber}
+use Rattle.exactly_once.specs.Inside.AsSubscriber.{items_of_entries, forward_of, held, left_behind, transit_to, as_subscriber}
 use Rattle.exactly_once.specs.Inside.Shape.{HasShape}
 use Rattle.exactly_once.specs.Inside.ConnectionShape.{ConnectionInShape}
 use Rattle.exactly_once.proofs.Takes.{same_name_self}
@@ -73,7 +73,7 @@ pub place_parts : (limits : Limits) (s : Story) (place : Place) (connections : L
 place_parts limits s place connections shape over entries sends same accepted =
     let current = current_connection s.past s.keeper.client in
     parts_view (as_subscriber limits s) (as_subscriber limits (placed s place connections)) (view limits s.past current s.keeper s.connections) (left_behind current s.connections)
-    (link_is limits s.past current s.keeper s.connections) (ap items_of (sym entries)) (sym accepted) (λ id. refl)
+    (link_is limits s.past current s.keeper s.connections) (ap items_of_entries (sym entries)) (sym accepted) (λ id. refl)
     (ap (λ (o : Option ConnectionName). transit_to limits (place ∷ s.past) o connections (held s.keeper connections)) over
     ∙ link_is limits (place ∷ s.past) None s.keeper connections
     ∙ ap₂ link_as (same ∙ view_parted limits place s.past s.keeper.client current None s.keeper s.connections shape.connections sends (λ x h. refl)) (nothing_behind connections))

@@ -14,7 +14,7 @@ use Rattle.exactly_once.specs.Sides.{ClientConnection}
 use Rattle.exactly_once.specs.Story.{Story}
 use Rattle.exactly_once.specs.Acceptance.{accepted_on}
 use Rattle.exactly_once.specs.Inside.Projections.{GoesTo}
-use Rattle.exactly_once.specs.Inside.AsSubscriber.{items_of, held, left_behind, transit_to, as_subscriber}
+use Rattle.exactly_once.specs.Inside.AsSubscriber.{items_of_entries, held, left_behind, transit_to, as_subscriber}
 use Rattle.exactly_once.specs.Inside.Shape.{HasShape}
 use Rattle.exactly_once.proofs.Starts.{sending_all}
 use Rattle.exactly_once.proofs.subscribing.Adding.{rows_at, goes_started}
@@ -44,12 +44,12 @@ pub place_goes : (limits : Limits) (s : Story) (place : Place) (connections : Li
     → HasShape limits s → GoesOn limits s place es ps more
     → view limits (place ∷ s.past) (current_connection s.past s.keeper.client) s.keeper connections ≡ view limits (place ∷ s.past) (current_connection s.past s.keeper.client) s.keeper s.connections
     → accepted_on connections ≡ accepted_on s.connections
-    → HandshakeRun (as_subscriber limits s) k → k.items ≡ items_of es → k.accepted ≡ accepted_on s.connections → ((id : ℕ) → k.received id ≡ has_id id s.keeper.received)
+    → HandshakeRun (as_subscriber limits s) k → k.items ≡ items_of_entries es → k.accepted ≡ accepted_on s.connections → ((id : ℕ) → k.received id ≡ has_id id s.keeper.received)
     → k.transit ≡ link_as (grown more (view limits s.past (current_connection s.past s.keeper.client) s.keeper s.connections)) (left_behind (current_connection s.past s.keeper.client) connections)
     → GoesTo (as_subscriber limits s) (as_subscriber limits (placed s place connections))
 place_goes limits s place connections es ps more k shape g same accepted run items accepts received transit =
     goes_started (as_subscriber limits s) k (as_subscriber limits (placed s place connections)) (window_at limits (place ∷ s.past)) (length s.past) (current_connection s.past s.keeper.client) es ps run items g.sound
-    (accepts ∙ sym accepted) received (ap items_of g.entries) transit'
+    (accepts ∙ sym accepted) received (ap items_of_entries g.entries) transit'
   where
     current : Option ConnectionName
     current = current_connection s.past s.keeper.client

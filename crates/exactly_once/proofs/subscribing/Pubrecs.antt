@@ -23,9 +23,9 @@ use Rattle.exactly_once.specs.Sends.{sends_to}
 use Rattle.client_base.specs.Keeper.{Written}
 use Rattle.exactly_once.specs.Sides.{ClientConnection}
 use Rattle.exactly_once.specs.Story.{Story}
-use Rattle.exactly_once.specs.StoryCommands.{counted_at}
+use Rattle.exactly_once.specs.StoryCommands.{with_one_counted}
 use Rattle.exactly_once.specs.Inside.Projections.{is_current, GoesTo}
-use Rattle.exactly_once.specs.Inside.AsSubscriber.{items_of, forward_of, left_behind, as_subscriber}
+use Rattle.exactly_once.specs.Inside.AsSubscriber.{items_of_entries, forward_of, left_behind, as_subscriber}
 use Rattle.exactly_once.proofs.Items.{items_pubrec}
 use Rattle.exactly_once.proofs.subscribing.Written.{backward_one}
 use Rattle.exactly_once.proofs.subscribing.Standing.{Stands, stands}
@@ -66,7 +66,7 @@ pubrec_rows limits s y id steady e =
     by (inr f) = f
 
 -- the item is released
-pubrec_has : (limits : Limits) (s : Story) (y : ConnectionName) (id : ℕ) → current_connection s.past s.keeper.client ≡ Some y → has_sent id (items_of (entries_of limits s.past s.keeper.client)) ≡ true
+pubrec_has : (limits : Limits) (s : Story) (y : ConnectionName) (id : ℕ) → current_connection s.past s.keeper.client ≡ Some y → has_sent id (items_of_entries (entries_of limits s.past s.keeper.client)) ≡ true
     → has_id id (released_below (suc (length s.past)) (entries_of limits (at_own s y (packets.Pubrec id) ∷ s.past) s.keeper.client)) ≡ true
 pubrec_has limits s y id e sent =
     let n = length s.past in
@@ -80,12 +80,12 @@ pubrec_has limits s y id e sent =
 
 -- a PUBREC
 pub own_pubrec : (limits : Limits) (s : Story) (i : ℕ) (κ : ClientConnection) (w : Written) (id : ℕ) → IsOwn limits s i κ w → IsGood (as_subscriber limits s) → w.packet ≡ packets.Pubrec id
-    → GoesTo (as_subscriber limits s) (as_subscriber limits (placed s (at_own s κ.name (packets.Pubrec id)) (counted_at i s.connections)))
+    → GoesTo (as_subscriber limits s) (as_subscriber limits (placed s (at_own s κ.name (packets.Pubrec id)) (with_one_counted i s.connections)))
 own_pubrec limits s i κ w id o good e =
     let current = current_connection s.past s.keeper.client in
     let es = entries_of limits s.past s.keeper.client in
     let v = view limits s.past current s.keeper s.connections in
-    let b = left_behind current (counted_at i s.connections) in
+    let b = left_behind current (with_one_counted i s.connections) in
     let left : left_behind current s.connections ≡ Backward.Pubrec id ∷ b = own_left limits s i κ w o ∙ ap (λ (z : Packet). backward_one z b) e in
     let h = as_subscriber limits s in
     let sent : has_sent id h.items ≡ true =
@@ -96,4 +96,4 @@ own_pubrec limits s i κ w id o good e =
     (λ x h. pubrel_sends (has_id id (released_below (suc (length s.past)) (entries_of limits (at_own s κ.name (packets.Pubrec id) ∷ s.past) s.keeper.client))) current κ.name x id
     (pubrec_has limits s κ.name id o.current sent) o.current
     ∙ ap (λ rows. if is_current current x then Forward.Pubrel id ∷ map publishing rows else []) (sym (pubrec_rows limits s κ.name id o.steady o.current))))
-    (sym (ap items_of (own_if s (map (at_pubrec (length s.past) id) es) es) ∙ items_pubrec (length s.past) id es (all_queued es (kept_entries limits s.past s.keeper.client))))
+    (sym (ap items_of_entries (own_if s (map (at_pubrec (length s.past) id) es) es) ∙ items_pubrec (length s.past) id es (all_queued es (kept_entries limits s.past s.keeper.client))))

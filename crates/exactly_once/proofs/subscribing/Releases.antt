@@ -15,7 +15,7 @@ use Rattle.exactly_once.specs.Items.{SenderItem, has_released}
 use Rattle.client_base.proofs.of_lists.OfEach.{each_append, each_then}
 use Rattle.client_base.proofs.of_lists.Tests.{or_right, or_left, none_or, eq_same}
 use Rattle.exactly_once.specs.Carried.{is_two}
-use Rattle.exactly_once.specs.Inside.AsSubscriber.{items_of}
+use Rattle.exactly_once.specs.Inside.AsSubscriber.{items_of_entries}
 use Rattle.exactly_once.proofs.subscribing.Queued.{AreKept}
 
 -- ---- of released items
@@ -27,40 +27,40 @@ more_by id true item items f e = f e
 more_by id false item items f e = e
 
 -- an entry more in front
-has_more : (id : ℕ) (e : Entry) (es : List Entry) → has_released id (items_of es) ≡ true → has_released id (items_of (e ∷ es)) ≡ true
-has_more id (Entry.Waits made p) es h = more_by id (is_two p.qos) (SenderItem.Waits p) (items_of es) (λ e. e) h
-has_more id (Entry.Started made p i start) es h = more_by id (is_two p.qos) (SenderItem.Sent p i) (items_of es) (λ e. e) h
-has_more id (Entry.Released made p i start release) es h = more_by id (is_two p.qos) (SenderItem.Released p i) (items_of es) (or_right (id == i) (has_released id (items_of es))) h
-has_more id (Entry.Finished made p i start release finish) es h = more_by id (is_two p.qos) (SenderItem.Finished p) (items_of es) (λ e. e) h
+has_more : (id : ℕ) (e : Entry) (es : List Entry) → has_released id (items_of_entries es) ≡ true → has_released id (items_of_entries (e ∷ es)) ≡ true
+has_more id (Entry.Waits made p) es h = more_by id (is_two p.qos) (SenderItem.Waits p) (items_of_entries es) (λ e. e) h
+has_more id (Entry.Started made p i start) es h = more_by id (is_two p.qos) (SenderItem.Sent p i) (items_of_entries es) (λ e. e) h
+has_more id (Entry.Released made p i start release) es h = more_by id (is_two p.qos) (SenderItem.Released p i) (items_of_entries es) (or_right (id == i) (has_released id (items_of_entries es))) h
+has_more id (Entry.Finished made p i start release finish) es h = more_by id (is_two p.qos) (SenderItem.Finished p) (items_of_entries es) (λ e. e) h
 
 -- those of one place
-released_here : (t : ℕ) (es : List Entry) → AreKept es → Each (λ id. has_released id (items_of es) ≡ true) (released_at t es)
+released_here : (t : ℕ) (es : List Entry) → AreKept es → Each (λ id. has_released id (items_of_entries es) ≡ true) (released_at t es)
 released_here t [] h = tt
 released_here t (Entry.Waits made p ∷ es) h =
-    each_then (λ id. has_released id (items_of es) ≡ true) (λ id. has_released id (items_of (Entry.Waits made p ∷ es)) ≡ true) (released_at t es) (λ id. has_more id (Entry.Waits made p) es) (released_here t es h.1)
+    each_then (λ id. has_released id (items_of_entries es) ≡ true) (λ id. has_released id (items_of_entries (Entry.Waits made p ∷ es)) ≡ true) (released_at t es) (λ id. has_more id (Entry.Waits made p) es) (released_here t es h.1)
 released_here t (Entry.Started made p i start ∷ es) h =
-    each_then (λ id. has_released id (items_of es) ≡ true) (λ id. has_released id (items_of (Entry.Started made p i start ∷ es)) ≡ true) (released_at t es)
+    each_then (λ id. has_released id (items_of_entries es) ≡ true) (λ id. has_released id (items_of_entries (Entry.Started made p i start ∷ es)) ≡ true) (released_at t es)
     (λ id. has_more id (Entry.Started made p i start) es) (released_here t es h.1)
 released_here t (Entry.Finished made p i start release finish ∷ es) h =
-    each_then (λ id. has_released id (items_of es) ≡ true) (λ id. has_released id (items_of (Entry.Finished made p i start release finish ∷ es)) ≡ true) (released_at t es)
+    each_then (λ id. has_released id (items_of_entries es) ≡ true) (λ id. has_released id (items_of_entries (Entry.Finished made p i start release finish ∷ es)) ≡ true) (released_at t es)
     (λ id. has_more id (Entry.Finished made p i start release finish) es) (released_here t es h.1)
 released_here t (Entry.Released made p i start release ∷ es) h =
     by (release == t)
-    (each_then (λ id. has_released id (items_of es) ≡ true) (λ id. has_released id (items_of (Entry.Released made p i start release ∷ es)) ≡ true) (released_at t es)
+    (each_then (λ id. has_released id (items_of_entries es) ≡ true) (λ id. has_released id (items_of_entries (Entry.Released made p i start release ∷ es)) ≡ true) (released_at t es)
     (λ id. has_more id (Entry.Released made p i start release) es) (released_here t es h.1))
   where
-    first : has_released i (if is_two p.qos then SenderItem.Released p i ∷ items_of es else items_of es) ≡ true
-    first = rw h.0 (or_left (i == i) (has_released i (items_of es)) (eq_same i))
+    first : has_released i (if is_two p.qos then SenderItem.Released p i ∷ items_of_entries es else items_of_entries es) ≡ true
+    first = rw h.0 (or_left (i == i) (has_released i (items_of_entries es)) (eq_same i))
 
-    by : (b : Bool) → Each (λ id. has_released id (items_of (Entry.Released made p i start release ∷ es)) ≡ true) (released_at t es)
-        → Each (λ id. has_released id (items_of (Entry.Released made p i start release ∷ es)) ≡ true) (if b then i ∷ released_at t es else released_at t es)
+    by : (b : Bool) → Each (λ id. has_released id (items_of_entries (Entry.Released made p i start release ∷ es)) ≡ true) (released_at t es)
+        → Each (λ id. has_released id (items_of_entries (Entry.Released made p i start release ∷ es)) ≡ true) (if b then i ∷ released_at t es else released_at t es)
     by true g = (first, g)
     by false g = g
 
 -- all of them
-pub each_released : (n : ℕ) (es : List Entry) → AreKept es → Each (λ id. has_released id (items_of es) ≡ true) (released_below n es)
+pub each_released : (n : ℕ) (es : List Entry) → AreKept es → Each (λ id. has_released id (items_of_entries es) ≡ true) (released_below n es)
 each_released zero es h = tt
-each_released (suc n) es h = each_append (λ id. has_released id (items_of es) ≡ true) (released_below n es) (released_at n es) (each_released n es h) (released_here n es h)
+each_released (suc n) es h = each_append (λ id. has_released id (items_of_entries es) ≡ true) (released_below n es) (released_at n es) (each_released n es h) (released_here n es h)
 
 -- ---- apart
 

@@ -13,12 +13,12 @@ use Rattle.broker_base.specs.broker_spec.declared.command.Output.{Output}
 use Rattle.broker_base.specs.broker_spec.declared.command.Output.TheVariants.{Send}
 use Rattle.broker_base.proofs.flights.StartsInFlight.{released_started}
 use Rattle.broker_base.proofs.of_broker_spec.EntriesStartedBefore.{StartedBefore}
-use Rattle.exactly_once.specs.Handshake.{Forward, publishing, resend}
+use Rattle.exactly_once.specs.Handshake.{Forward, publishing, sender_resends}
 use Rattle.exactly_once.specs.Items.{SenderItem, sent}
 use Rattle.client_base.proofs.of_lists.Tests.{eq_same}
 use Rattle.exactly_once.specs.Sends.{sends_to}
 use Rattle.exactly_once.specs.Carried.{is_two}
-use Rattle.exactly_once.specs.Inside.AsSubscriber.{items_of, forward_of}
+use Rattle.exactly_once.specs.Inside.AsSubscriber.{items_of_entries, forward_of}
 use Rattle.exactly_once.proofs.Deliveries.{sends_append}
 use Rattle.exactly_once.proofs.Starts.{rows_started}
 use Rattle.exactly_once.proofs.Sent.{NoneStartedAt, forward_publish, sends_publish, forward_started}
@@ -57,22 +57,22 @@ skip true item items e = sym e
 skip false item items e = refl
 
 -- what was sent before is sent again
-pub forward_again : (x : ConnectionName) (n : ℕ) (es : List Entry) → StartedBefore n es → forward_of (sends_to x (flat_map (sent_again x n) es)) ≡ map publishing (sent (items_of es))
+pub forward_again : (x : ConnectionName) (n : ℕ) (es : List Entry) → StartedBefore n es → forward_of (sends_to x (flat_map (sent_again x n) es)) ≡ map publishing (sent (items_of_entries es))
 forward_again x n [] h = refl
-forward_again x n (Entry.Waits made p ∷ es) h = forward_again x n es h ∙ ap (map publishing) (skip (is_two p.qos) (SenderItem.Waits p) (items_of es) refl)
+forward_again x n (Entry.Waits made p ∷ es) h = forward_again x n es h ∙ ap (map publishing) (skip (is_two p.qos) (SenderItem.Waits p) (items_of_entries es) refl)
 forward_again x n (Entry.Started made p id start ∷ es) h =
     rw (earlier start n h.0)
     (ap forward_of (sends_publish x true id p (flat_map (sent_again x n) es))
     ∙ forward_publish true id p (sends_to x (flat_map (sent_again x n) es))
     ∙ by (is_two p.qos) (forward_again x n es h.1))
   where
-    by : (b : Bool) → forward_of (sends_to x (flat_map (sent_again x n) es)) ≡ map publishing (sent (items_of es))
+    by : (b : Bool) → forward_of (sends_to x (flat_map (sent_again x n) es)) ≡ map publishing (sent (items_of_entries es))
         → (if b then Forward.Publish id p ∷ forward_of (sends_to x (flat_map (sent_again x n) es)) else forward_of (sends_to x (flat_map (sent_again x n) es)))
-        ≡ map publishing (sent (if b then SenderItem.Sent p id ∷ items_of es else items_of es))
+        ≡ map publishing (sent (if b then SenderItem.Sent p id ∷ items_of_entries es else items_of_entries es))
     by true e = ap (λ l. Forward.Publish id p ∷ l) e
     by false e = e
-forward_again x n (Entry.Released made p id start release ∷ es) h = forward_again x n es h ∙ ap (map publishing) (skip (is_two p.qos) (SenderItem.Released p id) (items_of es) refl)
-forward_again x n (Entry.Finished made p id start release finish ∷ es) h = forward_again x n es h ∙ ap (map publishing) (skip (is_two p.qos) (SenderItem.Finished p) (items_of es) refl)
+forward_again x n (Entry.Released made p id start release ∷ es) h = forward_again x n es h ∙ ap (map publishing) (skip (is_two p.qos) (SenderItem.Released p id) (items_of_entries es) refl)
+forward_again x n (Entry.Finished made p id start release finish ∷ es) h = forward_again x n es h ∙ ap (map publishing) (skip (is_two p.qos) (SenderItem.Finished p) (items_of_entries es) refl)
 
 -- ---- all of it
 
@@ -86,7 +86,7 @@ none_here n (Entry.Finished made p id start release finish ∷ es) h = none_here
 
 -- what is sent again, then what starts
 pub forward_resent : (x : ConnectionName) (w n : ℕ) (es : List Entry) → StartedBefore n es
-    → forward_of (sends_to x (resent x n (start_all w n [] es))) ≡ resend (released_below n es) (items_of es) ++ map publishing (rows_started w [] es)
+    → forward_of (sends_to x (resent x n (start_all w n [] es))) ≡ sender_resends (released_below n es) (items_of_entries es) ++ map publishing (rows_started w [] es)
 forward_resent x w n es h =
     ap forward_of (sends_append x (pubrels ++ again) (all_started x n entries))
     ∙ forward_append (sends_to x (pubrels ++ again)) (sends_to x (all_started x n entries))

@@ -27,25 +27,27 @@ abbrev pub two_item : Publication → SenderItem Publication → List (SenderIte
 two_item p item items = if is_two p.qos then item ∷ items else items
 
 -- the QoS 2 entries of a session, as items of the handshake
-abbrev pub items_of : List Entry → List (SenderItem Publication)
-items_of (Entry.Waits made p ∷ entries) = two_item p (SenderItem.Waits p) (items_of entries)
-items_of (Entry.Started made p id start ∷ entries) =
-    two_item p (SenderItem.Sent p id) (items_of entries)
-items_of (Entry.Released made p id start release ∷ entries) =
-    two_item p (SenderItem.Released p id) (items_of entries)
-items_of (Entry.Finished made p id start release finish ∷ entries) =
-    two_item p (SenderItem.Finished p) (items_of entries)
-items_of [] = []
+abbrev pub items_of_entries : List Entry → List (SenderItem Publication)
+items_of_entries (Entry.Waits made p ∷ entries) =
+    two_item p (SenderItem.Waits p) (items_of_entries entries)
+items_of_entries (Entry.Started made p id start ∷ entries) =
+    two_item p (SenderItem.Sent p id) (items_of_entries entries)
+items_of_entries (Entry.Released made p id start release ∷ entries) =
+    two_item p (SenderItem.Released p id) (items_of_entries entries)
+items_of_entries (Entry.Finished made p id start release finish ∷ entries) =
+    two_item p (SenderItem.Finished p) (items_of_entries entries)
+items_of_entries [] = []
 
 -- the PUBLISH before these packets, if it has QoS 2
-abbrev pub published_in : Delivery → Publication → List (Forward Publication) →
+abbrev pub publish_before : Delivery → Publication → List (Forward Publication) →
     List (Forward Publication)
-published_in (deliveries.ExactlyOnce dup id) p f = Forward.Publish id p ∷ f
-published_in _ p f = f
+publish_before (deliveries.ExactlyOnce dup id) p f = Forward.Publish id p ∷ f
+publish_before _ p f = f
 
 -- the part of the broker's packets that belongs to the handshake
 abbrev pub forward_of : List Packet → List (Forward Publication)
-forward_of (packets.Publish p ∷ more) = published_in p.delivery (publication_of p) (forward_of more)
+forward_of (packets.Publish p ∷ more) =
+    publish_before p.delivery (publication_of p) (forward_of more)
 forward_of (packets.Pubrel id ∷ more) = Forward.Pubrel id ∷ forward_of more
 forward_of (_ ∷ more) = forward_of more
 forward_of [] = []
@@ -90,7 +92,7 @@ transit_to limits past current connections None = Transit.Behind (left_behind cu
 abbrev pub as_subscriber : Limits → Story → Handshake Publication
 as_subscriber limits s =
     record {
-      items = items_of (entries_of limits s.past s.keeper.client);
+      items = items_of_entries (entries_of limits s.past s.keeper.client);
       accepted = accepted_on s.connections;
       received = λ id. has_id id s.keeper.received;
       transit = transit_to limits s.past (current_connection s.past s.keeper.client) s.connections

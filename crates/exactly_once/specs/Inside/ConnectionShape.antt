@@ -8,7 +8,7 @@ use Rattle.broker_base.specs.broker_spec.Received.{is_exactly_once}
 use Rattle.exactly_once.specs.Sends.{put_to}
 use Rattle.client_base.specs.Keeper.{Written}
 use Rattle.exactly_once.specs.Sides.{ClientConnection}
-use Rattle.exactly_once.specs.StoryCommands.{count_of}
+use Rattle.exactly_once.specs.StoryCommands.{packet_count}
 use Rattle.client_base.specs.Connected.{opens}
 use Rattle.exactly_once.specs.Inside.Projections.{backward_of_own}
 
@@ -47,7 +47,7 @@ pub record ConnectionInShape (limits : Limits) (past : Past) (c : Client)
   pub written : κ.written ≡ opens c ∷ more
   pub one_connect : Each (λ w. is_connect w ≡ false) more
   pub silent : κ.confirmed ≡ false → more ≡ []
-  pub counted : count_of κ.name past ≡ κ.taken
+  pub counted : packet_count κ.name past ≡ κ.taken
   pub within : κ.taken ≤ length κ.written
   pub handled_within : κ.handled ≤ length (put_to limits past κ.name)
   pub numbers_known : Each (λ w. is_two_unnumbered w.packet w.number ≡ false) κ.written

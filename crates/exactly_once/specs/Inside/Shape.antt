@@ -22,13 +22,13 @@ use Rattle.exactly_once.specs.Inside.ConnectionShape.{ConnectionInShape}
 -- ---- the client's publications
 
 -- the n-th has number n
-abbrev pub AreNumbered : ℕ → List Own → Type 0
-AreNumbered n (Own.Unsent k p id ∷ own) = (k ≡ n) × AreNumbered (suc n) own
-AreNumbered n (Own.Sent k p id ∷ own) = (k ≡ n) × AreNumbered (suc n) own
-AreNumbered n (Own.Released k p id ∷ own) =
-    (k ≡ n) × (is_two p.qos ≡ true) × AreNumbered (suc n) own
-AreNumbered n (Own.Done k p ∷ own) = (k ≡ n) × AreNumbered (suc n) own
-AreNumbered n [] = Unit {0}
+abbrev pub AreNumberedFrom : ℕ → List Own → Type 0
+AreNumberedFrom n (Own.Unsent k p id ∷ own) = (k ≡ n) × AreNumberedFrom (suc n) own
+AreNumberedFrom n (Own.Sent k p id ∷ own) = (k ≡ n) × AreNumberedFrom (suc n) own
+AreNumberedFrom n (Own.Released k p id ∷ own) =
+    (k ≡ n) × (is_two p.qos ≡ true) × AreNumberedFrom (suc n) own
+AreNumberedFrom n (Own.Done k p ∷ own) = (k ≡ n) × AreNumberedFrom (suc n) own
+AreNumberedFrom n [] = Unit {0}
 
 -- whether each of these publications was sent
 abbrev pub none_unsent : List Own → Bool
@@ -39,7 +39,7 @@ none_unsent [] = true
 -- the client's identifiers, numbers and releases fit its publications
 pub record OwnInShape (keeper : Keeper) : Type 0 where
   pub ids_apart : IsDistinct (ids_in_use keeper)
-  pub numbered : AreNumbered (length keeper.earlier) keeper.own
+  pub numbered : AreNumberedFrom (length keeper.earlier) keeper.own
   pub releases_apart : IsDistinct keeper.releases
   pub releases_are : (id : ℕ) →
       has_id id keeper.releases ≡ has_released id (items_of_own keeper.own)

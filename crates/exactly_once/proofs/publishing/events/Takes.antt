@@ -13,7 +13,7 @@ use Rattle.broker_base.specs.broker_spec.declared.command.Command.{Command}
 use Rattle.broker_base.specs.broker_spec.declared.command.Command.TheVariants as commands
 use Rattle.client_base.specs.Keeper.{Written, Keeper}
 use Rattle.exactly_once.specs.Sides.{ClientConnection}
-use Rattle.exactly_once.specs.StoryCommands.{counted_at, command_of}
+use Rattle.exactly_once.specs.StoryCommands.{with_one_counted, command_of}
 use Rattle.exactly_once.specs.Inside.Projections.{as_publisher, GoesTo}
 use Rattle.exactly_once.specs.Inside.Shape.{HasShape}
 use Rattle.exactly_once.proofs.Packets.{at_packet}
@@ -43,12 +43,12 @@ packet_after x n _ = refl
 takes_later : (limits : Limits) (past : Past) (keeper : Keeper) (connections : List ClientConnection) (i : ℕ) (κ : ClientConnection) (n : ℕ) (w : Written) → HasShape limits (story_by past connections keeper)
     → slice_get connections i ≡ Some κ → slice_get κ.written κ.taken ≡ Some w → κ.taken ≡ suc n
     → GoesTo (as_publisher limits (story_by past connections keeper))
-    (as_publisher limits (story_by (place_of limits past (commands.Packet κ.name w.packet) ∷ past) (counted_at i connections) keeper))
+    (as_publisher limits (story_by (place_of limits past (commands.Packet κ.name w.packet) ∷ past) (with_one_counted i connections) keeper))
 takes_later limits past keeper connections i κ n w shape stands next some = by (current_or_not (current_connection past keeper.client) κ.name)
   where
     by : (current_connection past keeper.client ≡ Some κ.name) ⊎ (current_connection past keeper.client ≡ Some κ.name → ⊥)
         → GoesTo (as_publisher limits (story_by past connections keeper))
-        (as_publisher limits (story_by (place_of limits past (commands.Packet κ.name w.packet) ∷ past) (counted_at i connections) keeper))
+        (as_publisher limits (story_by (place_of limits past (commands.Packet κ.name w.packet) ∷ past) (with_one_counted i connections) keeper))
     by (inl current) =
         subst (λ (m : Mark). GoesTo (as_publisher limits (story_by past connections keeper)) (after_place limits past keeper connections i (at_packet κ.name w.packet m)))
         (sym (ap (packet_mark_of limits past w.packet) (own_owner past keeper.client connections κ.name shape.nobody_else (is_named i connections κ stands) current)))
@@ -58,14 +58,14 @@ takes_later limits past keeper connections i κ n w shape stands next some = by 
 pub takes_it : (limits : Limits) (past : Past) (keeper : Keeper) (connections : List ClientConnection) (i : ℕ) (κ : ClientConnection) (w : Written) → HasShape limits (story_by past connections keeper)
     → slice_get connections i ≡ Some κ → slice_get κ.written κ.taken ≡ Some w
     → GoesTo (as_publisher limits (story_by past connections keeper))
-    (as_publisher limits (story_by (place_of limits past (command_of κ.name κ.taken w.packet) ∷ past) (counted_at i connections) keeper))
+    (as_publisher limits (story_by (place_of limits past (command_of κ.name κ.taken w.packet) ∷ past) (with_one_counted i connections) keeper))
 takes_it limits past keeper connections i κ w shape stands next = by κ.taken refl
   where
     by : (n : ℕ) → κ.taken ≡ n
         → GoesTo (as_publisher limits (story_by past connections keeper))
-        (as_publisher limits (story_by (place_of limits past (command_of κ.name n w.packet) ∷ past) (counted_at i connections) keeper))
+        (as_publisher limits (story_by (place_of limits past (command_of κ.name n w.packet) ∷ past) (with_one_counted i connections) keeper))
     by zero e = takes_connect limits past keeper connections i κ w shape stands (ap (slice_get κ.written) (sym e) ∙ next) e
     by (suc n) e =
         subst (λ (command : Command). GoesTo (as_publisher limits (story_by past connections keeper))
-        (as_publisher limits (story_by (place_of limits past command ∷ past) (counted_at i connections) keeper))) (packet_after κ.name n w.packet)
+        (as_publisher limits (story_by (place_of limits past command ∷ past) (with_one_counted i connections) keeper))) (packet_after κ.name n w.packet)
         (takes_later limits past keeper connections i κ n w shape stands next e)

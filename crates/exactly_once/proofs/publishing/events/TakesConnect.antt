@@ -14,7 +14,7 @@ use Rattle.exactly_once.specs.Handshake.{Handshake}
 use Rattle.exactly_once.specs.Sends.{put_to}
 use Rattle.client_base.specs.Keeper.{Written, Keeper}
 use Rattle.exactly_once.specs.Sides.{ClientConnection}
-use Rattle.exactly_once.specs.StoryCommands.{counted_at, command_of}
+use Rattle.exactly_once.specs.StoryCommands.{with_one_counted, command_of}
 use Rattle.client_base.specs.Connected.{opens}
 use Rattle.exactly_once.specs.Inside.Projections.{last_confirmed, as_publisher, GoesTo}
 use Rattle.exactly_once.specs.Inside.Shape.{HasShape}
@@ -71,7 +71,7 @@ not_opened x (Some μ) other = other μ refl
 takes_opening : (limits : Limits) (past : Past) (keeper : Keeper) (connections : List ClientConnection) (i : ℕ) (κ : ClientConnection) → HasShape limits (story_by past connections keeper)
     → slice_get connections i ≡ Some κ → κ.taken ≡ 0
     → GoesTo (as_publisher limits (story_by past connections keeper))
-    (as_publisher limits (story_by (place_of limits past (commands.Connect κ.name keeper.client false) ∷ past) (counted_at i connections) keeper))
+    (as_publisher limits (story_by (place_of limits past (commands.Connect κ.name keeper.client false) ∷ past) (with_one_counted i connections) keeper))
 takes_opening limits past keeper connections i κ shape stands none =
     subst (λ (m : Mark). GoesTo h (after m)) (sym (ap (connect_mark limits past c) (none_owns past c connections κ.name shape.nobody_else (is_named i connections κ stands) not)))
     (by (is_some (session_of past c) || nat_lt (length (clients past)) limits.sessions))
@@ -83,7 +83,7 @@ takes_opening limits past keeper connections i κ shape stands none =
     h = as_publisher limits (story_by past connections keeper)
 
     after : Mark → Handshake ℕ
-    after m = as_publisher limits (story_by (at_connect κ.name keeper.client m ∷ past) (counted_at i connections) keeper)
+    after m = as_publisher limits (story_by (at_connect κ.name keeper.client m ∷ past) (with_one_counted i connections) keeper)
 
     this : ConnectionInShape limits past keeper.client κ
     this = each_there (ConnectionInShape limits past keeper.client) i connections κ stands shape.connections
@@ -102,9 +102,9 @@ takes_opening limits past keeper connections i κ shape stands none =
         (λ μ e. connect_none μ.name limits place past κ.name keeper.client Mark.Accepted)
         (choice (current_connection (place ∷ past) keeper.client) (current_opens place past keeper.client (κ.name, false) opened))
       where
-        choice : (later : Option ConnectionName) → later ≡ Some κ.name → LastAfter (last_confirmed connections) (last_confirmed (counted_at i connections)) κ
-            → StaysOrLeaves (current_last (current_connection past keeper.client) (last_confirmed connections)) (current_last later (last_confirmed (counted_at i connections)))
-            (forward_last (last_confirmed connections)) (forward_last (last_confirmed (counted_at i connections)))
+        choice : (later : Option ConnectionName) → later ≡ Some κ.name → LastAfter (last_confirmed connections) (last_confirmed (with_one_counted i connections)) κ
+            → StaysOrLeaves (current_last (current_connection past keeper.client) (last_confirmed connections)) (current_last later (last_confirmed (with_one_counted i connections)))
+            (forward_last (last_confirmed connections)) (forward_last (last_confirmed (with_one_counted i connections)))
         choice later e (inl same) = inl (ap₂ current_last e same.0 ∙ not_opened κ.name (last_confirmed connections) same.1)
         choice later e (inr confirmed) = never confirmed.0
 
@@ -115,9 +115,9 @@ takes_opening limits past keeper connections i κ shape stands none =
         (λ μ e. connect_none μ.name limits place past κ.name keeper.client Mark.Full)
         (choice (current_connection (place ∷ past) keeper.client) (current_stays place past keeper.client refl (not_its_end κ.name (current_connection past keeper.client) not)))
       where
-        choice : (later : Option ConnectionName) → later ≡ current_connection past keeper.client → LastAfter (last_confirmed connections) (last_confirmed (counted_at i connections)) κ
-            → StaysOrLeaves (current_last (current_connection past keeper.client) (last_confirmed connections)) (current_last later (last_confirmed (counted_at i connections)))
-            (forward_last (last_confirmed connections)) (forward_last (last_confirmed (counted_at i connections)))
+        choice : (later : Option ConnectionName) → later ≡ current_connection past keeper.client → LastAfter (last_confirmed connections) (last_confirmed (with_one_counted i connections)) κ
+            → StaysOrLeaves (current_last (current_connection past keeper.client) (last_confirmed connections)) (current_last later (last_confirmed (with_one_counted i connections)))
+            (forward_last (last_confirmed connections)) (forward_last (last_confirmed (with_one_counted i connections)))
         choice later e (inl same) = inr (sym (ap₂ current_last e same.0), sym (ap forward_last same.0))
         choice later e (inr confirmed) = never confirmed.0
 
@@ -128,11 +128,11 @@ takes_opening limits past keeper connections i κ shape stands none =
 pub takes_connect : (limits : Limits) (past : Past) (keeper : Keeper) (connections : List ClientConnection) (i : ℕ) (κ : ClientConnection) (w : Written) → HasShape limits (story_by past connections keeper)
     → slice_get connections i ≡ Some κ → slice_get κ.written 0 ≡ Some w → κ.taken ≡ 0
     → GoesTo (as_publisher limits (story_by past connections keeper))
-    (as_publisher limits (story_by (place_of limits past (command_of κ.name 0 w.packet) ∷ past) (counted_at i connections) keeper))
+    (as_publisher limits (story_by (place_of limits past (command_of κ.name 0 w.packet) ∷ past) (with_one_counted i connections) keeper))
 takes_connect limits past keeper connections i κ w shape stands next none =
     let this = each_there (ConnectionInShape limits past keeper.client) i connections κ stands shape.connections in
     let first : Some (opens keeper.client) ≡ Some w = sym (ap (λ ws. slice_get ws 0) this.written) ∙ next in
     let same : opens keeper.client ≡ w = cc in
     subst (λ (v : Written). GoesTo (as_publisher limits (story_by past connections keeper))
-    (as_publisher limits (story_by (place_of limits past (command_of κ.name 0 v.packet) ∷ past) (counted_at i connections) keeper))) same
+    (as_publisher limits (story_by (place_of limits past (command_of κ.name 0 v.packet) ∷ past) (with_one_counted i connections) keeper))) same
     (takes_opening limits past keeper connections i κ shape stands none)

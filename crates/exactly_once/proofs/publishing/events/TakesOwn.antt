@@ -9,14 +9,14 @@ use Rattle.broker_base.specs.broker_spec.Past.{any_connection, current_connectio
 use Rattle.broker_base.specs.broker_spec.Received.{is_new, received_by, received_of}
 use Rattle.broker_base.specs.broker_spec.Answers.{packet_answers}
 use Rattle.broker_base.specs.broker_spec.declared.command.Command.TheVariants as commands
-use Rattle.exactly_once.specs.Handshake.{Forward, Backward, Transit, Handshake, answer, taking, accepting}
+use Rattle.exactly_once.specs.Handshake.{Forward, Backward, Transit, Handshake, answer, receiver_takes, receiver_accepts}
 use Rattle.exactly_once.specs.HandshakeSteps.{HandshakeRun}
 use Rattle.exactly_once.specs.HandshakeSteps.Advances.{takes, takes_alone}
 use Rattle.exactly_once.specs.HandshakeSteps.HandshakeRun.{stays, goes_on}
 use Rattle.exactly_once.specs.Sends.{sends_to, put_to}
 use Rattle.client_base.specs.Keeper.{Written, Keeper}
 use Rattle.exactly_once.specs.Sides.{ClientConnection}
-use Rattle.exactly_once.specs.StoryCommands.{counted_at}
+use Rattle.exactly_once.specs.StoryCommands.{with_one_counted}
 use Rattle.exactly_once.specs.Inside.Projections.{forward_of_own, forward_of_one, backward_of_own, to_come, to_be_taken, is_current, last_confirmed, transit_of_own, as_publisher, GoesTo}
 use Rattle.exactly_once.specs.Inside.Shape.{HasShape}
 use Rattle.exactly_once.specs.Inside.ConnectionShape.{ConnectionInShape}
@@ -39,12 +39,12 @@ pub record OnCurrent (limits : Limits) (past : Past) (keeper : Keeper) (connecti
   pub next : slice_get κ.written κ.taken ≡ Some w
   pub current : current_connection past keeper.client ≡ Some κ.name
   pub last : last_confirmed connections ≡ Some κ
-  pub after : last_confirmed (counted_at i connections) ≡ Some (taken_more κ)
+  pub after : last_confirmed (with_one_counted i connections) ≡ Some (taken_more κ)
   pub live : session_of past keeper.client ≡ Some false
 
 -- the story's handshake after a place
 abbrev pub after_place : Limits → Past → Keeper → List ClientConnection → ℕ → Place → Handshake ℕ
-after_place limits past keeper connections i place = as_publisher limits (story_by (place ∷ past) (counted_at i connections) keeper)
+after_place limits past keeper connections i place = as_publisher limits (story_by (place ∷ past) (with_one_counted i connections) keeper)
 
 -- the packet that is taken comes off the front
 pub taken_front : (κ : ClientConnection) (w : Written) → slice_get κ.written κ.taken ≡ Some w
@@ -90,32 +90,32 @@ ends_current limits past keeper connections i κ w mark o leaving old received n
 
 -- ---- it is of the handshake
 
-takes_by : (h : Handshake ℕ) (on : Bool) (m : Forward ℕ) (f : List (Forward ℕ)) (b : List Backward) → h.transit ≡ link_by true on (m ∷ f) b → HandshakeRun h (taking m h (link_by true on f (b ++ answer m ∷ [])))
+takes_by : (h : Handshake ℕ) (on : Bool) (m : Forward ℕ) (f : List (Forward ℕ)) (b : List Backward) → h.transit ≡ link_by true on (m ∷ f) b → HandshakeRun h (receiver_takes m h (link_by true on f (b ++ answer m ∷ [])))
 takes_by h true m f b e = goes_on stays (takes m f b e)
 takes_by h false m f b e = goes_on stays (takes_alone m f e)
 
 -- what it leaves as it is
-items_taken : (m : Forward ℕ) (h : Handshake ℕ) (l : Transit ℕ) → (taking m h l).items ≡ h.items
+items_taken : (m : Forward ℕ) (h : Handshake ℕ) (l : Transit ℕ) → (receiver_takes m h l).items ≡ h.items
 items_taken (Forward.Pubrel id) h l = refl
 items_taken (Forward.Publish id v) h l = by (h.received id)
   where
-    by : (b : Bool) → (accepting id v b h l).items ≡ h.items
+    by : (b : Bool) → (receiver_accepts id v b h l).items ≡ h.items
     by true = refl
     by false = refl
 
-link_taken : (m : Forward ℕ) (h : Handshake ℕ) (l : Transit ℕ) → (taking m h l).transit ≡ l
+link_taken : (m : Forward ℕ) (h : Handshake ℕ) (l : Transit ℕ) → (receiver_takes m h l).transit ≡ l
 link_taken (Forward.Pubrel id) h l = refl
 link_taken (Forward.Publish id v) h l = by (h.received id)
   where
-    by : (b : Bool) → (accepting id v b h l).transit ≡ l
+    by : (b : Bool) → (receiver_accepts id v b h l).transit ≡ l
     by true = refl
     by false = refl
 
 pub takes_one : (limits : Limits) (past : Past) (keeper : Keeper) (connections : List ClientConnection) (i : ℕ) (κ : ClientConnection) (w : Written) (mark : Mark) (m : Forward ℕ)
     → OnCurrent limits past keeper connections i κ w → is_leaving mark ≡ false → ((f : List (Forward ℕ)) → forward_of_one w.packet w.number f ≡ m ∷ f)
     → backward_of_own (sends_to κ.name (packet_answers limits (at_packet κ.name w.packet mark) past κ.name w.packet mark)) ≡ answer m ∷ []
-    → ((l : Transit ℕ) → (taking m (as_publisher limits (story_by past connections keeper)) l).accepted ≡ (after_place limits past keeper connections i (at_packet κ.name w.packet mark)).accepted)
-    → ((l : Transit ℕ) (id : ℕ) → (taking m (as_publisher limits (story_by past connections keeper)) l).received id
+    → ((l : Transit ℕ) → (receiver_takes m (as_publisher limits (story_by past connections keeper)) l).accepted ≡ (after_place limits past keeper connections i (at_packet κ.name w.packet mark)).accepted)
+    → ((l : Transit ℕ) (id : ℕ) → (receiver_takes m (as_publisher limits (story_by past connections keeper)) l).received id
     ≡ has_id id (received_by (commands.Packet κ.name w.packet) mark keeper.client (received_of past keeper.client)))
     → GoesTo (as_publisher limits (story_by past connections keeper)) (after_place limits past keeper connections i (at_packet κ.name w.packet mark))
 takes_one limits past keeper connections i κ w mark m o staying forward answers accepted received =
@@ -138,7 +138,7 @@ takes_one limits past keeper connections i κ w mark m o staying forward answers
     ap (transit_of_own limits (place ∷ past) later online) o.after ∙ link_is limits (place ∷ past) later online (Some (taken_more κ))
     ∙ ap₂ (λ c g. link_by c online f g) there come in
     record {
-      between = taking m h l;
+      between = receiver_takes m h l;
       run = takes_by h online m f b transit;
       like = record {
         items = items_taken m h l;

@@ -15,7 +15,7 @@ use Rattle.broker_base.specs.broker_spec.declared.command.Command.TheVariants as
 use Rattle.exactly_once.specs.Handshake.{Forward}
 use Rattle.client_base.specs.Keeper.{Written, Keeper}
 use Rattle.exactly_once.specs.Sides.{ClientConnection}
-use Rattle.exactly_once.specs.StoryCommands.{counted_at}
+use Rattle.exactly_once.specs.StoryCommands.{with_one_counted}
 use Rattle.client_base.specs.Connected.{opens}
 use Rattle.exactly_once.specs.Inside.Projections.{forward_of_one, last_confirmed, as_publisher, GoesTo}
 use Rattle.exactly_once.specs.Inside.Shape.{HasShape, LastIsCurrent}
@@ -117,7 +117,7 @@ on_current limits past keeper connections i κ n w shape stands next some curren
       live = live shape.session;
     }
   where
-    after : last_confirmed connections ≡ Some κ → LastAfter (last_confirmed connections) (last_confirmed (counted_at i connections)) κ → last_confirmed (counted_at i connections) ≡ Some (taken_more κ)
+    after : last_confirmed connections ≡ Some κ → LastAfter (last_confirmed connections) (last_confirmed (with_one_counted i connections)) κ → last_confirmed (with_one_counted i connections) ≡ Some (taken_more κ)
     after last (inl other) = absurd (both_ways (same_connection κ.name κ.name) (other.1 κ last) (same_itself κ.name))
     after last (inr this) = this.1
 

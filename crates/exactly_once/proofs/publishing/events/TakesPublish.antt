@@ -20,7 +20,7 @@ use Rattle.exactly_once.specs.Handshake.{Forward, Handshake}
 use Rattle.exactly_once.specs.Sends.{sends_to}
 use Rattle.client_base.specs.Keeper.{Written, Keeper}
 use Rattle.exactly_once.specs.Sides.{ClientConnection}
-use Rattle.exactly_once.specs.StoryCommands.{counted_at}
+use Rattle.exactly_once.specs.StoryCommands.{with_one_counted}
 use Rattle.exactly_once.specs.Inside.Projections.{forward_of_one, backward_of_own, as_publisher, GoesTo}
 use Rattle.exactly_once.proofs.Packets.{at_packet, copies_none}
 use Rattle.broker_base.proofs.of_broker_spec.ConnectionNames.{same_itself}
@@ -45,7 +45,7 @@ takes_pubrel limits past keeper connections i κ id number o =
     let ids = received_of past keeper.client in
     takes_one limits past keeper connections i κ (record { packet = packets.Pubrel id; number = number }) (Mark.Handled keeper.client) (Forward.Pubrel id) o refl (λ f. refl)
     (ap backward_of_own (own_send κ.name (packets.Pubcomp id)))
-    (λ l. no_number connections (counted_at i connections) place past refl (same_counted past i connections))
+    (λ l. no_number connections (with_one_counted i connections) place past refl (same_counted past i connections))
     (λ l j. sym (ap (λ b. has_id j (if b then without_id id ids else ids)) (same_self keeper.client) ∙ has_without j id ids))
 
 -- ---- PUBLISH at QoS 0 and 1

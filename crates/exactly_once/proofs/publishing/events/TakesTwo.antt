@@ -15,12 +15,12 @@ use Rattle.broker_base.specs.broker_spec.Marks.{is_refused, packet_mark}
 use Rattle.broker_base.specs.broker_spec.Sends.{deliveries_to}
 use Rattle.broker_base.specs.broker_spec.declared.command.Output.TheVariants.{Send}
 use Rattle.broker_base.proofs.of_broker_spec.ClientsInOrder.{same_self}
-use Rattle.exactly_once.specs.Handshake.{Forward, Transit, Handshake, accepting}
+use Rattle.exactly_once.specs.Handshake.{Forward, Transit, Handshake, receiver_accepts}
 use Rattle.exactly_once.specs.Sends.{sends_to}
 use Rattle.client_base.specs.Keeper.{Written, Keeper}
 use Rattle.exactly_once.specs.Sides.{ClientConnection}
-use Rattle.exactly_once.specs.StoryCommands.{counted_at, count_of}
-use Rattle.exactly_once.specs.Carried.{connection_named, number_at, number_of, more_by}
+use Rattle.exactly_once.specs.StoryCommands.{with_one_counted, packet_count}
+use Rattle.exactly_once.specs.Carried.{connection_named, number_at, written_number, more_by}
 use Rattle.exactly_once.specs.Inside.Projections.{backward_of_own, as_publisher, GoesTo}
 use Rattle.exactly_once.specs.Inside.Shape.{NamesApart}
 use Rattle.exactly_once.proofs.Packets.{at_packet, copies_none}
@@ -49,26 +49,26 @@ connection_at (suc i) (μ ∷ connections) κ apart e =
 
 -- the place carries the publication of the packet that is taken
 pub carries_it : (past : Past) (i : ℕ) (connections : List ClientConnection) (κ : ClientConnection) (w : Written) (mark : Mark) → NamesApart connections → slice_get connections i ≡ Some κ
-    → slice_get κ.written κ.taken ≡ Some w → count_of κ.name past ≡ κ.taken → number_at (count_of κ.name past) (connection_named κ.name (counted_at i connections)) ≡ w.number
+    → slice_get κ.written κ.taken ≡ Some w → packet_count κ.name past ≡ κ.taken → number_at (packet_count κ.name past) (connection_named κ.name (with_one_counted i connections)) ≡ w.number
 carries_it past i connections κ w mark apart stands next counted =
-    same_counted (at_packet κ.name packets.Pingreq mark ∷ past) i connections κ.name (count_of κ.name past) (counted_here κ.name (at_packet κ.name packets.Pingreq mark) past (same_itself κ.name))
-    ∙ ap₂ number_at counted (connection_at i connections κ apart stands) ∙ ap number_of next
+    same_counted (at_packet κ.name packets.Pingreq mark ∷ past) i connections κ.name (packet_count κ.name past) (counted_here κ.name (at_packet κ.name packets.Pingreq mark) past (same_itself κ.name))
+    ∙ ap₂ number_at counted (connection_at i connections κ apart stands) ∙ ap written_number next
 
 -- after an acceptance
-accepted_by : (b : Bool) (id k : ℕ) (h : Handshake ℕ) (l : Transit ℕ) → b ≡ false → (accepting id k b h l).accepted ≡ h.accepted ++ k ∷ []
+accepted_by : (b : Bool) (id k : ℕ) (h : Handshake ℕ) (l : Transit ℕ) → b ≡ false → (receiver_accepts id k b h l).accepted ≡ h.accepted ++ k ∷ []
 accepted_by true id k h l e = absurd (both_ways true e refl)
 accepted_by false id k h l e = refl
 
-received_then : (b : Bool) (id k : ℕ) (h : Handshake ℕ) (l : Transit ℕ) (j : ℕ) → b ≡ false → (accepting id k b h l).received j ≡ ((j == id) || h.received j)
+received_then : (b : Bool) (id k : ℕ) (h : Handshake ℕ) (l : Transit ℕ) (j : ℕ) → b ≡ false → (receiver_accepts id k b h l).received j ≡ ((j == id) || h.received j)
 received_then true id k h l j e = absurd (both_ways true e refl)
 received_then false id k h l j e = refl
 
 -- and after another try
-accepted_again : (b : Bool) (id k : ℕ) (h : Handshake ℕ) (l : Transit ℕ) → b ≡ true → (accepting id k b h l).accepted ≡ h.accepted
+accepted_again : (b : Bool) (id k : ℕ) (h : Handshake ℕ) (l : Transit ℕ) → b ≡ true → (receiver_accepts id k b h l).accepted ≡ h.accepted
 accepted_again true id k h l e = refl
 accepted_again false id k h l e = absurd (both_ways false refl e)
 
-received_again : (b : Bool) (id k : ℕ) (h : Handshake ℕ) (l : Transit ℕ) (j : ℕ) → b ≡ true → (accepting id k b h l).received j ≡ h.received j
+received_again : (b : Bool) (id k : ℕ) (h : Handshake ℕ) (l : Transit ℕ) (j : ℕ) → b ≡ true → (receiver_accepts id k b h l).received j ≡ h.received j
 received_again true id k h l j e = refl
 received_again false id k h l j e = absurd (both_ways false refl e)
 
@@ -102,7 +102,7 @@ takes_two limits past keeper connections i κ p dup id k o = by (cases_Bool (has
     again known =
         takes_one limits past keeper connections i κ w (Mark.Repeat keeper.client) (Forward.Publish id k) o refl (λ f. refl) (ap backward_of_own (own_send κ.name (packets.Pubrec id)))
         (λ l. accepted_again (h.received id) id k h l known
-        ∙ no_number connections (counted_at i connections) (at_packet κ.name (packets.Publish q) (Mark.Repeat keeper.client)) past refl (same_counted past i connections))
+        ∙ no_number connections (with_one_counted i connections) (at_packet κ.name (packets.Publish q) (Mark.Repeat keeper.client)) past refl (same_counted past i connections))
         (λ l j. received_again (h.received id) id k h l j known)
 
     -- a new one
@@ -115,7 +115,7 @@ takes_two limits past keeper connections i κ p dup id k o = by (cases_Bool (has
         (ap backward_of_own (sends_append κ.name (Send κ.name (packets.Pubrec id) ∷ []) copies) ∙ backward_both (sends_to κ.name (Send κ.name (packets.Pubrec id) ∷ [])) (sends_to κ.name copies)
         ∙ ap₂ (λ a b. a ++ b) (ap backward_of_own (own_send κ.name (packets.Pubrec id))) (copies_none limits place past κ.name (clients past)))
         (λ l. accepted_by (h.received id) id k h l unknown
-        ∙ sym (ap₂ (λ xs number. xs ++ more_by true number) (same_numbers connections (counted_at i connections) past (same_counted past i connections))
+        ∙ sym (ap₂ (λ xs number. xs ++ more_by true number) (same_numbers connections (with_one_counted i connections) past (same_counted past i connections))
         (carries_it past i connections κ w (Mark.Taken keeper.client) o.whole.names_apart o.stands o.next o.shape.counted)))
         (λ l j. received_then (h.received id) id k h l j unknown ∙ sym (ap (λ b. has_id j (if b then receives (deliveries.ExactlyOnce dup id) ids else ids)) (same_self keeper.client) ∙ has_with j id ids))
 

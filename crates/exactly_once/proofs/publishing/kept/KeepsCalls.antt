@@ -25,7 +25,7 @@ use Rattle.client_base.specs.Called.{adds_own}
 use Rattle.exactly_once.specs.Story.StoryStep.{takes, others_take, receives, opens_anew, loses, disconnects, publishes_one, subscribes, unsubscribes}
 use Rattle.exactly_once.specs.Carried.{is_two}
 use Rattle.exactly_once.specs.Inside.Projections.{items_of_own, as_publisher}
-use Rattle.exactly_once.specs.Inside.Shape.{OwnInShape, HeldInShape, HasShape, IsSoundStory, AreNumbered, none_unsent}
+use Rattle.exactly_once.specs.Inside.Shape.{OwnInShape, HeldInShape, HasShape, IsSoundStory, AreNumberedFrom, none_unsent}
 use Rattle.exactly_once.proofs.publishing.kept.MoreOwn.{ids_more, numbered_more, unsent_more, released_front}
 use Rattle.exactly_once.proofs.publishing.kept.NewItem.{items_more}
 use Rattle.exactly_once.proofs.publishing.kept.KeepsOwn.{lost_keeps}
@@ -36,7 +36,7 @@ use Rattle.exactly_once.proofs.publishing.kept.KeepsPackets.{receives_keeps}
 -- a publication with the next number, whose identifiers are the free one or none, and that is not released
 pub record IsNext (keeper : Keeper) (o : Own) : Type 0 where
   pub ids : (ids_of_own (o ∷ []) ≡ least_free (ids_in_use keeper) ∷ []) ⊎ (ids_of_own (o ∷ []) ≡ [])
-  pub numbered : AreNumbered (next_number keeper) (o ∷ [])
+  pub numbered : AreNumberedFrom (next_number keeper) (o ∷ [])
   pub unreleased : (j : ℕ) → has_released j (items_of_own (o ∷ [])) ≡ false
   pub online_sent : keeper.is_online ≡ true → none_unsent (o ∷ []) ≡ true
 

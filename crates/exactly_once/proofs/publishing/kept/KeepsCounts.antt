@@ -15,7 +15,7 @@ use Rattle.exactly_once.specs.Sides.{ClientConnection}
 use Rattle.client_base.specs.Written.{plain}
 use Rattle.client_base.specs.Handled.{handled}
 use Rattle.exactly_once.specs.Story.{Story, StoryStep}
-use Rattle.exactly_once.specs.StoryCommands.{is_packet_of, count_of, counted_at, command_of, any_named}
+use Rattle.exactly_once.specs.StoryCommands.{is_packet_of, packet_count, with_one_counted, command_of, any_named}
 use Rattle.client_base.specs.Written.{writes_first}
 use Rattle.client_base.specs.Called.{written_for}
 use Rattle.exactly_once.specs.Story.StoryStep.{takes, others_take, receives, opens_anew, loses, disconnects, publishes_one, subscribes, unsubscribes}
@@ -26,14 +26,14 @@ use Rattle.exactly_once.proofs.publishing.Last.{each_there, none_named}
 
 -- the rows of one connection
 pub record CountsOf (past : Past) (κ : ClientConnection) : Type 0 where
-  pub counted : count_of κ.name past ≡ κ.taken
+  pub counted : packet_count κ.name past ≡ κ.taken
   pub within : κ.taken ≤ length κ.written
 
 -- ---- a place
 
 -- a packet of another connection does not count
 counts_stay : (place : Place) (past : Past) (κ : ClientConnection) → is_packet_of place.command κ.name ≡ false → CountsOf past κ → CountsOf (place ∷ past) κ
-counts_stay place past κ e c = record { counted = ap (λ b. if b then suc (count_of κ.name past) else count_of κ.name past) e ∙ c.counted; within = c.within }
+counts_stay place past κ e c = record { counted = ap (λ b. if b then suc (packet_count κ.name past) else packet_count κ.name past) e ∙ c.counted; within = c.within }
 
 each_stays : (place : Place) (past : Past) (connections : List ClientConnection) → any_named (is_packet_of place.command) connections ≡ false → Each (CountsOf past) connections → Each (CountsOf (place ∷ past)) connections
 each_stays place past connections e rows = both connections (none_named (is_packet_of place.command) connections e) rows
@@ -50,14 +50,14 @@ stands_within (suc n) (y ∷ xs) x e = let within = stands_within n xs x e in om
 
 -- the next packet of one of them
 takes_counts : (place : Place) (past : Past) (i : ℕ) (connections : List ClientConnection) (κ : ClientConnection) (w : Written) → ((y : ConnectionName) → is_packet_of place.command y ≡ same_connection κ.name y)
-    → NamesApart connections → slice_get connections i ≡ Some κ → slice_get κ.written κ.taken ≡ Some w → Each (CountsOf past) connections → Each (CountsOf (place ∷ past)) (counted_at i connections)
+    → NamesApart connections → slice_get connections i ≡ Some κ → slice_get κ.written κ.taken ≡ Some w → Each (CountsOf past) connections → Each (CountsOf (place ∷ past)) (with_one_counted i connections)
 takes_counts place past i [] κ w is apart stands next rows = tt
 takes_counts place past zero (μ ∷ connections) κ w is apart stands next rows =
     let same : κ ≡ μ = cc in
     let here : is_packet_of place.command μ.name ≡ true = is μ.name ∙ ap (λ (ν : ClientConnection). same_connection ν.name μ.name) same ∙ same_itself μ.name in
     let next' : slice_get μ.written μ.taken ≡ Some w = subst (λ (ν : ClientConnection). slice_get ν.written ν.taken ≡ Some w) same next in (
       record {
-        counted = ap (λ b. if b then suc (count_of μ.name past) else count_of μ.name past) here ∙ ap suc rows.0.counted;
+        counted = ap (λ b. if b then suc (packet_count μ.name past) else packet_count μ.name past) here ∙ ap suc rows.0.counted;
         within = stands_within μ.taken μ.written w next';
       },
       each_stays place past connections
@@ -87,7 +87,7 @@ counts_grown past κ after n grown c =
     let longer = ap length grown.written ∙ length-append κ.written grown.more in
     let taken = grown.taken in
     let within = c.within in
-    record { counted = ap (λ x. count_of x past) grown.name ∙ c.counted ∙ sym grown.taken; within = omega (arith, longer, taken, within) }
+    record { counted = ap (λ x. packet_count x past) grown.name ∙ c.counted ∙ sym grown.taken; within = omega (arith, longer, taken, within) }
 
 pub events_keep_counts : (limits : Limits) (s t : Story) → NamesApart s.connections → Each (CountsOf s.past) s.connections → StoryStep limits s t → Each (CountsOf t.past) t.connections
 events_keep_counts limits s t apart rows (takes i κ w stands next) =

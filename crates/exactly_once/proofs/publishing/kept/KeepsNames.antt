@@ -15,7 +15,7 @@ use Rattle.client_base.specs.Keeper.{Written}
 use Rattle.exactly_once.specs.Sides.{ClientConnection}
 use Rattle.client_base.specs.Written.{plain}
 use Rattle.exactly_once.specs.Story.{Story, StoryStep}
-use Rattle.exactly_once.specs.StoryCommands.{any_named, counted_at, command_of, names_client}
+use Rattle.exactly_once.specs.StoryCommands.{any_named, with_one_counted, command_of, names_client}
 use Rattle.client_base.specs.Called.{written_for}
 use Rattle.client_base.specs.Connected.{opens}
 use Rattle.client_base.specs.Written.{writes_first}
@@ -30,12 +30,12 @@ use Rattle.exactly_once.proofs.places.Spared.{taken_spares, other_spares}
 
 -- ---- names
 
-pub counted_named : (test : ConnectionName → Bool) (i : ℕ) (connections : List ClientConnection) → any_named test (counted_at i connections) ≡ any_named test connections
+pub counted_named : (test : ConnectionName → Bool) (i : ℕ) (connections : List ClientConnection) → any_named test (with_one_counted i connections) ≡ any_named test connections
 counted_named test i [] = refl
 counted_named test zero (κ ∷ connections) = refl
 counted_named test (suc i) (κ ∷ connections) = ap (λ b. test κ.name || b) (counted_named test i connections)
 
-pub counted_apart : (i : ℕ) (connections : List ClientConnection) → NamesApart connections → NamesApart (counted_at i connections)
+pub counted_apart : (i : ℕ) (connections : List ClientConnection) → NamesApart connections → NamesApart (with_one_counted i connections)
 counted_apart i [] a = a
 counted_apart zero (κ ∷ connections) a = a
 counted_apart (suc i) (κ ∷ connections) a = (counted_named (same_connection κ.name) i connections ∙ a.0, counted_apart i connections a.1)

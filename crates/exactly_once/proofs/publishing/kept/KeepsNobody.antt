@@ -16,7 +16,7 @@ use Rattle.client_base.specs.Keeper.{Written}
 use Rattle.exactly_once.specs.Sides.{ClientConnection}
 use Rattle.client_base.specs.Written.{plain}
 use Rattle.exactly_once.specs.Story.{Story, StoryStep}
-use Rattle.exactly_once.specs.StoryCommands.{any_named, is_packet_of, count_of, counted_at, command_of}
+use Rattle.exactly_once.specs.StoryCommands.{any_named, is_packet_of, packet_count, with_one_counted, command_of}
 use Rattle.client_base.specs.Called.{written_for}
 use Rattle.client_base.specs.Connected.{opens, new_connection}
 use Rattle.client_base.specs.Written.{writes_first}
@@ -93,13 +93,13 @@ written_named more [] test = refl
 written_named more (κ ∷ connections) test = refl
 
 -- a new one has no client
-pub nobody_opened : (past : Past) (c : Client) (connections : List ClientConnection) (κ : ClientConnection) → count_of κ.name past ≡ 0 → NobodyElse past c connections → NobodyElse past c (κ ∷ connections)
+pub nobody_opened : (past : Past) (c : Client) (connections : List ClientConnection) (κ : ClientConnection) → packet_count κ.name past ≡ 0 → NobodyElse past c connections → NobodyElse past c (κ ∷ connections)
 nobody_opened past c connections κ none nobody d x current named = by (cases_Bool (same_connection x κ.name))
   where
     by : (same_connection x κ.name ≡ true) ⊎ (same_connection x κ.name ≡ false) → same_client d c ≡ true
     by (inl e) =
         let some = current_counted past d x current in
-        let count : count_of x past ≡ count_of κ.name past = ap (λ y. count_of y past) (same_name x κ.name e) in
+        let count : packet_count x past ≡ packet_count κ.name past = ap (λ y. packet_count y past) (same_name x κ.name e) in
         absurd (omega (arith, some, count, none))
     by (inr e) = nobody d x current (sym (ap (λ b. b || any_named (same_connection x) connections) e) ∙ named)
 
@@ -107,7 +107,7 @@ pub events_keep_nobody : (limits : Limits) (s t : Story) → IsSoundStory limits
 events_keep_nobody limits s t sound (takes i κ w stands next) =
     let this = each_there (ConnectionInShape limits s.past s.keeper.client) i s.connections κ stands sound.shape.connections in
     let command = command_of κ.name κ.taken w.packet in
-    nobody_named (place_of limits s.past command ∷ s.past) s.keeper.client s.connections (counted_at i s.connections) (λ test. counted_named test i s.connections)
+    nobody_named (place_of limits s.past command ∷ s.past) s.keeper.client s.connections (with_one_counted i s.connections) (λ test. counted_named test i s.connections)
     (nobody_placed (place_of limits s.past command) s.past s.keeper.client s.connections
     (own_taken limits s.past s.keeper.client s.connections κ w κ.taken (mark_of limits s.past command) this next) sound.shape.nobody_else)
 events_keep_nobody limits s t sound (others_take command other none) =

@@ -17,7 +17,7 @@ use Rattle.client_base.specs.Written.{plain, publishes, writes}
 use Rattle.client_base.specs.Handled.{handled}
 use Rattle.client_base.specs.session_base.Identifiers.{least_free}
 use Rattle.exactly_once.specs.Story.{Story, StoryStep}
-use Rattle.exactly_once.specs.StoryCommands.{counted_at}
+use Rattle.exactly_once.specs.StoryCommands.{with_one_counted}
 use Rattle.client_base.specs.Written.{writes_first}
 use Rattle.client_base.specs.Called.{written_for}
 use Rattle.exactly_once.specs.Story.StoryStep.{takes, others_take, receives, opens_anew, loses, disconnects, publishes_one, subscribes, unsubscribes}
@@ -45,7 +45,7 @@ rows_placed limits place past κ rows =
     record { handled_within = omega (arith, longer, within); numbers_known = rows.numbers_known }
 
 -- one more is taken
-rows_counted : (limits : Limits) (past : Past) (i : ℕ) (connections : List ClientConnection) → Each (RowsOf limits past) connections → Each (RowsOf limits past) (counted_at i connections)
+rows_counted : (limits : Limits) (past : Past) (i : ℕ) (connections : List ClientConnection) → Each (RowsOf limits past) connections → Each (RowsOf limits past) (with_one_counted i connections)
 rows_counted limits past i [] rows = tt
 rows_counted limits past zero (κ ∷ connections) rows = (record { handled_within = rows.0.handled_within; numbers_known = rows.0.numbers_known }, rows.1)
 rows_counted limits past (suc i) (κ ∷ connections) rows = (rows.0, rows_counted limits past i connections rows.1)

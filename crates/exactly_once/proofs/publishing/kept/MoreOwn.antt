@@ -6,7 +6,7 @@ use Rattle.client_base.specs.Keeper.{Own, ids_of_own}
 use Rattle.client_base.specs.Written.{sent_all}
 use Rattle.exactly_once.specs.Carried.{is_two}
 use Rattle.exactly_once.specs.Inside.Projections.{items_of_own}
-use Rattle.exactly_once.specs.Inside.Shape.{AreNumbered, none_unsent}
+use Rattle.exactly_once.specs.Inside.Shape.{AreNumberedFrom, none_unsent}
 
 -- ---- one more
 
@@ -17,16 +17,16 @@ ids_more (Own.Sent k p id ∷ own) more = ap (λ l. id ∷ l) (ids_more own more
 ids_more (Own.Released k p id ∷ own) more = ap (λ l. id ∷ l) (ids_more own more)
 ids_more (Own.Done k p ∷ own) more = ids_more own more
 
-pub numbered_more : (n : ℕ) (own more : List Own) → AreNumbered n own → AreNumbered (n + length own) more → AreNumbered n (own ++ more)
-numbered_more n [] more h g = let same : n + 0 ≡ n = omega arith in subst (λ (m : ℕ). AreNumbered m more) same g
+pub numbered_more : (n : ℕ) (own more : List Own) → AreNumberedFrom n own → AreNumberedFrom (n + length own) more → AreNumberedFrom n (own ++ more)
+numbered_more n [] more h g = let same : n + 0 ≡ n = omega arith in subst (λ (m : ℕ). AreNumberedFrom m more) same g
 numbered_more n (Own.Unsent k p id ∷ own) more h g =
-    let same : n + suc (length own) ≡ suc n + length own = omega arith in (h.0, numbered_more (suc n) own more h.1 (subst (λ (m : ℕ). AreNumbered m more) same g))
+    let same : n + suc (length own) ≡ suc n + length own = omega arith in (h.0, numbered_more (suc n) own more h.1 (subst (λ (m : ℕ). AreNumberedFrom m more) same g))
 numbered_more n (Own.Sent k p id ∷ own) more h g =
-    let same : n + suc (length own) ≡ suc n + length own = omega arith in (h.0, numbered_more (suc n) own more h.1 (subst (λ (m : ℕ). AreNumbered m more) same g))
+    let same : n + suc (length own) ≡ suc n + length own = omega arith in (h.0, numbered_more (suc n) own more h.1 (subst (λ (m : ℕ). AreNumberedFrom m more) same g))
 numbered_more n (Own.Released k p id ∷ own) more h g =
-    let same : n + suc (length own) ≡ suc n + length own = omega arith in (h.0, h.1, numbered_more (suc n) own more h.2 (subst (λ (m : ℕ). AreNumbered m more) same g))
+    let same : n + suc (length own) ≡ suc n + length own = omega arith in (h.0, h.1, numbered_more (suc n) own more h.2 (subst (λ (m : ℕ). AreNumberedFrom m more) same g))
 numbered_more n (Own.Done k p ∷ own) more h g =
-    let same : n + suc (length own) ≡ suc n + length own = omega arith in (h.0, numbered_more (suc n) own more h.1 (subst (λ (m : ℕ). AreNumbered m more) same g))
+    let same : n + suc (length own) ≡ suc n + length own = omega arith in (h.0, numbered_more (suc n) own more h.1 (subst (λ (m : ℕ). AreNumberedFrom m more) same g))
 
 pub unsent_more : (own more : List Own) → none_unsent own ≡ true → none_unsent more ≡ true → none_unsent (own ++ more) ≡ true
 unsent_more [] more h g = g
@@ -51,7 +51,7 @@ ids_sent (Own.Sent k p id ∷ own) = ap (λ l. id ∷ l) (ids_sent own)
 ids_sent (Own.Released k p id ∷ own) = ap (λ l. id ∷ l) (ids_sent own)
 ids_sent (Own.Done k p ∷ own) = ids_sent own
 
-pub numbered_sent : (n : ℕ) (own : List Own) → AreNumbered n own → AreNumbered n (sent_all own)
+pub numbered_sent : (n : ℕ) (own : List Own) → AreNumberedFrom n own → AreNumberedFrom n (sent_all own)
 numbered_sent n [] h = tt
 numbered_sent n (Own.Unsent k p id ∷ own) h = (h.0, numbered_sent (suc n) own h.1)
 numbered_sent n (Own.Sent k p id ∷ own) h = (h.0, numbered_sent (suc n) own h.1)

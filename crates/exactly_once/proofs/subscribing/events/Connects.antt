@@ -12,16 +12,16 @@ use Rattle.broker_base.specs.broker_spec.Times.{started, window_at, entries_of}
 use Rattle.broker_base.specs.broker_spec.NobodyLaws.{IsSteady}
 use Rattle.broker_base.proofs.of_broker_spec.AnswersStaySound.{sound_more}
 use Rattle.broker_base.proofs.QueueAfter.{sound_entries}
-use Rattle.exactly_once.specs.Handshake.{Backward, Transit, Handshake, publishing, resend, with_items}
+use Rattle.exactly_once.specs.Handshake.{Backward, Transit, Handshake, publishing, sender_resends, with_items}
 use Rattle.exactly_once.specs.HandshakeSteps.{HandshakeRun}
 use Rattle.exactly_once.specs.HandshakeSteps.Advances.{sender_leaves, parts, restarts}
 use Rattle.exactly_once.specs.HandshakeSteps.HandshakeRun.{stays, goes_on}
 use Rattle.client_base.specs.Keeper.{Written}
 use Rattle.exactly_once.specs.Sides.{ClientConnection}
 use Rattle.exactly_once.specs.Story.{Story}
-use Rattle.exactly_once.specs.StoryCommands.{counted_at}
+use Rattle.exactly_once.specs.StoryCommands.{with_one_counted}
 use Rattle.exactly_once.specs.Inside.Projections.{GoesTo}
-use Rattle.exactly_once.specs.Inside.AsSubscriber.{items_of, held, left_behind, transit_to, as_subscriber}
+use Rattle.exactly_once.specs.Inside.AsSubscriber.{items_of_entries, held, left_behind, transit_to, as_subscriber}
 use Rattle.exactly_once.specs.Inside.Shape.{HasShape}
 use Rattle.exactly_once.specs.Inside.ConnectionShape.{ConnectionInShape}
 use Rattle.exactly_once.proofs.Starts.{sending_all}
@@ -60,15 +60,15 @@ parted_sent rows (Some (f, b)) = sym (sent_ahead rows f)
 
 -- the entries after it
 started_as : (limits : Limits) (s : Story) (y : ConnectionName) → HasShape limits s
-    → items_of (entries_of limits (at_accepted y s.keeper.client ∷ s.past) s.keeper.client)
-    ≡ items_of (started (window_at limits (at_accepted y s.keeper.client ∷ s.past)) (length s.past) (Some y) (entries_of limits s.past s.keeper.client ++ []))
+    → items_of_entries (entries_of limits (at_accepted y s.keeper.client ∷ s.past) s.keeper.client)
+    ≡ items_of_entries (started (window_at limits (at_accepted y s.keeper.client ∷ s.past)) (length s.past) (Some y) (entries_of limits s.past s.keeper.client ++ []))
 started_as limits s y shape =
-    ap items_of (accepted_entries limits s.past y s.keeper.client shape.session
+    ap items_of_entries (accepted_entries limits s.past y s.keeper.client shape.session
     ∙ ap (λ (l : List Entry). started (window_at limits (at_accepted y s.keeper.client ∷ s.past)) (length s.past) (Some y) l) (sym (append-nil (entries_of limits s.past s.keeper.client))))
 
 -- of a connection that the client does not hold
 pub accepted_stale : (limits : Limits) (s : Story) (i : ℕ) (κ : ClientConnection) (w : Written) → IsOpening limits s i κ w → IsStale s.keeper s.connections i
-    → GoesTo (as_subscriber limits s) (as_subscriber limits (placed s (at_accepted κ.name s.keeper.client) (counted_at i s.connections)))
+    → GoesTo (as_subscriber limits s) (as_subscriber limits (placed s (at_accepted κ.name s.keeper.client) (with_one_counted i s.connections)))
 accepted_stale limits s i κ w o stale =
     let c = s.keeper.client in
     let place = at_accepted κ.name c in
@@ -76,13 +76,13 @@ accepted_stale limits s i κ w o stale =
     let current = current_connection s.past c in
     let v = view limits s.past current s.keeper s.connections in
     let h = as_subscriber limits s in
-    let t = as_subscriber limits (placed s place (counted_at i s.connections)) in
+    let t = as_subscriber limits (placed s place (with_one_counted i s.connections)) in
     let k = parted_run h v (left_behind current s.connections) (link_is limits s.past current s.keeper s.connections) in
     let rows = rows_at (window_at limits (place ∷ s.past)) (Some κ.name) (es ++ []) in
     goes_started h k.0 t (window_at limits (place ∷ s.past)) (length s.past) (Some κ.name) es [] k.1 k.2 (sound_more (length s.past) es (sound_entries limits s.past c))
     (k.3 ∙ sym (accepted_counted i s.connections)) (λ id. ap (λ (f : ℕ → Bool). f id) k.4) (started_as limits s κ.name o.shape)
-    (ap (λ (z : Option ConnectionName). transit_to limits (place ∷ s.past) z (counted_at i s.connections) (held s.keeper (counted_at i s.connections))) (accepted_current s.past κ.name c)
-    ∙ link_is limits (place ∷ s.past) (Some κ.name) s.keeper (counted_at i s.connections)
+    (ap (λ (z : Option ConnectionName). transit_to limits (place ∷ s.past) z (with_one_counted i s.connections) (held s.keeper (with_one_counted i s.connections))) (accepted_current s.past κ.name c)
+    ∙ link_is limits (place ∷ s.past) (Some κ.name) s.keeper (with_one_counted i s.connections)
     ∙ ap₂ link_as
     (stale limits (place ∷ s.past) (Some κ.name)
     ∙ view_stale limits place s.past c current s.keeper s.connections i κ o.shape.connections o.shape.names_apart o.at o.taken (λ x e. connect_elsewhere limits s.past x κ.name c false Mark.Accepted e))
@@ -92,27 +92,27 @@ accepted_stale limits s i κ w o stale =
 
 -- of the one that the client holds
 pub accepted_fresh : (limits : Limits) (s : Story) (i : ℕ) (κ : ClientConnection) (w : Written) → IsOpening limits s i κ w → IsFresh s.keeper s.connections i κ
-    → GoesTo (as_subscriber limits s) (as_subscriber limits (placed s (at_accepted κ.name s.keeper.client) (counted_at i s.connections)))
+    → GoesTo (as_subscriber limits s) (as_subscriber limits (placed s (at_accepted κ.name s.keeper.client) (with_one_counted i s.connections)))
 accepted_fresh limits s i κ w o fresh =
     let c = s.keeper.client in
     let place = at_accepted κ.name c in
     let es = entries_of limits s.past c in
     let h = as_subscriber limits s in
-    let t = as_subscriber limits (placed s place (counted_at i s.connections)) in
+    let t = as_subscriber limits (placed s place (with_one_counted i s.connections)) in
     let releases = released_below (length s.past) es in
     let rows = rows_at (window_at limits (place ∷ s.past)) (Some κ.name) (es ++ []) in
-    let k = with_items h.items (Transit.Joined (resend releases h.items) []) h in
+    let k = with_items h.items (Transit.Joined (sender_resends releases h.items) []) h in
     goes_started h k t (window_at limits (place ∷ s.past)) (length s.past) (Some κ.name) es []
     (goes_on stays (restarts releases (distinct_released (length s.past) es (sound_entries limits s.past c)) (each_released (length s.past) es (kept_entries limits s.past c))))
     refl (sound_more (length s.past) es (sound_entries limits s.past c)) (sym (accepted_counted i s.connections)) (λ id. refl) (started_as limits s κ.name o.shape)
-    (ap (λ (z : Option ConnectionName). transit_to limits (place ∷ s.past) z (counted_at i s.connections) (held s.keeper (counted_at i s.connections))) (accepted_current s.past κ.name c)
-    ∙ link_is limits (place ∷ s.past) (Some κ.name) s.keeper (counted_at i s.connections)
+    (ap (λ (z : Option ConnectionName). transit_to limits (place ∷ s.past) z (with_one_counted i s.connections) (held s.keeper (with_one_counted i s.connections))) (accepted_current s.past κ.name c)
+    ∙ link_is limits (place ∷ s.past) (Some κ.name) s.keeper (with_one_counted i s.connections)
     ∙ ap₂ link_as
     (fresh.behind limits (place ∷ s.past) (Some κ.name)
     ∙ ap₂ (λ l b. Some (l, b))
     (new_comes limits place s.past c κ w o.good o.new
     ∙ accepted_sends limits s.past κ.name c o.shape.session
-    ∙ ap (λ (l : List Entry). resend releases h.items ++ map publishing (rows_at (window_at limits (place ∷ s.past)) (Some κ.name) l)) (sym (append-nil es)))
+    ∙ ap (λ (l : List Entry). sender_resends releases h.items ++ map publishing (rows_at (window_at limits (place ∷ s.past)) (Some κ.name) l)) (sym (append-nil es)))
     (same_name_self κ.name))
     (new_left limits s.past c s.connections i κ w o.shape.names_apart o.at o.taken o.new)
-    ∙ sym (sent_joined rows (resend releases h.items) []))
+    ∙ sym (sent_joined rows (sender_resends releases h.items) []))

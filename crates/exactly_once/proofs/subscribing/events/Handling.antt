@@ -11,7 +11,7 @@ use Rattle.client_base.specs.lists.Lists.{has_id}
 use Rattle.broker_base.specs.broker_spec.Place.{Client, Past, Limits}
 use Rattle.broker_base.specs.broker_spec.Past.{current_connection}
 use Rattle.broker_base.specs.broker_spec.Times.{entries_of}
-use Rattle.exactly_once.specs.Handshake.{Forward, Backward, Transit, Handshake, answer, taking}
+use Rattle.exactly_once.specs.Handshake.{Forward, Backward, Transit, Handshake, answer, receiver_takes}
 use Rattle.exactly_once.specs.HandshakeSteps.Advances.{takes, takes_alone}
 use Rattle.exactly_once.specs.HandshakeSteps.HandshakeRun.{stays, goes_on}
 use Rattle.exactly_once.specs.Sends.{put_to}
@@ -20,13 +20,13 @@ use Rattle.exactly_once.specs.Sides.{ClientConnection, Side}
 use Rattle.exactly_once.specs.Story.{Story, with_side}
 use Rattle.exactly_once.specs.Acceptance.{accepted_on}
 use Rattle.exactly_once.specs.Inside.Projections.{to_come, to_be_taken, is_current, IsLike, GoesTo}
-use Rattle.exactly_once.specs.Inside.AsSubscriber.{items_of, published_in, forward_of, backward_of, held, transit_to, as_subscriber}
+use Rattle.exactly_once.specs.Inside.AsSubscriber.{items_of_entries, publish_before, forward_of, backward_of, held, transit_to, as_subscriber}
 use Rattle.exactly_once.specs.Inside.ConnectionShape.{ConnectionInShape}
 use Rattle.exactly_once.proofs.subscribing.Written.{taken_after}
 
 -- one packet in front
 abbrev pub forward_one : Packet → List (Forward Publication) → List (Forward Publication)
-forward_one (packets.Publish p) f = published_in p.delivery (publication_of p) f
+forward_one (packets.Publish p) f = publish_before p.delivery (publication_of p) f
 forward_one (packets.Pubrel id) f = Forward.Pubrel id ∷ f
 forward_one _ f = f
 
@@ -85,7 +85,7 @@ like_after : (limits : Limits) (s : Story) (κ : ClientConnection) (others : Lis
     → IsLike (record { items = (as_subscriber limits s).items; accepted = (as_subscriber limits s).accepted ++ accepted; received = received; transit = l }) (as_subscriber limits (with_side s others side))
 like_after limits s κ others side more accepted received l h e transit =
     record {
-      items = ap (λ (c : Client). items_of (entries_of limits s.past c)) (sym h.client);
+      items = ap (λ (c : Client). items_of_entries (entries_of limits s.past c)) (sym h.client);
       accepted = ap (λ ks. accepted_on ks ++ accepted) e ∙ append_all (accepted_on others) κ.accepted accepted ∙ ap (λ l. accepted_on others ++ l) (sym h.accepted_is);
       received = h.received_is;
       transit = transit;
@@ -122,9 +122,9 @@ handles_other limits s κ others n packet side more g e on taken next none quiet
 
 -- one that is, taken on the transit
 takes_on : (h t : Handshake Publication) (m : Forward Publication) (current : Bool) (f : List (Forward Publication)) (b : List Backward) → h.transit ≡ link_with current (m ∷ f) b
-    → IsLike (taking m h (link_with current f (b ++ answer m ∷ []))) t → GoesTo h t
-takes_on h t m true f b e like = record { between = taking m h (Transit.Joined f (b ++ answer m ∷ [])); run = goes_on stays (takes m f b e); like = like }
-takes_on h t m false f b e like = record { between = taking m h (Transit.Ahead f); run = goes_on stays (takes_alone m f e); like = like }
+    → IsLike (receiver_takes m h (link_with current f (b ++ answer m ∷ []))) t → GoesTo h t
+takes_on h t m true f b e like = record { between = receiver_takes m h (Transit.Joined f (b ++ answer m ∷ [])); run = goes_on stays (takes m f b e); like = like }
+takes_on h t m false f b e like = record { between = receiver_takes m h (Transit.Ahead f); run = goes_on stays (takes_alone m f e); like = like }
 
 -- a packet that is of the handshake
 pub handles_one : (limits : Limits) (s : Story) (κ : ClientConnection) (others : List ClientConnection) (n : ℕ) (packet : Packet) (side : Side) (more : List Written) (m : Forward Publication) (accepted : List Publication) (received : ℕ → Bool)
@@ -132,7 +132,7 @@ pub handles_one : (limits : Limits) (s : Story) (κ : ClientConnection) (others 
     → slice_get (put_to limits s.past κ.name) κ.handled ≡ Some packet
     → ((f : List (Forward Publication)) → forward_one packet f ≡ m ∷ f) → backward_of more ≡ answer m ∷ [] → Handles κ s.keeper side more accepted received
     → ((l : Transit Publication) (t : Handshake Publication) → IsLike (record { items = (as_subscriber limits s).items; accepted = (as_subscriber limits s).accepted ++ accepted; received = received; transit = l }) t
-    → IsLike (taking m (as_subscriber limits s) l) t)
+    → IsLike (receiver_takes m (as_subscriber limits s) l) t)
     → GoesTo (as_subscriber limits s) (as_subscriber limits (with_side s others side))
 handles_one limits s κ others n packet side more m accepted received g e on taken next one answers h taking_is =
     let current = is_current (current_connection s.past s.keeper.client) κ.name in

@@ -19,7 +19,7 @@ use Rattle.client_base.specs.Connected.{new_connection}
 use Rattle.client_base.specs.Written.{writes_first}
 use Rattle.exactly_once.specs.Acceptance.{accepted_on}
 use Rattle.exactly_once.specs.Inside.Projections.{to_be_taken, GoesTo}
-use Rattle.exactly_once.specs.Inside.AsSubscriber.{items_of, backward_of, held, left_behind, transit_to, as_subscriber}
+use Rattle.exactly_once.specs.Inside.AsSubscriber.{items_of_entries, backward_of, held, left_behind, transit_to, as_subscriber}
 use Rattle.exactly_once.specs.Inside.Shape.{LastIsCurrent, HasShape}
 use Rattle.exactly_once.specs.Inside.ConnectionShape.{ConnectionInShape}
 use Rattle.exactly_once.proofs.subscribing.Written.{taken_same}
@@ -35,7 +35,7 @@ leaves limits s shape connections keeper same received none accepted left =
     let current = current_connection s.past s.keeper.client in
     gone (as_subscriber limits s) (as_subscriber limits (record { past = s.past; connections = connections; keeper = keeper })) (left_behind current s.connections)
     (stands limits s.past s.keeper.client s.keeper s.connections current shape.connections shape.newest_is_served)
-    (ap (λ (c : Client). items_of (entries_of limits s.past c)) (sym same)) (sym accepted) (λ id. ap (has_id id) (sym received))
+    (ap (λ (c : Client). items_of_entries (entries_of limits s.past c)) (sym same)) (sym accepted) (λ id. ap (has_id id) (sym received))
     (ap (λ (c : Client). transit_to limits s.past (current_connection s.past c) connections (held keeper connections)) same
     ∙ ap (transit_to limits s.past current connections) none ∙ ap Transit.Behind left)
 

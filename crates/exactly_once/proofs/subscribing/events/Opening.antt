@@ -13,7 +13,7 @@ use Rattle.client_base.specs.lists.Lists.{Each}
 use Rattle.exactly_once.specs.Sends.{sends_to, put_to}
 use Rattle.client_base.specs.Keeper.{Written, Keeper}
 use Rattle.exactly_once.specs.Sides.{ClientConnection}
-use Rattle.exactly_once.specs.StoryCommands.{any_named, counted_at}
+use Rattle.exactly_once.specs.StoryCommands.{any_named, with_one_counted}
 use Rattle.client_base.specs.Connected.{opens}
 use Rattle.exactly_once.specs.Inside.Projections.{to_come, is_current}
 use Rattle.exactly_once.specs.Inside.AsSubscriber.{forward_of, backward_of, left_behind}
@@ -27,11 +27,11 @@ use Rattle.exactly_once.proofs.subscribing.Views.{seen, view, parted, comes_afte
 pub record IsFresh (keeper : Keeper) (connections : List ClientConnection) (i : ℕ) (κ : ClientConnection) : Type 0 where
   pub before : (limits : Limits) (past : Past) (current : Option ConnectionName) → view limits past current keeper connections ≡ None
   pub behind : (limits : Limits) (past : Past) (current : Option ConnectionName)
-      → view limits past current keeper (counted_at i connections) ≡ Some (forward_of (to_come limits past κ), is_current current κ.name)
+      → view limits past current keeper (with_one_counted i connections) ≡ Some (forward_of (to_come limits past κ), is_current current κ.name)
 
 -- or the client does not hold it
 abbrev pub IsStale : Keeper → List ClientConnection → ℕ → Type 0
-IsStale keeper connections i = (limits : Limits) (past : Past) (current : Option ConnectionName) → view limits past current keeper (counted_at i connections) ≡ view limits past current keeper connections
+IsStale keeper connections i = (limits : Limits) (past : Past) (current : Option ConnectionName) → view limits past current keeper (with_one_counted i connections) ≡ view limits past current keeper connections
 
 -- one of both
 pub fresh_or_stale : (keeper : Keeper) (connections : List ClientConnection) (i : ℕ) (κ : ClientConnection) → slice_get connections i ≡ Some κ → κ.taken ≡ 0 → IsFresh keeper connections i κ ⊎ IsStale keeper connections i
@@ -100,7 +100,7 @@ new_comes limits place past c κ w g new =
 
 -- nothing comes back on it
 pub new_left : (limits : Limits) (past : Past) (c : Client) (connections : List ClientConnection) (i : ℕ) (κ : ClientConnection) (w : Written) → NamesApart connections → slice_get connections i ≡ Some κ → κ.taken ≡ 0
-    → IsNew limits past c κ w → left_behind (Some κ.name) (counted_at i connections) ≡ []
+    → IsNew limits past c κ w → left_behind (Some κ.name) (with_one_counted i connections) ≡ []
 new_left limits past c connections i κ w apart at t new =
     (left_own κ.name connections i κ apart at (same_name_self κ.name)).1 ∙ ap₂ (λ (n : ℕ) (ws : List Written). backward_of (drop (suc n) ws)) t new.written
 

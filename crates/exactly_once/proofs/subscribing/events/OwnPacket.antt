@@ -18,7 +18,7 @@ use Rattle.exactly_once.specs.HandshakeInvariant.{IsGood}
 use Rattle.client_base.specs.Keeper.{Written}
 use Rattle.exactly_once.specs.Sides.{ClientConnection}
 use Rattle.exactly_once.specs.Story.{Story}
-use Rattle.exactly_once.specs.StoryCommands.{any_named, counted_at}
+use Rattle.exactly_once.specs.StoryCommands.{any_named, with_one_counted}
 use Rattle.exactly_once.specs.Inside.Projections.{GoesTo}
 use Rattle.exactly_once.specs.Inside.AsSubscriber.{left_behind, as_subscriber}
 use Rattle.exactly_once.specs.Inside.Shape.{HasShape}
@@ -39,7 +39,7 @@ use Rattle.exactly_once.proofs.subscribing.places.Publishes.{skips, granted_send
 
 -- one of the current connection, by its kind
 own_packet : (limits : Limits) (s : Story) (i : ℕ) (κ : ClientConnection) (w : Written) (packet : Packet) → IsOwn limits s i κ w → IsGood (as_subscriber limits s) → w.packet ≡ packet
-    → GoesTo (as_subscriber limits s) (as_subscriber limits (placed s (at_packet κ.name packet (packet_mark limits s.past s.keeper.client packet)) (counted_at i s.connections)))
+    → GoesTo (as_subscriber limits s) (as_subscriber limits (placed s (at_packet κ.name packet (packet_mark limits s.past s.keeper.client packet)) (with_one_counted i s.connections)))
 own_packet limits s i κ w (packets.Publish p) o good e = own_publish limits s i κ w p o e
 own_packet limits s i κ w (packets.Puback id) o good e = own_puback limits s i κ w id o e
 own_packet limits s i κ w (packets.Pubrec id) o good e = own_pubrec limits s i κ w id o good e
@@ -79,11 +79,11 @@ not_nobodys past c x e n =
 
 -- one of a connection that is not current
 nobodys_packet : (limits : Limits) (s : Story) (i n : ℕ) (κ : ClientConnection) (packet : Packet) → HasShape limits s → IsSteady limits → slice_get s.connections i ≡ Some κ → κ.taken ≡ suc n → owner_of s.past κ.name ≡ None
-    → GoesTo (as_subscriber limits s) (as_subscriber limits (placed s (at_packet κ.name packet Mark.NoPart) (counted_at i s.connections)))
+    → GoesTo (as_subscriber limits s) (as_subscriber limits (placed s (at_packet κ.name packet Mark.NoPart) (with_one_counted i s.connections)))
 nobodys_packet limits s i n κ packet shape steady at taken none =
     let current = current_connection s.past s.keeper.client in
     let place = at_packet κ.name packet Mark.NoPart in
-    plain_goes limits s place (counted_at i s.connections) shape
+    plain_goes limits s place (with_one_counted i s.connections) shape
     (record {
       opens = refl;
       goes = stays_on κ.name packet Mark.NoPart current refl;
@@ -93,29 +93,29 @@ nobodys_packet limits s i n κ packet shape steady at taken none =
     })
     (view_counted limits (place ∷ s.past) current s.keeper s.connections i n κ at taken) (accepted_counted i s.connections) (left current refl)
   where
-    left : (current : Option ConnectionName) → current_connection s.past s.keeper.client ≡ current → left_behind current (counted_at i s.connections) ≡ left_behind current s.connections
-    left None e = nothing_behind (counted_at i s.connections) ∙ sym (nothing_behind s.connections)
+    left : (current : Option ConnectionName) → current_connection s.past s.keeper.client ≡ current → left_behind current (with_one_counted i s.connections) ≡ left_behind current s.connections
+    left None e = nothing_behind (with_one_counted i s.connections) ∙ sym (nothing_behind s.connections)
     left (Some x) e = by (cases_Bool (same_connection x κ.name))
       where
-        by : (same_connection x κ.name ≡ true) ⊎ (same_connection x κ.name ≡ false) → left_behind (Some x) (counted_at i s.connections) ≡ left_behind (Some x) s.connections
+        by : (same_connection x κ.name ≡ true) ⊎ (same_connection x κ.name ≡ false) → left_behind (Some x) (with_one_counted i s.connections) ≡ left_behind (Some x) s.connections
         by (inl f) = absurd (not_nobodys s.past s.keeper.client κ.name (e ∙ ap (λ z. Some z) (same_name x κ.name f)) none)
         by (inr f) = left_other x s.connections i κ at f
 
 -- a packet of one of the client's connections
 pub takes_packet : (limits : Limits) (s : Story) (i n : ℕ) (κ : ClientConnection) (w : Written) → HasShape limits s → IsSteady limits → IsGood (as_subscriber limits s)
     → slice_get s.connections i ≡ Some κ → slice_get κ.written κ.taken ≡ Some w → κ.taken ≡ suc n
-    → GoesTo (as_subscriber limits s) (as_subscriber limits (placed s (at_packet κ.name w.packet (packet_mark_of limits s.past w.packet (owner_of s.past κ.name))) (counted_at i s.connections)))
+    → GoesTo (as_subscriber limits s) (as_subscriber limits (placed s (at_packet κ.name w.packet (packet_mark_of limits s.past w.packet (owner_of s.past κ.name))) (with_one_counted i s.connections)))
 takes_packet limits s i n κ w shape steady good at next taken = by (owner_of s.past κ.name) refl
   where
     named : any_named (same_connection κ.name) s.connections ≡ true
     named = named_at (same_connection κ.name) s.connections i κ at (same_name_self κ.name)
 
     by : (owner : Option Client) → owner_of s.past κ.name ≡ owner
-        → GoesTo (as_subscriber limits s) (as_subscriber limits (placed s (at_packet κ.name w.packet (packet_mark_of limits s.past w.packet owner)) (counted_at i s.connections)))
+        → GoesTo (as_subscriber limits s) (as_subscriber limits (placed s (at_packet κ.name w.packet (packet_mark_of limits s.past w.packet owner)) (with_one_counted i s.connections)))
     by None e = nobodys_packet limits s i n κ w.packet shape steady at taken e
     by (Some d) e =
         let served = owner_is s.past κ.name d e in
         let same : d ≡ s.keeper.client = same_is d s.keeper.client (shape.nobody_else d κ.name served named) in
-        subst (λ (z : Client). GoesTo (as_subscriber limits s) (as_subscriber limits (placed s (at_packet κ.name w.packet (packet_mark limits s.past z w.packet)) (counted_at i s.connections)))) (sym same)
+        subst (λ (z : Client). GoesTo (as_subscriber limits s) (as_subscriber limits (placed s (at_packet κ.name w.packet (packet_mark limits s.past z w.packet)) (with_one_counted i s.connections)))) (sym same)
         (own_packet limits s i κ w w.packet
         (record { n = n; shape = shape; steady = steady; at = at; next = next; taken = taken; current = subst (λ (z : Client). current_connection s.past z ≡ Some κ.name) same served }) good refl)

@@ -9,7 +9,7 @@ use Rattle.exactly_once.specs.HandshakeInvariant.{IsGood}
 use Rattle.client_base.specs.Keeper.{Written}
 use Rattle.exactly_once.specs.Sides.{ClientConnection}
 use Rattle.exactly_once.specs.Story.{Story}
-use Rattle.exactly_once.specs.StoryCommands.{command_of, counted_at}
+use Rattle.exactly_once.specs.StoryCommands.{command_of, with_one_counted}
 use Rattle.exactly_once.specs.Inside.Projections.{GoesTo}
 use Rattle.exactly_once.specs.Inside.AsSubscriber.{as_subscriber}
 use Rattle.exactly_once.specs.Inside.Shape.{HasShape}
@@ -23,11 +23,11 @@ use Rattle.exactly_once.proofs.subscribing.events.TakesConnect.{takes_connect}
 -- its next packet is taken
 pub goes_taken : (limits : Limits) (s : Story) → HasShape limits s → IsSteady limits → IsGood (as_subscriber limits s) → (i : ℕ) (κ : ClientConnection) (w : Written)
     → slice_get s.connections i ≡ Some κ → slice_get κ.written κ.taken ≡ Some w
-    → GoesTo (as_subscriber limits s) (as_subscriber limits (placed s (place_of limits s.past (command_of κ.name κ.taken w.packet)) (counted_at i s.connections)))
+    → GoesTo (as_subscriber limits s) (as_subscriber limits (placed s (place_of limits s.past (command_of κ.name κ.taken w.packet)) (with_one_counted i s.connections)))
 goes_taken limits s shape steady good i κ w at next = by κ.taken refl
   where
     goal : Command → Type 0
-    goal command = GoesTo (as_subscriber limits s) (as_subscriber limits (placed s (place_of limits s.past command) (counted_at i s.connections)))
+    goal command = GoesTo (as_subscriber limits s) (as_subscriber limits (placed s (place_of limits s.past command) (with_one_counted i s.connections)))
 
     in_shape : ConnectionInShape limits s.past s.keeper.client κ
     in_shape = each_at (ConnectionInShape limits s.past s.keeper.client) s.connections i κ shape.connections at

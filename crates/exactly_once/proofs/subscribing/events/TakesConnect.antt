@@ -19,9 +19,9 @@ use Rattle.exactly_once.specs.Sends.{sends_to}
 use Rattle.client_base.specs.Keeper.{Written}
 use Rattle.exactly_once.specs.Sides.{ClientConnection}
 use Rattle.exactly_once.specs.Story.{Story}
-use Rattle.exactly_once.specs.StoryCommands.{counted_at, count_of}
+use Rattle.exactly_once.specs.StoryCommands.{with_one_counted, packet_count}
 use Rattle.exactly_once.specs.Inside.Projections.{GoesTo}
-use Rattle.exactly_once.specs.Inside.AsSubscriber.{items_of, forward_of, held, left_behind, transit_to, as_subscriber}
+use Rattle.exactly_once.specs.Inside.AsSubscriber.{items_of_entries, forward_of, held, left_behind, transit_to, as_subscriber}
 use Rattle.exactly_once.proofs.subscribing.Views.{link_as, link_is}
 use Rattle.exactly_once.proofs.subscribing.Placed.{placed}
 use Rattle.exactly_once.proofs.subscribing.Plain.{plain_goes}
@@ -50,11 +50,11 @@ full_ends y c (Some x) e = absurd (cc)
 
 -- refused so, on a connection that the client does not hold
 full_stale : (limits : Limits) (s : Story) (i : ℕ) (κ : ClientConnection) (w : Written) → IsOpening limits s i κ w → IsStale s.keeper s.connections i → current_connection s.past s.keeper.client ≡ None
-    → GoesTo (as_subscriber limits s) (as_subscriber limits (placed s (at_full κ.name s.keeper.client) (counted_at i s.connections)))
+    → GoesTo (as_subscriber limits s) (as_subscriber limits (placed s (at_full κ.name s.keeper.client) (with_one_counted i s.connections)))
 full_stale limits s i κ w o stale none =
     let place = at_full κ.name s.keeper.client in
     let current = current_connection s.past s.keeper.client in
-    plain_goes limits s place (counted_at i s.connections) o.shape
+    plain_goes limits s place (with_one_counted i s.connections) o.shape
     (record {
       opens = refl;
       goes = full_ends κ.name s.keeper.client current none;
@@ -63,12 +63,12 @@ full_stale limits s i κ w o stale none =
       sends = λ x h. full_sends limits s.past κ.name x s.keeper.client ∙ sym (ap (λ l. forward_of (sends_to x l)) (none_handed limits place s.past s.keeper.client refl));
     })
     (stale limits (place ∷ s.past) current) (accepted_counted i s.connections)
-    (ap (λ z. left_behind z (counted_at i s.connections)) none ∙ nothing_behind (counted_at i s.connections) ∙ sym (ap (λ z. left_behind z s.connections) none ∙ nothing_behind s.connections))
+    (ap (λ z. left_behind z (with_one_counted i s.connections)) none ∙ nothing_behind (with_one_counted i s.connections) ∙ sym (ap (λ z. left_behind z s.connections) none ∙ nothing_behind s.connections))
 
 -- and on the one that it holds
 full_fresh : (limits : Limits) (s : Story) (i : ℕ) (κ : ClientConnection) (w : Written) → IsOpening limits s i κ w → IsFresh s.keeper s.connections i κ → session_of s.past s.keeper.client ≡ None
     → current_connection s.past s.keeper.client ≡ None
-    → GoesTo (as_subscriber limits s) (as_subscriber limits (placed s (at_full κ.name s.keeper.client) (counted_at i s.connections)))
+    → GoesTo (as_subscriber limits s) (as_subscriber limits (placed s (at_full κ.name s.keeper.client) (with_one_counted i s.connections)))
 full_fresh limits s i κ w o fresh session none =
     let c = s.keeper.client in
     let place = at_full κ.name c in
@@ -78,12 +78,12 @@ full_fresh limits s i κ w o fresh session none =
       between = with_items h.items (Transit.Ahead []) h;
       run = goes_on stays parts_ahead;
       like = record {
-        items = ap items_of (no_entries limits s.past c session ∙ sym (entries_none limits place s.past c refl session));
+        items = ap items_of_entries (no_entries limits s.past c session ∙ sym (entries_none limits place s.past c refl session));
         accepted = sym (accepted_counted i s.connections);
         received = λ id. refl;
-        transit = sym (ap (λ (z : Option ConnectionName). transit_to limits (place ∷ s.past) z (counted_at i s.connections) (held s.keeper (counted_at i s.connections))) over
-            ∙ link_is limits (place ∷ s.past) None s.keeper (counted_at i s.connections)
-            ∙ ap (λ v. link_as v (left_behind None (counted_at i s.connections)))
+        transit = sym (ap (λ (z : Option ConnectionName). transit_to limits (place ∷ s.past) z (with_one_counted i s.connections) (held s.keeper (with_one_counted i s.connections))) over
+            ∙ link_is limits (place ∷ s.past) None s.keeper (with_one_counted i s.connections)
+            ∙ ap (λ v. link_as v (left_behind None (with_one_counted i s.connections)))
             (fresh.behind limits (place ∷ s.past) None ∙ ap (λ l. Some (l, false)) (new_comes limits place s.past c κ w o.good o.new ∙ full_sends limits s.past κ.name κ.name c)));
       };
     }
@@ -91,7 +91,7 @@ full_fresh limits s i κ w o fresh session none =
 -- by what happens to it
 pub takes_connect : (limits : Limits) (s : Story) (i : ℕ) (κ : ClientConnection) (w : Written) → IsOpening limits s i κ w
     → GoesTo (as_subscriber limits s)
-    (as_subscriber limits (placed s (at_connect κ.name s.keeper.client false (connect_mark limits s.past s.keeper.client (owner_of s.past κ.name))) (counted_at i s.connections)))
+    (as_subscriber limits (placed s (at_connect κ.name s.keeper.client false (connect_mark limits s.past s.keeper.client (owner_of s.past κ.name))) (with_one_counted i s.connections)))
 takes_connect limits s i κ w o = by (owner_of s.past κ.name) refl (fresh_or_stale s.keeper s.connections i κ o.at o.taken)
   where
     c : Client
@@ -100,11 +100,11 @@ takes_connect limits s i κ w o = by (owner_of s.past κ.name) refl (fresh_or_st
     served : (d : Client) → owner_of s.past κ.name ≡ Some d → ⊥
     served d e =
         let f = served_counted s.past d κ.name (owner_is s.past κ.name d e) in
-        let g : count_of κ.name s.past ≡ 0 = o.good.counted ∙ o.taken in
+        let g : packet_count κ.name s.past ≡ 0 = o.good.counted ∙ o.taken in
         absurd (omega (arith, f, g))
 
     room : (a b : Bool) → is_some (session_of s.past s.keeper.client) ≡ a → IsFresh s.keeper s.connections i κ ⊎ IsStale s.keeper s.connections i
-        → GoesTo (as_subscriber limits s) (as_subscriber limits (placed s (at_connect κ.name s.keeper.client false (if a || b then Mark.Accepted else Mark.Full)) (counted_at i s.connections)))
+        → GoesTo (as_subscriber limits s) (as_subscriber limits (placed s (at_connect κ.name s.keeper.client false (if a || b then Mark.Accepted else Mark.Full)) (with_one_counted i s.connections)))
     room true b e (inl fresh) = accepted_fresh limits s i κ w o fresh
     room true b e (inr stale) = accepted_stale limits s i κ w o stale
     room false true e (inl fresh) = accepted_fresh limits s i κ w o fresh
@@ -112,12 +112,12 @@ takes_connect limits s i κ w o = by (owner_of s.past κ.name) refl (fresh_or_st
     room false false e f = turned f (session_of s.past s.keeper.client) refl e
       where
         turned : IsFresh s.keeper s.connections i κ ⊎ IsStale s.keeper s.connections i → (session : Option Bool) → session_of s.past s.keeper.client ≡ session → is_some (session_of s.past s.keeper.client) ≡ false
-            → GoesTo (as_subscriber limits s) (as_subscriber limits (placed s (at_full κ.name s.keeper.client) (counted_at i s.connections)))
+            → GoesTo (as_subscriber limits s) (as_subscriber limits (placed s (at_full κ.name s.keeper.client) (with_one_counted i s.connections)))
         turned (inl fresh) None g e = full_fresh limits s i κ w o fresh g (no_connection s.past s.keeper.client g)
         turned (inr stale) None g e = full_stale limits s i κ w o stale (no_connection s.past s.keeper.client g)
         turned f (Some clean) g e = absurd (both_ways true (sym (ap is_some g) ∙ e) refl)
 
     by : (owner : Option Client) → owner_of s.past κ.name ≡ owner → IsFresh s.keeper s.connections i κ ⊎ IsStale s.keeper s.connections i
-        → GoesTo (as_subscriber limits s) (as_subscriber limits (placed s (at_connect κ.name s.keeper.client false (connect_mark limits s.past s.keeper.client owner)) (counted_at i s.connections)))
+        → GoesTo (as_subscriber limits s) (as_subscriber limits (placed s (at_connect κ.name s.keeper.client false (connect_mark limits s.past s.keeper.client owner)) (with_one_counted i s.connections)))
     by (Some d) e f = absurd (served d e)
     by None e f = room (is_some (session_of s.past s.keeper.client)) (nat_lt (length (clients s.past)) limits.sessions) refl f

@@ -19,10 +19,10 @@ use Rattle.broker_base.specs.broker_spec.declared.command.Command.TheVariants as
 use Rattle.broker_base.proofs.of_broker_spec.ClientsInOrder.{same_self}
 use Rattle.broker_base.proofs.of_broker_spec.EntriesStartedBefore.{before_below}
 use Rattle.broker_base.proofs.QueueAfter.{sound_entries}
-use Rattle.exactly_once.specs.Handshake.{publishing, resend}
+use Rattle.exactly_once.specs.Handshake.{publishing, sender_resends}
 use Rattle.exactly_once.specs.Sends.{sends_to}
-use Rattle.exactly_once.specs.StoryCommands.{is_packet_of, count_of}
-use Rattle.exactly_once.specs.Inside.AsSubscriber.{items_of, forward_of}
+use Rattle.exactly_once.specs.StoryCommands.{is_packet_of, packet_count}
+use Rattle.exactly_once.specs.Inside.AsSubscriber.{items_of_entries, forward_of}
 use Rattle.exactly_once.proofs.Starts.{rows_started}
 use Rattle.exactly_once.proofs.Takes.{same_name_self}
 use Rattle.exactly_once.proofs.subscribing.Resending.{forward_resent}
@@ -82,7 +82,7 @@ accepted_entries limits past y c session =
 -- what its connection is sent
 pub accepted_sends : (limits : Limits) (past : Past) (y : ConnectionName) (c : Client) → (session_of past c ≡ None) ⊎ (session_of past c ≡ Some false)
     → forward_of (sends_to y (answers_at limits (at_accepted y c) past))
-    ≡ resend (released_below (length past) (entries_of limits past c)) (items_of (entries_of limits past c))
+    ≡ sender_resends (released_below (length past) (entries_of limits past c)) (items_of_entries (entries_of limits past c))
     ++ map publishing (rows_started (window_at limits (at_accepted y c ∷ past)) [] (entries_of limits past c))
 accepted_sends limits past y c session =
     let place = at_accepted y c in
@@ -122,9 +122,9 @@ served_by None true old x b n f g e = absurd (cc)
 served_by None false old x b n f g e = more_counted b n (g e)
 
 -- it has
-pub served_counted : (past : Past) (c : Client) (x : ConnectionName) → current_connection past c ≡ Some x → 1 ≤ count_of x past
+pub served_counted : (past : Past) (c : Client) (x : ConnectionName) → current_connection past c ≡ Some x → 1 ≤ packet_count x past
 unfolding current_connection
 served_counted [] c x e = absurd (cc)
 served_counted (place ∷ past) c x e =
-    served_by (accepts place.command place.mark c) (ends_any place c (current_connection past c)) (current_connection past c) x (is_packet_of place.command x) (count_of x past)
-    (λ clean f. accepts_counted place.command place.mark c x clean (count_of x past) f) (λ f. served_counted past c x f) e
+    served_by (accepts place.command place.mark c) (ends_any place c (current_connection past c)) (current_connection past c) x (is_packet_of place.command x) (packet_count x past)
+    (λ clean f. accepts_counted place.command place.mark c x clean (packet_count x past) f) (λ f. served_counted past c x f) e
