@@ -7,7 +7,7 @@ use Rattle.std.proofs.lemmas.List.{reverse-append}
 use Rattle.lists.proofs.Tables.{found_put, found_without, put_rises, without_rises, put_one_more, put_known, without_fewer}
 use Rattle.packet_base.specs.declared.qos.QoS.{QoS}
 use Rattle.retained.specs.declared.retained_publication.RetainedPublication.{RetainedPublication}
-use Rattle.retained.specs.Retained.{RetainedTopics, IsRising, publication_on, with_topic, after_put, is_empty, is_full_for, is_refused}
+use Rattle.retained.specs.Retained.{RetainedTopics, IsRising, publication_on, with_topic, after_put, is_empty, is_full_for, is_retaining_refused}
 use Rattle.retained.specs.Laws.{Put, After, is_on, last_on, kept_of, kept_of_payload, LastIsRetained, StaysInBounds}
 
 -- ---- the last publication
@@ -43,7 +43,7 @@ stays_few content topic kept None rising found taken few =
 not_empty : (byte : ℕ) (payload : List ℕ) → not (is_empty (byte ∷ payload)) ≡ true
 not_empty byte payload = search rules
 
-within : (content : RetainedTopics) (p : Put) (payload : List ℕ) → is_refused content p.topic payload ≡ false →
+within : (content : RetainedTopics) (p : Put) (payload : List ℕ) → is_retaining_refused content p.topic payload ≡ false →
     IsRising content × (length content ≤ 16384) →
     IsRising (after_put content p.topic p.qos payload) × (length (after_put content p.topic p.qos payload) ≤ 16384)
 within content p [] taken h =

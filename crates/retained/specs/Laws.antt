@@ -7,7 +7,7 @@ use Rattle.std.specs.Cmp.Lexicographic.{slice_cmp}
 use Rattle.std.specs.Ordering.{nat_cmp}
 use Rattle.packet_base.specs.declared.qos.QoS.{QoS}
 use Rattle.retained.specs.declared.retained_publication.RetainedPublication.{RetainedPublication}
-use Rattle.retained.specs.Retained.{RetainedTopics, IsRising, publication_on, after_put, is_refused}
+use Rattle.retained.specs.Retained.{RetainedTopics, IsRising, publication_on, after_put, is_retaining_refused}
 use Rattle.retained.specs.Retained.{max_topics}
 
 -- a publication with RETAIN 1
@@ -23,7 +23,7 @@ pub data After : List Put → RetainedTopics → Type 0 where
   nothing : After [] []
   -- one more that is taken
   put : {puts : List Put} {content : RetainedTopics} (p : Put) → After puts content
-      → is_refused content p.topic p.payload ≡ false
+      → is_retaining_refused content p.topic p.payload ≡ false
       → After (puts ++ p ∷ []) (after_put content p.topic p.qos p.payload)
 
 -- whether a publication is on this topic

@@ -4,6 +4,6 @@ use Rattle.retained.specs.declared.error.RetainedError.{RetainedError}
 use Rattle.retained.specs.declared.error.RetainedError.TheVariants.{RetainedFull, Memory}
 
 -- the number of each error, as in the table of refusals
-abbrev pub number_of : RetainedError → ℕ
-number_of RetainedFull = 16
-number_of Memory = 12
+abbrev pub retained_error_number : RetainedError → ℕ
+retained_error_number RetainedFull = 16
+retained_error_number Memory = 12

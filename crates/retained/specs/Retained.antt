@@ -50,8 +50,8 @@ is_full_for content topic =
     is_none (publication_on topic content) && nat_le max_topics (length content)
 
 -- the publication is refused: an empty payload never is
-abbrev pub is_refused : RetainedTopics → List ℕ → List ℕ → Bool
-is_refused content topic payload = not (is_empty payload) && is_full_for content topic
+abbrev pub is_retaining_refused : RetainedTopics → List ℕ → List ℕ → Bool
+is_retaining_refused content topic payload = not (is_empty payload) && is_full_for content topic
 
 -- the topics that the filter matches, with what is kept of them (MQTT 3.3.1.3)
 abbrev pub matching_entries : RetainedTopics → List ℕ → RetainedTopics

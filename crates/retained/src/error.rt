@@ -1,7 +1,7 @@
 // Why the store refused a publication.
 
 ghost use Rattle.std.specs.Prelude.{◌≡◌};
-ghost use Rattle.retained.specs.Refusals.{number_of};
+ghost use Rattle.retained.specs.Refusals.{retained_error_number};
 
 use std::alloc::{AllocError, AllocFailed};
 use std::error::Error;
@@ -19,7 +19,7 @@ pub enum RetainedError {
 impl RetainedError {
     /// Returns the number of this refusal, the same in every program and document of this broker.
     pub fn number(self) -> u8
-        ensures { result ≡ number_of self }
+        ensures { result ≡ retained_error_number self }
     {
         match self {
             RetainedError::RetainedFull => 16,

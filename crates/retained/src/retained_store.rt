@@ -6,7 +6,7 @@ ghost use Rattle.std.specs.Cmp.Lexicographic.{slice_cmp};
 ghost use Rattle.std.specs.Ordering.{nat_cmp};
 ghost use Rattle.topics.specs.Text.{has_no_wildcard};
 ghost use Rattle.retained.specs.Retained.{IsRising, publication_on, after_put, with_topic};
-ghost use Rattle.retained.specs.Retained.{without_topic, is_full_for, is_refused, matching_entries};
+ghost use Rattle.retained.specs.Retained.{without_topic, is_full_for, is_retaining_refused, matching_entries};
 
 use crate::error::RetainedError;
 use crate::finding::append_matching;
@@ -75,7 +75,7 @@ impl RetainedStore {
 
     /// Says whether [`RetainedStore::put`] would answer `RetainedFull`.
     pub fn refuses(&self, topic: &TopicName, payload: &Payload) -> bool
-        ensures { result ≡ is_refused self.now topic.now payload.now }
+        ensures { result ≡ is_retaining_refused self.now topic.now payload.now }
     {
         !payload.as_slice().is_empty() && self.is_full_for(topic)
     }
@@ -88,7 +88,7 @@ impl RetainedStore {
 
         // Each refusal leaves the store as it was.
         ensures full { (result ≡ Err RetainedError.RetainedFull)
-            ↔ IsTrue (is_refused self.old topic payload) }
+            ↔ IsTrue (is_retaining_refused self.old topic payload) }
         ensures memory { result ≡ Err RetainedError.Memory
             → IsNone (publication_on topic self.old) }
         ensures removal { payload ≡ [] → IsOk result }
