@@ -4,6 +4,6 @@ use Rattle.session.specs.declared.error.EnqueueError.{EnqueueError}
 use Rattle.session.specs.declared.error.EnqueueError.TheVariants.{QueueFull, Memory}
 
 -- the number of each error, as in the table of refusals
-abbrev pub number_of : EnqueueError → ℕ
-number_of QueueFull = 15
-number_of Memory = 12
+abbrev pub enqueue_error_number : EnqueueError → ℕ
+enqueue_error_number QueueFull = 15
+enqueue_error_number Memory = 12

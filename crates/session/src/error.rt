@@ -1,7 +1,7 @@
 // Why a session refused a publication.
 
 ghost use Rattle.std.specs.Prelude.{◌≡◌};
-ghost use Rattle.session.specs.Refusals.{number_of};
+ghost use Rattle.session.specs.Refusals.{enqueue_error_number};
 
 use std::alloc::{AllocError, AllocFailed};
 use std::error::Error;
@@ -19,7 +19,7 @@ pub enum EnqueueError {
 impl EnqueueError {
     /// Returns the number of this refusal, the same in every program and document of this broker.
     pub fn number(self) -> u8
-        ensures { result ≡ number_of self }
+        ensures { result ≡ enqueue_error_number self }
     {
         match self {
             EnqueueError::QueueFull => 15,
