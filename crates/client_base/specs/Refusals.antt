@@ -1,6 +1,6 @@
 -- The numbers of what a client refuses.
 use Rattle.std.specs.Prelude.{ℕ}
-use Rattle.topics.specs.Refusals.{number_of}
+use Rattle.topics.specs.Refusals.{malformed_number}
 use Rattle.client_base.specs.declared.error.ClientError.{ClientError}
 use Rattle.client_base.specs.declared.error.ClientError.TheVariants as errors
 
@@ -11,5 +11,5 @@ client_number errors.WindowFull = 22
 client_number errors.TooLarge = 4
 client_number errors.SessionLost = 23
 client_number errors.Protocol = 11
-client_number (errors.Malformed kind) = number_of kind
+client_number (errors.Malformed kind) = malformed_number kind
 client_number errors.Memory = 12

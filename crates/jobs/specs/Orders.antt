@@ -8,7 +8,7 @@ use Rattle.script.specs.ballot_base.declared.status.Role.{Role}
 use Rattle.script.specs.ballot_base.declared.status.Role.TheVariants as roles
 use Rattle.script.specs.ballot_base.declared.status.Status.{Status}
 use Rattle.command_line.specs.packet_base.ClientId.{client_fault}
-use Rattle.topics.specs.Refusals.{number_of}
+use Rattle.topics.specs.Refusals.{malformed_number}
 use Rattle.topics.specs.declared.malformed.MalformedKind.{MalformedKind}
 use Rattle.topics.specs.declared.malformed.MalformedKind.TheVariants as kinds
 use Rattle.jobs.specs.declared.obeying.Order.{Order}
@@ -19,7 +19,7 @@ use Rattle.jobs.specs.declared.word_fault.WordFault.TheVariants as faults
 -- the fault of a malformed text
 abbrev pub fault_of : MalformedKind → WordFault
 fault_of kinds.Memory = faults.Memory
-fault_of kind = faults.Refused (number_of kind)
+fault_of kind = faults.Refused (malformed_number kind)
 
 -- the number by which a word is refused
 abbrev pub refused_number : WordFault → ℕ

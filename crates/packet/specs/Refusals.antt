@@ -1,6 +1,6 @@
 -- The numbers of the refusals, as in the table of refusals.
 use Rattle.std.specs.Prelude.{ℕ, Option, Some, None}
-use Rattle.topics.specs.Refusals.{number_of}
+use Rattle.topics.specs.Refusals.{malformed_number}
 use Rattle.packet.specs.declared.error.DecodeFault.{DecodeFault}
 use Rattle.packet.specs.declared.error.DecodeFault.TheVariants as faults
 use Rattle.packet.specs.declared.error.EncodeFault.{EncodeFault}
@@ -8,7 +8,7 @@ use Rattle.packet.specs.declared.error.EncodeFault.TheVariants as encode_faults
 
 -- a malformed packet has its kind's number, a refused CONNECT has none
 abbrev pub decode_number : DecodeFault → Option ℕ
-decode_number (faults.Malformed kind) = Some (number_of kind)
+decode_number (faults.Malformed kind) = Some (malformed_number kind)
 decode_number (faults.Refused code) = None
 
 -- a packet that cannot be encoded has the number of its fault

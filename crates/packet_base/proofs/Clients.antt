@@ -4,14 +4,14 @@ use Rattle.std.specs.Prelude.{not, ◌&&◌, is_none}
 use Rattle.std.specs.Str.{IsUtf8, is_utf8}
 use Rattle.std.proofs.lemmas.Bool.{ltb-true}
 use Rattle.std.proofs.lemmas.Str.{is_utf8-from_IsUtf8}
-use Rattle.topics.specs.Text.{has}
+use Rattle.topics.specs.Text.{contains_byte}
 use Rattle.topics.specs.declared.malformed.MalformedKind.{MalformedKind}
 use Rattle.topics.specs.declared.malformed.MalformedKind.TheVariants as kinds
 use Rattle.packet_base.specs.Reading.{is_text}
 use Rattle.packet_base.specs.ClientId.{has_client_length, is_client}
 
 -- a text of the right length without U+0000 is one
-pub is_client_none : (text : List ℕ) → IsUtf8 text → has_client_length text ≡ true → has 0 text ≡ false → is_client text ≡ true
+pub is_client_none : (text : List ℕ) → IsUtf8 text → has_client_length text ≡ true → contains_byte 0 text ≡ false → is_client text ≡ true
 is_client_none text formed len null = rw (is_utf8-from_IsUtf8 text formed, len, null) refl
 
 joined : (formed null len : Bool) (a b : MalformedKind) → (formed && not null) ≡ true → len ≡ true → (formed && is_none (cond (not len) (Some a) (cond null (Some b) None))) ≡ true
@@ -22,7 +22,7 @@ joined true false false a b t l = absurd cc
 
 -- a text that was read, and has that length, is one too
 pub client_checked : (text : List ℕ) → is_text text ≡ true → has_client_length text ≡ true → is_client text ≡ true
-client_checked text good len = joined (is_utf8 text) (has 0 text) (has_client_length text) kinds.Identifier kinds.Text good len
+client_checked text good len = joined (is_utf8 text) (contains_byte 0 text) (has_client_length text) kinds.Identifier kinds.Text good len
 
 parted : (formed null len : Bool) (a b : MalformedKind) → (formed && is_none (cond (not len) (Some a) (cond null (Some b) None))) ≡ true → ((formed && not null) ≡ true) × (len ≡ true)
 parted true false true a b t = (refl, refl)
@@ -32,7 +32,7 @@ parted true null false a b t = absurd cc
 
 -- a Client Identifier is a text of that length
 pub client_parts : (text : List ℕ) → is_client text ≡ true → (is_text text ≡ true) × (has_client_length text ≡ true)
-client_parts text good = parted (is_utf8 text) (has 0 text) (has_client_length text) kinds.Identifier kinds.Text good
+client_parts text good = parted (is_utf8 text) (contains_byte 0 text) (has_client_length text) kinds.Identifier kinds.Text good
 
 both_true : (a b : Bool) → (a && b) ≡ true → b ≡ true
 both_true true true t = refl

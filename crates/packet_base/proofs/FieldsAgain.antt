@@ -8,7 +8,7 @@ use Rattle.std.proofs.lemmas.Nat.{from_be_bytes-to_be_bytes_2}
 use Rattle.packet_base.specs.Spelling.{number, text}
 use Rattle.topics.specs.declared.malformed.MalformedKind.{MalformedKind}
 use Rattle.topics.specs.declared.malformed.MalformedKind.TheVariants as kinds
-use Rattle.topics.specs.Text.{has, levels, has_length, has_no_wildcard, has_wildcards_in_place, is_shallow, topic_fault, filter_fault, is_topic, is_filter}
+use Rattle.topics.specs.Text.{contains_byte, levels, has_length, has_no_wildcard, has_wildcards_in_place, is_shallow, topic_fault, filter_fault, is_topic, is_filter}
 use Rattle.packet_base.specs.Reading.{front_at, number_at, id_at, text_of, text_at, is_text}
 use Rattle.packet_base.specs.TopicFields.{topic_at, filter_at}
 
@@ -55,12 +55,12 @@ short_name bytes good = let few : length bytes ≤ 65535 = leb-true (length byte
 
 pub topic_parts : (bytes : List ℕ) → is_topic bytes ≡ true → (is_text bytes ≡ true) × (length bytes < 2 ^ 16) × (topic_fault bytes ≡ None)
 topic_parts bytes good =
-    let h = named_parts (is_utf8 bytes) (has 0 bytes) (has_length bytes) (has_no_wildcard bytes) (is_shallow bytes) kinds.Text kinds.Topic kinds.TooDeep good in
+    let h = named_parts (is_utf8 bytes) (contains_byte 0 bytes) (has_length bytes) (has_no_wildcard bytes) (is_shallow bytes) kinds.Text kinds.Topic kinds.TooDeep good in
     (h.0, short_name bytes h.1, h.2)
 
 pub filter_parts : (bytes : List ℕ) → is_filter bytes ≡ true → (is_text bytes ≡ true) × (length bytes < 2 ^ 16) × (filter_fault bytes ≡ None)
 filter_parts bytes good =
-    let h = named_parts (is_utf8 bytes) (has 0 bytes) (has_length bytes) (has_wildcards_in_place (levels bytes)) (is_shallow bytes) kinds.Text kinds.Filter kinds.TooDeep good in
+    let h = named_parts (is_utf8 bytes) (contains_byte 0 bytes) (has_length bytes) (has_wildcards_in_place (levels bytes)) (is_shallow bytes) kinds.Text kinds.Filter kinds.TooDeep good in
     (h.0, short_name bytes h.1, h.2)
 
 pub topic_again : (bytes rest : List ℕ) → is_topic bytes ≡ true → topic_at (text bytes ++ rest) ≡ Ok (bytes, rest)

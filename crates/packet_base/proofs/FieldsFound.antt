@@ -7,7 +7,7 @@ use Rattle.std.proofs.lemmas.List.{take-append-drop, length-take, get_or-drop, g
 use Rattle.std.proofs.lemmas.Nat.{be_bytes_2}
 use Rattle.std.specs.Str.{is_utf8}
 use Rattle.topics.specs.declared.malformed.MalformedKind.{MalformedKind}
-use Rattle.topics.specs.Text.{has, topic_fault, filter_fault, is_topic, is_filter}
+use Rattle.topics.specs.Text.{contains_byte, topic_fault, filter_fault, is_topic, is_filter}
 use Rattle.packet_base.specs.Spelling.{number, text}
 use Rattle.packet_base.specs.Reading.{AreBytes, ◌>>◌, byte_at, front_at, number_at, id_at, text_of, text_at, ended, is_text}
 use Rattle.packet_base.specs.TopicFields.{faultless, topic_of, topic_at, filter_of, filter_at}
@@ -92,7 +92,7 @@ ended_found (b ∷ bytes) = tt
 
 -- a text is well-formed UTF-8
 pub formed_text : (bytes : List ℕ) → is_text bytes ≡ true → is_utf8 bytes ≡ true
-formed_text bytes good = first_of_both (is_utf8 bytes) (not (has 0 bytes)) good
+formed_text bytes good = first_of_both (is_utf8 bytes) (not (contains_byte 0 bytes)) good
   where
     first_of_both : (a b : Bool) → (a && b) ≡ true → a ≡ true
     first_of_both true b t = refl

@@ -6,7 +6,7 @@ use Rattle.std.specs.Str.{IsUtf8, is_utf8}
 use Rattle.std.proofs.lemmas.Str.{IsUtf8-from_is_utf8, is_utf8-from_IsUtf8}
 use Rattle.topics.specs.declared.malformed.MalformedKind.{MalformedKind}
 use Rattle.topics.specs.declared.malformed.MalformedKind.TheVariants as kinds
-use Rattle.topics.specs.Text.{has, topic_fault, filter_fault, RefusesBy}
+use Rattle.topics.specs.Text.{contains_byte, topic_fault, filter_fault, RefusesBy}
 use Rattle.packet_base.specs.declared.stop.Stop.{Stop}
 use Rattle.packet_base.specs.declared.stop.Stop.TheVariants as stops
 use Rattle.packet_base.specs.Outcome.{StopsBy}
@@ -39,10 +39,10 @@ once true text checks refuse = sym (refuse refl)
 once false text checks refuse = refl
 
 name_once : (text : List ℕ) → IsUtf8 text → name_of text ≡ topic_of text
-name_once text formed = rw (is_utf8-from_IsUtf8 text formed) (once (has 0 text) text topic_of (λ null. rw null refl))
+name_once text formed = rw (is_utf8-from_IsUtf8 text formed) (once (contains_byte 0 text) text topic_of (λ null. rw null refl))
 
 pattern_once : (text : List ℕ) → IsUtf8 text → pattern_of text ≡ filter_of text
-pattern_once text formed = rw (is_utf8-from_IsUtf8 text formed) (once (has 0 text) text filter_of (λ null. rw null refl))
+pattern_once text formed = rw (is_utf8-from_IsUtf8 text formed) (once (contains_byte 0 text) text filter_of (λ null. rw null refl))
 
 stops_at : {Y : Type 0} (kind : MalformedKind) (read : Result Y Stop) → read ≡ Err (stops.Malformed kind) → StopsBy (stops.Malformed kind) read
 stops_at kinds.Memory read e = tt

@@ -2,7 +2,7 @@
 use Rattle.std.specs.Prelude.{ℕ, Bool, not, ◌&&◌, nat_lt, if◌then◌else◌, List, length, Option, Some}
 use Rattle.std.specs.Prelude.{None, is_none}
 use Rattle.std.specs.Str.{is_utf8}
-use Rattle.topics.specs.Text.{has}
+use Rattle.topics.specs.Text.{contains_byte}
 use Rattle.topics.specs.declared.malformed.MalformedKind.{MalformedKind}
 use Rattle.topics.specs.declared.malformed.MalformedKind.TheVariants as kinds
 
@@ -14,7 +14,7 @@ has_client_length text = nat_lt 0 (length text) && nat_lt (length text) 65
 abbrev pub client_fault : List ℕ → Option MalformedKind
 client_fault text =
     if not (has_client_length text) then Some kinds.Identifier else
-    if has 0 text then Some kinds.Text else None
+    if contains_byte 0 text then Some kinds.Text else None
 
 -- bytes that a `ClientId` may hold
 abbrev pub is_client : List ℕ → Bool

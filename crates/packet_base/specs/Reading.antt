@@ -3,7 +3,7 @@ use Rattle.std.specs.Prelude.{ℕ, ◌+◌, ◌-◌, ◌*◌, ◌<◌, nat_lt, �
 use Rattle.std.specs.Prelude.{if◌then◌else◌, List, [], ◌∷◌, length, get_or, take, drop, Result, Ok, Err}
 use Rattle.std.specs.Int.{w16, from_be_bytes}
 use Rattle.std.specs.Str.{is_utf8}
-use Rattle.topics.specs.Text.{has}
+use Rattle.topics.specs.Text.{contains_byte}
 use Rattle.topics.specs.declared.malformed.MalformedKind.{MalformedKind}
 use Rattle.topics.specs.declared.malformed.MalformedKind.TheVariants as kinds
 use Rattle.packet_base.specs.declared.stop.Stop.{Stop}
@@ -59,7 +59,7 @@ id_at bytes = do
 
 -- well-formed UTF-8 without U+0000 (MQTT 1.5.3)
 abbrev pub is_text : List ℕ → Bool
-is_text bytes = is_utf8 bytes && not (has 0 bytes)
+is_text bytes = is_utf8 bytes && not (contains_byte 0 bytes)
 
 -- bytes that have to be a text
 abbrev pub text_of : List ℕ → Result (List ℕ) Stop

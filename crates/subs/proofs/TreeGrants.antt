@@ -13,7 +13,7 @@ use Rattle.std.proofs.lemmas.Map.Text.{is_eq-slice_cmp}
 use Rattle.std.proofs.lemmas.List.Splits.{slice_split-cons_no}
 use Rattle.std.proofs.lemmas.List.Elements.{All-nil, All-cons, All-weaker, Contains-append_right}
 use Rattle.std.specs.Str.{is_utf8}
-use Rattle.topics.specs.Text.{Levels, levels, has_no_wildcard, is_last, is_topic, topic_fault, has, has_length, is_shallow}
+use Rattle.topics.specs.Text.{Levels, levels, has_no_wildcard, is_last, is_topic, topic_fault, contains_byte, has_length, is_shallow}
 use Rattle.topics.specs.declared.malformed.MalformedKind.TheVariants as kinds
 use Rattle.topics.specs.Matching.{Matches, is_all, is_hidden, matches_rest, starts_with, starts_with_wildcard}
 use Rattle.topics.proofs.MatchingIsTested.{tested}
@@ -233,7 +233,7 @@ tree_grants s root topic rows plain ordered found = record {
 pub topic_plain : (topic : List ℕ) → IsTrue (is_topic topic) → has_no_wildcard topic ≡ true
 topic_plain topic is =
     let faultless = (and_parts (is_utf8 topic) (is_none (topic_fault topic)) is).1 in
-    first_part (has 0 topic) (has_length topic) (has_no_wildcard topic) (is_shallow topic) faultless
+    first_part (contains_byte 0 topic) (has_length topic) (has_no_wildcard topic) (is_shallow topic) faultless
   where
     first_part : (null long plain shallow : Bool)
         → is_none (cond null (Some kinds.Text) (cond (not (long && plain)) (Some kinds.Topic) (cond (not shallow) (Some kinds.TooDeep) None))) ≡ true → plain ≡ true

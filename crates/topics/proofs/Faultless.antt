@@ -2,7 +2,7 @@
 use Rattle.std.proofs.Common.{◌≡◌, ℕ, List, true, IsUtf8, Some, None, refl, false, not, cond, subst, sym, ap, Bool, ◌&&◌, is_none}
 use Rattle.std.specs.Str.{is_utf8}
 use Rattle.std.proofs.lemmas.Str.{is_utf8-from_IsUtf8}
-use Rattle.topics.specs.Text.{topic_fault, filter_fault, is_topic, is_filter, has, has_length, has_no_wildcard, has_wildcards_in_place, levels, is_shallow}
+use Rattle.topics.specs.Text.{topic_fault, filter_fault, is_topic, is_filter, contains_byte, has_length, has_no_wildcard, has_wildcards_in_place, levels, is_shallow}
 use Rattle.topics.specs.declared.malformed.MalformedKind.{MalformedKind}
 use Rattle.topics.specs.declared.malformed.MalformedKind.TheVariants as kinds
 
@@ -32,4 +32,4 @@ joined true false true true true a b c d h = refl
 pub is_topic_bare : (text : List ℕ) → is_filter text ≡ true → has_no_wildcard text ≡ true → is_topic text ≡ true
 is_topic_bare text h bare =
     rw (bare)
-    (joined (is_utf8 text) (has 0 text) (has_length text) (has_wildcards_in_place (levels text)) (is_shallow text) kinds.Text kinds.Filter kinds.TooDeep kinds.Topic h)
+    (joined (is_utf8 text) (contains_byte 0 text) (has_length text) (has_wildcards_in_place (levels text)) (is_shallow text) kinds.Text kinds.Filter kinds.TooDeep kinds.Topic h)

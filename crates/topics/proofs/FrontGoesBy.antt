@@ -3,14 +3,14 @@ use Rattle.std.proofs.Common.{◌≡◌, ℕ, List, [], ◌∷◌, Bool, true, f
 use Rattle.std.specs.List.{onto_first}
 use Rattle.std.proofs.lemmas.Bool.{and_parts, eq-eqb}
 use Rattle.std.proofs.lemmas.List.Splits.{slice_split-cons_yes, slice_split-cons_no}
-use Rattle.topics.specs.Text.{Levels, levels, has, has_no_wildcard, may_stand, has_wildcards_in_place, is_last}
+use Rattle.topics.specs.Text.{Levels, levels, contains_byte, has_no_wildcard, may_stand, has_wildcards_in_place, is_last}
 use Rattle.topics.specs.Matching.{matches_rest}
 use Rattle.topics.specs.Inside.{IsPair, IsLeft}
 use Rattle.topics.proofs.LevelByLevel.{is_last_levels}
 
 -- a text without wildcards, byte by byte
 pub no_wildcard_parts : (b : ℕ) (text : List ℕ) → has_no_wildcard (b ∷ text) ≡ true → ((b == 43) ≡ false) × ((b == 35) ≡ false) × (has_no_wildcard text ≡ true)
-no_wildcard_parts b text h = go (b == 43) (b == 35) (has 43 text) (has 35 text) h
+no_wildcard_parts b text h = go (b == 43) (b == 35) (contains_byte 43 text) (contains_byte 35 text) h
   where
     go : (p q r s : Bool) → (not (p || r) && not (q || s)) ≡ true → (p ≡ false) × (q ≡ false) × ((not r && not s) ≡ true)
     go false false r s h = (refl, refl, h)

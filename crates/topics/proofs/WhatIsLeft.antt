@@ -5,7 +5,7 @@ use Rattle.std.specs.List.{onto_first, join_with_byte}
 use Rattle.std.proofs.lemmas.Bool.{and_parts, ne_eqb, eqb-true, false_from_ne_true}
 use Rattle.std.proofs.lemmas.List.Splits.{slice_split-cons_yes, slice_split-cons_no, join_with_byte-slice_split}
 use Rattle.std.proofs.lemmas.Slice.Eq.{bytes_eq-Decides}
-use Rattle.topics.specs.Text.{Levels, levels, has, may_stand, has_wildcards_in_place, is_last}
+use Rattle.topics.specs.Text.{Levels, levels, contains_byte, may_stand, has_wildcards_in_place, is_last}
 use Rattle.topics.specs.Matching.{matches_rest}
 use Rattle.topics.specs.Inside.{matches_levels, IsApart}
 use Rattle.topics.proofs.LevelByLevel.{is_last_levels}
@@ -23,7 +23,7 @@ ended_is (c ∷ topic) = ne_eqb (length (c ∷ topic)) 0 (λ e. omega arith)
 
 -- `#` with more in its level is in no place
 no_more : (b : ℕ) (level : List ℕ) (last : Bool) → may_stand (35 ∷ b ∷ level) last ≡ true → ⊥
-no_more b level last h = go (not (has 43 (b ∷ level))) last h
+no_more b level last h = go (not (contains_byte 43 (b ∷ level))) last h
   where
     go : (a last : Bool) → (((a && false) || false) || (false && last)) ≡ true → ⊥
     go true last h = cc

@@ -18,17 +18,17 @@ use Rattle.topics.specs.declared.malformed.MalformedKind.TheVariants.{
 }
 
 -- the number of each kind, as in the table of refusals
-abbrev pub number_of : MalformedKind → ℕ
-number_of PacketType = 1
-number_of Flags = 2
-number_of Length = 3
-number_of TooLarge = 4
-number_of Text = 5
-number_of Identifier = 6
-number_of Qos = 7
-number_of Topic = 8
-number_of Filter = 9
-number_of Shape = 10
-number_of Protocol = 11
-number_of Memory = 12
-number_of TooDeep = 14
+abbrev pub malformed_number : MalformedKind → ℕ
+malformed_number PacketType = 1
+malformed_number Flags = 2
+malformed_number Length = 3
+malformed_number TooLarge = 4
+malformed_number Text = 5
+malformed_number Identifier = 6
+malformed_number Qos = 7
+malformed_number Topic = 8
+malformed_number Filter = 9
+malformed_number Shape = 10
+malformed_number Protocol = 11
+malformed_number Memory = 12
+malformed_number TooDeep = 14

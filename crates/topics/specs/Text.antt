@@ -46,8 +46,8 @@ levels_of None = []
 levels_of (Some text) = levels text.now
 
 -- whether the byte occurs in the text
-abbrev pub has : ℕ → List ℕ → Bool
-has byte text = list_any (λ b. b == byte) text
+abbrev pub contains_byte : ℕ → List ℕ → Bool
+contains_byte byte text = list_any (λ b. b == byte) text
 
 -- 1 to 65,535 bytes (MQTT 4.7.3)
 abbrev pub has_length : List ℕ → Bool
@@ -59,7 +59,7 @@ is_shallow text = nat_le (length (levels text)) MAX_LEVELS
 
 -- a Topic Name has no wildcard, 43 is `+` and 35 is `#` (MQTT 4.7.1)
 abbrev pub has_no_wildcard : List ℕ → Bool
-has_no_wildcard text = not (has 43 text) && not (has 35 text)
+has_no_wildcard text = not (contains_byte 43 text) && not (contains_byte 35 text)
 
 -- a level without wildcards, or `+` alone, or `#` alone as the last one (MQTT 4.7.1.2, 4.7.1.3)
 abbrev pub may_stand : List ℕ → Bool → Bool
@@ -80,14 +80,14 @@ has_wildcards_in_place (level ∷ rest) =
 -- the first fault of a text as a Topic Name
 abbrev pub topic_fault : List ℕ → Option MalformedKind
 topic_fault text =
-    if has 0 text then Some kinds.Text else
+    if contains_byte 0 text then Some kinds.Text else
     if not (has_length text && has_no_wildcard text) then Some kinds.Topic else
     if not (is_shallow text) then Some kinds.TooDeep else None
 
 -- the first fault of a text as a Topic Filter
 abbrev pub filter_fault : List ℕ → Option MalformedKind
 filter_fault text =
-    if has 0 text then Some kinds.Text else
+    if contains_byte 0 text then Some kinds.Text else
     if not (has_length text && has_wildcards_in_place (levels text)) then Some kinds.Filter else
     if not (is_shallow text) then Some kinds.TooDeep else None
 

@@ -1,7 +1,7 @@
 // The thirteen causes for which bytes or texts are refused, with their numbers.
 
 ghost use Rattle.std.specs.Prelude.{◌≡◌};
-ghost use Rattle.topics.specs.Refusals.{number_of};
+ghost use Rattle.topics.specs.Refusals.{malformed_number};
 
 use std::alloc::{AllocError, AllocFailed};
 use std::error::Error;
@@ -43,7 +43,7 @@ pub enum MalformedKind {
 impl MalformedKind {
     /// Returns the number of this refusal, the same in every program and document of this broker.
     pub fn number(self) -> u8
-        ensures { result ≡ number_of self }
+        ensures { result ≡ malformed_number self }
     {
         match self {
             MalformedKind::PacketType => 1,

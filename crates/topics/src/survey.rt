@@ -1,7 +1,7 @@
 // What is checked in a text, in one pass over its bytes.
 
 ghost use Rattle.std.specs.Prelude.{◌≡◌};
-ghost use Rattle.topics.specs.Text.{has, has_no_wildcard, is_shallow};
+ghost use Rattle.topics.specs.Text.{contains_byte, has_no_wildcard, is_shallow};
 
 /// The most levels that this broker accepts.
 const MAX_LEVELS: usize = 32;
@@ -21,7 +21,7 @@ impl Survey {
     /// Reads the text once, and returns what is known of it.
     #[tactic(auto, using(crate::proofs::OnePass::shallow_is))]
     pub(crate) fn of(text: &[u8]) -> Survey
-        ensures null { result.has_null ≡ has 0 text.now }
+        ensures null { result.has_null ≡ contains_byte 0 text.now }
         ensures wildcard { result.has_no_wildcard ≡ has_no_wildcard text.now }
         ensures shallow { result.is_shallow ≡ is_shallow text.now }
     {

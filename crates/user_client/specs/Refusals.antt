@@ -8,7 +8,7 @@ use Rattle.client.specs.client_base.declared.error.ClientError.TheVariants as er
 use Rattle.client.specs.packet_base.ClientId.{client_fault}
 use Rattle.packet.specs.declared.packet.Packet.{Packet}
 use Rattle.client.specs.session_base.declared.publication.Publication.{Publication}
-use Rattle.topics.specs.Refusals.{number_of}
+use Rattle.topics.specs.Refusals.{malformed_number}
 use Rattle.topics.specs.Text.{filter_fault, topic_fault}
 use Rattle.topics.specs.declared.malformed.MalformedKind.{MalformedKind}
 use Rattle.topics.specs.declared.malformed.MalformedKind.TheVariants as kinds
@@ -18,7 +18,7 @@ use Rattle.user_client.specs.declared.user_client_error.UserClientError.TheVaria
 -- the fault of a malformed text
 abbrev pub fault_of : MalformedKind → UserClientError
 fault_of kinds.Memory = faults.Memory
-fault_of kind = faults.Refused (number_of kind)
+fault_of kind = faults.Refused (malformed_number kind)
 
 -- the fault of a call that is refused
 abbrev pub fault_of_call : ClientError → UserClientError
