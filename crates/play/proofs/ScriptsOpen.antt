@@ -8,7 +8,7 @@ use Rattle.ballot_base.specs.LawfulConfig.{is_lawful}
 use Rattle.script.specs.Fields.{Text, fields_of}
 use Rattle.script.specs.lists.Lists.{Each}
 use Rattle.world.specs.packet_world.World.{ClientsAreApart}
-use Rattle.script.specs.Scripts.{IsOpening, IsScript, are_distinct, are_nodes, has, is_lawful_opening}
+use Rattle.script.specs.Scripts.{IsOpening, IsScript, are_distinct, are_members, has_client, is_lawful_opening}
 use Rattle.script.specs.Scripts.IsOpening.{world}
 use Rattle.script.specs.declared.opening.Opening.{Opening}
 use Rattle.script.specs.declared.reading.Script.{Script}
@@ -22,7 +22,7 @@ opens_so : (opening : Opening)
     → can_open opening.nodes opening.config ≡ true
 opens_so opening is =
     let (few, more) = and_parts (nat_le opening.nodes 15) _ is in
-    let (nodes, config) = and_parts (are_nodes opening.nodes opening.config.members)
+    let (nodes, config) = and_parts (are_members opening.nodes opening.config.members)
     (is_lawful opening.config.members opening.config.primary) more in
     rw (few, config, nodes) refl
 
@@ -34,11 +34,11 @@ script_opens (first ∷ lines) script (opening, script_lines) bad =
 
 -- ---- its clients are apart
 
-others : (client : Text) (clients : List Text) → has clients client ≡ false → Each (λ (other : Text). client ≡ other → ⊥) clients
+others : (client : Text) (clients : List Text) → has_client clients client ≡ false → Each (λ (other : Text). client ≡ other → ⊥) clients
 others client [] none = tt
 others client (other ∷ clients) none = by (bytes_eq other client) refl (others client clients) none
   where
-    by : (b : Bool) → bytes_eq other client ≡ b → (has clients client ≡ false → Each (λ (d : Text). client ≡ d → ⊥) clients) → (b || has clients client) ≡ false
+    by : (b : Bool) → bytes_eq other client ≡ b → (has_client clients client ≡ false → Each (λ (d : Text). client ≡ d → ⊥) clients) → (b || has_client clients client) ≡ false
         → Each (λ (d : Text). client ≡ d → ⊥) (other ∷ clients)
     by true is rest f = absurd (false≢true (sym f))
     by false is rest f = (λ same. false≢true (sym is ∙ (bytes_eq-Decides other client).1 (sym same)), rest f)
@@ -46,8 +46,8 @@ others client (other ∷ clients) none = by (bytes_eq other client) refl (others
 are_apart : (clients : List Text) → are_distinct clients ≡ true → ClientsAreApart clients
 are_apart [] e = tt
 are_apart (client ∷ clients) e =
-    let (alone, more) = and_parts (not (has clients client)) (are_distinct clients) e in
-    (others client clients (is_not (has clients client) alone), are_apart clients more)
+    let (alone, more) = and_parts (not (has_client clients client)) (are_distinct clients) e in
+    (others client clients (is_not (has_client clients client) alone), are_apart clients more)
   where
     is_not : (b : Bool) → not b ≡ true → b ≡ false
     is_not true f = absurd (false≢true f)

@@ -4,7 +4,7 @@ use Rattle.std.proofs.lemmas.Bool.{false≢true}
 use Rattle.std.proofs.Math.ListN.{get_or-map}
 use Rattle.std.proofs.lemmas.List.{length-map, take_more}
 use Rattle.std.proofs.lemmas.Option.{same_Some}
-use Rattle.script.specs.Fields.{Text, all_of, texts, with_first}
+use Rattle.script.specs.Fields.{Text, all_of, texts, with_first_value}
 
 -- the parts of a list that was read
 record FirstAndRest {X : Type 0} (first : Option X) (rest : Option (List X)) (xs : List X) : Type 0 where
@@ -14,13 +14,13 @@ record FirstAndRest {X : Type 0} (first : Option X) (rest : Option (List X)) (xs
   rest_is : rest ≡ Some more
   is : xs ≡ x ∷ more
 
-split_read : {X : Type 0} (first : Option X) (rest : Option (List X)) (xs : List X) → with_first first rest ≡ Some xs
+split_read : {X : Type 0} (first : Option X) (rest : Option (List X)) (xs : List X) → with_first_value first rest ≡ Some xs
     → FirstAndRest first rest xs
 split_read (Some x) (Some more) xs is = record { x = x; more = more; first_is = refl; rest_is = refl; is = sym (same_Some _ _ is) }
 split_read (Some x) None xs is = absurd (false≢true (ap is_some is))
 split_read None rest xs is = absurd (false≢true (ap is_some is))
 
-none_of_rest : {X : Type 0} (first : Option X) → with_first first None ≡ None
+none_of_rest : {X : Type 0} (first : Option X) → with_first_value first None ≡ None
 none_of_rest (Some x) = refl
 none_of_rest None = refl
 
@@ -29,7 +29,7 @@ push_read : {X : Type 0} (reads : Text → Option X) (ts : List Text) (t : Text)
 push_read reads [] t xs x before is = rw (is, ← same_Some _ _ before) refl
 push_read reads (s ∷ ts) t xs x before is =
     let parts = split_read (reads s) (all_of reads ts) xs before in
-    ap₂ with_first parts.first_is (push_read reads ts t parts.more x parts.rest_is is)
+    ap₂ with_first_value parts.first_is (push_read reads ts t parts.more x parts.rest_is is)
     ∙ ap (λ ys. Some (ys ++ x ∷ [])) (sym parts.is)
 
 -- one part more is read
@@ -44,9 +44,9 @@ read_more reads parts i d xs ys x within before is more =
 not_read_at : {X : Type 0} (reads : Text → Option X) (ts : List Text) (i : ℕ) (d : Text)
     → i < length ts → reads (get_or ts i d) ≡ None → all_of reads ts ≡ None
 not_read_at reads [] i d within none = absurd (omega arith)
-not_read_at reads (t ∷ ts) zero d within none = ap (λ o. with_first o (all_of reads ts)) none
+not_read_at reads (t ∷ ts) zero d within none = ap (λ o. with_first_value o (all_of reads ts)) none
 not_read_at reads (t ∷ ts) (suc i) d within none =
-    ap (with_first (reads t)) (not_read_at reads ts i d (omega arith) none) ∙ none_of_rest (reads t)
+    ap (with_first_value (reads t)) (not_read_at reads ts i d (omega arith) none) ∙ none_of_rest (reads t)
 
 -- a part that is not read
 pub not_read : {X : Type 0} (reads : Text → Option X) (parts : List (Bor Text)) (all : List Text) (i : ℕ) (d : Bor Text)

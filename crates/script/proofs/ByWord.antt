@@ -6,8 +6,8 @@ use Rattle.std.proofs.lemmas.Slice.Eq.{bytes_eq-Decides}
 use Rattle.script.specs.declared.error.FieldFault.{FieldFault}
 use Rattle.script.specs.declared.script_line.ScriptLine.{ScriptLine}
 use Rattle.script.specs.declared.script_line.ScriptLine.TheVariants as lines
-use Rattle.script.specs.Fields.{Text, amount_of, client_of, filter_of, number_of, numbers_of}
-use Rattle.script.specs.Inside.LineReading.{line_by, one, publish_of, subscribe_of, two}
+use Rattle.script.specs.Fields.{Text, parse_amount, parse_client, parse_filter, parse_number, parse_numbers}
+use Rattle.script.specs.Inside.LineReading.{line_by, one, parse_publish, parse_subscribe, two}
 
 -- what was read of the fields is what the line says
 pub value_by : (word w : Text) (fields : List Text) (o : Option ScriptLine) (r : Result ScriptLine FieldFault) → word ≡ w
@@ -20,63 +20,63 @@ pub form_by : (word w : Text) (fields : List Text) (o : Option ScriptLine) → w
     → line_by w fields ≡ o → o ≡ None → line_by word fields ≡ None
 form_by word w fields o is by_form h = ap (λ v. line_by v fields) is ∙ by_form ∙ h
 
-pub by_assign : (fields : List Text) → line_by (codes "assign") fields ≡ two lines.Assign numbers_of number_of fields
+pub by_assign : (fields : List Text) → line_by (codes "assign") fields ≡ two lines.Assign parse_numbers parse_number fields
 unfolding line_by
 by_assign fields = refl
 
-pub by_deliver : (fields : List Text) → line_by (codes "deliver") fields ≡ one lines.Deliver number_of fields
+pub by_deliver : (fields : List Text) → line_by (codes "deliver") fields ≡ one lines.Deliver parse_number fields
 unfolding line_by
 by_deliver fields = refl
 
-pub by_tick : (fields : List Text) → line_by (codes "tick") fields ≡ one lines.Tick number_of fields
+pub by_tick : (fields : List Text) → line_by (codes "tick") fields ≡ one lines.Tick parse_number fields
 unfolding line_by
 by_tick fields = refl
 
-pub by_cut : (fields : List Text) → line_by (codes "cut") fields ≡ one lines.Cut number_of fields
+pub by_cut : (fields : List Text) → line_by (codes "cut") fields ≡ one lines.Cut parse_number fields
 unfolding line_by
 by_cut fields = refl
 
-pub by_crash : (fields : List Text) → line_by (codes "crash") fields ≡ one lines.Crash number_of fields
+pub by_crash : (fields : List Text) → line_by (codes "crash") fields ≡ one lines.Crash parse_number fields
 unfolding line_by
 by_crash fields = refl
 
-pub by_open : (fields : List Text) → line_by (codes "open") fields ≡ two lines.Open client_of number_of fields
+pub by_open : (fields : List Text) → line_by (codes "open") fields ≡ two lines.Open parse_client parse_number fields
 unfolding line_by
 by_open fields = refl
 
-pub by_up : (fields : List Text) → line_by (codes "up") fields ≡ two lines.CarryUp number_of amount_of fields
+pub by_up : (fields : List Text) → line_by (codes "up") fields ≡ two lines.CarryUp parse_number parse_amount fields
 unfolding line_by
 by_up fields = refl
 
-pub by_down : (fields : List Text) → line_by (codes "down") fields ≡ two lines.CarryDown number_of amount_of fields
+pub by_down : (fields : List Text) → line_by (codes "down") fields ≡ two lines.CarryDown parse_number parse_amount fields
 unfolding line_by
 by_down fields = refl
 
-pub by_abandon : (fields : List Text) → line_by (codes "abandon") fields ≡ one lines.Abandon client_of fields
+pub by_abandon : (fields : List Text) → line_by (codes "abandon") fields ≡ one lines.Abandon parse_client fields
 unfolding line_by
 by_abandon fields = refl
 
-pub by_disconnect : (fields : List Text) → line_by (codes "disconnect") fields ≡ one lines.Disconnect client_of fields
+pub by_disconnect : (fields : List Text) → line_by (codes "disconnect") fields ≡ one lines.Disconnect parse_client fields
 unfolding line_by
 by_disconnect fields = refl
 
-pub by_notice : (fields : List Text) → line_by (codes "notice") fields ≡ one lines.Notice number_of fields
+pub by_notice : (fields : List Text) → line_by (codes "notice") fields ≡ one lines.Notice parse_number fields
 unfolding line_by
 by_notice fields = refl
 
-pub by_publish : (fields : List Text) → line_by (codes "publish") fields ≡ publish_of fields
+pub by_publish : (fields : List Text) → line_by (codes "publish") fields ≡ parse_publish fields
 unfolding line_by
 by_publish fields = refl
 
-pub by_subscribe : (fields : List Text) → line_by (codes "subscribe") fields ≡ subscribe_of fields
+pub by_subscribe : (fields : List Text) → line_by (codes "subscribe") fields ≡ parse_subscribe fields
 unfolding line_by
 by_subscribe fields = refl
 
-pub by_unsubscribe : (fields : List Text) → line_by (codes "unsubscribe") fields ≡ two lines.Unsubscribe client_of filter_of fields
+pub by_unsubscribe : (fields : List Text) → line_by (codes "unsubscribe") fields ≡ two lines.Unsubscribe parse_client parse_filter fields
 unfolding line_by
 by_unsubscribe fields = refl
 
-pub by_expel : (fields : List Text) → line_by (codes "expel") fields ≡ two lines.Expel client_of number_of fields
+pub by_expel : (fields : List Text) → line_by (codes "expel") fields ≡ two lines.Expel parse_client parse_number fields
 unfolding line_by
 by_expel fields = refl
 

@@ -5,10 +5,10 @@ use Rattle.std.proofs.lemmas.Option.{same_Some}
 use Rattle.std.proofs.lemmas.Slice.Eq.{bytes_eq-Decides}
 use Rattle.script.specs.declared.script_line.ScriptLine.{ScriptLine}
 use Rattle.script.specs.declared.script_line.ScriptLine.TheVariants as script_lines
-use Rattle.script.specs.Fields.{Text, amount_of, client_of, filter_of, number_of, numbers_of, payload_of, qos_of, retain_of, topic_of}
+use Rattle.script.specs.Fields.{Text, parse_amount, parse_client, parse_filter, parse_number, parse_numbers, parse_payload, parse_qos, parse_retain, parse_topic}
 use Rattle.script.specs.Lines as lines
 use Rattle.script.specs.Lines.{IsLine}
-use Rattle.script.specs.Inside.LineReading.{line_by, line_of, one, publication, publication_line, publication_of, publish_of, subscribe_of, subscription_line, two, with}
+use Rattle.script.specs.Inside.LineReading.{line_by, line_of, one, publication, publication_line, parse_publication, parse_publish, parse_subscribe, subscription_line, two, with}
 use Rattle.script.proofs.ByWord.{by_assign, by_deliver, by_tick, by_cut, by_crash, by_open, by_up, by_down, by_abandon, by_disconnect, by_notice, by_publish, by_subscribe, by_unsubscribe, by_expel, by_none}
 
 -- the parts of what was made
@@ -73,72 +73,72 @@ moved : (word : Text) (fields there : List Text) (o p : ScriptLine) → fields �
 moved word fields there o p are is line =
     subst (λ fs. IsLine (word ∷ fs) o) (sym are) (subst (λ q. IsLine (word ∷ there) q) (sym is) line)
 
-assign_line : (fields : List Text) (o : ScriptLine) → two script_lines.Assign numbers_of number_of fields ≡ Some o → IsLine (codes "assign" ∷ fields) o
-assign_line fields o h = let p = has_two script_lines.Assign numbers_of number_of fields o h in moved _ _ _ _ _ p.are p.is (lines.assign p.a_is p.b_is)
+assign_line : (fields : List Text) (o : ScriptLine) → two script_lines.Assign parse_numbers parse_number fields ≡ Some o → IsLine (codes "assign" ∷ fields) o
+assign_line fields o h = let p = has_two script_lines.Assign parse_numbers parse_number fields o h in moved _ _ _ _ _ p.are p.is (lines.assign p.a_is p.b_is)
 
-deliver_line : (fields : List Text) (o : ScriptLine) → one script_lines.Deliver number_of fields ≡ Some o → IsLine (codes "deliver" ∷ fields) o
-deliver_line fields o h = let p = has_one script_lines.Deliver number_of fields o h in moved _ _ _ _ _ p.are p.is (lines.deliver p.a_is)
+deliver_line : (fields : List Text) (o : ScriptLine) → one script_lines.Deliver parse_number fields ≡ Some o → IsLine (codes "deliver" ∷ fields) o
+deliver_line fields o h = let p = has_one script_lines.Deliver parse_number fields o h in moved _ _ _ _ _ p.are p.is (lines.deliver p.a_is)
 
-tick_line : (fields : List Text) (o : ScriptLine) → one script_lines.Tick number_of fields ≡ Some o → IsLine (codes "tick" ∷ fields) o
-tick_line fields o h = let p = has_one script_lines.Tick number_of fields o h in moved _ _ _ _ _ p.are p.is (lines.tick p.a_is)
+tick_line : (fields : List Text) (o : ScriptLine) → one script_lines.Tick parse_number fields ≡ Some o → IsLine (codes "tick" ∷ fields) o
+tick_line fields o h = let p = has_one script_lines.Tick parse_number fields o h in moved _ _ _ _ _ p.are p.is (lines.tick p.a_is)
 
-cut_line : (fields : List Text) (o : ScriptLine) → one script_lines.Cut number_of fields ≡ Some o → IsLine (codes "cut" ∷ fields) o
-cut_line fields o h = let p = has_one script_lines.Cut number_of fields o h in moved _ _ _ _ _ p.are p.is (lines.cut p.a_is)
+cut_line : (fields : List Text) (o : ScriptLine) → one script_lines.Cut parse_number fields ≡ Some o → IsLine (codes "cut" ∷ fields) o
+cut_line fields o h = let p = has_one script_lines.Cut parse_number fields o h in moved _ _ _ _ _ p.are p.is (lines.cut p.a_is)
 
-crash_line : (fields : List Text) (o : ScriptLine) → one script_lines.Crash number_of fields ≡ Some o → IsLine (codes "crash" ∷ fields) o
-crash_line fields o h = let p = has_one script_lines.Crash number_of fields o h in moved _ _ _ _ _ p.are p.is (lines.crash p.a_is)
+crash_line : (fields : List Text) (o : ScriptLine) → one script_lines.Crash parse_number fields ≡ Some o → IsLine (codes "crash" ∷ fields) o
+crash_line fields o h = let p = has_one script_lines.Crash parse_number fields o h in moved _ _ _ _ _ p.are p.is (lines.crash p.a_is)
 
-open_line : (fields : List Text) (o : ScriptLine) → two script_lines.Open client_of number_of fields ≡ Some o → IsLine (codes "open" ∷ fields) o
-open_line fields o h = let p = has_two script_lines.Open client_of number_of fields o h in moved _ _ _ _ _ p.are p.is (lines.opens p.a_is p.b_is)
+open_line : (fields : List Text) (o : ScriptLine) → two script_lines.Open parse_client parse_number fields ≡ Some o → IsLine (codes "open" ∷ fields) o
+open_line fields o h = let p = has_two script_lines.Open parse_client parse_number fields o h in moved _ _ _ _ _ p.are p.is (lines.opens p.a_is p.b_is)
 
-up_line : (fields : List Text) (o : ScriptLine) → two script_lines.CarryUp number_of amount_of fields ≡ Some o → IsLine (codes "up" ∷ fields) o
-up_line fields o h = let p = has_two script_lines.CarryUp number_of amount_of fields o h in moved _ _ _ _ _ p.are p.is (lines.up p.a_is p.b_is)
+up_line : (fields : List Text) (o : ScriptLine) → two script_lines.CarryUp parse_number parse_amount fields ≡ Some o → IsLine (codes "up" ∷ fields) o
+up_line fields o h = let p = has_two script_lines.CarryUp parse_number parse_amount fields o h in moved _ _ _ _ _ p.are p.is (lines.up p.a_is p.b_is)
 
-down_line : (fields : List Text) (o : ScriptLine) → two script_lines.CarryDown number_of amount_of fields ≡ Some o → IsLine (codes "down" ∷ fields) o
-down_line fields o h = let p = has_two script_lines.CarryDown number_of amount_of fields o h in moved _ _ _ _ _ p.are p.is (lines.down p.a_is p.b_is)
+down_line : (fields : List Text) (o : ScriptLine) → two script_lines.CarryDown parse_number parse_amount fields ≡ Some o → IsLine (codes "down" ∷ fields) o
+down_line fields o h = let p = has_two script_lines.CarryDown parse_number parse_amount fields o h in moved _ _ _ _ _ p.are p.is (lines.down p.a_is p.b_is)
 
-abandon_line : (fields : List Text) (o : ScriptLine) → one script_lines.Abandon client_of fields ≡ Some o → IsLine (codes "abandon" ∷ fields) o
-abandon_line fields o h = let p = has_one script_lines.Abandon client_of fields o h in moved _ _ _ _ _ p.are p.is (lines.abandon p.a_is)
+abandon_line : (fields : List Text) (o : ScriptLine) → one script_lines.Abandon parse_client fields ≡ Some o → IsLine (codes "abandon" ∷ fields) o
+abandon_line fields o h = let p = has_one script_lines.Abandon parse_client fields o h in moved _ _ _ _ _ p.are p.is (lines.abandon p.a_is)
 
-disconnect_line : (fields : List Text) (o : ScriptLine) → one script_lines.Disconnect client_of fields ≡ Some o → IsLine (codes "disconnect" ∷ fields) o
-disconnect_line fields o h = let p = has_one script_lines.Disconnect client_of fields o h in moved _ _ _ _ _ p.are p.is (lines.disconnect p.a_is)
+disconnect_line : (fields : List Text) (o : ScriptLine) → one script_lines.Disconnect parse_client fields ≡ Some o → IsLine (codes "disconnect" ∷ fields) o
+disconnect_line fields o h = let p = has_one script_lines.Disconnect parse_client fields o h in moved _ _ _ _ _ p.are p.is (lines.disconnect p.a_is)
 
-notice_line : (fields : List Text) (o : ScriptLine) → one script_lines.Notice number_of fields ≡ Some o → IsLine (codes "notice" ∷ fields) o
-notice_line fields o h = let p = has_one script_lines.Notice number_of fields o h in moved _ _ _ _ _ p.are p.is (lines.notice p.a_is)
+notice_line : (fields : List Text) (o : ScriptLine) → one script_lines.Notice parse_number fields ≡ Some o → IsLine (codes "notice" ∷ fields) o
+notice_line fields o h = let p = has_one script_lines.Notice parse_number fields o h in moved _ _ _ _ _ p.are p.is (lines.notice p.a_is)
 
-expel_line : (fields : List Text) (o : ScriptLine) → two script_lines.Expel client_of number_of fields ≡ Some o → IsLine (codes "expel" ∷ fields) o
-expel_line fields o h = let p = has_two script_lines.Expel client_of number_of fields o h in moved _ _ _ _ _ p.are p.is (lines.expel p.a_is p.b_is)
+expel_line : (fields : List Text) (o : ScriptLine) → two script_lines.Expel parse_client parse_number fields ≡ Some o → IsLine (codes "expel" ∷ fields) o
+expel_line fields o h = let p = has_two script_lines.Expel parse_client parse_number fields o h in moved _ _ _ _ _ p.are p.is (lines.expel p.a_is p.b_is)
 
-unsubscribe_line : (fields : List Text) (o : ScriptLine) → two script_lines.Unsubscribe client_of filter_of fields ≡ Some o → IsLine (codes "unsubscribe" ∷ fields) o
-unsubscribe_line fields o h = let p = has_two script_lines.Unsubscribe client_of filter_of fields o h in moved _ _ _ _ _ p.are p.is (lines.unsubscribe p.a_is p.b_is)
+unsubscribe_line : (fields : List Text) (o : ScriptLine) → two script_lines.Unsubscribe parse_client parse_filter fields ≡ Some o → IsLine (codes "unsubscribe" ∷ fields) o
+unsubscribe_line fields o h = let p = has_two script_lines.Unsubscribe parse_client parse_filter fields o h in moved _ _ _ _ _ p.are p.is (lines.unsubscribe p.a_is p.b_is)
 
-subscribe_line : (fields : List Text) (o : ScriptLine) → subscribe_of fields ≡ Some o → IsLine (codes "subscribe" ∷ fields) o
+subscribe_line : (fields : List Text) (o : ScriptLine) → parse_subscribe fields ≡ Some o → IsLine (codes "subscribe" ∷ fields) o
 subscribe_line [] o h = absurd (false≢true (ap is_some h))
 subscribe_line (c ∷ []) o h = absurd (false≢true (ap is_some h))
 subscribe_line (c ∷ f ∷ []) o h = absurd (false≢true (ap is_some h))
 subscribe_line (c ∷ f ∷ q ∷ []) o h =
-    let third = made (with (with (Some subscription_line) (client_of c)) (filter_of f)) (qos_of q) o h in
-    let second = made (with (Some subscription_line) (client_of c)) (filter_of f) third.f third.make_is in
-    let first = made (Some subscription_line) (client_of c) second.f second.make_is in
+    let third = made (with (with (Some subscription_line) (parse_client c)) (parse_filter f)) (parse_qos q) o h in
+    let second = made (with (Some subscription_line) (parse_client c)) (parse_filter f) third.f third.make_is in
+    let first = made (Some subscription_line) (parse_client c) second.f second.make_is in
     let second_is = first.is ∙ ap (λ g. g first.x) (sym (same_Some _ _ first.make_is)) in
     let third_is = second.is ∙ ap (λ g. g second.x) second_is in
     rw (third.is ∙ ap (λ g. g third.x) third_is) (lines.subscribe first.value_is second.value_is third.value_is)
 subscribe_line (c ∷ f ∷ q ∷ d ∷ more) o h = absurd (false≢true (ap is_some h))
 
-publish_line : (fields : List Text) (o : ScriptLine) → publish_of fields ≡ Some o → IsLine (codes "publish" ∷ fields) o
-unfolding publication_of
+publish_line : (fields : List Text) (o : ScriptLine) → parse_publish fields ≡ Some o → IsLine (codes "publish" ∷ fields) o
+unfolding parse_publication
 publish_line [] o h = absurd (false≢true (ap is_some h))
 publish_line (c ∷ []) o h = absurd (false≢true (ap is_some h))
 publish_line (c ∷ t ∷ []) o h = absurd (false≢true (ap is_some h))
 publish_line (c ∷ t ∷ q ∷ []) o h = absurd (false≢true (ap is_some h))
 publish_line (c ∷ t ∷ q ∷ r ∷ []) o h = absurd (false≢true (ap is_some h))
 publish_line (c ∷ t ∷ q ∷ r ∷ p ∷ []) o h =
-    let whole = made (with (Some publication_line) (client_of c)) (publication_of t q r p) o h in
-    let sender = made (Some publication_line) (client_of c) whole.f whole.make_is in
-    let fourth = made (with (with (with (Some publication) (topic_of t)) (qos_of q)) (retain_of r)) (payload_of p) whole.x whole.value_is in
-    let third = made (with (with (Some publication) (topic_of t)) (qos_of q)) (retain_of r) fourth.f fourth.make_is in
-    let second = made (with (Some publication) (topic_of t)) (qos_of q) third.f third.make_is in
-    let first = made (Some publication) (topic_of t) second.f second.make_is in
+    let whole = made (with (Some publication_line) (parse_client c)) (parse_publication t q r p) o h in
+    let sender = made (Some publication_line) (parse_client c) whole.f whole.make_is in
+    let fourth = made (with (with (with (Some publication) (parse_topic t)) (parse_qos q)) (parse_retain r)) (parse_payload p) whole.x whole.value_is in
+    let third = made (with (with (Some publication) (parse_topic t)) (parse_qos q)) (parse_retain r) fourth.f fourth.make_is in
+    let second = made (with (Some publication) (parse_topic t)) (parse_qos q) third.f third.make_is in
+    let first = made (Some publication) (parse_topic t) second.f second.make_is in
     let second_is = first.is ∙ ap (λ g. g first.x) (sym (same_Some _ _ first.make_is)) in
     let third_is = second.is ∙ ap (λ g. g second.x) second_is in
     let fourth_is = third.is ∙ ap (λ g. g third.x) third_is in
@@ -199,7 +199,7 @@ with_two make first second x y a b = rw (a, b) refl
 
 -- a line says what is read of it
 pub is_read : (fields : List Text) (o : ScriptLine) → IsLine fields o → line_of fields ≡ Some o
-unfolding publication_of
+unfolding parse_publication
 is_read fields o (lines.assign a b) = by_assign _ ∙ with_two _ _ _ _ _ a b
 is_read fields o (lines.deliver a) = by_deliver _ ∙ with_one _ _ _ a
 is_read fields o (lines.tick a) = by_tick _ ∙ with_one _ _ _ a

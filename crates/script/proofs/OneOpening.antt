@@ -7,11 +7,11 @@ use Rattle.std.proofs.lemmas.Option.{same_Some}
 use Rattle.std.proofs.lemmas.Slice.Eq.{bytes_eq-Decides}
 use Rattle.script.specs.declared.error.FieldFault.{FieldFault}
 use Rattle.script.specs.declared.opening.Opening.{Opening}
-use Rattle.script.specs.Fields.{Text, clients_of, fields_of, number_of, numbers_of}
+use Rattle.script.specs.Fields.{Text, parse_clients, fields_of, parse_number, parse_numbers}
 use Rattle.script.specs.Scripts as lines
 use Rattle.script.specs.Scripts.{HasOpening, IsOpening, IsOpeningLine, are_distinct, is_lawful_opening}
 use Rattle.script.specs.Inside.LineReading.{with}
-use Rattle.script.specs.Inside.Worlds.{Values, checked, values, values_of, world_of}
+use Rattle.script.specs.Inside.Worlds.{Values, checked, values, values_of, parse_world}
 use Rattle.script.proofs.OneForm.{made}
 
 -- the test of the values
@@ -34,14 +34,14 @@ is_checked (Some w) v h =
 
 -- the world of five fields
 five : (w n m p c : Text) (o : Opening)
-    → world_of (w ∷ n ∷ m ∷ p ∷ c ∷ []) ≡ Some (values_of o) → IsOpening (w ∷ n ∷ m ∷ p ∷ c ∷ []) o
+    → parse_world (w ∷ n ∷ m ∷ p ∷ c ∷ []) ≡ Some (values_of o) → IsOpening (w ∷ n ∷ m ∷ p ∷ c ∷ []) o
 five w n m p c o h =
     let (word, given) = guarded (bytes_eq w (codes "world")) _ _ h in
     let all = is_checked _ _ given in
-    let fourth = made (with (with (with (Some values) (number_of n)) (numbers_of m)) (number_of p)) (clients_of c) (values_of o) all.are in
-    let third = made (with (with (Some values) (number_of n)) (numbers_of m)) (number_of p) fourth.f fourth.make_is in
-    let second = made (with (Some values) (number_of n)) (numbers_of m) third.f third.make_is in
-    let first = made (Some values) (number_of n) second.f second.make_is in
+    let fourth = made (with (with (with (Some values) (parse_number n)) (parse_numbers m)) (parse_number p)) (parse_clients c) (values_of o) all.are in
+    let third = made (with (with (Some values) (parse_number n)) (parse_numbers m)) (parse_number p) fourth.f fourth.make_is in
+    let second = made (with (Some values) (parse_number n)) (parse_numbers m) third.f third.make_is in
+    let first = made (Some values) (parse_number n) second.f second.make_is in
     let second_is = first.is ∙ ap (λ g. g first.x) (sym (same_Some _ _ first.make_is)) in
     let third_is = second.is ∙ ap (λ g. g second.x) second_is in
     let fourth_is = third.is ∙ ap (λ g. g third.x) third_is in
@@ -53,7 +53,7 @@ five w n m p c o h =
     lawful distinct)
 
 -- what is read is said by the line
-pub world_says : (fields : List Text) (o : Opening) → world_of fields ≡ Some (values_of o) → IsOpening fields o
+pub world_says : (fields : List Text) (o : Opening) → parse_world fields ≡ Some (values_of o) → IsOpening fields o
 world_says [] o h = absurd (false≢true (ap is_some h))
 world_says (w ∷ []) o h = absurd (false≢true (ap is_some h))
 world_says (w ∷ n ∷ []) o h = absurd (false≢true (ap is_some h))
@@ -63,18 +63,18 @@ world_says (w ∷ n ∷ m ∷ p ∷ c ∷ []) o h = five w n m p c o h
 world_says (w ∷ n ∷ m ∷ p ∷ c ∷ d ∷ more) o h = absurd (false≢true (ap is_some h))
 
 -- a line opens what is read of it
-pub world_read : (fields : List Text) (o : Opening) → IsOpening fields o → world_of fields ≡ Some (values_of o)
+pub world_read : (fields : List Text) (o : Opening) → IsOpening fields o → parse_world fields ≡ Some (values_of o)
 world_read fields o (lines.world n m p c lawful distinct) = rw (n, m, p, c, lawful, distinct) refl
 
 -- what was read of a line
 pub opening_said : (line text : Text) (fields : List Text) (r : Result Opening FieldFault) → text ≡ line → IsUtf8 line
-    → fields ≡ fields_of text → IfOk r (λ o. world_of fields ≡ Some (values_of o)) → IfOk r (IsOpeningLine line)
+    → fields ≡ fields_of text → IfOk r (λ o. parse_world fields ≡ Some (values_of o)) → IfOk r (IsOpeningLine line)
 opening_said line text fields (Ok o) same formed are read =
-    (formed, world_says (fields_of line) o (ap world_of (sym (are ∙ ap fields_of same)) ∙ read))
+    (formed, world_says (fields_of line) o (ap parse_world (sym (are ∙ ap fields_of same)) ∙ read))
 opening_said line text fields (Err e) same formed are read = tt
 
 -- a line of which nothing was read
 pub opening_missing : (line text : Text) (fields : List Text) → text ≡ line
-    → fields ≡ fields_of text → world_of fields ≡ None → HasOpening line → ⊥
+    → fields ≡ fields_of text → parse_world fields ≡ None → HasOpening line → ⊥
 opening_missing line text fields same are none has =
-    false≢true (ap is_some (sym none ∙ ap world_of (are ∙ ap fields_of same) ∙ world_read (fields_of line) has.0 has.1.1))
+    false≢true (ap is_some (sym none ∙ ap parse_world (are ∙ ap fields_of same) ∙ world_read (fields_of line) has.0 has.1.1))

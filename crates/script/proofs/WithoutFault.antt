@@ -5,7 +5,7 @@ use Rattle.topics.specs.Text.{RefusesBy}
 use Rattle.topics.specs.declared.malformed.MalformedKind.{MalformedKind}
 use Rattle.script.specs.declared.error.FieldFault.{FieldFault}
 use Rattle.script.specs.declared.error.FieldFault.TheVariants as faults
-use Rattle.script.specs.Faults.{fault_of}
+use Rattle.script.specs.Faults.{field_fault}
 use Rattle.script.specs.Fields.{Text, unless}
 
 memory_is_no_form : faults.Memory ≡ faults.Form → ⊥
@@ -24,10 +24,10 @@ gave_form (Err e) fault is same = sym is ∙ ap fault_in same
 
 -- a text that is refused, and not because memory ran out, has a fault
 pub no_text : {T : Type 0} (r : Result T FieldFault) (fault : Option MalformedKind) (text : Text) (kind : MalformedKind)
-    → RefusesBy fault kind → IsErrAnd r (λ e. e ≡ fault_of kind) → r ≡ Err faults.Form → unless fault text ≡ None
+    → RefusesBy fault kind → IsErrAnd r (λ e. e ≡ field_fault kind) → r ≡ Err faults.Form → unless fault text ≡ None
 no_text r fault text kind (inl is) gave form = ap (λ f. unless f text) is
 no_text r fault text kind (inr memory) gave form =
-    absurd (memory_is_no_form (sym (ap fault_of memory.1) ∙ gave_form r (fault_of kind) gave form))
+    absurd (memory_is_no_form (sym (ap field_fault memory.1) ∙ gave_form r (field_fault kind) gave form))
 
 pub own_text : (fault : Option MalformedKind) (text x : Text) → fault ≡ None → x ≡ text → unless fault text ≡ Some x
 own_text fault text x none is = ap (λ f. unless f text) none ∙ ap Some (sym is)

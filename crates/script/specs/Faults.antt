@@ -5,6 +5,6 @@ use Rattle.script.specs.declared.error.FieldFault.{FieldFault}
 use Rattle.script.specs.declared.error.FieldFault.TheVariants as faults
 
 -- that memory ran out says nothing about the form
-abbrev pub fault_of : MalformedKind → FieldFault
-fault_of kinds.Memory = faults.Memory
-fault_of _ = faults.Form
+abbrev pub field_fault : MalformedKind → FieldFault
+field_fault kinds.Memory = faults.Memory
+field_fault _ = faults.Form

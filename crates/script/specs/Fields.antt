@@ -35,8 +35,8 @@ abbrev pub is_decimal : Text → Bool
 is_decimal text = nat_lt 0 (length text) && all_ascii_digits text
 
 -- a decimal number of 64 bits; zeros may be in front
-unfoldable pub number_of : Text → Option ℕ
-number_of text = if is_decimal text && nat_lt (digits_value 10 text) (2 ^ 64)
+unfoldable pub parse_number : Text → Option ℕ
+parse_number text = if is_decimal text && nat_lt (digits_value 10 text) (2 ^ 64)
     then Some (digits_value 10 text) else None
 
 -- the QoS of a number; there are three
@@ -48,8 +48,8 @@ qos_of_number (Some number) =
     if number == 2 then Some qualities.ExactlyOnce else None
 
 -- a QoS is written as its number (MQTT 4.3)
-unfoldable pub qos_of : Text → Option QoS
-qos_of text = qos_of_number (number_of text)
+unfoldable pub parse_qos : Text → Option QoS
+parse_qos text = qos_of_number (parse_number text)
 
 -- the bit of a number, if it is 0 or 1
 abbrev pub bit_of : Option ℕ → Option Bool
@@ -58,18 +58,18 @@ bit_of (Some number) =
     if number == 0 then Some false else if number == 1 then Some true else None
 
 -- RETAIN is written as its bit (MQTT 3.3.1.3)
-unfoldable pub retain_of : Text → Option Bool
-retain_of text = bit_of (number_of text)
+unfoldable pub parse_retain : Text → Option Bool
+parse_retain text = bit_of (parse_number text)
 
 -- `all`, or a number
-unfoldable pub amount_of : Text → Option Amount
-amount_of text =
+unfoldable pub parse_amount : Text → Option Amount
+parse_amount text =
     if bytes_eq text (codes "all") then Some amounts.All else
-    option_map amounts.Bytes (number_of text)
+    option_map amounts.Bytes (parse_number text)
 
 -- `-` for no byte, or two hexadecimal digits for each
-unfoldable pub payload_of : Text → Option Text
-payload_of text =
+unfoldable pub parse_payload : Text → Option Text
+parse_payload text =
     if bytes_eq text (codes "-") then Some [] else
     if nat_lt 0 (length text) then result_ok (decode_of text) else None
 
@@ -79,32 +79,32 @@ unless None text = Some text
 unless (Some fault) text = None
 
 -- a Client Identifier is written as it is
-unfoldable pub client_of : Text → Option Text
-client_of text = unless (client_fault text) text
+unfoldable pub parse_client : Text → Option Text
+parse_client text = unless (client_fault text) text
 
 -- a Topic Name is written as it is
-unfoldable pub topic_of : Text → Option Text
-topic_of text = unless (topic_fault text) text
+unfoldable pub parse_topic : Text → Option Text
+parse_topic text = unless (topic_fault text) text
 
 -- a Topic Filter is written as it is
-unfoldable pub filter_of : Text → Option Text
-filter_of text = unless (filter_fault text) text
+unfoldable pub parse_filter : Text → Option Text
+parse_filter text = unless (filter_fault text) text
 
 -- the first value and the others, if there are both
-abbrev pub with_first : {X : Type 0} → Option X → Option (List X) → Option (List X)
-with_first (Some x) (Some xs) = Some (x ∷ xs)
-with_first (Some x) None = None
-with_first None xs = None
+abbrev pub with_first_value : {X : Type 0} → Option X → Option (List X) → Option (List X)
+with_first_value (Some x) (Some xs) = Some (x ∷ xs)
+with_first_value (Some x) None = None
+with_first_value None xs = None
 
 -- what all of the texts write, if each writes something
 abbrev pub all_of : {X : Type 0} → (Text → Option X) → List Text → Option (List X)
 all_of reads [] = Some []
-all_of reads (text ∷ texts) = with_first (reads text) (all_of reads texts)
+all_of reads (text ∷ texts) = with_first_value (reads text) (all_of reads texts)
 
 -- numbers are written with commas between them
-unfoldable pub numbers_of : Text → Option (List ℕ)
-numbers_of field = all_of number_of (parts_of field)
+unfoldable pub parse_numbers : Text → Option (List ℕ)
+parse_numbers field = all_of parse_number (parts_of field)
 
 -- Client Identifiers are written with commas between them
-unfoldable pub clients_of : Text → Option (List Text)
-clients_of field = all_of client_of (parts_of field)
+unfoldable pub parse_clients : Text → Option (List Text)
+parse_clients field = all_of parse_client (parts_of field)

@@ -3,7 +3,7 @@ use Rattle.std.specs.Prelude.{◌≡◌, ◌==◌, ◌&&◌, ◌-◌, ◌+◌, �
 use Rattle.std.specs.List.{list_all, list_any, slice_split}
 use Rattle.std.specs.Str.{IsUtf8}
 use Rattle.ballot_base.specs.LawfulConfig.{is_lawful, max_node}
-use Rattle.script.specs.Fields.{Text, clients_of, fields_of, number_of, numbers_of}
+use Rattle.script.specs.Fields.{Text, parse_clients, fields_of, parse_number, parse_numbers}
 use Rattle.script.specs.Lines.{IsLine}
 use Rattle.script.specs.declared.error.ScriptFault.{ScriptFault}
 use Rattle.script.specs.declared.error.ScriptFault.TheVariants as errors
@@ -21,29 +21,29 @@ unfoldable pub lines_of : Text → List Text
 lines_of text = slice_split (λ byte. byte == 10) (without_last_feed text)
 
 -- each of the members is one of this many nodes, numbered from 1
-abbrev pub are_nodes : ℕ → List ℕ → Bool
-are_nodes nodes members = list_all (λ member. nat_le member nodes) members
+abbrev pub are_members : ℕ → List ℕ → Bool
+are_members nodes members = list_all (λ member. nat_le member nodes) members
 
 -- at most `max_node` nodes, and members of them that a ballot may have
 abbrev pub is_lawful_opening : ℕ → List ℕ → ℕ → Bool
 is_lawful_opening nodes members primary = nat_le nodes max_node
-    && (are_nodes nodes members && is_lawful members primary)
+    && (are_members nodes members && is_lawful members primary)
 
 -- one of the clients is this one
-abbrev pub has : List Text → Text → Bool
-has clients client = list_any (λ other. bytes_eq other client) clients
+abbrev pub has_client : List Text → Text → Bool
+has_client clients client = list_any (λ other. bytes_eq other client) clients
 
 -- no two of the clients are the same
 abbrev pub are_distinct : List Text → Bool
 are_distinct [] = true
-are_distinct (client ∷ clients) = not (has clients client) && are_distinct clients
+are_distinct (client ∷ clients) = not (has_client clients client) && are_distinct clients
 
 -- the first line of these fields opens this world: `world 2 1,2 1 a,b`
 pub data IsOpening : List Text → Opening → Type 0 where
   -- its word, and four fields
   world : {n m p c : Text} {opening : Opening}
-      → number_of n ≡ Some opening.nodes → numbers_of m ≡ Some opening.config.members
-      → number_of p ≡ Some opening.config.primary → clients_of c ≡ Some opening.clients.items
+      → parse_number n ≡ Some opening.nodes → parse_numbers m ≡ Some opening.config.members
+      → parse_number p ≡ Some opening.config.primary → parse_clients c ≡ Some opening.clients.items
       → is_lawful_opening opening.nodes opening.config.members opening.config.primary ≡ true
       → are_distinct opening.clients.items ≡ true
       → IsOpening (codes "world" ∷ n ∷ m ∷ p ∷ c ∷ []) opening

@@ -80,9 +80,9 @@ impl<T: Drop> From<AllocFailed<T>> for FieldFault {
 
 impl From<MalformedKind> for FieldFault {
     ghost use Rattle.std.specs.Prelude.{◌≡◌};
-    ghost use Rattle.script.specs.Faults.{fault_of};
+    ghost use Rattle.script.specs.Faults.{field_fault};
 
-    ghost from_gives = { λ kind fault. fault ≡ fault_of kind };
+    ghost from_gives = { λ kind fault. fault ≡ field_fault kind };
 
     fn from(kind: MalformedKind) -> FieldFault {
         match kind {

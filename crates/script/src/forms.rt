@@ -2,8 +2,8 @@
 
 ghost use Rattle.std.specs.Prelude.{◌≡◌, Some, None, IfOk, IsErrOf};
 ghost use Rattle.script.specs.declared.script_line.ScriptLine.TheVariants as lines;
-ghost use Rattle.script.specs.Fields.{amount_of, client_of, filter_of, number_of, numbers_of, texts};
-ghost use Rattle.script.specs.Inside.LineReading.{one, only, publication_of, publish_of, subscribe_of, two};
+ghost use Rattle.script.specs.Fields.{parse_amount, parse_client, parse_filter, parse_number, parse_numbers, texts};
+ghost use Rattle.script.specs.Inside.LineReading.{one, only, parse_publication, parse_publish, parse_subscribe, two};
 
 use crate::error::FieldFault;
 use crate::script_line::ScriptLine;
@@ -14,8 +14,8 @@ use std::alloc::Global;
 
 // Returns the number of a line that has one more field.
 fn one_number(fields: &[&str]) -> Result<u64, FieldFault>
-    ensures value { IfOk result (λ number. only number_of (texts fields.now) ≡ Some number) }
-    ensures form { IsErrOf result FieldFault.Form → only number_of (texts fields.now) ≡ None }
+    ensures value { IfOk result (λ number. only parse_number (texts fields.now) ≡ Some number) }
+    ensures form { IsErrOf result FieldFault.Form → only parse_number (texts fields.now) ≡ None }
 {
     match fields {
         [field] => number(field),
@@ -25,8 +25,8 @@ fn one_number(fields: &[&str]) -> Result<u64, FieldFault>
 
 // Returns the client of a line that has one more field.
 fn one_client(alloc: Global, fields: &[&str]) -> Result<ClientId, FieldFault>
-    ensures value { IfOk result (λ client. only client_of (texts fields.now) ≡ Some client) }
-    ensures form { IsErrOf result FieldFault.Form → only client_of (texts fields.now) ≡ None }
+    ensures value { IfOk result (λ client. only parse_client (texts fields.now) ≡ Some client) }
+    ensures form { IsErrOf result FieldFault.Form → only parse_client (texts fields.now) ≡ None }
 {
     match fields {
         [field] => client(alloc, field),
@@ -37,9 +37,9 @@ fn one_client(alloc: Global, fields: &[&str]) -> Result<ClientId, FieldFault>
 /// Reads the fields of `deliver 0`: message 0 reaches its receiver.
 pub(crate) fn deliver(fields: &[&str]) -> Result<ScriptLine, FieldFault>
     ensures value { IfOk result (λ line.
-        one lines.Deliver number_of (texts fields.now) ≡ Some line) }
+        one lines.Deliver parse_number (texts fields.now) ≡ Some line) }
     ensures form { IsErrOf result FieldFault.Form
-        → one lines.Deliver number_of (texts fields.now) ≡ None }
+        → one lines.Deliver parse_number (texts fields.now) ≡ None }
 {
     Ok(ScriptLine::Deliver(one_number(fields)?))
 }
@@ -47,9 +47,9 @@ pub(crate) fn deliver(fields: &[&str]) -> Result<ScriptLine, FieldFault>
 /// Reads the fields of `tick 1`: time passes at node 1.
 pub(crate) fn tick(fields: &[&str]) -> Result<ScriptLine, FieldFault>
     ensures value { IfOk result (λ line.
-        one lines.Tick number_of (texts fields.now) ≡ Some line) }
+        one lines.Tick parse_number (texts fields.now) ≡ Some line) }
     ensures form { IsErrOf result FieldFault.Form
-        → one lines.Tick number_of (texts fields.now) ≡ None }
+        → one lines.Tick parse_number (texts fields.now) ≡ None }
 {
     Ok(ScriptLine::Tick(one_number(fields)?))
 }
@@ -57,9 +57,9 @@ pub(crate) fn tick(fields: &[&str]) -> Result<ScriptLine, FieldFault>
 /// Reads the fields of `cut 1`: node 1 cuts its log.
 pub(crate) fn cut(fields: &[&str]) -> Result<ScriptLine, FieldFault>
     ensures value { IfOk result (λ line.
-        one lines.Cut number_of (texts fields.now) ≡ Some line) }
+        one lines.Cut parse_number (texts fields.now) ≡ Some line) }
     ensures form { IsErrOf result FieldFault.Form
-        → one lines.Cut number_of (texts fields.now) ≡ None }
+        → one lines.Cut parse_number (texts fields.now) ≡ None }
 {
     Ok(ScriptLine::Cut(one_number(fields)?))
 }
@@ -67,9 +67,9 @@ pub(crate) fn cut(fields: &[&str]) -> Result<ScriptLine, FieldFault>
 /// Reads the fields of `crash 1`: node 1 stops for good.
 pub(crate) fn crash(fields: &[&str]) -> Result<ScriptLine, FieldFault>
     ensures value { IfOk result (λ line.
-        one lines.Crash number_of (texts fields.now) ≡ Some line) }
+        one lines.Crash parse_number (texts fields.now) ≡ Some line) }
     ensures form { IsErrOf result FieldFault.Form
-        → one lines.Crash number_of (texts fields.now) ≡ None }
+        → one lines.Crash parse_number (texts fields.now) ≡ None }
 {
     Ok(ScriptLine::Crash(one_number(fields)?))
 }
@@ -77,9 +77,9 @@ pub(crate) fn crash(fields: &[&str]) -> Result<ScriptLine, FieldFault>
 /// Reads the fields of `notice 1`: the node notices the end of connection 1.
 pub(crate) fn notice(fields: &[&str]) -> Result<ScriptLine, FieldFault>
     ensures value { IfOk result (λ line.
-        one lines.Notice number_of (texts fields.now) ≡ Some line) }
+        one lines.Notice parse_number (texts fields.now) ≡ Some line) }
     ensures form { IsErrOf result FieldFault.Form
-        → one lines.Notice number_of (texts fields.now) ≡ None }
+        → one lines.Notice parse_number (texts fields.now) ≡ None }
 {
     Ok(ScriptLine::Notice(one_number(fields)?))
 }
@@ -87,9 +87,9 @@ pub(crate) fn notice(fields: &[&str]) -> Result<ScriptLine, FieldFault>
 /// Reads the fields of `abandon a`: client a loses its connection.
 pub(crate) fn abandon(alloc: Global, fields: &[&str]) -> Result<ScriptLine, FieldFault>
     ensures value { IfOk result (λ line.
-        one lines.Abandon client_of (texts fields.now) ≡ Some line) }
+        one lines.Abandon parse_client (texts fields.now) ≡ Some line) }
     ensures form { IsErrOf result FieldFault.Form
-        → one lines.Abandon client_of (texts fields.now) ≡ None }
+        → one lines.Abandon parse_client (texts fields.now) ≡ None }
 {
     Ok(ScriptLine::Abandon(one_client(alloc, fields)?))
 }
@@ -97,9 +97,9 @@ pub(crate) fn abandon(alloc: Global, fields: &[&str]) -> Result<ScriptLine, Fiel
 /// Reads the fields of `disconnect a`: client a sends DISCONNECT and closes.
 pub(crate) fn disconnect(alloc: Global, fields: &[&str]) -> Result<ScriptLine, FieldFault>
     ensures value { IfOk result (λ line.
-        one lines.Disconnect client_of (texts fields.now) ≡ Some line) }
+        one lines.Disconnect parse_client (texts fields.now) ≡ Some line) }
     ensures form { IsErrOf result FieldFault.Form
-        → one lines.Disconnect client_of (texts fields.now) ≡ None }
+        → one lines.Disconnect parse_client (texts fields.now) ≡ None }
 {
     Ok(ScriptLine::Disconnect(one_client(alloc, fields)?))
 }
@@ -107,9 +107,9 @@ pub(crate) fn disconnect(alloc: Global, fields: &[&str]) -> Result<ScriptLine, F
 /// Reads the fields of `assign 2,3 2`: a ballot of members 2 and 3, with primary 2.
 pub(crate) fn assign(alloc: Global, fields: &[&str]) -> Result<ScriptLine, FieldFault>
     ensures value { IfOk result (λ line.
-        two lines.Assign numbers_of number_of (texts fields.now) ≡ Some line) }
+        two lines.Assign parse_numbers parse_number (texts fields.now) ≡ Some line) }
     ensures form { IsErrOf result FieldFault.Form
-        → two lines.Assign numbers_of number_of (texts fields.now) ≡ None }
+        → two lines.Assign parse_numbers parse_number (texts fields.now) ≡ None }
 {
     let [members, primary] = fields else {
         return Err(FieldFault::Form);
@@ -121,9 +121,9 @@ pub(crate) fn assign(alloc: Global, fields: &[&str]) -> Result<ScriptLine, Field
 /// Reads the fields of `open a 1`: client a opens a connection to node 1.
 pub(crate) fn open_connection(alloc: Global, fields: &[&str]) -> Result<ScriptLine, FieldFault>
     ensures value { IfOk result (λ line.
-        two lines.Open client_of number_of (texts fields.now) ≡ Some line) }
+        two lines.Open parse_client parse_number (texts fields.now) ≡ Some line) }
     ensures form { IsErrOf result FieldFault.Form
-        → two lines.Open client_of number_of (texts fields.now) ≡ None }
+        → two lines.Open parse_client parse_number (texts fields.now) ≡ None }
 {
     let [name, node] = fields else {
         return Err(FieldFault::Form);
@@ -135,9 +135,9 @@ pub(crate) fn open_connection(alloc: Global, fields: &[&str]) -> Result<ScriptLi
 /// Reads the fields of `expel b 1`: node 1 proposes that the session of client b ends.
 pub(crate) fn expel(alloc: Global, fields: &[&str]) -> Result<ScriptLine, FieldFault>
     ensures value { IfOk result (λ line.
-        two lines.Expel client_of number_of (texts fields.now) ≡ Some line) }
+        two lines.Expel parse_client parse_number (texts fields.now) ≡ Some line) }
     ensures form { IsErrOf result FieldFault.Form
-        → two lines.Expel client_of number_of (texts fields.now) ≡ None }
+        → two lines.Expel parse_client parse_number (texts fields.now) ≡ None }
 {
     let [name, node] = fields else {
         return Err(FieldFault::Form);
@@ -149,9 +149,9 @@ pub(crate) fn expel(alloc: Global, fields: &[&str]) -> Result<ScriptLine, FieldF
 /// Reads the fields of `up 1 all`: all bytes of connection 1 go up to its node.
 pub(crate) fn carry_up(fields: &[&str]) -> Result<ScriptLine, FieldFault>
     ensures value { IfOk result (λ line.
-        two lines.CarryUp number_of amount_of (texts fields.now) ≡ Some line) }
+        two lines.CarryUp parse_number parse_amount (texts fields.now) ≡ Some line) }
     ensures form { IsErrOf result FieldFault.Form
-        → two lines.CarryUp number_of amount_of (texts fields.now) ≡ None }
+        → two lines.CarryUp parse_number parse_amount (texts fields.now) ≡ None }
 {
     let [connection, bytes] = fields else {
         return Err(FieldFault::Form);
@@ -163,9 +163,9 @@ pub(crate) fn carry_up(fields: &[&str]) -> Result<ScriptLine, FieldFault>
 /// Reads the fields of `down 1 all`: all bytes of connection 1 go down to its client.
 pub(crate) fn carry_down(fields: &[&str]) -> Result<ScriptLine, FieldFault>
     ensures value { IfOk result (λ line.
-        two lines.CarryDown number_of amount_of (texts fields.now) ≡ Some line) }
+        two lines.CarryDown parse_number parse_amount (texts fields.now) ≡ Some line) }
     ensures form { IsErrOf result FieldFault.Form
-        → two lines.CarryDown number_of amount_of (texts fields.now) ≡ None }
+        → two lines.CarryDown parse_number parse_amount (texts fields.now) ≡ None }
 {
     let [connection, bytes] = fields else {
         return Err(FieldFault::Form);
@@ -176,8 +176,8 @@ pub(crate) fn carry_down(fields: &[&str]) -> Result<ScriptLine, FieldFault>
 
 /// Reads the fields of `publish a t/1 2 0 78`: topic, QoS, RETAIN and payload in hexadecimal.
 pub(crate) fn publish(alloc: Global, fields: &[&str]) -> Result<ScriptLine, FieldFault>
-    ensures value { IfOk result (λ line. publish_of (texts fields.now) ≡ Some line) }
-    ensures form { IsErrOf result FieldFault.Form → publish_of (texts fields.now) ≡ None }
+    ensures value { IfOk result (λ line. parse_publish (texts fields.now) ≡ Some line) }
+    ensures form { IsErrOf result FieldFault.Form → parse_publish (texts fields.now) ≡ None }
 {
     let [name, about, quality, keep, bytes] = fields else {
         return Err(FieldFault::Form);
@@ -187,7 +187,7 @@ pub(crate) fn publish(alloc: Global, fields: &[&str]) -> Result<ScriptLine, Fiel
 }
 
 // Returns the publication of the last four fields.
-#[tactic(auto, unfolding(crate::specs::Inside::LineReading::publication_of))]
+#[tactic(auto, unfolding(crate::specs::Inside::LineReading::parse_publication))]
 fn publication(
     alloc: Global,
     about: &str,
@@ -196,9 +196,9 @@ fn publication(
     bytes: &str,
 ) -> Result<Publication, FieldFault>
     ensures value { IfOk result (λ sent.
-        publication_of about.now quality.now keep.now bytes.now ≡ Some sent) }
+        parse_publication about.now quality.now keep.now bytes.now ≡ Some sent) }
     ensures form { IsErrOf result FieldFault.Form
-        → publication_of about.now quality.now keep.now bytes.now ≡ None }
+        → parse_publication about.now quality.now keep.now bytes.now ≡ None }
 {
     let about = topic(alloc, about)?;
     let quality = qos(quality)?;
@@ -213,8 +213,8 @@ fn publication(
 
 /// Reads the fields of `subscribe b t/# 2`: client b subscribes, at most at QoS 2.
 pub(crate) fn subscribe(alloc: Global, fields: &[&str]) -> Result<ScriptLine, FieldFault>
-    ensures value { IfOk result (λ line. subscribe_of (texts fields.now) ≡ Some line) }
-    ensures form { IsErrOf result FieldFault.Form → subscribe_of (texts fields.now) ≡ None }
+    ensures value { IfOk result (λ line. parse_subscribe (texts fields.now) ≡ Some line) }
+    ensures form { IsErrOf result FieldFault.Form → parse_subscribe (texts fields.now) ≡ None }
 {
     let [name, pattern, quality] = fields else {
         return Err(FieldFault::Form);
@@ -227,9 +227,9 @@ pub(crate) fn subscribe(alloc: Global, fields: &[&str]) -> Result<ScriptLine, Fi
 /// Reads the fields of `unsubscribe b t/#`: client b unsubscribes.
 pub(crate) fn unsubscribe(alloc: Global, fields: &[&str]) -> Result<ScriptLine, FieldFault>
     ensures value { IfOk result (λ line.
-        two lines.Unsubscribe client_of filter_of (texts fields.now) ≡ Some line) }
+        two lines.Unsubscribe parse_client parse_filter (texts fields.now) ≡ Some line) }
     ensures form { IsErrOf result FieldFault.Form
-        → two lines.Unsubscribe client_of filter_of (texts fields.now) ≡ None }
+        → two lines.Unsubscribe parse_client parse_filter (texts fields.now) ≡ None }
 {
     let [name, pattern] = fields else {
         return Err(FieldFault::Form);

@@ -3,8 +3,8 @@
 ghost use Rattle.std.specs.Prelude.{◌≡◌, ◌≢◌, Some, None, Err, IfOk, OnOk, IsErrOf, true, false};
 ghost use Rattle.std.specs.List.{list_all};
 ghost use Rattle.script.specs.Fields.{texts};
-ghost use Rattle.script.specs.Scripts.{are_distinct, are_nodes, has, is_lawful_opening};
-ghost use Rattle.script.specs.Inside.Worlds.{is_small, values_of, world_of};
+ghost use Rattle.script.specs.Scripts.{are_distinct, are_members, has_client, is_lawful_opening};
+ghost use Rattle.script.specs.Inside.Worlds.{may_be_member, values_of, parse_world};
 
 use crate::error::FieldFault;
 use crate::values::{clients, number, numbers};
@@ -29,8 +29,8 @@ const MAX_NODE: u64 = ballot_base::MAX_NODE as u64;
 /// Returns the world that the fields of the first line open.
 pub(crate) fn opening_of(alloc: Global, fields: &[&str]) -> Result<Opening, FieldFault>
     ensures value { IfOk result (λ opening.
-        world_of (texts fields.now) ≡ Some (values_of opening)) }
-    ensures form { IsErrOf result FieldFault.Form → world_of (texts fields.now) ≡ None }
+        parse_world (texts fields.now) ≡ Some (values_of opening)) }
+    ensures form { IsErrOf result FieldFault.Form → parse_world (texts fields.now) ≡ None }
 {
     let [word, count, members, primary, names] = fields else {
         return Err(FieldFault::Form);
@@ -61,7 +61,7 @@ fn config(alloc: Global, count: u64, members: &[u64], primary: u64) -> Result<Co
     ensures form { IsErrOf result FieldFault.Form
         → is_lawful_opening count members.now primary ≡ false }
 {
-    if count > MAX_NODE || !are_nodes(count, members) {
+    if count > MAX_NODE || !are_members(count, members) {
         return Err(FieldFault::Form);
     }
     if primary > MAX_NODE {
@@ -80,15 +80,15 @@ fn config(alloc: Global, count: u64, members: &[u64], primary: u64) -> Result<Co
 }
 
 // Says whether each of the numbers is at most this one.
-fn are_nodes(count: u64, members: &[u64]) -> bool
-    ensures { result ≡ are_nodes count members.now }
+fn are_members(count: u64, members: &[u64]) -> bool
+    ensures { result ≡ are_members count members.now }
 {
     members.iter().all(|member| *member <= count)
 }
 
 // Returns the members. Each number is at most the greatest of a node.
 fn small_members(alloc: Global, members: &[u64]) -> Result<Members, FieldFault>
-    requires { list_all is_small members.now ≡ true }
+    requires { list_all may_be_member members.now ≡ true }
     ensures value { IfOk result (λ small. small ≡ members.now) }
     ensures memory { result ≢ Err FieldFault.Form }
 {
@@ -108,12 +108,12 @@ fn are_distinct(clients: &[ClientId]) -> bool
     let Some((client, others)) = clients.split_first() else {
         return true;
     };
-    !has(others, client) && are_distinct(others)
+    !has_client(others, client) && are_distinct(others)
 }
 
 // Says whether one of the clients is this one.
-fn has(clients: &[ClientId], client: &ClientId) -> bool
-    ensures { result ≡ has clients.now client.now }
+fn has_client(clients: &[ClientId], client: &ClientId) -> bool
+    ensures { result ≡ has_client clients.now client.now }
 {
     clients.iter().any(|other| other == client)
 }

@@ -1,7 +1,7 @@
 // What the fields of a line write.
 
 ghost use Rattle.std.specs.Prelude.{◌≡◌, ◌==◌, Some, None, IfOk, IsErrOf, slice_index};
-ghost use Rattle.script.specs.Fields.{amount_of, client_of, clients_of, filter_of, number_of, numbers_of, payload_of, qos_of, retain_of, topic_of};
+ghost use Rattle.script.specs.Fields.{parse_amount, parse_client, parse_clients, parse_filter, parse_number, parse_numbers, parse_payload, parse_qos, parse_retain, parse_topic};
 
 use crate::error::FieldFault;
 use crate::fields::parts_of;
@@ -14,8 +14,8 @@ use topics::{Filter, TopicName};
 
 /// Reads a decimal number without a sign, below 2^64. `Form` says that the text is none.
 pub(crate) fn number(text: &str) -> Result<u64, FieldFault>
-    ensures value { IfOk result (λ number. number_of text.now ≡ Some number) }
-    ensures form { IsErrOf result FieldFault.Form → number_of text.now ≡ None }
+    ensures value { IfOk result (λ number. parse_number text.now ≡ Some number) }
+    ensures form { IsErrOf result FieldFault.Form → parse_number text.now ≡ None }
 {
     // `parse` takes a sign.
     if has_sign(text) {
@@ -39,8 +39,8 @@ fn has_sign(text: &str) -> bool
 
 /// Returns the numbers between commas.
 pub(crate) fn numbers(alloc: Global, text: &str) -> Result<Numbers, FieldFault>
-    ensures value { IfOk result (λ numbers. numbers_of text.now ≡ Some numbers) }
-    ensures form { IsErrOf result FieldFault.Form → numbers_of text.now ≡ None }
+    ensures value { IfOk result (λ numbers. parse_numbers text.now ≡ Some numbers) }
+    ensures form { IsErrOf result FieldFault.Form → parse_numbers text.now ≡ None }
 {
     let all = parts_of(alloc, text)?;
     let parts = all.as_slice();
@@ -52,10 +52,10 @@ pub(crate) fn numbers(alloc: Global, text: &str) -> Result<Numbers, FieldFault>
 }
 
 /// Returns a QoS, 0 to 2.
-#[tactic(auto, unfolding(crate::specs::Fields::qos_of))]
+#[tactic(auto, unfolding(crate::specs::Fields::parse_qos))]
 pub(crate) fn qos(text: &str) -> Result<QoS, FieldFault>
-    ensures value { IfOk result (λ qos. qos_of text.now ≡ Some qos) }
-    ensures form { IsErrOf result FieldFault.Form → qos_of text.now ≡ None }
+    ensures value { IfOk result (λ qos. parse_qos text.now ≡ Some qos) }
+    ensures form { IsErrOf result FieldFault.Form → parse_qos text.now ≡ None }
 {
     match number(text)? {
         0 => Ok(QoS::AtMostOnce),
@@ -66,10 +66,10 @@ pub(crate) fn qos(text: &str) -> Result<QoS, FieldFault>
 }
 
 /// Reads a RETAIN flag, `0` or `1`. `Form` says that the text is neither.
-#[tactic(auto, unfolding(crate::specs::Fields::retain_of))]
+#[tactic(auto, unfolding(crate::specs::Fields::parse_retain))]
 pub(crate) fn retain(text: &str) -> Result<bool, FieldFault>
-    ensures value { IfOk result (λ retain. retain_of text.now ≡ Some retain) }
-    ensures form { IsErrOf result FieldFault.Form → retain_of text.now ≡ None }
+    ensures value { IfOk result (λ retain. parse_retain text.now ≡ Some retain) }
+    ensures form { IsErrOf result FieldFault.Form → parse_retain text.now ≡ None }
 {
     match number(text)? {
         0 => Ok(false),
@@ -79,10 +79,10 @@ pub(crate) fn retain(text: &str) -> Result<bool, FieldFault>
 }
 
 /// Returns a count of bytes.
-#[tactic(auto, unfolding(crate::specs::Fields::amount_of))]
+#[tactic(auto, unfolding(crate::specs::Fields::parse_amount))]
 pub(crate) fn amount(text: &str) -> Result<Amount, FieldFault>
-    ensures value { IfOk result (λ amount. amount_of text.now ≡ Some amount) }
-    ensures form { IsErrOf result FieldFault.Form → amount_of text.now ≡ None }
+    ensures value { IfOk result (λ amount. parse_amount text.now ≡ Some amount) }
+    ensures form { IsErrOf result FieldFault.Form → parse_amount text.now ≡ None }
 {
     if text == "all" {
         return Ok(Amount::All);
@@ -91,10 +91,10 @@ pub(crate) fn amount(text: &str) -> Result<Amount, FieldFault>
 }
 
 /// Returns a payload in hexadecimal.
-#[tactic(auto, unfolding(crate::specs::Fields::payload_of))]
+#[tactic(auto, unfolding(crate::specs::Fields::parse_payload))]
 pub(crate) fn payload(alloc: Global, text: &str) -> Result<Payload, FieldFault>
-    ensures value { IfOk result (λ payload. payload_of text.now ≡ Some payload) }
-    ensures form { IsErrOf result FieldFault.Form → payload_of text.now ≡ None }
+    ensures value { IfOk result (λ payload. parse_payload text.now ≡ Some payload) }
+    ensures form { IsErrOf result FieldFault.Form → parse_payload text.now ≡ None }
 {
     if text == "-" {
         return Ok(Payload::new(alloc, &[])?);
@@ -111,16 +111,16 @@ pub(crate) fn payload(alloc: Global, text: &str) -> Result<Payload, FieldFault>
 
 /// Reads a Client Identifier. `Form` says that the text is none, `Memory` that memory ran out.
 pub(crate) fn client(alloc: Global, text: &str) -> Result<ClientId, FieldFault>
-    ensures value { IfOk result (λ client. client_of text.now ≡ Some client) }
-    ensures form { IsErrOf result FieldFault.Form → client_of text.now ≡ None }
+    ensures value { IfOk result (λ client. parse_client text.now ≡ Some client) }
+    ensures form { IsErrOf result FieldFault.Form → parse_client text.now ≡ None }
 {
     Ok(ClientId::new(alloc, text)?)
 }
 
 /// Returns the Client Identifiers between commas.
 pub(crate) fn clients(alloc: Global, text: &str) -> Result<Vec<ClientId>, FieldFault>
-    ensures value { IfOk result (λ clients. clients_of text.now ≡ Some clients.items) }
-    ensures form { IsErrOf result FieldFault.Form → clients_of text.now ≡ None }
+    ensures value { IfOk result (λ clients. parse_clients text.now ≡ Some clients.items) }
+    ensures form { IsErrOf result FieldFault.Form → parse_clients text.now ≡ None }
 {
     let all = parts_of(alloc, text)?;
     let parts = all.as_slice();
@@ -133,16 +133,16 @@ pub(crate) fn clients(alloc: Global, text: &str) -> Result<Vec<ClientId>, FieldF
 
 /// Reads a Topic Name. `Form` says that the text is none, `Memory` that memory ran out.
 pub(crate) fn topic(alloc: Global, text: &str) -> Result<TopicName, FieldFault>
-    ensures value { IfOk result (λ topic. topic_of text.now ≡ Some topic) }
-    ensures form { IsErrOf result FieldFault.Form → topic_of text.now ≡ None }
+    ensures value { IfOk result (λ topic. parse_topic text.now ≡ Some topic) }
+    ensures form { IsErrOf result FieldFault.Form → parse_topic text.now ≡ None }
 {
     Ok(TopicName::new(alloc, text)?)
 }
 
 /// Reads a Topic Filter. `Form` says that the text is none, `Memory` that memory ran out.
 pub(crate) fn filter(alloc: Global, text: &str) -> Result<Filter, FieldFault>
-    ensures value { IfOk result (λ filter. filter_of text.now ≡ Some filter) }
-    ensures form { IsErrOf result FieldFault.Form → filter_of text.now ≡ None }
+    ensures value { IfOk result (λ filter. parse_filter text.now ≡ Some filter) }
+    ensures form { IsErrOf result FieldFault.Form → parse_filter text.now ≡ None }
 {
     Ok(Filter::new(alloc, text)?)
 }

@@ -2,7 +2,7 @@
 use Rattle.std.specs.Prelude.{Bool, if◌then◌else◌, List, [], ◌∷◌, codes, bytes_eq, Option, Some, None}
 use Rattle.session_base.specs.packet.packet_base.declared.qos.QoS.{QoS}
 use Rattle.session_base.specs.declared.publication.Publication.{Publication}
-use Rattle.script.specs.Fields.{Text, amount_of, client_of, filter_of, number_of, numbers_of, payload_of, qos_of, retain_of, topic_of}
+use Rattle.script.specs.Fields.{Text, parse_amount, parse_client, parse_filter, parse_number, parse_numbers, parse_payload, parse_qos, parse_retain, parse_topic}
 use Rattle.script.specs.declared.script_line.ScriptLine.{ScriptLine}
 use Rattle.script.specs.declared.script_line.ScriptLine.TheVariants as lines
 
@@ -35,13 +35,13 @@ abbrev pub subscription_line : Text → Text → QoS → ScriptLine
 subscription_line client filter qos = lines.Subscribe client filter qos
 
 -- the three fields of `subscribe`
-abbrev pub subscribe_of : List Text → Option ScriptLine
-subscribe_of [] = None
-subscribe_of (c ∷ []) = None
-subscribe_of (c ∷ f ∷ []) = None
-subscribe_of (c ∷ f ∷ q ∷ []) =
-    with (with (with (Some subscription_line) (client_of c)) (filter_of f)) (qos_of q)
-subscribe_of (c ∷ f ∷ q ∷ d ∷ more) = None
+abbrev pub parse_subscribe : List Text → Option ScriptLine
+parse_subscribe [] = None
+parse_subscribe (c ∷ []) = None
+parse_subscribe (c ∷ f ∷ []) = None
+parse_subscribe (c ∷ f ∷ q ∷ []) =
+    with (with (with (Some subscription_line) (parse_client c)) (parse_filter f)) (parse_qos q)
+parse_subscribe (c ∷ f ∷ q ∷ d ∷ more) = None
 
 -- a publication of these fields
 abbrev pub publication : Text → QoS → Bool → Text → Publication
@@ -49,45 +49,45 @@ publication topic qos retain payload =
     record { retain = retain; qos = qos; topic = topic; payload = payload }
 
 -- the last four fields of `publish`
-unfoldable pub publication_of : Text → Text → Text → Text → Option Publication
-publication_of t q r p =
-    with (with (with (with (Some publication) (topic_of t)) (qos_of q)) (retain_of r))
-    (payload_of p)
+unfoldable pub parse_publication : Text → Text → Text → Text → Option Publication
+parse_publication t q r p =
+    with (with (with (with (Some publication) (parse_topic t)) (parse_qos q)) (parse_retain r))
+    (parse_payload p)
 
 -- the line by which a client publishes
 abbrev pub publication_line : Text → Publication → ScriptLine
 publication_line client sent = lines.Publish client sent
 
 -- the five fields of `publish`
-abbrev pub publish_of : List Text → Option ScriptLine
-publish_of [] = None
-publish_of (c ∷ []) = None
-publish_of (c ∷ t ∷ []) = None
-publish_of (c ∷ t ∷ q ∷ []) = None
-publish_of (c ∷ t ∷ q ∷ r ∷ []) = None
-publish_of (c ∷ t ∷ q ∷ r ∷ p ∷ []) =
-    with (with (Some publication_line) (client_of c)) (publication_of t q r p)
-publish_of (c ∷ t ∷ q ∷ r ∷ p ∷ d ∷ more) = None
+abbrev pub parse_publish : List Text → Option ScriptLine
+parse_publish [] = None
+parse_publish (c ∷ []) = None
+parse_publish (c ∷ t ∷ []) = None
+parse_publish (c ∷ t ∷ q ∷ []) = None
+parse_publish (c ∷ t ∷ q ∷ r ∷ []) = None
+parse_publish (c ∷ t ∷ q ∷ r ∷ p ∷ []) =
+    with (with (Some publication_line) (parse_client c)) (parse_publication t q r p)
+parse_publish (c ∷ t ∷ q ∷ r ∷ p ∷ d ∷ more) = None
 
 -- what the fields after this word say
 unfoldable pub line_by : Text → List Text → Option ScriptLine
 line_by word fields =
-    if bytes_eq word (codes "assign") then two lines.Assign numbers_of number_of fields else
-    if bytes_eq word (codes "deliver") then one lines.Deliver number_of fields else
-    if bytes_eq word (codes "tick") then one lines.Tick number_of fields else
-    if bytes_eq word (codes "cut") then one lines.Cut number_of fields else
-    if bytes_eq word (codes "crash") then one lines.Crash number_of fields else
-    if bytes_eq word (codes "open") then two lines.Open client_of number_of fields else
-    if bytes_eq word (codes "up") then two lines.CarryUp number_of amount_of fields else
-    if bytes_eq word (codes "down") then two lines.CarryDown number_of amount_of fields else
-    if bytes_eq word (codes "abandon") then one lines.Abandon client_of fields else
-    if bytes_eq word (codes "disconnect") then one lines.Disconnect client_of fields else
-    if bytes_eq word (codes "notice") then one lines.Notice number_of fields else
-    if bytes_eq word (codes "publish") then publish_of fields else
-    if bytes_eq word (codes "subscribe") then subscribe_of fields else
+    if bytes_eq word (codes "assign") then two lines.Assign parse_numbers parse_number fields else
+    if bytes_eq word (codes "deliver") then one lines.Deliver parse_number fields else
+    if bytes_eq word (codes "tick") then one lines.Tick parse_number fields else
+    if bytes_eq word (codes "cut") then one lines.Cut parse_number fields else
+    if bytes_eq word (codes "crash") then one lines.Crash parse_number fields else
+    if bytes_eq word (codes "open") then two lines.Open parse_client parse_number fields else
+    if bytes_eq word (codes "up") then two lines.CarryUp parse_number parse_amount fields else
+    if bytes_eq word (codes "down") then two lines.CarryDown parse_number parse_amount fields else
+    if bytes_eq word (codes "abandon") then one lines.Abandon parse_client fields else
+    if bytes_eq word (codes "disconnect") then one lines.Disconnect parse_client fields else
+    if bytes_eq word (codes "notice") then one lines.Notice parse_number fields else
+    if bytes_eq word (codes "publish") then parse_publish fields else
+    if bytes_eq word (codes "subscribe") then parse_subscribe fields else
     if bytes_eq word (codes "unsubscribe")
-    then two lines.Unsubscribe client_of filter_of fields else
-    if bytes_eq word (codes "expel") then two lines.Expel client_of number_of fields else
+    then two lines.Unsubscribe parse_client parse_filter fields else
+    if bytes_eq word (codes "expel") then two lines.Expel parse_client parse_number fields else
     None
 
 -- what the fields of a line say

@@ -1,7 +1,7 @@
 -- The world that the fields of the first line open.
 use Rattle.std.specs.Prelude.{ℕ, Bool, ◌&&◌, nat_le, if◌then◌else◌, List, [], ◌∷◌, codes, bytes_eq, Option, Some, None}
 use Rattle.ballot_base.specs.LawfulConfig.{max_node}
-use Rattle.script.specs.Fields.{Text, clients_of, number_of, numbers_of}
+use Rattle.script.specs.Fields.{Text, parse_clients, parse_number, parse_numbers}
 use Rattle.script.specs.Scripts.{are_distinct, is_lawful_opening}
 use Rattle.script.specs.Inside.LineReading.{with}
 use Rattle.script.specs.declared.opening.Opening.{Opening}
@@ -23,8 +23,8 @@ values_of opening = values opening.nodes opening.config.members opening.config.p
     opening.clients.items
 
 -- whether a number is at most the greatest of a node
-abbrev pub is_small : ℕ → Bool
-is_small n = nat_le n max_node
+abbrev pub may_be_member : ℕ → Bool
+may_be_member n = nat_le n max_node
 
 -- values with which a world may open
 abbrev pub checked : Option Values → Option Values
@@ -33,13 +33,14 @@ checked (Some v) =
     if is_lawful_opening v.nodes v.members v.primary && are_distinct v.clients then Some v else None
 
 -- the values of a first line
-abbrev pub world_of : List Text → Option Values
-world_of [] = None
-world_of (w ∷ []) = None
-world_of (w ∷ n ∷ []) = None
-world_of (w ∷ n ∷ m ∷ []) = None
-world_of (w ∷ n ∷ m ∷ p ∷ []) = None
-world_of (w ∷ n ∷ m ∷ p ∷ c ∷ []) = if bytes_eq w (codes "world")
-    then checked (with (with (with (with (Some values) (number_of n)) (numbers_of m)) (number_of p))
-    (clients_of c)) else None
-world_of (w ∷ n ∷ m ∷ p ∷ c ∷ d ∷ more) = None
+abbrev pub parse_world : List Text → Option Values
+parse_world [] = None
+parse_world (w ∷ []) = None
+parse_world (w ∷ n ∷ []) = None
+parse_world (w ∷ n ∷ m ∷ []) = None
+parse_world (w ∷ n ∷ m ∷ p ∷ []) = None
+parse_world (w ∷ n ∷ m ∷ p ∷ c ∷ []) = if bytes_eq w (codes "world")
+    then checked (with (with (with (with (Some values) (parse_number n)) (parse_numbers m))
+    (parse_number p))
+    (parse_clients c)) else None
+parse_world (w ∷ n ∷ m ∷ p ∷ c ∷ d ∷ more) = None

@@ -1,11 +1,11 @@
-use Rattle.script.specs.Fields.{filter_of}
+use Rattle.script.specs.Fields.{parse_filter}
 use Rattle.script.proofs.WithoutFault.{no_text, own_text}
 use Rattle.script.proofs.values.filter.Goals as goal
 
 pub returns-in_err-new-clause-form : goal.returns-in_err-new-clause-form
-unfolding filter_of
+unfolding parse_filter
 returns-in_err-new-clause-form c form = no_text _ _ _ _ c.in_err-new.ensures.err c.from_residual.ensures.1 form
 
 pub returns-clause-value : goal.returns-clause-value
-unfolding filter_of
+unfolding parse_filter
 returns-clause-value c = own_text _ _ _ c.in_ok-new.ensures.ok c.in_ok-new.ensures.value
