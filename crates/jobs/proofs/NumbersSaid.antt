@@ -10,7 +10,7 @@ use Rattle.std.proofs.lemmas.Bool.{and_parts, cases_Bool, eqb-false, false≢tru
 use Rattle.std.proofs.lemmas.List.{get_or_default, length-map, map-append, take_more}
 use Rattle.std.proofs.lemmas.Str.Parse.{IsNumeralModel, numerals_by_value, parse_digits, tells_all_ascii_digits}
 use Rattle.script.specs.Fields.{Text, is_decimal, parts_of, texts}
-use Rattle.jobs.specs.Orders.{AreNumbers, IsNoOrder, LacksNumber, node_of}
+use Rattle.jobs.specs.Orders.{AreNumbers, IsNoOrder, LacksNumber, named_node}
 use Rattle.jobs.specs.declared.word_fault.WordFault.{WordFault}
 
 -- ---- one word
@@ -38,12 +38,12 @@ passes b v n h same = rw h (ap Some same)
 fails : (b : Bool) (v : ℕ) → b ≡ false → cond b (Some v) None ≡ None
 fails b v h = rw h refl
 
-pub no_number : (word : Text) → is_decimal word ≡ false → node_of word ≡ None
-unfolding node_of
+pub no_number : (word : Text) → is_decimal word ≡ false → named_node word ≡ None
+unfolding named_node
 no_number word is = fails (is_decimal word) (min (digits_value 10 word) 255) is
 
-has_number : (word : Text) (n : ℕ) → is_decimal word ≡ true → min (digits_value 10 word) 255 ≡ n → node_of word ≡ Some n
-unfolding node_of
+has_number : (word : Text) (n : ℕ) → is_decimal word ≡ true → min (digits_value 10 word) 255 ≡ n → named_node word ≡ Some n
+unfolding named_node
 has_number word n is same = passes (is_decimal word) (min (digits_value 10 word) 255) n is same
 
 small : (v n : ℕ) → v < 256 → n ≡ v → min v 255 ≡ n
@@ -59,7 +59,7 @@ large : (v n : ℕ) → (v < 256 → ⊥) → n ≡ 255 → min v 255 ≡ n
 large v n above is = let far = not_below v above in omega (arith, far, is)
 
 pub number_said : {E : Type 0} (word : Text) (r : Result ℕ E) (n : ℕ) → is_decimal word ≡ true → ParsesUnsigned 8 10 word r
-    → n ≡ result_unwrap_or r 255 → node_of word ≡ Some n
+    → n ≡ result_unwrap_or r 255 → named_node word ≡ Some n
 number_said {E} word (Ok m) n is parses same =
     let (some, digits) = and_parts (nat_lt 0 (length word)) (all_ascii_digits word) is in
     let (fits, value) = parse_digits own {E = E} 8 word (Ok m) parses digits in
@@ -72,22 +72,22 @@ number_said {E} word (Err e) n is parses same =
 -- ---- words between commas
 
 pub one_more : (parts : List (Bor Text)) (i : ℕ) (d : Bor Text) (xs ys : List ℕ) (x : ℕ) → i < length parts
-    → map node_of (take i (texts parts)) ≡ map Some xs → node_of (get_or parts i d).now ≡ Some x → ys ≡ xs ++ x ∷ []
-    → map node_of (take (i + 1) (texts parts)) ≡ map Some ys
+    → map named_node (take i (texts parts)) ≡ map Some xs → named_node (get_or parts i d).now ≡ Some x → ys ≡ xs ++ x ∷ []
+    → map named_node (take (i + 1) (texts parts)) ≡ map Some ys
 one_more parts i d xs ys x within before is more =
-    ap (map node_of) (take_more (texts parts) i d.now (omega (arith, length-map parts (λ (b : Bor Text). b.now))))
-    ∙ map-append node_of (take i (texts parts)) (get_or (texts parts) i d.now ∷ [])
-    ∙ ap₂ (λ o p. o ++ p ∷ []) before (ap node_of (get_or-map (λ (b : Bor Text). b.now) parts i d) ∙ is)
+    ap (map named_node) (take_more (texts parts) i d.now (omega (arith, length-map parts (λ (b : Bor Text). b.now))))
+    ∙ map-append named_node (take i (texts parts)) (get_or (texts parts) i d.now ∷ [])
+    ∙ ap₂ (λ o p. o ++ p ∷ []) before (ap named_node (get_or-map (λ (b : Bor Text). b.now) parts i d) ∙ is)
     ∙ sym (map-append Some xs (x ∷ [])) ∙ ap (map Some) (sym more)
 
 pub all_said : (parts : List (Bor Text)) (word : Text) (i : ℕ) (xs ys : List ℕ) → length parts ≤ i → texts parts ≡ parts_of word
-    → map node_of (take i (texts parts)) ≡ map Some xs → ys ≡ xs → AreNumbers word ys
+    → map named_node (take i (texts parts)) ≡ map Some xs → ys ≡ xs → AreNumbers word ys
 all_said parts word i xs ys end are before same =
-    ap (map node_of) (sym are ∙ sym (take_all i (texts parts) (omega (arith, length-map parts (λ (b : Bor Text). b.now)))))
+    ap (map named_node) (sym are ∙ sym (take_all i (texts parts) (omega (arith, length-map parts (λ (b : Bor Text). b.now)))))
     ∙ before ∙ ap (map Some) (sym same)
 
 pub lacks_number : (parts : List (Bor Text)) (word : Text) (i : ℕ) (d : Bor Text) (fault : WordFault) → i < length parts
-    → texts parts ≡ parts_of word → IsNoOrder (node_of (get_or parts i d).now ≡ None) fault → IsNoOrder (LacksNumber word) fault
+    → texts parts ≡ parts_of word → IsNoOrder (named_node (get_or parts i d).now ≡ None) fault → IsNoOrder (LacksNumber word) fault
 lacks_number parts word i d fault within are (inl (is, none)) =
     let part = (get_or parts i d).now in
     let below : i < length (texts parts) = omega (arith, within, length-map parts (λ (b : Bor Text). b.now)) in

@@ -19,23 +19,23 @@ use Rattle.jobs.specs.declared.job_error.JobError.TheVariants as faults
 
 -- 1 for file, network, memory, clock and threads, a session that was there and one that was lost; 2
 -- for the command line; 3 for a table, a script or another argument, and no way out
-abbrev pub status_of : JobError → ℕ
-status_of faults.Memory = 1
-status_of faults.Input = 1
-status_of faults.Output = 1
-status_of faults.Clock = 1
-status_of faults.Threads = 1
-status_of (faults.Files count) = 1
-status_of (faults.File file kind) = 1
-status_of (faults.Address address kind) = 1
-status_of faults.Words = 2
-status_of faults.Config = 3
-status_of (faults.Script number) = 3
-status_of faults.Losses = 1
-status_of faults.Idle = 3
-status_of (faults.Refused number) = 3
-status_of faults.SessionPresent = 1
-status_of faults.Lost = 1
+abbrev pub exit_status : JobError → ℕ
+exit_status faults.Memory = 1
+exit_status faults.Input = 1
+exit_status faults.Output = 1
+exit_status faults.Clock = 1
+exit_status faults.Threads = 1
+exit_status (faults.Files count) = 1
+exit_status (faults.File file kind) = 1
+exit_status (faults.Address address kind) = 1
+exit_status faults.Words = 2
+exit_status faults.Config = 3
+exit_status (faults.Script number) = 3
+exit_status faults.Losses = 1
+exit_status faults.Idle = 3
+exit_status (faults.Refused number) = 3
+exit_status faults.SessionPresent = 1
+exit_status faults.Lost = 1
 
 -- 0 if the version was asked for, 1 if memory ran out, 2 for help and for each refused word or
 -- number
@@ -47,8 +47,8 @@ words_status kind = 2
 -- for a command line that gives no job
 abbrev pub line_status : LineFault → ℕ
 line_status (lines.Words error) = words_status (kind_of error)
-line_status lines.Incomplete = status_of faults.Words
-line_status lines.Memory = status_of faults.Memory
+line_status lines.Incomplete = exit_status faults.Words
+line_status lines.Memory = exit_status faults.Memory
 
 -- for a script that was not played as it should be
 abbrev pub played_fault_of : PlayError → JobError

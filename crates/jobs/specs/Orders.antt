@@ -17,9 +17,9 @@ use Rattle.jobs.specs.declared.word_fault.WordFault.{WordFault}
 use Rattle.jobs.specs.declared.word_fault.WordFault.TheVariants as faults
 
 -- the fault of a malformed text
-abbrev pub fault_of : MalformedKind → WordFault
-fault_of kinds.Memory = faults.Memory
-fault_of kind = faults.Refused (malformed_number kind)
+abbrev pub fault_of_word : MalformedKind → WordFault
+fault_of_word kinds.Memory = faults.Memory
+fault_of_word kind = faults.Refused (malformed_number kind)
 
 -- the number by which a word is refused
 abbrev pub refused_number : WordFault → ℕ
@@ -28,9 +28,9 @@ refused_number faults.Memory = 12
 
 -- by the first fault of its identifier, of number 5 or 6; an identifier without a fault only
 -- because memory ran out
-abbrev pub IsRefusedBy : List ℕ → WordFault → Type 0
-IsRefusedBy client fault =
-    (option_map fault_of (client_fault client) ≡ Some fault)
+abbrev pub IsWordRefused : List ℕ → WordFault → Type 0
+IsWordRefused client fault =
+    (option_map fault_of_word (client_fault client) ≡ Some fault)
     ⊎ ((client_fault client ≡ None) × (fault ≡ faults.Memory))
 
 -- the refusal of what is no order
@@ -38,16 +38,16 @@ abbrev pub no_order : WordFault
 no_order = faults.Refused 24
 
 -- the number of a word of digits alone, 255 in place of more; any other word has none
-unfoldable pub node_of : Text → Option ℕ
-node_of word = if is_decimal word then Some (min (digits_value 10 word) 255) else None
+unfoldable pub named_node : Text → Option ℕ
+named_node word = if is_decimal word then Some (min (digits_value 10 word) 255) else None
 
 -- these are the numbers of the words between the commas
 abbrev pub AreNumbers : Text → List ℕ → Type 0
-AreNumbers word numbers = map node_of (parts_of word) ≡ map Some numbers
+AreNumbers word numbers = map named_node (parts_of word) ≡ map Some numbers
 
 -- a word between the commas has no number
 abbrev pub LacksNumber : Text → Type 0
-LacksNumber word = (part : Text) × Contains (parts_of word) part × (node_of part ≡ None)
+LacksNumber word = (part : Text) × Contains (parts_of word) part × (named_node part ≡ None)
 
 -- what has no meaning is no order; what has one is refused only because memory ran out
 abbrev pub IsNoOrder : Type 0 → WordFault → Type 0
@@ -58,11 +58,11 @@ pub data Orders : List Text → Order → Type 0 where
   quit : Orders (codes "quit" ∷ []) orders.Quit
   status : Orders (codes "status" ∷ []) orders.Status
   -- `crash 1`
-  crash : {n : Text} {node : ℕ} → node_of n ≡ Some node
+  crash : {n : Text} {node : ℕ} → named_node n ≡ Some node
       → Orders (codes "crash" ∷ n ∷ []) (orders.Crash node)
   -- `assign 2,3 2`
   assign : {m p : Text} {config : Config}
-      → AreNumbers m config.members → node_of p ≡ Some config.primary
+      → AreNumbers m config.members → named_node p ≡ Some config.primary
       → Orders (codes "assign" ∷ m ∷ p ∷ []) (orders.Assign config)
 
 -- what a line orders; after `expel` and one blank everything is the identifier

@@ -1,7 +1,7 @@
 // Why the program ends with another status than 0.
 
 ghost use Rattle.std.specs.Prelude.{◌≡◌};
-ghost use Rattle.jobs.specs.Faults.{status_of};
+ghost use Rattle.jobs.specs.Faults.{exit_status};
 
 use command_line::TableFault;
 use play::PlayError;
@@ -71,7 +71,7 @@ impl JobError {
     /// `session present` and `lost`; 2 for a command line that is refused; 3 for a refused table,
     /// script or argument, and if there is no way out.
     pub fn status(&self) -> u8
-        ensures { result ≡ status_of self.now }
+        ensures { result ≡ exit_status self.now }
     {
         match self {
             JobError::Memory

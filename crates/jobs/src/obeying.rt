@@ -5,7 +5,7 @@ ghost use Rattle.command_line.specs.packet_base.ClientId.{client_fault};
 ghost use Rattle.std.specs.Char.{is_ascii_digit};
 ghost use Rattle.std.specs.List.{list_all};
 ghost use Rattle.script.specs.Fields.{is_decimal};
-ghost use Rattle.jobs.specs.Orders.{AreNumbers, IsNoOrder, IsOrder, IsRefusedBy, LacksNumber, no_order, node_of, role_of};
+ghost use Rattle.jobs.specs.Orders.{AreNumbers, IsNoOrder, IsOrder, IsWordRefused, LacksNumber, no_order, named_node, role_of};
 ghost use Rattle.jobs.specs.declared.obeying.Order.TheVariants as orders;
 
 use crate::job_error::JobError;
@@ -94,10 +94,10 @@ fn order_of(alloc: Global, line: &str) -> Result<Order, WordFault>
     match fields.as_slice() {
         ["quit"] => Ok(Order::Quit),
         ["status"] => Ok(Order::Status),
-        ["crash", node] => Ok(Order::Crash(number_of(node)?)),
+        ["crash", node] => Ok(Order::Crash(named_node(node)?)),
         ["assign", members, primary] => {
             let members = members_of(alloc, members)?;
-            let primary = number_of(primary)?;
+            let primary = named_node(primary)?;
             Ok(Order::Assign(Config { members, primary }))
         }
         _ => Err(no_order()),
@@ -116,15 +116,15 @@ fn no_order() -> WordFault
 fn expel_of(alloc: Global, client: &str) -> Result<Order, WordFault>
     ensures order { IfOk result (λ order. order ≡ orders.Expel client.now) }
     ensures sound { OnOk result (client_fault client.now ≡ None) }
-    ensures refused { IfErr result (IsRefusedBy client.now) }
+    ensures refused { IfErr result (IsWordRefused client.now) }
 {
     Ok(Order::Expel(client_of(alloc, client)?))
 }
 
 // Returns the number of a word of digits alone, or 255, which no node has, in place of more.
-fn number_of(word: &str) -> Result<u8, WordFault>
-    ensures number { IfOk result (λ number. node_of word.now ≡ Some number) }
-    ensures refused { IfErr result (IsNoOrder (node_of word.now ≡ None)) }
+fn named_node(word: &str) -> Result<u8, WordFault>
+    ensures number { IfOk result (λ number. named_node word.now ≡ Some number) }
+    ensures refused { IfErr result (IsNoOrder (named_node word.now ≡ None)) }
 {
     if !is_decimal(word) {
         return Err(no_order());
@@ -157,7 +157,7 @@ pub(crate) fn members_of(alloc: Global, word: &str) -> Result<Members, WordFault
     let parts = parts.as_slice();
     let mut numbers = Vec::new(alloc);
     for part in parts {
-        let number = number_of(part)?;
+        let number = named_node(part)?;
         if numbers.push(number).is_err() {
             return Err(WordFault::Memory);
         }

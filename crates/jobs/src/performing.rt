@@ -1,7 +1,7 @@
 // Doing a job.
 
 ghost use Rattle.std.specs.Prelude.{◌≡◌};
-ghost use Rattle.jobs.specs.Faults.{status_of};
+ghost use Rattle.jobs.specs.Faults.{exit_status};
 
 use crate::job_error::JobError;
 use crate::{scripts, serving_table, talking};
@@ -43,7 +43,7 @@ where
 
 /// Prints a fault in one line, and returns its exit status.
 pub fn print_fault<E: Write>(faults: &mut E, fault: &JobError) -> u8
-    ensures { result ≡ status_of fault.now }
+    ensures { result ≡ exit_status fault.now }
 {
     // There is nowhere else to print it.
     let _ = writeln!(faults, "vbroker: {fault}");

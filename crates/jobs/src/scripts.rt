@@ -6,7 +6,7 @@ ghost use Rattle.script.specs.Scripts.{Refuses, lines_of};
 ghost use Rattle.script.specs.declared.error.ScriptFault.TheVariants.{Line};
 ghost use Rattle.command_line.specs.packet_base.ClientId.{client_fault};
 ghost use Rattle.play.specs.Ways.{HasNoWay};
-ghost use Rattle.jobs.specs.Orders.{IsRefusedBy};
+ghost use Rattle.jobs.specs.Orders.{IsWordRefused};
 ghost use Rattle.jobs.specs.Transcripts.{Prints, PrintsWay};
 
 use crate::job_error::JobError;
@@ -71,7 +71,7 @@ fn print_way<O: Write>(
 pub(crate) fn client_of(alloc: Global, word: &str) -> Result<ClientId, WordFault>
     ensures value { IfOk result (λ client. client ≡ word.now) }
     ensures sound { OnOk result (client_fault word.now ≡ None) }
-    ensures refused { IfErr result (IsRefusedBy word.now) }
+    ensures refused { IfErr result (IsWordRefused word.now) }
 {
     match ClientId::new(alloc, word) {
         Ok(client) => Ok(client),

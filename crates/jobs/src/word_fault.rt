@@ -28,9 +28,9 @@ impl WordFault {
 }
 
 impl From<MalformedKind> for WordFault {
-    ghost use Rattle.jobs.specs.Orders.{fault_of};
+    ghost use Rattle.jobs.specs.Orders.{fault_of_word};
 
-    ghost from_gives = { λ kind fault. fault ≡ fault_of kind };
+    ghost from_gives = { λ kind fault. fault ≡ fault_of_word kind };
 
     fn from(kind: MalformedKind) -> WordFault {
         match kind {

@@ -1,7 +1,7 @@
 use Rattle.std.proofs.Common.{◌≡◌, Some, map, take}
 use Rattle.script.specs.Fields.{texts}
-use Rattle.jobs.specs.Orders.{node_of}
+use Rattle.jobs.specs.Orders.{named_node}
 use Rattle.jobs.proofs.obeying.members_of.Given as goal
 
 abbrev pub invariant-loop-part : goal.invariant-loop-part
-invariant-loop-part l = map node_of (take l.part-index (texts l.parts)) ≡ map Some l.numbers.items
+invariant-loop-part l = map named_node (take l.part-index (texts l.parts)) ≡ map Some l.numbers.items

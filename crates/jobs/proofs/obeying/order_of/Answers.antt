@@ -14,9 +14,9 @@ returns-in-status c = inr (subst (λ (all : List Text). Orders all orders.Status
     (sym (one_field c.as_slice.result.now _ (codes "status") _ (ap texts c.as_slice.ensures.value ∙ c.in-Ok.ensures) c.in-status.len_at_least c.in-status.len_below c.in-status.is-status)) Orders.status)
 
 pub returns-in-crash : goal.returns-in-crash
-returns-in-crash c = inr (subst (λ (all : List Text). Orders all (orders.Crash c.in_ok-number_of-in-crash.field-0))
+returns-in-crash c = inr (subst (λ (all : List Text). Orders all (orders.Crash c.in_ok-named_node-in-crash.field-0))
     (sym (two_fields c.as_slice.result.now _ (codes "crash") _ _ (ap texts c.as_slice.ensures.value ∙ c.in-Ok.ensures) c.in-crash.len_at_least c.in-crash.len_below c.in-crash.is-crash))
-    (Orders.crash c.in_ok-number_of-in-crash.ensures.number))
+    (Orders.crash c.in_ok-named_node-in-crash.ensures.number))
 
 pub returns-in-assign : goal.returns-in-assign
 returns-in-assign c = inr (subst (λ (all : List Text). Orders all (orders.Assign record { members = c.in_ok-members-in-assign.members; primary = c.in_ok-primary-in-assign.primary }))
