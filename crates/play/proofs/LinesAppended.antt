@@ -21,8 +21,8 @@ use Rattle.world.specs.World.{WorldState}
 use Rattle.play.specs.declared.played_world.Recipient.{Recipient}
 use Rattle.play.specs.Events.{asked_in}
 use Rattle.play.specs.Transcripts.{EventComesTo, IsAskedIn}
-use Rattle.play.specs.AcceptedLines.{accepted_by, accepted_in, accepted_lines, lines_after, new_lines}
-use Rattle.play.specs.Inside.{Appends, AreWritten, LineComesTo, Written, lines_unwritten, names_of, new_recipient, written_at}
+use Rattle.play.specs.AcceptedLines.{accepted_by_core, accepted_by_client, accepted_lines, lines_after, new_lines}
+use Rattle.play.specs.Inside.{Appends, AreWritten, LineComesTo, LineWasWritten, lines_unwritten, names_of, new_recipient, written_at}
 
 -- ---- the lines of one client
 
@@ -66,7 +66,7 @@ pub unwritten_is_new : (ls : List Recipient) (old new : WorldState) → AreWritt
 unwritten_is_new [] old new written = refl
 unwritten_is_new (l ∷ ls) old new (written, more) =
     ap (λ (k : ℕ). lines_after k l.client new ++ lines_unwritten ls new) written
-    ∙ ap (λ (z : List ℕ). lines_after (length (accepted_in l.client old)) l.client new ++ z) (unwritten_is_new ls old new more)
+    ∙ ap (λ (z : List ℕ). lines_after (length (accepted_by_client l.client old)) l.client new ++ z) (unwritten_is_new ls old new more)
 
 pub all_written : (w : WorldState) (ls : List Recipient) → AreWritten (map (written_at w) ls) w
 all_written w [] = tt
@@ -82,12 +82,12 @@ pub new_names : (clients : List (List ℕ)) → names_of (map new_recipient clie
 new_names [] = refl
 new_names (c ∷ cs) = ap (λ (z : List (List ℕ)). c ∷ z) (new_names cs)
 
-none_at : (clients : List (List ℕ)) (at : ℕ) → accepted_by (core_at (Some at) (map new_world_client clients)) ≡ []
+none_at : (clients : List (List ℕ)) (at : ℕ) → accepted_by_core (core_at (Some at) (map new_world_client clients)) ≡ []
 none_at [] at = refl
 none_at (c ∷ cs) zero = refl
 none_at (c ∷ cs) (suc at) = none_at cs at
 
-none_of : (clients : List (List ℕ)) (o : Option ℕ) → accepted_by (core_at o (map new_world_client clients)) ≡ []
+none_of : (clients : List (List ℕ)) (o : Option ℕ) → accepted_by_core (core_at o (map new_world_client clients)) ≡ []
 none_of clients None = refl
 none_of clients (Some at) = none_at clients at
 
@@ -96,9 +96,9 @@ pub none_written : (all clients : List (List ℕ)) (w : WorldState) → w.client
 none_written all [] w is = tt
 none_written all (c ∷ cs) w is = (sym (ap length none), none_written all cs w is)
   where
-    none : accepted_in c w ≡ []
+    none : accepted_by_client c w ≡ []
     none =
-        ap (λ (k : List WorldClient). accepted_by (core_at (position (is_named c) k) k)) is
+        ap (λ (k : List WorldClient). accepted_by_core (core_at (position (is_named c) k) k)) is
         ∙ none_of all (position (is_named c) (map new_world_client all))
 
 -- ---- lines of a script
@@ -128,7 +128,7 @@ happened script_line old event result new is happens goes reached asks =
 
 -- a line, the line of its event, and if the last call succeeds, what clients accepted
 pub appends : {E : Type 0} (end : Result (Unit {0}) E) (clients : List (List ℕ)) (index : ℕ) (script_line : ScriptLine) (result : Result (Unit {0}) Idle) (before after : WorldState) (ls : List Recipient)
-    (a b c : List ℕ) → LineComesTo script_line before result after → Written index result after a b → names_of ls ≡ clients → AreWritten ls before → OnOk end (c ≡ b ++ lines_unwritten ls after)
+    (a b c : List ℕ) → LineComesTo script_line before result after → LineWasWritten index result after a b → names_of ls ≡ clients → AreWritten ls before → OnOk end (c ≡ b ++ lines_unwritten ls after)
     → OnOk end (Appends clients index script_line before after a c)
 appends (Err error) clients index script_line result before after ls a b c comes line named written tells = tells
 appends (Ok done) clients index script_line result before after ls a b c comes line named written tells =

@@ -7,13 +7,13 @@ use Rattle.world.specs.Found.{core_named}
 use Rattle.world.specs.World.{WorldState}
 
 -- what a client accepted: nothing if there is none
-abbrev pub accepted_by : Option Core → List Accepted
-accepted_by None = []
-accepted_by (Some core) = core.state.accepted
+abbrev pub accepted_by_core : Option Core → List Accepted
+accepted_by_core None = []
+accepted_by_core (Some core) = core.state.accepted
 
 -- what the client of this identifier shows as accepted
-abbrev pub accepted_in : List ℕ → WorldState → List Accepted
-accepted_in name w = accepted_by (core_named name w.clients)
+abbrev pub accepted_by_client : List ℕ → WorldState → List Accepted
+accepted_by_client name w = accepted_by_core (core_named name w.clients)
 
 -- a line for each publication that a client accepted
 abbrev pub accepted_lines : List ℕ → List Accepted → List ℕ
@@ -22,10 +22,10 @@ accepted_lines name (one ∷ more) = accepted_line name one ++ accepted_lines na
 
 -- a line for each that the client shows after the first `count`
 abbrev pub lines_after : ℕ → List ℕ → WorldState → List ℕ
-lines_after count name w = accepted_lines name (drop count (accepted_in name w))
+lines_after count name w = accepted_lines name (drop count (accepted_by_client name w))
 
 -- a line for each that one of these clients shows and did not show before
 abbrev pub new_lines : List (List ℕ) → WorldState → WorldState → List ℕ
 new_lines [] old new = []
 new_lines (name ∷ names) old new =
-    lines_after (length (accepted_in name old)) name new ++ new_lines names old new
+    lines_after (length (accepted_by_client name old)) name new ++ new_lines names old new

@@ -12,17 +12,17 @@ use Rattle.world.specs.Cannot.{down_of, up_of}
 use Rattle.world.specs.World.{WorldState}
 
 -- a number that a node can have
-abbrev pub is_small : ℕ → Bool
-is_small number = nat_le number 255
+abbrev pub is_possible_node : ℕ → Bool
+is_possible_node number = nat_le number 255
 
 -- the number of the node that a line names, if a node can have it
 abbrev pub node_of : ℕ → Option ℕ
-node_of number = if is_small number then Some number else None
+node_of number = if is_possible_node number then Some number else None
 
 -- a configuration is assigned, if each number can be a node's
 abbrev pub assign_of : List ℕ → ℕ → Option Event
 assign_of members primary =
-    if list_all is_small members && is_small primary
+    if list_all is_possible_node members && is_possible_node primary
     then Some (events.Assign (record { members = members; primary = primary })) else None
 
 -- how many bytes are carried when this many wait

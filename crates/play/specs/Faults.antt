@@ -9,9 +9,9 @@ use Rattle.play.specs.declared.error.PlayError.{PlayError}
 use Rattle.play.specs.declared.error.PlayError.TheVariants as faults
 
 -- for a text that is no script
-abbrev pub fault_of : ScriptFault → PlayError
-fault_of (scripts.Line number) = faults.Line number
-fault_of scripts.Memory = faults.Memory
+abbrev pub script_error : ScriptFault → PlayError
+script_error (scripts.Line number) = faults.Line number
+script_error scripts.Memory = faults.Memory
 
 -- for a world that does not open
 abbrev pub opening_fault_of : OpeningError → PlayError

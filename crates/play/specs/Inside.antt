@@ -13,7 +13,7 @@ use Rattle.world.specs.world_nodes.Agreed.{AgreeOnSoMany}
 use Rattle.play.specs.declared.played_world.Recipient.{Recipient}
 use Rattle.play.specs.Events.{asked_in, event_of}
 use Rattle.play.specs.Transcripts.{EventComesTo, IsAskedIn, IsEventLine, Played, ScriptStep}
-use Rattle.play.specs.AcceptedLines.{accepted_in, lines_after}
+use Rattle.play.specs.AcceptedLines.{accepted_by_client, lines_after}
 
 -- a line that asks a client for a call
 abbrev pub is_call : ScriptLine → Bool
@@ -39,7 +39,7 @@ pub record LineComesTo (line : ScriptLine) (old : WorldState) (result : Result (
   pub exact : KeepsReached asked old new
 
 -- its line was appended
-pub record Written (index : ℕ) (result : Result (Unit {0}) Idle) (world : WorldState)
+pub record LineWasWritten (index : ℕ) (result : Result (Unit {0}) Idle) (world : WorldState)
     (old new : List ℕ) : Type 0 where
   pub line : List ℕ
   pub is_line : IsEventLine index result world line
@@ -60,7 +60,8 @@ names_of recipients = map (λ (l : Recipient). l.client) recipients
 -- everything that they show is written
 abbrev pub AreWritten : List Recipient → WorldState → Type 0
 AreWritten [] w = Unit {0}
-AreWritten (one ∷ more) w = (one.written ≡ length (accepted_in one.client w)) × AreWritten more w
+AreWritten (one ∷ more) w = (one.written ≡ length (accepted_by_client one.client w))
+    × AreWritten more w
 
 -- the lines of what is not yet written
 abbrev pub lines_unwritten : List Recipient → WorldState → List ℕ
@@ -69,7 +70,10 @@ lines_unwritten (one ∷ more) w = lines_after one.written one.client w ++ lines
 
 -- everything that it shows is now written
 abbrev pub written_at : WorldState → Recipient → Recipient
-written_at w recipient = record recipient { written = length (accepted_in recipient.client w) }
+written_at w recipient = record recipient {
+  written =
+      length (accepted_by_client recipient.client w);
+}
 
 -- a client of which nothing is written
 abbrev pub new_recipient : List ℕ → Recipient

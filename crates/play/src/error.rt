@@ -35,9 +35,9 @@ impl Error for PlayError {}
 
 impl From<ScriptFault> for PlayError {
     ghost use Rattle.std.specs.Prelude.{◌≡◌};
-    ghost use Rattle.play.specs.Faults.{fault_of};
+    ghost use Rattle.play.specs.Faults.{script_error};
 
-    ghost from_gives = { λ error fault. fault ≡ fault_of error };
+    ghost from_gives = { λ error fault. fault ≡ script_error error };
 
     fn from(error: ScriptFault) -> PlayError {
         match error {

@@ -5,7 +5,7 @@ ghost use Rattle.std.specs.List.{list_all};
 ghost use Rattle.world.specs.world_events.declared.event.Event.TheVariants as events;
 ghost use Rattle.world.specs.Found.{way_of};
 ghost use Rattle.world.specs.Cannot.{down_of, up_of};
-ghost use Rattle.play.specs.Events.{asked_in, assign_of, count_of, is_small, node_of};
+ghost use Rattle.play.specs.Events.{asked_in, assign_of, count_of, is_possible_node, node_of};
 ghost use Rattle.play.specs.Inside.{IsCallOf, is_call};
 
 use crate::error::PlayError;
@@ -77,7 +77,7 @@ fn assign(alloc: Global, members: &Numbers, primary: u64) -> Result<Option<Event
     ensures event { IfOk result (λ event. event ≡ assign_of members.now primary) }
     ensures memory { OnErr result (IsErrOf result PlayError.Memory) }
 {
-    if !are_small(members.as_slice()) || primary > 255 {
+    if !are_possible_nodes(members.as_slice()) || primary > 255 {
         return Ok(None);
     }
     let members = small_members(alloc, members.as_slice())?;
@@ -86,15 +86,15 @@ fn assign(alloc: Global, members: &Numbers, primary: u64) -> Result<Option<Event
 }
 
 // Says whether nodes can have these numbers.
-fn are_small(numbers: &[u64]) -> bool
-    ensures { result ≡ list_all is_small numbers.now }
+fn are_possible_nodes(numbers: &[u64]) -> bool
+    ensures { result ≡ list_all is_possible_node numbers.now }
 {
     numbers.iter().all(|number| *number <= 255)
 }
 
 // Returns members with numbers that nodes can have.
 fn small_members(alloc: Global, numbers: &[u64]) -> Result<Members, PlayError>
-    requires { list_all is_small numbers.now ≡ true }
+    requires { list_all is_possible_node numbers.now ≡ true }
     ensures value { IfOk result (λ members. members ≡ numbers.now) }
     ensures memory { OnErr result (IsErrOf result PlayError.Memory) }
 {

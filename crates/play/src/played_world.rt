@@ -6,8 +6,8 @@ ghost use Rattle.world.specs.packet_world.World.{ClientsAreApart};
 ghost use Rattle.world.specs.Happening.{WorldOpens};
 ghost use Rattle.world.specs.Trace.{AreReached};
 ghost use Rattle.world.specs.StandsFor.{IsReached, asked_on};
-ghost use Rattle.play.specs.Inside.{Appends, AreWritten, LineComesTo, EndsTranscript, Written, lines_unwritten, names_of, new_recipient, written_at};
-ghost use Rattle.play.specs.AcceptedLines.{accepted_in, accepted_lines, lines_after};
+ghost use Rattle.play.specs.Inside.{Appends, AreWritten, LineComesTo, EndsTranscript, LineWasWritten, lines_unwritten, names_of, new_recipient, written_at};
+ghost use Rattle.play.specs.AcceptedLines.{accepted_by_client, accepted_lines, lines_after};
 
 use crate::error::PlayError;
 use crate::events::event_of;
@@ -110,7 +110,7 @@ impl PlayedWorld {
         came: Result<(), Idle>,
         transcript: &mut Vec<u8>,
     ) -> Result<(), PlayError>
-        ensures line { OnOk result (Written index came self.now.world
+        ensures line { OnOk result (LineWasWritten index came self.now.world
             transcript.old.items transcript.new.items) }
         ensures memory { OnErr result (IsErrOf result PlayError.Memory) }
     {
@@ -190,7 +190,7 @@ fn write_new(
         ++ lines_after recipient.old.written recipient.old.client world.now) }
     ensures memory { OnErr result (IsErrOf result PlayError.Memory) }
 {
-    let accepted = accepted_in(world, &recipient.client);
+    let accepted = accepted_by_client(world, &recipient.client);
     let written = recipient.written.min(accepted.len());
     write_each(alloc, &recipient.client, &accepted[written..], transcript)?;
     recipient.written = accepted.len();
@@ -198,8 +198,8 @@ fn write_new(
 }
 
 // Returns what a client shows as accepted; nothing if there is no such client.
-fn accepted_in<'a>(world: &'a World, client: &ClientId) -> &'a [Accepted]
-    ensures { result.now ≡ accepted_in client.now world.now }
+fn accepted_by_client<'a>(world: &'a World, client: &ClientId) -> &'a [Accepted]
+    ensures { result.now ≡ accepted_by_client client.now world.now }
 {
     match world.client(client) {
         Some(core) => core.accepted(),
