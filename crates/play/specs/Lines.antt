@@ -2,7 +2,7 @@
 use Rattle.std.specs.Prelude.{ℕ, List, [], ◌∷◌, ◌++◌, codes}
 use Rattle.std.specs.Fmt.{decimal}
 use Rattle.user_client.specs.client_base.declared.accepted.Accepted.{Accepted}
-use Rattle.user_client.specs.Printing.{line_of, printed}
+use Rattle.user_client.specs.Printing.{printed_line, printed}
 
 -- the line of an idle event, as `7 idle`
 abbrev pub idle_line : ℕ → List ℕ
@@ -17,7 +17,7 @@ done_line index messages agreed = decimal index
 -- `accepted b 1 2 0 t/1 x`
 abbrev pub accepted_line : List ℕ → Accepted → List ℕ
 accepted_line client accepted = codes "accepted "
-    ++ (printed client ++ (32 ∷ (decimal accepted.session ++ 32 ∷ line_of accepted)))
+    ++ (printed client ++ (32 ∷ (decimal accepted.session ++ 32 ∷ printed_line accepted)))
 
 -- `end agreed=8 active=2`
 abbrev pub end_line : ℕ → ℕ → List ℕ

@@ -12,17 +12,17 @@ use Rattle.client.specs.client_base.Publishing.{published, publish_refusal}
 use Rattle.client.specs.client_base.Steps.{unless_refused}
 use Rattle.client.specs.Core.{publication_with}
 use Rattle.user_client.specs.Tracing.{Called, IsAsked, new_called}
-use Rattle.user_client.specs.Publishing.{HasPublication, keeping, unkept}
+use Rattle.user_client.specs.Publishing.{HasPublication, client_keeping, unkept}
 use Rattle.user_client.proofs.Acknowledged.{made_of}
 
 -- a publication that is not refused is the one that is kept
 kept_unless : (id : List ℕ) (p : Publication) (refusal : Option ClientError) (new : ClientState)
     → (unless_refused refusal (published p (new_client id 0)) (new_client id 0)).refusal ≡ None
-    → new ≡ (unless_refused refusal (published p (new_client id 0)) (new_client id 0)).state → new ≡ keeping id p
+    → new ≡ (unless_refused refusal (published p (new_client id 0)) (new_client id 0)).state → new ≡ client_keeping id p
 kept_unless id p (Some cause) new taken same = absurd (both_ways true (ap is_some taken) refl)
 kept_unless id p None new taken same = same
 
-kept_first : (id : List ℕ) (p : Publication) (new : Called) → IsAsked p (new_called id) new → new.core.state ≡ keeping id p
+kept_first : (id : List ℕ) (p : Publication) (new : Called) → IsAsked p (new_called id) new → new.core.state ≡ client_keeping id p
 kept_first id p new (does, was) = kept_unless id p (publish_refusal p (new_client id 0)) new.core.state does.0 does.1.0
 
 -- a publisher whose client, a new one, was asked for it

@@ -5,9 +5,9 @@ use native.Mathlib.Omega.{arith}
 use Rattle.std.specs.Io.KnownBytes.{Appends}
 use Rattle.std.proofs.KnownBytes.{Appends-trans, Appends-nil}
 use Rattle.client.specs.client_base.declared.accepted.Accepted.{Accepted}
-use Rattle.user_client.specs.Printing.{line_of}
+use Rattle.user_client.specs.Printing.{printed_line}
 use Rattle.user_client.specs.Tracing.{Called, Trace}
-use Rattle.user_client.specs.Listening.{Listening, PrintsNothing, PrintsAccepted, Shows, lines_of}
+use Rattle.user_client.specs.Listening.{Listening, PrintsNothing, PrintsAccepted, Shows, printed_lines}
 use Rattle.user_client.proofs.TracesJoin.{traces_join, traces_follow, traces_end}
 
 pub less_more : (a b c : ℕ) → (a - b) - c ≡ a - (b + c)
@@ -22,20 +22,20 @@ zero_less a = omega arith
 pub suc_less : (a b : ℕ) → suc a - suc b ≡ a - b
 suc_less a b = omega arith
 
-pub lines_none : (left : ℕ) → lines_of left [] ≡ []
+pub lines_none : (left : ℕ) → printed_lines left [] ≡ []
 lines_none zero = refl
 lines_none (suc left) = refl
 
 pub lines_join : (left : ℕ) (xs ys : List Accepted)
-    → lines_of left (xs ++ ys) ≡ lines_of left xs ++ lines_of (left - length xs) ys
+    → printed_lines left (xs ++ ys) ≡ printed_lines left xs ++ printed_lines (left - length xs) ys
 lines_join left [] ys =
-    ap (λ (n : ℕ). lines_of n ys) (sym (none_less left))
-    ∙ sym (ap (λ (l : List ℕ). l ++ lines_of (left - 0) ys) (lines_none left))
-lines_join zero (x ∷ xs) ys = ap (λ (n : ℕ). lines_of n ys) (sym (zero_less (length (x ∷ xs))))
+    ap (λ (n : ℕ). printed_lines n ys) (sym (none_less left))
+    ∙ sym (ap (λ (l : List ℕ). l ++ printed_lines (left - 0) ys) (lines_none left))
+lines_join zero (x ∷ xs) ys = ap (λ (n : ℕ). printed_lines n ys) (sym (zero_less (length (x ∷ xs))))
 lines_join (suc left) (x ∷ xs) ys =
-    ap (λ (l : List ℕ). line_of x ++ l) (lines_join left xs ys)
-    ∙ sym (append_assoc (line_of x) (lines_of left xs) (lines_of (left - length xs) ys))
-    ∙ ap (λ (n : ℕ). (line_of x ++ lines_of left xs) ++ lines_of n ys) (sym (suc_less left (length xs)))
+    ap (λ (l : List ℕ). printed_line x ++ l) (lines_join left xs ys)
+    ∙ sym (append_assoc (printed_line x) (printed_lines left xs) (printed_lines (left - length xs) ys))
+    ∙ ap (λ (n : ℕ). (printed_line x ++ printed_lines left xs) ++ printed_lines n ys) (sym (suc_less left (length xs)))
 
 -- what was printed, and what was printed after it
 pub shows_join : (xs ys : List Accepted) (left middle rest : ℕ) (a b c : Option (List ℕ))
@@ -44,8 +44,8 @@ shows_join xs ys left middle rest a b c one two = (
   two.0 ∙ ap (λ (n : ℕ). n - length ys) one.0 ∙ less_more left (length xs) (length ys)
       ∙ ap (λ (n : ℕ). left - n) (sym (length-append xs ys)),
   subst (Appends a c) (sym (lines_join left xs ys))
-      (Appends-trans a b c (lines_of left xs) (lines_of (left - length xs) ys) one.1
-      (subst (λ (n : ℕ). Appends b c (lines_of n ys)) one.0 two.1)),
+      (Appends-trans a b c (printed_lines left xs) (printed_lines (left - length xs) ys) one.1
+      (subst (λ (n : ℕ). Appends b c (printed_lines n ys)) one.0 two.1)),
 )
 
 -- nothing was printed

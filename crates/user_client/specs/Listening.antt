@@ -3,7 +3,7 @@ use Rattle.std.specs.Prelude.{◌≡◌, ℕ, ◌-◌, List, [], length, take, O
 use Rattle.std.specs.List.{flat_map}
 use Rattle.std.specs.Io.KnownBytes.{Appends}
 use Rattle.client.specs.client_base.declared.accepted.Accepted.{Accepted}
-use Rattle.user_client.specs.Printing.{line_of}
+use Rattle.user_client.specs.Printing.{printed_line}
 use Rattle.user_client.specs.Tracing.{Called, Trace, new_called}
 
 -- a client, how many publications it was asked for, and how many of them are still to be printed
@@ -17,17 +17,17 @@ abbrev pub new_listening : List ℕ → ℕ → Listening
 new_listening id count = record { caller = new_called id; count = count; left = count }
 
 -- a client listens from the start: all its publications are still to be printed
-abbrev pub begun : Listening → Listening
-begun listening = record listening { left = listening.count }
+abbrev pub listening_anew : Listening → Listening
+listening_anew listening = record listening { left = listening.count }
 
 -- what is printed for these, in order, when this many are still to be printed
-abbrev pub lines_of : ℕ → List Accepted → List ℕ
-lines_of left accepted = flat_map line_of (take left accepted)
+abbrev pub printed_lines : ℕ → List Accepted → List ℕ
+printed_lines left accepted = flat_map printed_line (take left accepted)
 
 -- each of these was printed once, in order, as many as were to be printed
 abbrev pub Shows : List Accepted → ℕ → ℕ → Option (List ℕ) → Option (List ℕ) → Type 0
 Shows accepted left rest before after =
-    (rest ≡ left - length accepted) × Appends before after (lines_of left accepted)
+    (rest ≡ left - length accepted) × Appends before after (printed_lines left accepted)
 
 -- what was accepted between the two was printed
 abbrev pub PrintsAccepted : Listening → Option (List ℕ) → Listening → Option (List ℕ) → Type 0

@@ -26,6 +26,6 @@ abbrev pub flag : Bool → ℕ
 flag retain = if retain then 49 else 48
 
 -- the line of a publication: QoS, RETAIN, topic and payload, as `2 0 house/lamp on`
-abbrev pub line_of : Accepted → List ℕ
-line_of accepted = (48 + qos_number accepted.qos) ∷ 32 ∷ flag accepted.retain ∷ 32
+abbrev pub printed_line : Accepted → List ℕ
+printed_line accepted = (48 + qos_number accepted.qos) ∷ 32 ∷ flag accepted.retain ∷ 32
     ∷ (printed accepted.topic ++ 32 ∷ (printed accepted.payload ++ 10 ∷ []))

@@ -17,8 +17,8 @@ pub record Publishing : Type 0 where
   pub once : Option Publish
 
 -- a client that was never connected, and keeps just this publication, with identifier 1
-abbrev pub keeping : List ℕ → Publication → ClientState
-keeping id p = record (new_client id 0) { unsent = record { id = 1; publication = p } ∷ [] }
+abbrev pub client_keeping : List ℕ → Publication → ClientState
+client_keeping id p = record (new_client id 0) { unsent = record { id = 1; publication = p } ∷ [] }
 
 -- the PUBLISH of a publication at QoS 0
 abbrev pub unkept : Publication → Publish
@@ -35,9 +35,9 @@ abbrev pub HasPublication : QoS → List ℕ → Publication → Publishing → 
 HasPublication qualities.AtMostOnce id p it =
     it ≡ record { caller = new_called id; once = Some (unkept p) }
 HasPublication qualities.AtLeastOnce id p it =
-    (it.caller.core.state ≡ keeping id p) × (it.once ≡ None)
+    (it.caller.core.state ≡ client_keeping id p) × (it.once ≡ None)
 HasPublication qualities.ExactlyOnce id p it =
-    (it.caller.core.state ≡ keeping id p) × (it.once ≡ None)
+    (it.caller.core.state ≡ client_keeping id p) × (it.once ≡ None)
 
 -- between these two states of a stream it took this PUBLISH at QoS 0 as a whole, after the bytes
 -- that its client wrote before it

@@ -16,9 +16,9 @@ use Rattle.user_client.specs.declared.user_client_error.UserClientError.{UserCli
 use Rattle.user_client.specs.declared.user_client_error.UserClientError.TheVariants as faults
 
 -- the fault of a malformed text
-abbrev pub fault_of : MalformedKind → UserClientError
-fault_of kinds.Memory = faults.Memory
-fault_of kind = faults.Refused (malformed_number kind)
+abbrev pub text_fault : MalformedKind → UserClientError
+text_fault kinds.Memory = faults.Memory
+text_fault kind = faults.Refused (malformed_number kind)
 
 -- the fault of a call that is refused
 abbrev pub fault_of_call : ClientError → UserClientError
@@ -32,7 +32,7 @@ IsRefusedFor cause it = (option_map fault_of_call cause ≡ Some it) ⊎ (it ≡
 -- a text is refused by its first fault; without one, only because memory ran out
 abbrev pub IsRefusedBy : Option MalformedKind → UserClientError → Type 0
 IsRefusedBy fault it =
-    (option_map fault_of fault ≡ Some it) ⊎ ((fault ≡ None) × (it ≡ faults.Memory))
+    (option_map text_fault fault ≡ Some it) ⊎ ((fault ≡ None) × (it ≡ faults.Memory))
 
 -- a client that prints is refused for its identifier, and only then for its filter
 abbrev pub RefusesListener : List ℕ → List ℕ → UserClientError → Type 0

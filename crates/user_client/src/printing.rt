@@ -1,7 +1,7 @@
 // How a publication is printed.
 
 ghost use Rattle.std.specs.Prelude.{◌≡◌, ◌++◌, ◌<◌, OnOk};
-ghost use Rattle.user_client.specs.Printing.{digit, is_plain, line_of, printed, printed_byte};
+ghost use Rattle.user_client.specs.Printing.{digit, is_plain, printed_line, printed, printed_byte};
 
 use client::Accepted;
 use std::alloc::AllocError;
@@ -9,7 +9,7 @@ use std::alloc::AllocError;
 /// Appends the line of a publication: QoS, RETAIN as 0 or 1, topic and payload, with one space
 /// between them and a line feed at the end.
 pub fn print_line(accepted: &Accepted, line: &mut Vec<u8>) -> Result<(), AllocError>
-    ensures { OnOk result (line.new.items ≡ line.old.items ++ line_of accepted.now) }
+    ensures { OnOk result (line.new.items ≡ line.old.items ++ printed_line accepted.now) }
 {
     let retain = if accepted.retain { b'1' } else { b'0' };
     line.extend_from_slice(&[b'0' + accepted.qos.number(), b' ', retain, b' '])?;

@@ -4,8 +4,8 @@ ghost use Rattle.std.specs.Prelude.{◌≡◌, ◌≢◌, None, true, [], ◌∷
 ghost use Rattle.std.specs.Io.KnownBytes.{Appends};
 ghost use Rattle.client.specs.packet_base.ClientId.{client_fault};
 ghost use Rattle.topics.specs.Text.{filter_fault};
-ghost use Rattle.user_client.specs.Printing.{line_of};
-ghost use Rattle.user_client.specs.Listening.{PrintsNothing, PrintsAccepted, Shows, begun, new_listening};
+ghost use Rattle.user_client.specs.Printing.{printed_line};
+ghost use Rattle.user_client.specs.Listening.{PrintsNothing, PrintsAccepted, Shows, listening_anew, new_listening};
 ghost use Rattle.user_client.specs.Losing.{IsGivenUp, IsLostBy};
 ghost use Rattle.user_client.specs.Refusals.{RefusesListener};
 
@@ -82,7 +82,7 @@ impl Subscriber {
         tries: u32,
     ) -> Result<(), UserClientError>
         ensures printed { OnOk result
-            (PrintsAccepted (begun self.old) (W.contents output.old) self.new
+            (PrintsAccepted (listening_anew self.old) (W.contents output.old) self.new
             (W.contents output.new)) }
         ensures all { OnOk result (self.new.left ≡ 0) }
 
@@ -227,7 +227,7 @@ fn print<W: Write>(
     output: &mut W,
 ) -> Result<(), UserClientError>
     ensures printed { OnOk result
-        (Appends (W.contents output.old) (W.contents output.new) (line_of accepted.now)) }
+        (Appends (W.contents output.old) (W.contents output.new) (printed_line accepted.now)) }
     ensures lost { IfErr result (λ fault. fault ≢ UserClientError.Lost) }
 {
     let mut line = Vec::new(alloc);

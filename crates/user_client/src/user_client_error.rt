@@ -23,9 +23,9 @@ pub enum UserClientError {
 }
 
 impl From<MalformedKind> for UserClientError {
-    ghost use Rattle.user_client.specs.Refusals.{fault_of};
+    ghost use Rattle.user_client.specs.Refusals.{text_fault};
 
-    ghost from_gives = { λ kind fault. fault ≡ fault_of kind };
+    ghost from_gives = { λ kind fault. fault ≡ text_fault kind };
 
     fn from(kind: MalformedKind) -> UserClientError {
         match kind {

@@ -1,5 +1,5 @@
 use Rattle.std.proofs.Common.{◌≡◌, ℕ, arith, inl, subst}
-use Rattle.user_client.specs.Listening.{Listening, PrintsAccepted, begun}
+use Rattle.user_client.specs.Listening.{Listening, PrintsAccepted, listening_anew}
 use Rattle.user_client.specs.Losing.{AsksForConnections}
 use Rattle.user_client.proofs.LossFollows.{gives_up_later}
 use Rattle.user_client.proofs.PrintsJoin.{made_of, hears_join, hears_none}
@@ -10,14 +10,14 @@ loop-opened-init g c =
     let first = made_of c.self.inside.caller c.self.inside.count c.self.inside.count in
     let out = g.W.Write.contents c.args.output.now in
     record {
-      hears = subst (λ (s : Listening). PrintsAccepted (begun s) out first out) c.self.view_is (hears_none first out);
+      hears = subst (λ (s : Listening). PrintsAccepted (listening_anew s) out first out) c.self.view_is (hears_none first out);
       asks = AsksForConnections.none;
     }
 
 pub returns-then-branch-clause-printed : goal.returns-then-branch-clause-printed
 returns-then-branch-clause-printed g c =
     hears_join (g.W.Write.contents c.args.output.now) (g.W.Write.contents c.loop-opened.output)
-    (g.W.Write.contents c.visit.new.output) (begun c.args.self.now) c.loop-opened.self c.visit.new.self
+    (g.W.Write.contents c.visit.new.output) (listening_anew c.args.self.now) c.loop-opened.self c.visit.new.self
     c.loop-opened.invariant.hears c.in_ok-visit.ensures.printed
 
 pub returns-in_err-visit-clause-lost : goal.returns-in_err-visit-clause-lost
@@ -35,7 +35,7 @@ returns-clause-lost g c =
 pub loop-opened-preserved : goal.loop-opened-preserved
 loop-opened-preserved g c = record {
   hears = hears_join (g.W.Write.contents c.args.output.now) (g.W.Write.contents c.loop-opened.output)
-      (g.W.Write.contents c.visit.new.output) (begun c.args.self.now) c.loop-opened.self c.visit.new.self
+      (g.W.Write.contents c.visit.new.output) (listening_anew c.args.self.now) c.loop-opened.self c.visit.new.self
       c.loop-opened.invariant.hears c.in_ok-visit.ensures.printed;
   asks = AsksForConnections.more c.next_stream.new.servers c.loop-opened.invariant.asks c.next_stream.ensures;
 }

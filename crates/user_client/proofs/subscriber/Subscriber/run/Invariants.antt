@@ -1,9 +1,9 @@
-use Rattle.user_client.specs.Listening.{PrintsAccepted, begun}
+use Rattle.user_client.specs.Listening.{PrintsAccepted, listening_anew}
 use Rattle.user_client.specs.Losing.{AsksForConnections}
 use Rattle.user_client.proofs.subscriber.Subscriber.run.Given as goal
 
 abbrev pub invariant-loop-opened : goal.invariant-loop-opened
 invariant-loop-opened g l = record {
-  hears : PrintsAccepted (begun l.fn.self) (g.W.Write.contents l.fn.output) l.self (g.W.Write.contents l.output);
+  hears : PrintsAccepted (listening_anew l.fn.self) (g.W.Write.contents l.fn.output) l.self (g.W.Write.contents l.output);
   asks : AsksForConnections g.S.Servers.opens g.S.Servers.pauses l.fn.servers l.opened l.servers;
 }
