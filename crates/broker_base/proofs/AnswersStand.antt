@@ -5,7 +5,7 @@ use Rattle.broker_spec.specs.Connection.{ConnectionName}
 use Rattle.broker_spec.specs.Place.{Client, Mark, Place, Past, Limits, only_if}
 use Rattle.broker_spec.specs.Past.{session_of, is_beginning, begins_session}
 use Rattle.broker_spec.specs.Times.{window_at}
-use Rattle.broker_spec.specs.Answers.{closed, welcome, connect_answers, answers_by}
+use Rattle.broker_spec.specs.Answers.{close_outputs, welcome, connect_answers, answers_by}
 use Rattle.broker_spec.specs.AnswersInOrder.{answers_at}
 use Rattle.broker_base.specs.ClientSession.{ClientSession, client_session}
 use Rattle.broker_base.specs.State.{state_of}
@@ -55,7 +55,7 @@ answers_are_by limits later follows past (commands.Connect x c clean) mark =
 answers_are_by limits later follows past (commands.Lost x) mark = refl
 answers_are_by limits later follows past (commands.Start ballot) mark = refl
 answers_are_by limits later follows past (commands.Expel c) mark =
-    ap (λ old. closed (connection_of old)) (session_is limits past c) ∙ sym (closed_is limits past c)
+    ap (λ old. close_outputs (connection_of old)) (session_is limits past c) ∙ sym (closed_is limits past c)
 
 pub answers_are : (limits : Limits) (later : ℕ) → IsWindow limits later → (place : Place) (past : Past) →
     answers_by_state (window_at limits (place ∷ past)) place (state_of limits past) place.command place.mark ≡ answers_at limits place past

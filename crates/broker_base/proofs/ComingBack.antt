@@ -11,8 +11,8 @@ use Rattle.broker_spec.specs.Received.{received_of}
 use Rattle.broker_spec.specs.Entries.{Entry, copies_at, queued}
 use Rattle.broker_spec.specs.Readings.{waiting_of}
 use Rattle.broker_spec.specs.Times.{answered_by, start_all, started, window_at, entries_of}
-use Rattle.broker_spec.specs.Sends.{resent}
-use Rattle.broker_spec.specs.Answers.{closed}
+use Rattle.broker_spec.specs.Sends.{resent_outputs}
+use Rattle.broker_spec.specs.Answers.{close_outputs}
 use Rattle.broker_base.specs.ClientSession.{flights_below, client_session}
 use Rattle.broker_base.specs.StepAnswers.{connection_of, resumed}
 use Rattle.broker_spec.specs.declared.command.Output.TheVariants.{Send}
@@ -26,37 +26,37 @@ use Rattle.broker_base.proofs.flights.PubrelsAfter.{none_released_ever}
 
 -- ---- a Connect
 
-pub closed_is : (limits : Limits) (past : Past) (c : Client) → closed (current_connection past c) ≡ closed (connection_of (client_session limits past c))
+pub closed_is : (limits : Limits) (past : Past) (c : Client) → close_outputs (current_connection past c) ≡ close_outputs (connection_of (client_session limits past c))
 closed_is limits past c = by (session_of past c) refl
   where
     by : (session : Option Bool) → session_of past c ≡ session →
-        closed (current_connection past c) ≡ closed (connection_of (kept_with (length past) session (current_connection past c) (subscriptions_of past c) (received_of past c) (entries_of limits past c)))
-    by None e = ap closed (no_connection past c e)
+        close_outputs (current_connection past c) ≡ close_outputs (connection_of (kept_with (length past) session (current_connection past c) (subscriptions_of past c) (received_of past c) (entries_of limits past c)))
+    by None e = ap close_outputs (no_connection past c e)
     by (Some clean) e = refl
 
 resumed_by : (x : ConnectionName) (w n : ℕ) (clean expelled over : Bool) (session : Option Bool) (connection : Option ConnectionName) (held : List GrantedFilter) (ids : List ℕ) (es : List Entry) → Sound n es →
-    resent x n (in_session (newest_session (Some (x, clean)) expelled over session) (is_beginning (Some (x, clean)) session) []
+    resent_outputs x n (in_session (newest_session (Some (x, clean)) expelled over session) (is_beginning (Some (x, clean)) session) []
     (started w n (newest_connection (Some (x, clean)) over connection) (es ++ map (Entry.Waits n) [])))
     ≡ map (Send x) (resumed w clean (kept_with n session connection held ids es))
 resumed_by x w n clean expelled over None connection held ids es s = ap (λ ids. map (λ id. Send x (packets.Pubrel id)) ids ++ [] ++ []) (none_released_ever n)
 resumed_by x w n clean expelled over (Some old) connection held ids es s = by (clean || old)
   where
     by : (b : Bool) →
-        resent x n (in_session (Some clean) b [] (start_all w n [] (es ++ map (Entry.Waits n) [])))
+        resent_outputs x n (in_session (Some clean) b [] (start_all w n [] (es ++ map (Entry.Waits n) [])))
         ≡ map (Send x) (if b then [] else resend (flights_below n es) ++ fill_sends w (flights_below n es) (waiting_of es))
     by true = ap (λ ids. map (λ id. Send x (packets.Pubrel id)) ids ++ [] ++ []) (none_released_ever n)
-    by false = ap (λ others. resent x n (start_all w n [] others)) (append_none es) ∙ resent_is x w n es s.below s.in_order
+    by false = ap (λ others. resent_outputs x n (start_all w n [] others)) (append_none es) ∙ resent_is x w n es s.below s.in_order
 
 pub resumed_is : (limits : Limits) (past : Past) (c : Client) (x : ConnectionName) (clean : Bool) (place : Place) →
     accepts place.command place.mark c ≡ Some (x, clean) → copies_at place past c ≡ [] →
     answered_by place.command place.mark (length past) c (entries_of limits past c) ≡ entries_of limits past c →
-    resent x (length past) (entries_of limits (place ∷ past) c) ≡ map (Send x) (resumed (window_at limits (place ∷ past)) clean (client_session limits past c))
+    resent_outputs x (length past) (entries_of limits (place ∷ past) c) ≡ map (Send x) (resumed (window_at limits (place ∷ past)) clean (client_session limits past c))
 unfolding entries_of session_of current_connection
 resumed_is limits past c x clean place opens no_copies no_answer =
-    ap (λ opened. resent x (length past) (in_session (newest_session opened (expels place.command c) (ends_any place c (current_connection past c)) (session_of past c)) (is_beginning opened (session_of past c)) []
+    ap (λ opened. resent_outputs x (length past) (in_session (newest_session opened (expels place.command c) (ends_any place c (current_connection past c)) (session_of past c)) (is_beginning opened (session_of past c)) []
     (started (window_at limits (place ∷ past)) (length past) (newest_connection opened (ends_any place c (current_connection past c)) (current_connection past c))
     (answered_by place.command place.mark (length past) c (entries_of limits past c) ++ map (Entry.Waits (length past)) (queued (copies_at place past c)))))) opens
-    ∙ ap₂ (λ es ps. resent x (length past) (in_session (newest_session (Some (x, clean)) (expels place.command c) (ends_any place c (current_connection past c)) (session_of past c)) (is_beginning (Some (x, clean)) (session_of past c)) []
+    ∙ ap₂ (λ es ps. resent_outputs x (length past) (in_session (newest_session (Some (x, clean)) (expels place.command c) (ends_any place c (current_connection past c)) (session_of past c)) (is_beginning (Some (x, clean)) (session_of past c)) []
     (started (window_at limits (place ∷ past)) (length past) (newest_connection (Some (x, clean)) (ends_any place c (current_connection past c)) (current_connection past c)) (es ++ map (Entry.Waits (length past)) (queued ps))))) no_answer no_copies
     ∙ resumed_by x (window_at limits (place ∷ past)) (length past) clean (expels place.command c) (ends_any place c (current_connection past c)) (session_of past c) (current_connection past c)
     (subscriptions_of past c) (received_of past c) (entries_of limits past c) (sound_entries limits past c)

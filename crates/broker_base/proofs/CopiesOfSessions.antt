@@ -12,7 +12,7 @@ use Rattle.broker_spec.specs.Retained.{retained_publications}
 use Rattle.broker_spec.specs.Entries.{Entry, copies_at, queued}
 use Rattle.broker_spec.specs.Readings.{made_at, waiting_of, busy_ids}
 use Rattle.broker_spec.specs.Times.{answered_by, start_all, started, window_at, entries_of}
-use Rattle.broker_spec.specs.Sends.{handed, handed_to, deliveries_to}
+use Rattle.broker_spec.specs.Sends.{copy_outputs, handed_to, deliveries_to}
 use Rattle.broker_base.specs.ClientSession.{flights_below, queue_of, client_session}
 use Rattle.broker_base.specs.StepAnswers.{copies_to}
 use Rattle.broker_spec.specs.declared.command.Output.TheVariants.{Send}
@@ -28,9 +28,9 @@ use Rattle.broker_base.proofs.QuietPasts.{QuietEntries, quiet_entries, quiet_que
 -- ---- copies
 
 pub delivered : (x : ConnectionName) (w n : ℕ) (es : List Entry) (copies : List Publication) → Sound n es → QuietEntries w es → Quiet w (flights_below n es) (waiting_of es) →
-    handed x n copies (made_at n (start_all w n [] (es ++ map (Entry.Waits n) (queued copies)))) ≡ map (Send x) (copies_sent w copies (queue_of n es))
+    copy_outputs x n copies (made_at n (start_all w n [] (es ++ map (Entry.Waits n) (queued copies)))) ≡ map (Send x) (copies_sent w copies (queue_of n es))
 delivered x w n es copies s quiet quiet_flights =
-    ap (handed x n copies) (made_here w n [] es (queued copies) s.below s.in_order (by quiet))
+    ap (copy_outputs x n copies) (made_here w n [] es (queued copies) s.below s.in_order (by quiet))
     ∙ handed_is x w n (busy_from [] es) (flights_below n es) (waiting_of es) copies same quiet_flights
   where
     same : SameIds (ids_of (flights_below n es)) (busy_from [] es)
@@ -57,7 +57,7 @@ copies_by_kept limits place past c None (Some x) is_session is_connection not_op
     absurd (let none : current_connection past c ≡ None = no_connection past c is_session in cc)
 copies_by_kept limits place past c (Some clean) None is_session is_connection not_opened not_ended no_answer same_window = refl
 copies_by_kept limits place past c (Some clean) (Some x) is_session is_connection not_opened not_ended no_answer same_window =
-    ap (λ es. handed x (length past) (copies_at place past c) (made_at (length past) es))
+    ap (λ es. copy_outputs x (length past) (copies_at place past c) (made_at (length past) es))
     (entries_next limits place past c clean not_opened not_ended is_session
     ∙ ap₂ (λ connection es. started (window_at limits (place ∷ past)) (length past) connection (es ++ map (Entry.Waits (length past)) (queued (copies_at place past c)))) is_connection no_answer)
     ∙ delivered x (window_at limits (place ∷ past)) (length past) (entries_of limits past c) (copies_at place past c) (sound_entries limits past c)

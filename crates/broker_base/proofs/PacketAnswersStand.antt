@@ -13,7 +13,7 @@ use Rattle.broker_spec.specs.Owner.{named}
 use Rattle.broker_spec.specs.Retained.{retained_publications}
 use Rattle.broker_spec.specs.Times.{at_pubrec, window_at, entries_of}
 use Rattle.broker_spec.specs.Sends.{deliveries_to}
-use Rattle.broker_spec.specs.Answers.{acknowledged, codes_of, handled, packet_answers}
+use Rattle.broker_spec.specs.Answers.{acknowledged, codes_of, other_answers, packet_answers}
 use Rattle.broker_base.specs.ClientSession.{ClientSession, client_session}
 use Rattle.broker_base.specs.State.{keyed, table, state_of}
 use Rattle.broker_base.specs.Step.{IsWindow}
@@ -87,7 +87,7 @@ nothing x w packet (Some kept) h = ap (map (Send x)) (h kept)
 
 handled_are : (limits : Limits) (later : ℕ) → IsWindow limits later → (past : Past) (x : ConnectionName) (c : Client) (packet : Packet) →
     handled_in (window_at limits (at (commands.Packet x packet) (Mark.Handled c) ∷ past)) x (client_session limits past c) packet
-    ≡ handled limits (at (commands.Packet x packet) (Mark.Handled c)) past x c packet
+    ≡ other_answers limits (at (commands.Packet x packet) (Mark.Handled c)) past x c packet
 handled_are limits later follows past x c (packets.Unsubscribe u) = refl
 handled_are limits later follows past x c (packets.Pubrel id) = refl
 handled_are limits later follows past x c packets.Pingreq = refl

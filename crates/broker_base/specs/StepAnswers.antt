@@ -10,7 +10,7 @@ use Rattle.session_base.specs.Sending.{fill_sends, resend, pubrec_sends, copies_
 use Rattle.broker_spec.specs.Connection.{ConnectionName}
 use Rattle.broker_spec.specs.Place.{Client, Mark, Place}
 use Rattle.broker_spec.specs.Past.{begins_session}
-use Rattle.broker_spec.specs.Answers.{closed, welcome, turned_away, acknowledged, codes_of}
+use Rattle.broker_spec.specs.Answers.{close_outputs, welcome, turned_away, acknowledged, codes_of}
 use Rattle.broker_base.specs.ClientSession.{ClientSession}
 use Rattle.broker_base.specs.SessionStep.{copies_with}
 use Rattle.broker_base.specs.State.{State, session_in}
@@ -100,7 +100,7 @@ resumed window clean None = []
 abbrev pub connect_answers_in : ℕ → ConnectionName → Bool → Option ClientSession → Mark →
     List Output
 connect_answers_in window x clean old Mark.Accepted =
-    closed (connection_of old)
+    close_outputs (connection_of old)
     ++ welcome x (not (begins_session clean
     (option_map (λ (kept : ClientSession). kept.clean) old)))
     ∷ map (Send x) (resumed window clean old)
@@ -116,4 +116,4 @@ answers_by_state window place state (commands.Connect x c clean) mark =
 answers_by_state window place state (commands.Lost x) mark = []
 answers_by_state window place state (commands.Start ballot) mark = []
 answers_by_state window place state (commands.Expel c) mark =
-    closed (connection_of (session_in c state.sessions))
+    close_outputs (connection_of (session_in c state.sessions))

@@ -10,7 +10,7 @@ use Rattle.session_base.specs.Queue.{room}
 use Rattle.session_base.specs.Sending.{fill_sends, resend}
 use Rattle.broker_spec.specs.Connection.{ConnectionName}
 use Rattle.broker_spec.specs.Place.{Client, Mark, Place, Limits}
-use Rattle.broker_spec.specs.Answers.{closed, acknowledged}
+use Rattle.broker_spec.specs.Answers.{close_outputs, acknowledged}
 use Rattle.broker_spec.specs.Logged.{IsBrokerCommand}
 use Rattle.broker_spec.specs.Commands.{usual_limits}
 use Rattle.broker_spec.specs.declared.command.Command.{Command}
@@ -98,14 +98,14 @@ resumed_spelled w limits c clean (Some kept) m h = by (clean || kept.clean)
         all_append IsPacket (resend kept.state.queue.in_flight) _ (resends_are_packets kept.state.queue.in_flight h.queue.in_flight)
         (fills_are_packets w limits.entries kept.state.queue.in_flight kept.state.queue.waiting m h.queue.in_flight h.queue.waiting h.queue.few)
 
-closed_spelled : (o : Option ConnectionName) → AllSpelled (closed o)
+closed_spelled : (o : Option ConnectionName) → AllSpelled (close_outputs o)
 closed_spelled (Some x) = (tt, tt)
 closed_spelled None = tt
 
 connected_spelled : (w : ℕ) (limits : Limits) (x : ConnectionName) (c : Client) (clean : Bool) (o : Option ClientSession) (mark : Mark) → limits.entries < 2 ^ 16 →
     IfSession limits c o → AllSpelled (connect_answers_in w x clean o mark)
 connected_spelled w limits x c clean o Mark.Accepted m h =
-    all_append CanBeSpelled (closed (connection_of o)) _ (closed_spelled (connection_of o))
+    all_append CanBeSpelled (close_outputs (connection_of o)) _ (closed_spelled (connection_of o))
     ((tt, tt, omega arith), sent x (resumed w clean o) (resumed_spelled w limits c clean o m h))
 connected_spelled w limits x c clean o Mark.Full m h = ((tt, tt, omega arith), (tt, tt))
 connected_spelled w limits x c clean o _ m h = (tt, tt)

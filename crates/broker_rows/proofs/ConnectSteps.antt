@@ -10,7 +10,7 @@ use Rattle.broker_spec.specs.session_base.Sending.{fill_sends, resend}
 use Rattle.broker_spec.specs.Connection.{ConnectionName}
 use Rattle.broker_spec.specs.Place.{Client, by_bytes, Mark, Limits}
 use Rattle.broker_spec.specs.Past.{begins_session}
-use Rattle.broker_spec.specs.Answers.{closed, welcome}
+use Rattle.broker_spec.specs.Answers.{close_outputs, welcome}
 use Rattle.broker_base.specs.ClientSession.{ClientSession}
 use Rattle.broker_base.specs.SessionStep.{kept_anew, kept_resumed, kept_connected}
 use Rattle.broker_base.specs.State.{Sessions, State, session_in, owner_in}
@@ -74,34 +74,34 @@ accepted_step limits later state x c clean kept answers sound none admitted is a
 -- a session that begins
 anew : (w : ℕ) (x : ConnectionName) (clean : Bool) (old : Option ClientSession) → begins_session clean (option_map (λ (k : ClientSession). k.clean) old) ≡ true →
     (kept_connected w (x, clean) old ≡ kept_anew (x, clean))
-    × (connect_answers_in w x clean old Mark.Accepted ≡ closed (connection_of old) ++ welcome x false ∷ [])
+    × (connect_answers_in w x clean old Mark.Accepted ≡ close_outputs (connection_of old) ++ welcome x false ∷ [])
 anew w x clean None e = (refl, refl)
 anew w x clean (Some old) e = (
   ap (λ b. if b then kept_anew (x, clean) else kept_resumed w (x, clean) old) e,
-  ap (λ b. closed old.connection ++ welcome x (not b)
+  ap (λ b. close_outputs old.connection ++ welcome x (not b)
       ∷ map (Send x) (if b then [] else resend old.state.queue.in_flight ++ fill_sends w old.state.queue.in_flight old.state.queue.waiting)) e,
 )
 
 pub beginning_step : BeginningStep
 beginning_step limits later state x c clean sound none admitted begins =
     let h = anew state.window x clean (session_in c state.sessions) begins in
-    accepted_step limits later state x c clean (kept_anew (x, clean)) (closed (connection_of (session_in c state.sessions)) ++ welcome x false ∷ [])
+    accepted_step limits later state x c clean (kept_anew (x, clean)) (close_outputs (connection_of (session_in c state.sessions)) ++ welcome x false ∷ [])
     sound none admitted h.0 h.1
 
 -- a session that continues
 pub resuming_step : ResumingStep
 resuming_step limits later state x c kept sound none found lasting =
     accepted_step limits later state x c false (kept_resumed state.window (x, false) kept)
-    (closed kept.connection ++ welcome x true
+    (close_outputs kept.connection ++ welcome x true
     ∷ map (Send x) (resend kept.state.queue.in_flight ++ fill_sends state.window kept.state.queue.in_flight kept.state.queue.waiting))
     sound none (ap (λ o. is_some o || nat_lt (length state.sessions) limits.sessions) found)
     (ap (kept_connected state.window (x, false)) found ∙ ap (λ b. if b then kept_anew (x, false) else kept_resumed state.window (x, false) kept) lasting)
     (ap (λ o. connect_answers_in state.window x false o Mark.Accepted) found
-    ∙ ap (λ b. closed kept.connection ++ welcome x (not b)
+    ∙ ap (λ b. close_outputs kept.connection ++ welcome x (not b)
     ∷ map (Send x) (if b then [] else resend kept.state.queue.in_flight ++ fill_sends state.window kept.state.queue.in_flight kept.state.queue.waiting)) lasting)
     ∙ ap (λ sessions. (
       record { window = state.window; sessions = sessions; retained = state.retained },
-      closed kept.connection ++ welcome x true
+      close_outputs kept.connection ++ welcome x true
           ∷ map (Send x) (resend kept.state.queue.in_flight ++ fill_sends state.window kept.state.queue.in_flight kept.state.queue.waiting),
     ))
     (insertion_writes c kept (kept_resumed state.window (x, false) kept) state.sessions sound.by_client found)

@@ -6,7 +6,7 @@ use Rattle.broker_spec.specs.retained.Retained.{RetainedTopics}
 use Rattle.broker_spec.specs.Connection.{ConnectionName}
 use Rattle.broker_spec.specs.Place.{Client, same_client, Mark, Place, only_if}
 use Rattle.broker_spec.specs.Past.{any_connection, ends, expels, ends_any}
-use Rattle.broker_spec.specs.Answers.{closed}
+use Rattle.broker_spec.specs.Answers.{close_outputs}
 use Rattle.broker_base.specs.ClientSession.{ClientSession}
 use Rattle.broker_base.specs.SessionStep.{kept_on}
 use Rattle.broker_base.specs.State.{Sessions, State, session_in}
@@ -70,10 +70,10 @@ expel_step limits later state c kept sound found =
     ap₂ (λ (sessions : Sessions) (answers : List Output). (let s : State = record { window = state.window; sessions = sessions; retained = state.retained } in s, answers))
     (left_one state.window (at_expel c) state.retained c kept state.sessions (expel_only c state.sessions sound.by_client) found
     ∙ ap (λ o. written c o state.sessions) (goes state.window state.retained c kept))
-    (ap (λ o. closed (connection_of o)) found)
+    (ap (λ o. close_outputs (connection_of o)) found)
 
 pub nobodys_expel_step : NobodysExpelStep
 nobodys_expel_step limits later state c none =
     ap₂ (λ (sessions : Sessions) (answers : List Output). (let s : State = record { window = state.window; sessions = sessions; retained = state.retained } in s, answers))
     (left_untouched state.window (at_expel c) state.retained state.sessions (none_there c state.sessions none))
-    (ap (λ o. closed (connection_of o)) none)
+    (ap (λ o. close_outputs (connection_of o)) none)

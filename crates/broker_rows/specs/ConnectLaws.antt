@@ -8,7 +8,7 @@ use Rattle.broker_spec.specs.session_base.Sending.{fill_sends, resend}
 use Rattle.broker_spec.specs.Connection.{ConnectionName}
 use Rattle.broker_spec.specs.Place.{Client, by_bytes, Limits}
 use Rattle.broker_spec.specs.Past.{begins_session}
-use Rattle.broker_spec.specs.Answers.{closed, welcome, turned_away}
+use Rattle.broker_spec.specs.Answers.{close_outputs, welcome, turned_away}
 use Rattle.broker_base.specs.ClientSession.{ClientSession}
 use Rattle.broker_base.specs.SessionStep.{kept_anew, kept_resumed}
 use Rattle.broker_base.specs.State.{Sessions, State, keyed, session_in, owner_in}
@@ -46,7 +46,7 @@ BeginningStep =
         sessions = insert_entry by_bytes state.sessions c (kept_anew (x, clean));
         retained = state.retained;
       },
-      closed (connection_of (session_in c state.sessions)) ++ welcome x false ∷ [],
+      close_outputs (connection_of (session_in c state.sessions)) ++ welcome x false ∷ [],
     )
 
 -- Any other continues with the session that it finds: what is in flight is sent again in order, and
@@ -60,7 +60,7 @@ ResumingStep =
     step limits later state (commands.Connect x c false)
     ≡ (
       with_session c (Some (kept_resumed state.window (x, false) kept)) state,
-      closed kept.connection
+      close_outputs kept.connection
           ++ welcome x true
           ∷ map (Send x)
           (resend kept.state.queue.in_flight

@@ -3,7 +3,7 @@ use Rattle.std.specs.Prelude.{◌≡◌, ℕ, [], Some, None}
 use Rattle.subs_base.specs.Content.{without_client}
 use Rattle.broker_spec.specs.Connection.{ConnectionName}
 use Rattle.broker_spec.specs.Place.{Client, Limits}
-use Rattle.broker_spec.specs.Answers.{closed}
+use Rattle.broker_spec.specs.Answers.{close_outputs}
 use Rattle.broker_base.specs.ClientSession.{ClientSession}
 use Rattle.broker_base.specs.State.{Sessions, State, session_in}
 use Rattle.broker_base.specs.StateLaws.{AreByClient, IsSound}
@@ -19,7 +19,8 @@ abbrev pub ExpelStep : Type 0
 ExpelStep =
     (limits : Limits) → (later : ℕ) → (state : State) → (c : Client) → (kept : ClientSession) →
     IsSound state → session_in c state.sessions ≡ Some kept →
-    step limits later state (commands.Expel c) ≡ (with_session c None state, closed kept.connection)
+    step limits later state (commands.Expel c)
+    ≡ (with_session c None state, close_outputs kept.connection)
 
 -- without a session nothing changes, and there is no output
 abbrev pub NobodysExpelStep : Type 0

@@ -9,7 +9,7 @@ use Rattle.subs_base.specs.Content.{Content}
 use Rattle.subs_base.specs.Granted.{Row, IsGranted}
 use Rattle.broker_spec.specs.Connection.{ConnectionName}
 use Rattle.broker_spec.specs.Place.{Client, Limits}
-use Rattle.broker_spec.specs.EntryLaws.{taken}
+use Rattle.broker_spec.specs.EntryLaws.{place_of_taken}
 use Rattle.broker_base.specs.State.{Sessions, session_in}
 use Rattle.broker_base.specs.StateLaws.{AllSound, AreByClient}
 use Rattle.broker_base.specs.Decisions.{has_no_room_for}
@@ -39,6 +39,6 @@ abbrev pub AnswersAreOfGrantedRows : Type 0
 AnswersAreOfGrantedRows =
     (window : ℕ) → (x : ConnectionName) → (p : Publish) → (d : Client) →
     (content : RetainedTopics) → (rows : Sessions) → AreByClient rows →
-    flat_map (copies_answered window (taken x p d) content) rows
+    flat_map (copies_answered window (place_of_taken x p d) content) rows
     ≡ flat_map (λ row. copy_answered window (publication_of p) row.1 (session_in row.0 rows))
     (granted_rows p.topic rows)

@@ -18,8 +18,8 @@ use Rattle.broker_spec.specs.Readings.{made_at, released_below}
 use Rattle.broker_spec.specs.Times.{entries_of}
 use Rattle.broker_spec.specs.Marks.{mark_of}
 use Rattle.broker_spec.specs.Commands.{place_of}
-use Rattle.broker_spec.specs.Sends.{publish, sent_first, sent_again, all_started, resent, handed, handed_to, deliveries_to}
-use Rattle.broker_spec.specs.Answers.{closed, welcome, acknowledged, handled, packet_answers, connect_answers}
+use Rattle.broker_spec.specs.Sends.{publish_output, first_output, repeated_output, all_started, resent_outputs, copy_outputs, handed_to, deliveries_to}
+use Rattle.broker_spec.specs.Answers.{close_outputs, welcome, acknowledged, other_answers, packet_answers, connect_answers}
 use Rattle.broker_spec.specs.AnswerLaws.{goes_to, named_in, is_unasked, IsAddressed, AnswersAreAddressed}
 use Rattle.broker_spec.specs.declared.command.Command.{Command}
 use Rattle.broker_spec.specs.declared.command.Command.TheVariants as commands
@@ -48,29 +48,29 @@ weaker P Q h (x ∷ xs) a = (h x a.0, weaker P Q h xs a.1)
 abbrev pub Unasked : ConnectionName → Output → Type 0
 Unasked x answer = (goes_to answer ≡ x) × (is_unasked answer ≡ true)
 
-first-by : (x : ConnectionName) (n id : ℕ) (p : Publication) (made start : ℕ) → Each (Unasked x) (sent_first x n (Entry.Started made p id start))
+first-by : (x : ConnectionName) (n id : ℕ) (p : Publication) (made start : ℕ) → Each (Unasked x) (first_output x n (Entry.Started made p id start))
 first-by x n id p made start = by (start == n)
   where
-    by : (b : Bool) → Each (Unasked x) (if b then publish x false id p ∷ [] else [])
+    by : (b : Bool) → Each (Unasked x) (if b then publish_output x false id p ∷ [] else [])
     by true = ((refl, refl), tt)
     by false = tt
 
-first-unasked : (x : ConnectionName) (n : ℕ) (e : Entry) → Each (Unasked x) (sent_first x n e)
+first-unasked : (x : ConnectionName) (n : ℕ) (e : Entry) → Each (Unasked x) (first_output x n e)
 first-unasked x n (Entry.Waits made p) = tt
 first-unasked x n (Entry.Started made p id start) = first-by x n id p made start
 first-unasked x n (Entry.Released made p id start release) = tt
 first-unasked x n (Entry.Finished made p id start release finish) = tt
 
 started-unasked : (x : ConnectionName) (n : ℕ) (es : List Entry) → Each (Unasked x) (all_started x n es)
-started-unasked x n es = of-each (Unasked x) (sent_first x n) es (first-unasked x n)
+started-unasked x n es = of-each (Unasked x) (first_output x n) es (first-unasked x n)
 
 handed-by : (x : ConnectionName) (n : ℕ) (p : Publication) (copies : List Publication) (es : List Entry)
-    → ((rest : List Entry) → Each (Unasked x) (handed x n copies rest)) → (b : Bool)
-    → Each (Unasked x) (if b then all_started x n (take 1 es) ++ handed x n copies (drop 1 es) else publish x false 0 p ∷ handed x n copies es)
-handed-by x n p copies es ih true = joined (Unasked x) (all_started x n (take 1 es)) (handed x n copies (drop 1 es)) (started-unasked x n (take 1 es)) (ih (drop 1 es))
+    → ((rest : List Entry) → Each (Unasked x) (copy_outputs x n copies rest)) → (b : Bool)
+    → Each (Unasked x) (if b then all_started x n (take 1 es) ++ copy_outputs x n copies (drop 1 es) else publish_output x false 0 p ∷ copy_outputs x n copies es)
+handed-by x n p copies es ih true = joined (Unasked x) (all_started x n (take 1 es)) (copy_outputs x n copies (drop 1 es)) (started-unasked x n (take 1 es)) (ih (drop 1 es))
 handed-by x n p copies es ih false = ((refl, refl), ih es)
 
-pub handed-unasked : (x : ConnectionName) (n : ℕ) (copies : List Publication) (es : List Entry) → Each (Unasked x) (handed x n copies es)
+pub handed-unasked : (x : ConnectionName) (n : ℕ) (copies : List Publication) (es : List Entry) → Each (Unasked x) (copy_outputs x n copies es)
 handed-unasked x n [] es = tt
 handed-unasked x n (p ∷ copies) es = handed-by x n p copies es (λ rest. handed-unasked x n copies rest) (is_answered p.qos)
 
@@ -82,11 +82,11 @@ To x answer = goes_to answer ≡ x
 to-them : (x : ConnectionName) (xs : List Output) → Each (Unasked x) xs → Each (To x) xs
 to-them x xs a = weaker (Unasked x) (To x) (λ answer h. h.0) xs a
 
-again-to : (x : ConnectionName) (n : ℕ) (e : Entry) → Each (To x) (sent_again x n e)
+again-to : (x : ConnectionName) (n : ℕ) (e : Entry) → Each (To x) (repeated_output x n e)
 again-to x n (Entry.Waits made p) = tt
 again-to x n (Entry.Started made p id start) = by (start == n)
   where
-    by : (b : Bool) → Each (To x) (if b then [] else publish x true id p ∷ [])
+    by : (b : Bool) → Each (To x) (if b then [] else publish_output x true id p ∷ [])
     by true = tt
     by false = (refl, tt)
 again-to x n (Entry.Released made p id start release) = tt
@@ -96,11 +96,11 @@ pubrels-to : (x : ConnectionName) (ids : List ℕ) → Each (To x) (map (λ id. 
 pubrels-to x [] = tt
 pubrels-to x (id ∷ ids) = (refl, pubrels-to x ids)
 
-pub resent-to : (x : ConnectionName) (n : ℕ) (es : List Entry) → Each (To x) (resent x n es)
+pub resent-to : (x : ConnectionName) (n : ℕ) (es : List Entry) → Each (To x) (resent_outputs x n es)
 resent-to x n es =
-    joined (To x) (map (λ id. Send x (packets.Pubrel id)) (released_below n es) ++ flat_map (sent_again x n) es) (all_started x n es)
-    (joined (To x) (map (λ id. Send x (packets.Pubrel id)) (released_below n es)) (flat_map (sent_again x n) es)
-    (pubrels-to x (released_below n es)) (of-each (To x) (sent_again x n) es (again-to x n)))
+    joined (To x) (map (λ id. Send x (packets.Pubrel id)) (released_below n es) ++ flat_map (repeated_output x n) es) (all_started x n es)
+    (joined (To x) (map (λ id. Send x (packets.Pubrel id)) (released_below n es)) (flat_map (repeated_output x n) es)
+    (pubrels-to x (released_below n es)) (of-each (To x) (repeated_output x n) es (again-to x n)))
     (to-them x (all_started x n es) (started-unasked x n es))
 
 acknowledged-to : (x : ConnectionName) (delivery : Delivery) → Each (To x) (acknowledged x delivery)
@@ -112,7 +112,7 @@ pubrec-to : (x : ConnectionName) (id : ℕ) (b : Bool) → Each (To x) (if b the
 pubrec-to x id true = (refl, tt)
 pubrec-to x id false = tt
 
-handled-to : (packet : Packet) (limits : Limits) (place : Place) (past : Past) (x : ConnectionName) (c : Client) → Each (To x) (handled limits place past x c packet)
+handled-to : (packet : Packet) (limits : Limits) (place : Place) (past : Past) (x : ConnectionName) (c : Client) → Each (To x) (other_answers limits place past x c packet)
 handled-to (packets.Connect q) limits place past x c = tt
 handled-to (packets.Connack q) limits place past x c = tt
 handled-to (packets.Publish p) limits place past x c = tt
@@ -139,13 +139,13 @@ others past k c x e xs a = weaker (Unasked x) (IsAddressed past k) (λ answer h.
 delivered : (past : Past) (k : Command) (c : Client) (n : ℕ) (copies : List Publication) (es : List Entry) (current : Option ConnectionName) → current_connection past c ≡ current
     → Each (IsAddressed past k) (handed_to current n copies es)
 delivered past k c n copies es None e = tt
-delivered past k c n copies es (Some x) e = others past k c x e (handed x n copies es) (handed-unasked x n copies es)
+delivered past k c n copies es (Some x) e = others past k c x e (copy_outputs x n copies es) (handed-unasked x n copies es)
 
 deliveries-addressed : (limits : Limits) (place : Place) (past : Past) (k : Command) (c : Client) → Each (IsAddressed past k) (deliveries_to limits place past c)
 deliveries-addressed limits place past k c =
     delivered past k c (length past) (copies_at place past c) (made_at (length past) (entries_of limits (place ∷ past) c)) (current_connection past c) refl
 
-closed-addressed : (past : Past) (k : Command) (c : Client) (current : Option ConnectionName) → current_connection past c ≡ current → Each (IsAddressed past k) (closed current)
+closed-addressed : (past : Past) (k : Command) (c : Client) (current : Option ConnectionName) → current_connection past c ≡ current → Each (IsAddressed past k) (close_outputs current)
 closed-addressed past k c None e = tt
 closed-addressed past k c (Some x) e = (inr ((c, e), refl), tt)
 
@@ -166,7 +166,7 @@ packet-addressed (packets.Connect q) (Mark.Refused d) limits place past k x e = 
 packet-addressed (packets.Connect q) (Mark.Repeat d) limits place past k x e = tt
 packet-addressed (packets.Connect q) (Mark.Taken d) limits place past k x e = tt
 packet-addressed (packets.Connect q) (Mark.Granted d which) limits place past k x e = tt
-packet-addressed (packets.Connect q) (Mark.Handled d) limits place past k x e = own past k x e (handled limits place past x d (packets.Connect q)) (handled-to (packets.Connect q) limits place past x d)
+packet-addressed (packets.Connect q) (Mark.Handled d) limits place past k x e = own past k x e (other_answers limits place past x d (packets.Connect q)) (handled-to (packets.Connect q) limits place past x d)
 packet-addressed (packets.Connack q) Mark.NoPart limits place past k x e = tt
 packet-addressed (packets.Connack q) Mark.Accepted limits place past k x e = tt
 packet-addressed (packets.Connack q) Mark.Full limits place past k x e = tt
@@ -175,7 +175,7 @@ packet-addressed (packets.Connack q) (Mark.Refused d) limits place past k x e = 
 packet-addressed (packets.Connack q) (Mark.Repeat d) limits place past k x e = tt
 packet-addressed (packets.Connack q) (Mark.Taken d) limits place past k x e = tt
 packet-addressed (packets.Connack q) (Mark.Granted d which) limits place past k x e = tt
-packet-addressed (packets.Connack q) (Mark.Handled d) limits place past k x e = own past k x e (handled limits place past x d (packets.Connack q)) (handled-to (packets.Connack q) limits place past x d)
+packet-addressed (packets.Connack q) (Mark.Handled d) limits place past k x e = own past k x e (other_answers limits place past x d (packets.Connack q)) (handled-to (packets.Connack q) limits place past x d)
 packet-addressed (packets.Publish p) Mark.NoPart limits place past k x e = tt
 packet-addressed (packets.Publish p) Mark.Accepted limits place past k x e = tt
 packet-addressed (packets.Publish p) Mark.Full limits place past k x e = tt
@@ -184,7 +184,7 @@ packet-addressed (packets.Publish p) (Mark.Refused d) limits place past k x e = 
 packet-addressed (packets.Publish p) (Mark.Repeat d) limits place past k x e = own past k x e (acknowledged x p.delivery) (acknowledged-to x p.delivery)
 packet-addressed (packets.Publish p) (Mark.Taken d) limits place past k x e = published limits place past k x p.delivery e
 packet-addressed (packets.Publish p) (Mark.Granted d which) limits place past k x e = tt
-packet-addressed (packets.Publish p) (Mark.Handled d) limits place past k x e = own past k x e (handled limits place past x d (packets.Publish p)) (handled-to (packets.Publish p) limits place past x d)
+packet-addressed (packets.Publish p) (Mark.Handled d) limits place past k x e = own past k x e (other_answers limits place past x d (packets.Publish p)) (handled-to (packets.Publish p) limits place past x d)
 packet-addressed (packets.Puback i) Mark.NoPart limits place past k x e = tt
 packet-addressed (packets.Puback i) Mark.Accepted limits place past k x e = tt
 packet-addressed (packets.Puback i) Mark.Full limits place past k x e = tt
@@ -193,7 +193,7 @@ packet-addressed (packets.Puback i) (Mark.Refused d) limits place past k x e = (
 packet-addressed (packets.Puback i) (Mark.Repeat d) limits place past k x e = tt
 packet-addressed (packets.Puback i) (Mark.Taken d) limits place past k x e = tt
 packet-addressed (packets.Puback i) (Mark.Granted d which) limits place past k x e = tt
-packet-addressed (packets.Puback i) (Mark.Handled d) limits place past k x e = own past k x e (handled limits place past x d (packets.Puback i)) (handled-to (packets.Puback i) limits place past x d)
+packet-addressed (packets.Puback i) (Mark.Handled d) limits place past k x e = own past k x e (other_answers limits place past x d (packets.Puback i)) (handled-to (packets.Puback i) limits place past x d)
 packet-addressed (packets.Pubrec i) Mark.NoPart limits place past k x e = tt
 packet-addressed (packets.Pubrec i) Mark.Accepted limits place past k x e = tt
 packet-addressed (packets.Pubrec i) Mark.Full limits place past k x e = tt
@@ -202,7 +202,7 @@ packet-addressed (packets.Pubrec i) (Mark.Refused d) limits place past k x e = (
 packet-addressed (packets.Pubrec i) (Mark.Repeat d) limits place past k x e = tt
 packet-addressed (packets.Pubrec i) (Mark.Taken d) limits place past k x e = tt
 packet-addressed (packets.Pubrec i) (Mark.Granted d which) limits place past k x e = tt
-packet-addressed (packets.Pubrec i) (Mark.Handled d) limits place past k x e = own past k x e (handled limits place past x d (packets.Pubrec i)) (handled-to (packets.Pubrec i) limits place past x d)
+packet-addressed (packets.Pubrec i) (Mark.Handled d) limits place past k x e = own past k x e (other_answers limits place past x d (packets.Pubrec i)) (handled-to (packets.Pubrec i) limits place past x d)
 packet-addressed (packets.Pubrel i) Mark.NoPart limits place past k x e = tt
 packet-addressed (packets.Pubrel i) Mark.Accepted limits place past k x e = tt
 packet-addressed (packets.Pubrel i) Mark.Full limits place past k x e = tt
@@ -211,7 +211,7 @@ packet-addressed (packets.Pubrel i) (Mark.Refused d) limits place past k x e = (
 packet-addressed (packets.Pubrel i) (Mark.Repeat d) limits place past k x e = tt
 packet-addressed (packets.Pubrel i) (Mark.Taken d) limits place past k x e = tt
 packet-addressed (packets.Pubrel i) (Mark.Granted d which) limits place past k x e = tt
-packet-addressed (packets.Pubrel i) (Mark.Handled d) limits place past k x e = own past k x e (handled limits place past x d (packets.Pubrel i)) (handled-to (packets.Pubrel i) limits place past x d)
+packet-addressed (packets.Pubrel i) (Mark.Handled d) limits place past k x e = own past k x e (other_answers limits place past x d (packets.Pubrel i)) (handled-to (packets.Pubrel i) limits place past x d)
 packet-addressed (packets.Pubcomp i) Mark.NoPart limits place past k x e = tt
 packet-addressed (packets.Pubcomp i) Mark.Accepted limits place past k x e = tt
 packet-addressed (packets.Pubcomp i) Mark.Full limits place past k x e = tt
@@ -220,7 +220,7 @@ packet-addressed (packets.Pubcomp i) (Mark.Refused d) limits place past k x e = 
 packet-addressed (packets.Pubcomp i) (Mark.Repeat d) limits place past k x e = tt
 packet-addressed (packets.Pubcomp i) (Mark.Taken d) limits place past k x e = tt
 packet-addressed (packets.Pubcomp i) (Mark.Granted d which) limits place past k x e = tt
-packet-addressed (packets.Pubcomp i) (Mark.Handled d) limits place past k x e = own past k x e (handled limits place past x d (packets.Pubcomp i)) (handled-to (packets.Pubcomp i) limits place past x d)
+packet-addressed (packets.Pubcomp i) (Mark.Handled d) limits place past k x e = own past k x e (other_answers limits place past x d (packets.Pubcomp i)) (handled-to (packets.Pubcomp i) limits place past x d)
 packet-addressed (packets.Subscribe s) Mark.NoPart limits place past k x e = tt
 packet-addressed (packets.Subscribe s) Mark.Accepted limits place past k x e = tt
 packet-addressed (packets.Subscribe s) Mark.Full limits place past k x e = tt
@@ -229,7 +229,7 @@ packet-addressed (packets.Subscribe s) (Mark.Refused d) limits place past k x e 
 packet-addressed (packets.Subscribe s) (Mark.Repeat d) limits place past k x e = tt
 packet-addressed (packets.Subscribe s) (Mark.Taken d) limits place past k x e = tt
 packet-addressed (packets.Subscribe s) (Mark.Granted d which) limits place past k x e = (inl e, deliveries-addressed limits place past k d)
-packet-addressed (packets.Subscribe s) (Mark.Handled d) limits place past k x e = own past k x e (handled limits place past x d (packets.Subscribe s)) (handled-to (packets.Subscribe s) limits place past x d)
+packet-addressed (packets.Subscribe s) (Mark.Handled d) limits place past k x e = own past k x e (other_answers limits place past x d (packets.Subscribe s)) (handled-to (packets.Subscribe s) limits place past x d)
 packet-addressed (packets.Suback q) Mark.NoPart limits place past k x e = tt
 packet-addressed (packets.Suback q) Mark.Accepted limits place past k x e = tt
 packet-addressed (packets.Suback q) Mark.Full limits place past k x e = tt
@@ -238,7 +238,7 @@ packet-addressed (packets.Suback q) (Mark.Refused d) limits place past k x e = (
 packet-addressed (packets.Suback q) (Mark.Repeat d) limits place past k x e = tt
 packet-addressed (packets.Suback q) (Mark.Taken d) limits place past k x e = tt
 packet-addressed (packets.Suback q) (Mark.Granted d which) limits place past k x e = tt
-packet-addressed (packets.Suback q) (Mark.Handled d) limits place past k x e = own past k x e (handled limits place past x d (packets.Suback q)) (handled-to (packets.Suback q) limits place past x d)
+packet-addressed (packets.Suback q) (Mark.Handled d) limits place past k x e = own past k x e (other_answers limits place past x d (packets.Suback q)) (handled-to (packets.Suback q) limits place past x d)
 packet-addressed (packets.Unsubscribe u) Mark.NoPart limits place past k x e = tt
 packet-addressed (packets.Unsubscribe u) Mark.Accepted limits place past k x e = tt
 packet-addressed (packets.Unsubscribe u) Mark.Full limits place past k x e = tt
@@ -247,7 +247,7 @@ packet-addressed (packets.Unsubscribe u) (Mark.Refused d) limits place past k x 
 packet-addressed (packets.Unsubscribe u) (Mark.Repeat d) limits place past k x e = tt
 packet-addressed (packets.Unsubscribe u) (Mark.Taken d) limits place past k x e = tt
 packet-addressed (packets.Unsubscribe u) (Mark.Granted d which) limits place past k x e = tt
-packet-addressed (packets.Unsubscribe u) (Mark.Handled d) limits place past k x e = own past k x e (handled limits place past x d (packets.Unsubscribe u)) (handled-to (packets.Unsubscribe u) limits place past x d)
+packet-addressed (packets.Unsubscribe u) (Mark.Handled d) limits place past k x e = own past k x e (other_answers limits place past x d (packets.Unsubscribe u)) (handled-to (packets.Unsubscribe u) limits place past x d)
 packet-addressed (packets.Unsuback i) Mark.NoPart limits place past k x e = tt
 packet-addressed (packets.Unsuback i) Mark.Accepted limits place past k x e = tt
 packet-addressed (packets.Unsuback i) Mark.Full limits place past k x e = tt
@@ -256,7 +256,7 @@ packet-addressed (packets.Unsuback i) (Mark.Refused d) limits place past k x e =
 packet-addressed (packets.Unsuback i) (Mark.Repeat d) limits place past k x e = tt
 packet-addressed (packets.Unsuback i) (Mark.Taken d) limits place past k x e = tt
 packet-addressed (packets.Unsuback i) (Mark.Granted d which) limits place past k x e = tt
-packet-addressed (packets.Unsuback i) (Mark.Handled d) limits place past k x e = own past k x e (handled limits place past x d (packets.Unsuback i)) (handled-to (packets.Unsuback i) limits place past x d)
+packet-addressed (packets.Unsuback i) (Mark.Handled d) limits place past k x e = own past k x e (other_answers limits place past x d (packets.Unsuback i)) (handled-to (packets.Unsuback i) limits place past x d)
 packet-addressed packets.Pingreq Mark.NoPart limits place past k x e = tt
 packet-addressed packets.Pingreq Mark.Accepted limits place past k x e = tt
 packet-addressed packets.Pingreq Mark.Full limits place past k x e = tt
@@ -265,7 +265,7 @@ packet-addressed packets.Pingreq (Mark.Refused d) limits place past k x e = (inl
 packet-addressed packets.Pingreq (Mark.Repeat d) limits place past k x e = tt
 packet-addressed packets.Pingreq (Mark.Taken d) limits place past k x e = tt
 packet-addressed packets.Pingreq (Mark.Granted d which) limits place past k x e = tt
-packet-addressed packets.Pingreq (Mark.Handled d) limits place past k x e = own past k x e (handled limits place past x d packets.Pingreq) (handled-to packets.Pingreq limits place past x d)
+packet-addressed packets.Pingreq (Mark.Handled d) limits place past k x e = own past k x e (other_answers limits place past x d packets.Pingreq) (handled-to packets.Pingreq limits place past x d)
 packet-addressed packets.Pingresp Mark.NoPart limits place past k x e = tt
 packet-addressed packets.Pingresp Mark.Accepted limits place past k x e = tt
 packet-addressed packets.Pingresp Mark.Full limits place past k x e = tt
@@ -274,7 +274,7 @@ packet-addressed packets.Pingresp (Mark.Refused d) limits place past k x e = (in
 packet-addressed packets.Pingresp (Mark.Repeat d) limits place past k x e = tt
 packet-addressed packets.Pingresp (Mark.Taken d) limits place past k x e = tt
 packet-addressed packets.Pingresp (Mark.Granted d which) limits place past k x e = tt
-packet-addressed packets.Pingresp (Mark.Handled d) limits place past k x e = own past k x e (handled limits place past x d packets.Pingresp) (handled-to packets.Pingresp limits place past x d)
+packet-addressed packets.Pingresp (Mark.Handled d) limits place past k x e = own past k x e (other_answers limits place past x d packets.Pingresp) (handled-to packets.Pingresp limits place past x d)
 packet-addressed packets.Disconnect Mark.NoPart limits place past k x e = tt
 packet-addressed packets.Disconnect Mark.Accepted limits place past k x e = tt
 packet-addressed packets.Disconnect Mark.Full limits place past k x e = tt
@@ -283,14 +283,14 @@ packet-addressed packets.Disconnect (Mark.Refused d) limits place past k x e = (
 packet-addressed packets.Disconnect (Mark.Repeat d) limits place past k x e = tt
 packet-addressed packets.Disconnect (Mark.Taken d) limits place past k x e = tt
 packet-addressed packets.Disconnect (Mark.Granted d which) limits place past k x e = tt
-packet-addressed packets.Disconnect (Mark.Handled d) limits place past k x e = own past k x e (handled limits place past x d packets.Disconnect) (handled-to packets.Disconnect limits place past x d)
+packet-addressed packets.Disconnect (Mark.Handled d) limits place past k x e = own past k x e (other_answers limits place past x d packets.Disconnect) (handled-to packets.Disconnect limits place past x d)
 
 accepted-addressed : (limits : Limits) (place : Place) (past : Past) (k : Command) (x : ConnectionName) (c : Client) → named_in k ≡ Some x
     → Each (IsAddressed past k) (connect_answers limits place past x c Mark.Accepted)
 accepted-addressed limits place past k x c e =
-    joined (IsAddressed past k) (closed (current_connection past c)) (welcome x (not (begins place past c)) ∷ resent x (length past) (entries_of limits (place ∷ past) c))
+    joined (IsAddressed past k) (close_outputs (current_connection past c)) (welcome x (not (begins place past c)) ∷ resent_outputs x (length past) (entries_of limits (place ∷ past) c))
     (closed-addressed past k c (current_connection past c) refl)
-    (inl e, own past k x e (resent x (length past) (entries_of limits (place ∷ past) c)) (resent-to x (length past) (entries_of limits (place ∷ past) c)))
+    (inl e, own past k x e (resent_outputs x (length past) (entries_of limits (place ∷ past) c)) (resent-to x (length past) (entries_of limits (place ∷ past) c)))
 
 connect-addressed : (mark : Mark) (limits : Limits) (place : Place) (past : Past) (k : Command) (x : ConnectionName) (c : Client) → named_in k ≡ Some x
     → Each (IsAddressed past k) (connect_answers limits place past x c mark)

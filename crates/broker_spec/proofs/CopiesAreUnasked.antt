@@ -8,7 +8,7 @@ use Rattle.broker_spec.specs.Past.{current_connection}
 use Rattle.broker_spec.specs.Entries.{copies_at}
 use Rattle.broker_spec.specs.Readings.{made_at}
 use Rattle.broker_spec.specs.Times.{entries_of}
-use Rattle.broker_spec.specs.Sends.{handed, handed_to, deliveries_to}
+use Rattle.broker_spec.specs.Sends.{copy_outputs, handed_to, deliveries_to}
 use Rattle.broker_spec.specs.AnswerLaws.{is_unasked}
 use Rattle.broker_spec.specs.declared.command.Output.{Output}
 use Rattle.broker_spec.proofs.AnswersAreAddressed.{Unasked, weaker, of-each, handed-unasked}
@@ -22,7 +22,7 @@ one_client limits place past c = by (current_connection past c)
     by : (current : Option ConnectionName) → AllByRecursion AnswersNothing (handed_to current (length past) (copies_at place past c) (made_at (length past) (entries_of limits (place ∷ past) c)))
     by None = tt
     by (Some x) =
-        weaker (Unasked x) AnswersNothing (λ answer h. h.1) (handed x (length past) (copies_at place past c) (made_at (length past) (entries_of limits (place ∷ past) c)))
+        weaker (Unasked x) AnswersNothing (λ answer h. h.1) (copy_outputs x (length past) (copies_at place past c) (made_at (length past) (entries_of limits (place ∷ past) c)))
         (handed-unasked x (length past) (copies_at place past c) (made_at (length past) (entries_of limits (place ∷ past) c)))
 
 pub copies_are_unasked : (limits : Limits) (place : Place) (past : Past) (cs : List Client) → AllByRecursion AnswersNothing (flat_map (deliveries_to limits place past) cs)

@@ -14,7 +14,7 @@ use Rattle.broker_spec.specs.Entries.{Entry, copy_of, queued}
 use Rattle.broker_spec.specs.Readings.{made_of, publication_in}
 use Rattle.broker_spec.specs.Times.{entries_of, window_at, start_all, started}
 use Rattle.broker_spec.specs.OriginLaws.{is_from_publish}
-use Rattle.broker_spec.specs.EntryLaws.{taken}
+use Rattle.broker_spec.specs.EntryLaws.{place_of_taken}
 use Rattle.broker_spec.specs.TakenLaws.{queued_at, EntersAsPublished}
 use Rattle.broker_spec.proofs.EntersOnce.{MadeBelow, made-below}
 use Rattle.broker_spec.proofs.PublicationEnters.{no_qos, gone_before, same_number}
@@ -67,23 +67,23 @@ from_copy n p (Some qualities.AtMostOnce) = refl
 from_copy n p (Some qualities.AtLeastOnce) = rw (same_number n) refl
 from_copy n p (Some qualities.ExactlyOnce) = rw (same_number n) refl
 
-enters_in : (limits : Limits) (past : Past) (x : ConnectionName) (p : Publish) (d c : Client) (session : Option Bool) → session_of (taken x p d ∷ past) c ≡ session
-    → from_place (length past) (entries_of limits (taken x p d ∷ past) c) ≡ queued_at (publication_of p) (effective_qos past c (publication_of p))
+enters_in : (limits : Limits) (past : Past) (x : ConnectionName) (p : Publish) (d c : Client) (session : Option Bool) → session_of (place_of_taken x p d ∷ past) c ≡ session
+    → from_place (length past) (entries_of limits (place_of_taken x p d ∷ past) c) ≡ queued_at (publication_of p) (effective_qos past c (publication_of p))
 unfolding entries_of
 enters_in limits past x p d c (Some clean) s =
     let n = length past in
     let copies = map (Entry.Waits n) (queued (copy_of (publication_of p) (effective_qos past c (publication_of p)))) in
-    let kept = started (window_at limits (taken x p d ∷ past)) n (current_connection (taken x p d ∷ past) c) (entries_of limits past c ++ copies) in
+    let kept = started (window_at limits (place_of_taken x p d ∷ past)) n (current_connection (place_of_taken x p d ∷ past) c) (entries_of limits past c ++ copies) in
     ap (λ z. from_place n (in_session z false [] kept)) s
-    ∙ from_started n (window_at limits (taken x p d ∷ past)) n (current_connection (taken x p d ∷ past) c) (entries_of limits past c ++ copies)
+    ∙ from_started n (window_at limits (place_of_taken x p d ∷ past)) n (current_connection (place_of_taken x p d ∷ past) c) (entries_of limits past c ++ copies)
     ∙ new_alone n (entries_of limits past c) copies (made-below limits past c)
     ∙ from_copy n (publication_of p) (effective_qos past c (publication_of p))
 enters_in limits past x p d c None s =
     let n = length past in
     let copies = map (Entry.Waits n) (queued (copy_of (publication_of p) (effective_qos past c (publication_of p)))) in
-    let kept = started (window_at limits (taken x p d ∷ past)) n (current_connection (taken x p d ∷ past) c) (entries_of limits past c ++ copies) in
+    let kept = started (window_at limits (place_of_taken x p d ∷ past)) n (current_connection (place_of_taken x p d ∷ past) c) (entries_of limits past c ++ copies) in
     ap (λ z. from_place n (in_session z false [] kept)) s
     ∙ sym (ap (queued_at (publication_of p)) (no_qos past c (publication_of p) (gone_before past x p d c s)))
 
 pub enters_as_published : EntersAsPublished
-enters_as_published limits past x p d c = enters_in limits past x p d c (session_of (taken x p d ∷ past) c) refl
+enters_as_published limits past x p d c = enters_in limits past x p d c (session_of (place_of_taken x p d ∷ past) c) refl

@@ -10,7 +10,7 @@ use Rattle.broker_spec.specs.Place.{Client, same_client, Mark}
 use Rattle.broker_spec.specs.Past.{session_of, begins, in_session}
 use Rattle.broker_spec.specs.Subscriptions.{as_granted, granted_of, subscribed, subscriptions_of, qos_asked}
 use Rattle.session_base.specs.Subscriptions.{GrantedFilter, with_subscription, with_subscriptions, without_filter, without_filters}
-use Rattle.broker_spec.specs.Laws.{newest, either, last_qos, word_on, last_granting, FilterHasLastGranting}
+use Rattle.broker_spec.specs.Laws.{newer_of_two, either, last_qos, word_on, last_granting, FilterHasLastGranting}
 use Rattle.broker_spec.specs.declared.command.Command.{Command}
 use Rattle.broker_spec.specs.declared.command.Command.TheVariants as commands
 
@@ -59,18 +59,18 @@ asked-with f new [] = refl
 asked-with f new (old ∷ others) = with-by f new old others (asked-with f new others) (bytes_eq new.0 old.0) refl
 
 last-by : (later : Option QoS) (b : Bool) (qos : QoS) (held : Option QoS)
-    → newest (option_map (λ q. Some q) later) (if b then Some qos else held)
-    ≡ newest (option_map (λ q. Some q) (either later (if b then Some qos else None))) held
+    → newer_of_two (option_map (λ q. Some q) later) (if b then Some qos else held)
+    ≡ newer_of_two (option_map (λ q. Some q) (either later (if b then Some qos else None))) held
 last-by (Some q) b qos held = refl
 last-by None true qos held = refl
 last-by None false qos held = refl
 
 asked-with-all : (f : List ℕ) (granted : List Subscription) (held : List GrantedFilter)
-    → qos_asked f (with_subscriptions (map as_granted granted) held) ≡ newest (option_map (λ q. Some q) (last_qos f granted)) (qos_asked f held)
+    → qos_asked f (with_subscriptions (map as_granted granted) held) ≡ newer_of_two (option_map (λ q. Some q) (last_qos f granted)) (qos_asked f held)
 asked-with-all f [] held = refl
 asked-with-all f (new ∷ more) held =
     asked-with-all f more (with_subscription (as_granted new) held)
-    ∙ ap (newest (option_map (λ q. Some q) (last_qos f more))) (asked-with f (as_granted new) held)
+    ∙ ap (newer_of_two (option_map (λ q. Some q) (last_qos f more))) (asked-with f (as_granted new) held)
     ∙ last-by (last_qos f more) (bytes_eq f new.filter) new.qos (qos_asked f held)
 
 -- ---- a filter given up
@@ -121,21 +121,21 @@ asked-without-all f (g ∷ more) held =
 
 subscribe-by : (b : Bool) (f : List ℕ) (granted : List Subscription) (held : List GrantedFilter)
     → qos_asked f (if b then with_subscriptions (map as_granted granted) held else held)
-    ≡ newest (if b then option_map (λ q. Some q) (last_qos f granted) else None) (qos_asked f held)
+    ≡ newer_of_two (if b then option_map (λ q. Some q) (last_qos f granted) else None) (qos_asked f held)
 subscribe-by true f granted held = asked-with-all f granted held
 subscribe-by false f granted held = refl
 
 unsubscribe-by : (b : Bool) (f : List ℕ) (given_up : List (List ℕ)) (held : List GrantedFilter)
     → qos_asked f (if b then without_filters given_up held else held)
-    ≡ newest (if b && list_any (bytes_eq f) given_up then Some None else None) (qos_asked f held)
+    ≡ newer_of_two (if b && list_any (bytes_eq f) given_up then Some None else None) (qos_asked f held)
 unsubscribe-by true f given_up held = asked-without-all f given_up held ∙ by (list_any (bytes_eq f) given_up)
   where
-    by : (any : Bool) → (if any then None else qos_asked f held) ≡ newest (if any then Some None else None) (qos_asked f held)
+    by : (any : Bool) → (if any then None else qos_asked f held) ≡ newer_of_two (if any then Some None else None) (qos_asked f held)
     by true = refl
     by false = refl
 unsubscribe-by false f given_up held = refl
 
-word-by : (k : Command) (m : Mark) (c : Client) (f : List ℕ) (held : List GrantedFilter) → qos_asked f (subscribed k m c held) ≡ newest (word_on k m c f) (qos_asked f held)
+word-by : (k : Command) (m : Mark) (c : Client) (f : List ℕ) (held : List GrantedFilter) → qos_asked f (subscribed k m c held) ≡ newer_of_two (word_on k m c f) (qos_asked f held)
 word-by (commands.Packet x (packets.Connect q)) m c f held = refl
 word-by (commands.Packet x (packets.Connack q)) m c f held = refl
 word-by (commands.Packet x (packets.Publish p)) m c f held = refl
@@ -183,4 +183,4 @@ filter_has_last_granting (place ∷ past) c f =
     in-session (session_of (place ∷ past) c) (begins place past c) f (subscribed place.command place.mark c (subscriptions_of past c))
     ∙ ap (in_session (session_of (place ∷ past) c) (begins place past c) None)
     (word-by place.command place.mark c f (subscriptions_of past c)
-    ∙ ap (newest (word_on place.command place.mark c f)) (filter_has_last_granting past c f))
+    ∙ ap (newer_of_two (word_on place.command place.mark c f)) (filter_has_last_granting past c f))

@@ -10,14 +10,14 @@ use Rattle.broker_spec.specs.Entries.{Entry, copies_at, queued}
 use Rattle.broker_spec.specs.Readings.{busy_ids}
 use Rattle.session_base.specs.Identifiers.{least_free}
 use Rattle.broker_spec.specs.Times.{entries_of, window_at, start_all, started}
-use Rattle.broker_spec.specs.IdentifierLaws.{IdentifiersAreDistinct, IsWaiting, WaitsLast, StartedComeFirst}
+use Rattle.broker_spec.specs.IdentifierLaws.{IdentifiersAreDistinct, IsWaitingEntry, WaitingAreLast, StartedComeFirst}
 use Rattle.broker_spec.proofs.EntriesGrow.{Answered, Answering, answers-by}
 use Rattle.broker_spec.proofs.LeastFree.{least-is-free}
 
 -- after earlier entries that have these identifiers: none of them is used again, and after one that
 -- waits all wait
 abbrev pub Apart : List ℕ → List Entry → Type 0
-Apart busy (Entry.Waits made p ∷ es) = AllByRecursion IsWaiting es
+Apart busy (Entry.Waits made p ∷ es) = AllByRecursion IsWaitingEntry es
 Apart busy (Entry.Started made p id start ∷ es) = (has_id id busy ≡ false) × Apart (id ∷ busy) es
 Apart busy (Entry.Released made p id start release ∷ es) = (has_id id busy ≡ false) × Apart (id ∷ busy) es
 Apart busy (Entry.Finished made p id start release finish ∷ es) = Apart busy es
@@ -43,7 +43,7 @@ within-less id fewer more w j e = w j (drop-by (j == id) (has_id j more) e)
 
 -- ---- an answer keeps them apart
 
-waiting-answered : (n : ℕ) (f : Entry → Entry) → Answering n f → (es : List Entry) → AllByRecursion IsWaiting es → AllByRecursion IsWaiting (map f es)
+waiting-answered : (n : ℕ) (f : Entry → Entry) → Answering n f → (es : List Entry) → AllByRecursion IsWaitingEntry es → AllByRecursion IsWaitingEntry (map f es)
 waiting-answered n f a [] w = tt
 waiting-answered n f a (Entry.Waits made p ∷ es) w = (rw (a (Entry.Waits made p)) tt, waiting-answered n f a es w.1)
 waiting-answered n f a (Entry.Started made p id start ∷ es) w = elim w.0 [ ]
@@ -77,29 +77,29 @@ apart-answered n f a (Entry.Finished made p id start release finish ∷ es) fewe
 
 -- ---- new entries and starts keep them apart
 
-new-wait : (n : ℕ) (ps : List Publication) → AllByRecursion IsWaiting (map (Entry.Waits n) ps)
+new-wait : (n : ℕ) (ps : List Publication) → AllByRecursion IsWaitingEntry (map (Entry.Waits n) ps)
 new-wait n [] = tt
 new-wait n (p ∷ ps) = (tt, new-wait n ps)
 
-waiting-more : (es more : List Entry) → AllByRecursion IsWaiting es → AllByRecursion IsWaiting more → AllByRecursion IsWaiting (es ++ more)
+waiting-more : (es more : List Entry) → AllByRecursion IsWaitingEntry es → AllByRecursion IsWaitingEntry more → AllByRecursion IsWaitingEntry (es ++ more)
 waiting-more [] more w m = m
 waiting-more (e ∷ es) more w m = (w.0, waiting-more es more w.1 m)
 
-waiting-apart : (busy : List ℕ) (es : List Entry) → AllByRecursion IsWaiting es → Apart busy es
+waiting-apart : (busy : List ℕ) (es : List Entry) → AllByRecursion IsWaitingEntry es → Apart busy es
 waiting-apart busy [] w = tt
 waiting-apart busy (Entry.Waits made p ∷ es) w = w.1
 waiting-apart busy (Entry.Started made p id start ∷ es) w = elim w.0 [ ]
 waiting-apart busy (Entry.Released made p id start release ∷ es) w = elim w.0 [ ]
 waiting-apart busy (Entry.Finished made p id start release finish ∷ es) w = elim w.0 [ ]
 
-apart-more : (busy : List ℕ) (es more : List Entry) → Apart busy es → AllByRecursion IsWaiting more → Apart busy (es ++ more)
+apart-more : (busy : List ℕ) (es more : List Entry) → Apart busy es → AllByRecursion IsWaitingEntry more → Apart busy (es ++ more)
 apart-more busy [] more h m = waiting-apart busy more m
 apart-more busy (Entry.Waits made p ∷ es) more h m = waiting-more es more h m
 apart-more busy (Entry.Started made p id start ∷ es) more h m = (h.0, apart-more (id ∷ busy) es more h.1 m)
 apart-more busy (Entry.Released made p id start release ∷ es) more h m = (h.0, apart-more (id ∷ busy) es more h.1 m)
 apart-more busy (Entry.Finished made p id start release finish ∷ es) more h m = apart-more busy es more h m
 
-start-by : (w n : ℕ) (busy : List ℕ) (made : ℕ) (p : Publication) (es : List Entry) → AllByRecursion IsWaiting es
+start-by : (w n : ℕ) (busy : List ℕ) (made : ℕ) (p : Publication) (es : List Entry) → AllByRecursion IsWaitingEntry es
     → Apart (least_free busy ∷ busy) (start_all w n (least_free busy ∷ busy) es) → (b : Bool)
     → Apart busy (if b then Entry.Started made p (least_free busy) n ∷ start_all w n (least_free busy ∷ busy) es else Entry.Waits made p ∷ es)
 start-by w n busy made p es h ih true = (least-is-free busy, ih)
@@ -136,7 +136,7 @@ apart limits (place ∷ past) c =
 
 -- ---- what that says
 
-waiting-none : (es : List Entry) → AllByRecursion IsWaiting es → busy_ids es ≡ []
+waiting-none : (es : List Entry) → AllByRecursion IsWaitingEntry es → busy_ids es ≡ []
 waiting-none [] w = refl
 waiting-none (Entry.Waits made p ∷ es) w = waiting-none es w.1
 waiting-none (Entry.Started made p id start ∷ es) w = elim w.0 [ ]
@@ -195,7 +195,7 @@ distinct busy (Entry.Started made p id start ∷ es) h = (unused (id ∷ busy) e
 distinct busy (Entry.Released made p id start release ∷ es) h = (unused (id ∷ busy) es id (itself id busy) h.1, distinct (id ∷ busy) es h.1)
 distinct busy (Entry.Finished made p id start release finish ∷ es) h = distinct busy es h
 
-waits-last : (busy : List ℕ) (es : List Entry) → Apart busy es → WaitsLast es
+waits-last : (busy : List ℕ) (es : List Entry) → Apart busy es → WaitingAreLast es
 waits-last busy [] h = tt
 waits-last busy (Entry.Waits made p ∷ es) h = h
 waits-last busy (Entry.Started made p id start ∷ es) h = waits-last (id ∷ busy) es h.1

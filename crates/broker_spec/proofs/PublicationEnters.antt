@@ -15,13 +15,13 @@ use Rattle.broker_spec.specs.Subscriptions.{subscriptions_of, effective_qos}
 use Rattle.broker_spec.specs.Marks.{is_queued_at}
 use Rattle.broker_spec.specs.Entries.{Entry, copy_of, queued}
 use Rattle.broker_spec.specs.Times.{entries_of, window_at, started}
-use Rattle.broker_spec.specs.EntryLaws.{taken, PublicationEnters}
+use Rattle.broker_spec.specs.EntryLaws.{place_of_taken, PublicationEnters}
 use Rattle.broker_spec.proofs.EntersOnce.{times, times-started, times-more, none-yet, made-below, count}
 
 -- ---- if there is no session there is no filter
 
 -- a taken publication ends no connection
-ends_none : (x : ConnectionName) (p : Publish) (d c : Client) (current : Option ConnectionName) → ends_any (taken x p d) c current ≡ false
+ends_none : (x : ConnectionName) (p : Publish) (d c : Client) (current : Option ConnectionName) → ends_any (place_of_taken x p d) c current ≡ false
 ends_none x p d c (Some y) = by (same_connection x y)
   where
     by : (b : Bool) → (b && false) ≡ false
@@ -47,10 +47,10 @@ no_filters (place ∷ past) c e = nothing_kept (session_of (place ∷ past) c) (
 pub no_qos : (past : Past) (c : Client) (p : Publication) → session_of past c ≡ None → effective_qos past c p ≡ None
 no_qos past c p e = ap (λ held. option_map (lower_qos p.qos) (granted_qos p.topic held)) (no_filters past c e)
 
-pub gone_before : (past : Past) (x : ConnectionName) (p : Publish) (d c : Client) → session_of (taken x p d ∷ past) c ≡ None → session_of past c ≡ None
+pub gone_before : (past : Past) (x : ConnectionName) (p : Publish) (d c : Client) → session_of (place_of_taken x p d ∷ past) c ≡ None → session_of past c ≡ None
 unfolding session_of
 gone_before past x p d c e =
-    no_session (ends_any (taken x p d) c (current_connection past c)) (session_of past c) (ends_none x p d c (current_connection past c)) e
+    no_session (ends_any (place_of_taken x p d) c (current_connection past c)) (session_of past c) (ends_none x p d c (current_connection past c)) e
 
 -- ---- if there is one
 
@@ -65,28 +65,28 @@ times_copy n p (Some qualities.AtLeastOnce) = rw (same_number n) refl
 times_copy n p (Some qualities.ExactlyOnce) = rw (same_number n) refl
 
 times_taken : (limits : Limits) (past : Past) (x : ConnectionName) (p : Publish) (d c : Client) (session : Option Bool)
-    → session_of (taken x p d ∷ past) c ≡ session
-    → times (length past) (entries_of limits (taken x p d ∷ past) c) ≡ (if is_queued_at (effective_qos past c (publication_of p)) then 1 else 0)
+    → session_of (place_of_taken x p d ∷ past) c ≡ session
+    → times (length past) (entries_of limits (place_of_taken x p d ∷ past) c) ≡ (if is_queued_at (effective_qos past c (publication_of p)) then 1 else 0)
 unfolding entries_of
 times_taken limits past x p d c (Some clean) s =
     let n = length past in
     let copies = map (Entry.Waits n) (queued (copy_of (publication_of p) (effective_qos past c (publication_of p)))) in
-    let kept = started (window_at limits (taken x p d ∷ past)) n (current_connection (taken x p d ∷ past) c) (entries_of limits past c ++ copies) in
+    let kept = started (window_at limits (place_of_taken x p d ∷ past)) n (current_connection (place_of_taken x p d ∷ past) c) (entries_of limits past c ++ copies) in
     let more = times-more n (entries_of limits past c) copies in
     let before = none-yet n (entries_of limits past c) (made-below limits past c) in
     let only_copies : times n (entries_of limits past c ++ copies) ≡ times n copies = omega (arith, more, before) in
     ap (λ z. times n (in_session z false [] kept)) s
-    ∙ times-started n (window_at limits (taken x p d ∷ past)) n (current_connection (taken x p d ∷ past) c) (entries_of limits past c ++ copies)
+    ∙ times-started n (window_at limits (place_of_taken x p d ∷ past)) n (current_connection (place_of_taken x p d ∷ past) c) (entries_of limits past c ++ copies)
     ∙ only_copies
     ∙ times_copy n (publication_of p) (effective_qos past c (publication_of p))
 times_taken limits past x p d c None s =
     let n = length past in
     let copies = map (Entry.Waits n) (queued (copy_of (publication_of p) (effective_qos past c (publication_of p)))) in
-    let kept = started (window_at limits (taken x p d ∷ past)) n (current_connection (taken x p d ∷ past) c) (entries_of limits past c ++ copies) in
+    let kept = started (window_at limits (place_of_taken x p d ∷ past)) n (current_connection (place_of_taken x p d ∷ past) c) (entries_of limits past c ++ copies) in
     ap (λ z. times n (in_session z false [] kept)) s
     ∙ sym (ap (λ z. if is_queued_at z then 1 else 0) (no_qos past c (publication_of p) (gone_before past x p d c s)))
 
 pub publication_enters : PublicationEnters
 publication_enters limits past x p d c =
-    count (length past) (entries_of limits (taken x p d ∷ past) c)
-    ∙ times_taken limits past x p d c (session_of (taken x p d ∷ past) c) refl
+    count (length past) (entries_of limits (place_of_taken x p d ∷ past) c)
+    ∙ times_taken limits past x p d c (session_of (place_of_taken x p d ∷ past) c) refl

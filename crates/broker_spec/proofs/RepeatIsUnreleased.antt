@@ -9,15 +9,15 @@ use Rattle.retained.specs.lists.Lists.{has_id}
 use Rattle.session_base.specs.Identifiers.{without_id}
 use Rattle.session_base.proofs.KeptIdentifiers.{has_with, has_without}
 use Rattle.broker_spec.specs.Received.{receives, received_by, received_of}
-use Rattle.broker_spec.specs.Laws.{brings, says_of, newest, ends_in_publish, RepeatIsUnreleased}
+use Rattle.broker_spec.specs.Laws.{brings, says_of, newer_of_two, ends_in_publish, RepeatIsUnreleased}
 use Rattle.broker_spec.specs.declared.command.Command.{Command}
 use Rattle.broker_spec.specs.declared.command.Command.TheVariants as commands
 
 publish-by : (b : Bool) (delivery : Delivery) (id : ℕ) (ids : List ℕ)
-    → has_id id (if b then receives delivery ids else ids) ≡ newest (if b && brings id delivery then Some true else None) (has_id id ids)
+    → has_id id (if b then receives delivery ids else ids) ≡ newer_of_two (if b && brings id delivery then Some true else None) (has_id id ids)
 publish-by true (deliveries.ExactlyOnce dup i) id ids = has_with id i ids ∙ comes (id == i)
   where
-    comes : (x : Bool) → x || has_id id ids ≡ newest (if x then Some true else None) (has_id id ids)
+    comes : (x : Bool) → x || has_id id ids ≡ newer_of_two (if x then Some true else None) (has_id id ids)
     comes true = refl
     comes false = refl
 publish-by true (deliveries.AtLeastOnce dup i) id ids = refl
@@ -25,15 +25,15 @@ publish-by true deliveries.AtMostOnce id ids = refl
 publish-by false delivery id ids = refl
 
 pubrel-by : (b : Bool) (i id : ℕ) (ids : List ℕ)
-    → has_id id (if b then without_id i ids else ids) ≡ newest (if b && (id == i) then Some false else None) (has_id id ids)
+    → has_id id (if b then without_id i ids else ids) ≡ newer_of_two (if b && (id == i) then Some false else None) (has_id id ids)
 pubrel-by true i id ids = has_without id i ids ∙ goes (id == i)
   where
-    goes : (x : Bool) → not x && has_id id ids ≡ newest (if x then Some false else None) (has_id id ids)
+    goes : (x : Bool) → not x && has_id id ids ≡ newer_of_two (if x then Some false else None) (has_id id ids)
     goes true = refl
     goes false = refl
 pubrel-by false i id ids = refl
 
-word-by : (k : Command) (m : Mark) (c : Client) (id : ℕ) (ids : List ℕ) → has_id id (received_by k m c ids) ≡ newest (says_of k m c id) (has_id id ids)
+word-by : (k : Command) (m : Mark) (c : Client) (id : ℕ) (ids : List ℕ) → has_id id (received_by k m c ids) ≡ newer_of_two (says_of k m c id) (has_id id ids)
 word-by (commands.Packet x (packets.Connect q)) m c id ids = refl
 word-by (commands.Packet x (packets.Connack q)) m c id ids = refl
 word-by (commands.Packet x (packets.Publish p)) Mark.NoPart c id ids = refl
@@ -81,4 +81,4 @@ repeat_is_unreleased (place ∷ past) c id =
     in-session (session_of (place ∷ past) c) (begins place past c) id (received_by place.command place.mark c (received_of past c))
     ∙ ap (in_session (session_of (place ∷ past) c) (begins place past c) false)
     (word-by place.command place.mark c id (received_of past c)
-    ∙ ap (newest (says_of place.command place.mark c id)) (repeat_is_unreleased past c id))
+    ∙ ap (newer_of_two (says_of place.command place.mark c id)) (repeat_is_unreleased past c id))

@@ -13,8 +13,8 @@ use Rattle.broker_spec.specs.Owner.{owner_of}
 use Rattle.broker_spec.specs.Marks.{mark_of, packet_mark_of}
 use Rattle.broker_spec.specs.Times.{entries_of}
 use Rattle.broker_spec.specs.Commands.{place_of}
-use Rattle.broker_spec.specs.Sends.{resent}
-use Rattle.broker_spec.specs.Answers.{closed, welcome, packet_answers, connect_answers}
+use Rattle.broker_spec.specs.Sends.{resent_outputs}
+use Rattle.broker_spec.specs.Answers.{close_outputs, welcome, packet_answers, connect_answers}
 use Rattle.broker_spec.specs.AnswersInOrder.{answers_of}
 use Rattle.broker_spec.specs.AnswerLaws.{IsAddressed}
 use Rattle.broker_spec.specs.declared.command.Command.{Command}
@@ -47,15 +47,15 @@ to_sent x [] h = tt
 to_sent x (Send y packet ∷ xs) h = (h.0, to_sent x xs h.1)
 to_sent x (Close y ∷ xs) h = (tt, to_sent x xs h.1)
 
-closed_sends : (x : ConnectionName) (current : Option ConnectionName) → AllByRecursion (SentTo x) (closed current)
+closed_sends : (x : ConnectionName) (current : Option ConnectionName) → AllByRecursion (SentTo x) (close_outputs current)
 closed_sends x None = tt
 closed_sends x (Some y) = (tt, tt)
 
 connect_sends : (limits : Limits) (place : Place) (past : Past) (x : ConnectionName) (c : Client) (mark : Mark) → AllByRecursion (SentTo x) (connect_answers limits place past x c mark)
 connect_sends limits place past x c Mark.Accepted =
-    joined (SentTo x) (closed (current_connection past c)) (welcome x (not (begins place past c)) ∷ resent x (length past) (entries_of limits (place ∷ past) c))
+    joined (SentTo x) (close_outputs (current_connection past c)) (welcome x (not (begins place past c)) ∷ resent_outputs x (length past) (entries_of limits (place ∷ past) c))
     (closed_sends x (current_connection past c))
-    (refl, to_sent x (resent x (length past) (entries_of limits (place ∷ past) c)) (resent-to x (length past) (entries_of limits (place ∷ past) c)))
+    (refl, to_sent x (resent_outputs x (length past) (entries_of limits (place ∷ past) c)) (resent-to x (length past) (entries_of limits (place ∷ past) c)))
 connect_sends limits place past x c Mark.Full = (refl, (tt, tt))
 connect_sends limits place past x c Mark.NoPart = (tt, tt)
 connect_sends limits place past x c (Mark.Leaves d) = (tt, tt)
@@ -168,6 +168,6 @@ sent_at limits below (commands.Lost x) y q i = elim i [ ]
 sent_at limits below (commands.Start ballot) y q i = elim i [ ]
 sent_at limits below (commands.Expel c) y q i = absurd (close_only (current_connection below c) i)
   where
-    close_only : (o : Option ConnectionName) → In (Send y q) (closed o) → ⊥
+    close_only : (o : Option ConnectionName) → In (Send y q) (close_outputs o) → ⊥
     close_only None i = elim i [ ]
     close_only (Some x) i = no_send x y q i

@@ -12,7 +12,7 @@ use Rattle.broker_spec.specs.Marks.{is_queued_at}
 use Rattle.broker_spec.specs.Entries.{Entry, copy_of, queued}
 use Rattle.session_base.specs.Identifiers.{least_free}
 use Rattle.broker_spec.specs.Times.{entries_of, window_at, start_all, started}
-use Rattle.broker_spec.specs.EntryLaws.{taken, TakenPublishAddsOne}
+use Rattle.broker_spec.specs.EntryLaws.{place_of_taken, TakenPublishAddsOne}
 
 start-length : (w n : ℕ) (busy : List ℕ) (es : List Entry) → length (start_all w n busy es) ≡ length es
 start-length w n busy [] = refl
@@ -43,7 +43,7 @@ in-session None es s = cc
 pub taken_publish_adds_one : TakenPublishAddsOne
 unfolding entries_of
 taken_publish_adds_one limits past x p d c s =
-    ap length (in-session (session_of (taken x p d ∷ past) c) _ s)
-    ∙ started-length (window_at limits (taken x p d ∷ past)) (length past) (current_connection (taken x p d ∷ past) c) _
+    ap length (in-session (session_of (place_of_taken x p d ∷ past) c) _ s)
+    ∙ started-length (window_at limits (place_of_taken x p d ∷ past)) (length past) (current_connection (place_of_taken x p d ∷ past) c) _
     ∙ length-append (entries_of limits past c) _
     ∙ ap (λ z. length (entries_of limits past c) + z) (queued-length (publication_of p) (effective_qos past c (publication_of p)) (length past))

@@ -18,16 +18,16 @@ use Rattle.broker_spec.specs.Owner.{clients}
 use Rattle.retained.specs.lists.Lists.{has_id}
 use Rattle.broker_spec.specs.Readings.{released_below}
 use Rattle.broker_spec.specs.Times.{entries_of}
-use Rattle.broker_spec.specs.Sends.{all_started, resent, deliveries_to}
+use Rattle.broker_spec.specs.Sends.{all_started, resent_outputs, deliveries_to}
 use Rattle.broker_spec.specs.declared.command.Command.{Command}
 use Rattle.broker_spec.specs.declared.command.Command.TheVariants as commands
 use Rattle.broker_spec.specs.declared.command.Output.{Output}
 use Rattle.broker_spec.specs.declared.command.Output.TheVariants.{Send, Close}
 
 -- the connection that a client leaves, if it has one (MQTT 3.1.4)
-abbrev pub closed : Option ConnectionName → List Output
-closed (Some x) = Close x ∷ []
-closed None = []
+abbrev pub close_outputs : Option ConnectionName → List Output
+close_outputs (Some x) = Close x ∷ []
+close_outputs None = []
 
 -- the answer to an accepted Connect: whether a session was kept (MQTT 3.2.2.2)
 abbrev pub welcome : ConnectionName → Bool → Output
@@ -50,25 +50,25 @@ codes_of (s ∷ more) (granted ∷ others) =
 codes_of _ _ = []
 
 -- the answers to a packet that is no PUBLISH and no SUBSCRIBE, and ends nothing
-abbrev pub handled : Limits → Place → Past → ConnectionName → Client → Packet → List Output
-handled limits place past x c (packets.Unsubscribe u) = Send x (packets.Unsuback u.id) ∷ []
-handled limits place past x c (packets.Pubrel id) = Send x (packets.Pubcomp id) ∷ []
-handled limits place past x c packets.Pingreq = Send x packets.Pingresp ∷ []
-handled limits place past x c (packets.Pubrec id) =
+abbrev pub other_answers : Limits → Place → Past → ConnectionName → Client → Packet → List Output
+other_answers limits place past x c (packets.Unsubscribe u) = Send x (packets.Unsuback u.id) ∷ []
+other_answers limits place past x c (packets.Pubrel id) = Send x (packets.Pubcomp id) ∷ []
+other_answers limits place past x c packets.Pingreq = Send x packets.Pingresp ∷ []
+other_answers limits place past x c (packets.Pubrec id) =
     if has_id id (released_below (suc (length past)) (entries_of limits (place ∷ past) c))
     then Send x (packets.Pubrel id) ∷ [] else []
-handled limits place past x c (packets.Puback id) =
+other_answers limits place past x c (packets.Puback id) =
     all_started x (length past) (entries_of limits (place ∷ past) c)
-handled limits place past x c (packets.Pubcomp id) =
+other_answers limits place past x c (packets.Pubcomp id) =
     all_started x (length past) (entries_of limits (place ∷ past) c)
-handled limits place past x c (packets.Connect connect) = []
-handled limits place past x c (packets.Connack connack) = []
-handled limits place past x c (packets.Publish p) = []
-handled limits place past x c (packets.Subscribe s) = []
-handled limits place past x c (packets.Suback suback) = []
-handled limits place past x c (packets.Unsuback id) = []
-handled limits place past x c packets.Pingresp = []
-handled limits place past x c packets.Disconnect = []
+other_answers limits place past x c (packets.Connect connect) = []
+other_answers limits place past x c (packets.Connack connack) = []
+other_answers limits place past x c (packets.Publish p) = []
+other_answers limits place past x c (packets.Subscribe s) = []
+other_answers limits place past x c (packets.Suback suback) = []
+other_answers limits place past x c (packets.Unsuback id) = []
+other_answers limits place past x c packets.Pingresp = []
+other_answers limits place past x c packets.Disconnect = []
 
 -- the answers to a packet, by its mark
 abbrev pub packet_answers : Limits → Place → Past → ConnectionName → Packet → Mark → List Output
@@ -78,7 +78,8 @@ packet_answers limits place past x (packets.Publish p) (Mark.Repeat c) = acknowl
 packet_answers limits place past x (packets.Subscribe s) (Mark.Granted c which) =
     Send x (packets.Suback (record { id = s.id; codes = codes_of s.filters which }))
     ∷ deliveries_to limits place past c
-packet_answers limits place past x packet (Mark.Handled c) = handled limits place past x c packet
+packet_answers limits place past x packet (Mark.Handled c) =
+    other_answers limits place past x c packet
 packet_answers limits place past x packet (Mark.Leaves c) = Close x ∷ []
 packet_answers limits place past x packet (Mark.Refused c) = Close x ∷ []
 packet_answers limits place past x packet _ = []
@@ -86,9 +87,9 @@ packet_answers limits place past x packet _ = []
 -- the answers to a Connect, by its mark
 abbrev pub connect_answers : Limits → Place → Past → ConnectionName → Client → Mark → List Output
 connect_answers limits place past x c Mark.Accepted =
-    closed (current_connection past c)
+    close_outputs (current_connection past c)
     ++ welcome x (not (begins place past c))
-    ∷ resent x (length past) (entries_of limits (place ∷ past) c)
+    ∷ resent_outputs x (length past) (entries_of limits (place ∷ past) c)
 connect_answers limits place past x c Mark.Full = turned_away x ∷ Close x ∷ []
 connect_answers limits place past x c _ = Close x ∷ []
 
@@ -101,4 +102,4 @@ answers_by limits place past (commands.Connect x c clean) mark =
     connect_answers limits place past x c mark
 answers_by limits place past (commands.Lost x) mark = []
 answers_by limits place past (commands.Start ballot) mark = []
-answers_by limits place past (commands.Expel c) mark = closed (current_connection past c)
+answers_by limits place past (commands.Expel c) mark = close_outputs (current_connection past c)

@@ -67,16 +67,19 @@ EntriesOnlyGrow =
     → GrowsTo (length past) (entries_of limits past c) (entries_of limits (place ∷ past) c)
 
 -- the place of a taken PUBLISH of this client
-abbrev pub taken : ConnectionName → Publish → Client → Place
-taken x p d = record { command = commands.Packet x (packets.Publish p); mark = Mark.Taken d }
+abbrev pub place_of_taken : ConnectionName → Publish → Client → Place
+place_of_taken x p d = record {
+  command = commands.Packet x (packets.Publish p);
+  mark = Mark.Taken d;
+}
 
 -- a taken PUBLISH gives a session one entry if its effective QoS is 1 or 2, and otherwise none
 -- (MQTT 3.3.5)
 abbrev pub TakenPublishAddsOne : Type 0
 TakenPublishAddsOne =
     (limits : Limits) (past : Past) (x : ConnectionName) (p : Publish) (d c : Client)
-    → is_some (session_of (taken x p d ∷ past) c) ≡ true
-    → length (entries_of limits (taken x p d ∷ past) c)
+    → is_some (session_of (place_of_taken x p d ∷ past) c) ≡ true
+    → length (entries_of limits (place_of_taken x p d ∷ past) c)
     ≡ length (entries_of limits past c)
     + (if is_queued_at (effective_qos past c (publication_of p)) then 1 else 0)
 
@@ -85,5 +88,6 @@ TakenPublishAddsOne =
 abbrev pub PublicationEnters : Type 0
 PublicationEnters =
     (limits : Limits) (past : Past) (x : ConnectionName) (p : Publish) (d c : Client)
-    → length (filter (is_from_publish (length past)) (entries_of limits (taken x p d ∷ past) c))
+    → length (filter (is_from_publish (length past))
+    (entries_of limits (place_of_taken x p d ∷ past) c))
     ≡ (if is_queued_at (effective_qos past c (publication_of p)) then 1 else 0)

@@ -36,17 +36,17 @@ IdentifiersAreTo64 =
     → AllByRecursion (IsInWindow wide_window) (busy_ids (entries_of usual_limits past c))
 
 -- an entry that waits
-abbrev pub IsWaiting : Entry → Type 0
-IsWaiting (Entry.Waits made p) = Unit {0}
-IsWaiting _ = ⊥
+abbrev pub IsWaitingEntry : Entry → Type 0
+IsWaitingEntry (Entry.Waits made p) = Unit {0}
+IsWaitingEntry _ = ⊥
 
 -- after an entry that waits, all wait
-abbrev pub WaitsLast : List Entry → Type 0
-WaitsLast (Entry.Waits made p ∷ entries) = AllByRecursion IsWaiting entries
-WaitsLast (_ ∷ entries) = WaitsLast entries
-WaitsLast [] = Unit {0}
+abbrev pub WaitingAreLast : List Entry → Type 0
+WaitingAreLast (Entry.Waits made p ∷ entries) = AllByRecursion IsWaitingEntry entries
+WaitingAreLast (_ ∷ entries) = WaitingAreLast entries
+WaitingAreLast [] = Unit {0}
 
 -- entries start in order (MQTT 4.6)
 abbrev pub StartedComeFirst : Type 0
 StartedComeFirst =
-    (limits : Limits) (past : Past) (c : Client) → WaitsLast (entries_of limits past c)
+    (limits : Limits) (past : Past) (c : Client) → WaitingAreLast (entries_of limits past c)

@@ -59,9 +59,9 @@ says_of (commands.Packet x (packets.Pubrel i)) (Mark.Handled d) c id =
 says_of _ _ c id = None
 
 -- the newer value, if there is one
-abbrev pub newest : {A : Type 0} → Option A → A → A
-newest (Some word) older = word
-newest None older = older
+abbrev pub newer_of_two : {A : Type 0} → Option A → A → A
+newer_of_two (Some word) older = word
+newer_of_two None older = older
 
 -- whether the last of the session's taken PUBLISHes at QoS 2 with this identifier, and of its
 -- PUBRELs, is a PUBLISH
@@ -69,7 +69,7 @@ unfoldable pub ends_in_publish : Past → Client → ℕ → Bool
 ends_in_publish [] c id = false
 ends_in_publish (place ∷ past) c id =
     in_session (session_of (place ∷ past) c) (begins place past c) false
-    (newest (says_of place.command place.mark c id) (ends_in_publish past c id))
+    (newer_of_two (says_of place.command place.mark c id) (ends_in_publish past c id))
 
 -- a PUBLISH at QoS 2 is a repeat exactly if, of its session's taken PUBLISHes with its identifier
 -- and their PUBRELs, the last is a PUBLISH (MQTT 4.3.3)
@@ -103,7 +103,7 @@ unfoldable pub last_granting : Past → Client → List ℕ → Option QoS
 last_granting [] c f = None
 last_granting (place ∷ past) c f =
     in_session (session_of (place ∷ past) c) (begins place past c) None
-    (newest (word_on place.command place.mark c f) (last_granting past c f))
+    (newer_of_two (word_on place.command place.mark c f) (last_granting past c f))
 
 -- a session's filters have the QoS of their last granting (MQTT 3.8.4, 3.10.4)
 abbrev pub FilterHasLastGranting : Type 0

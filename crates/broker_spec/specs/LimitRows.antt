@@ -11,7 +11,7 @@ use Rattle.broker_spec.specs.Place.{Past}
 use Rattle.broker_spec.specs.Commands.{limits_with, usual_limits}
 use Rattle.broker_spec.specs.Connection.{is_connection_name}
 use Rattle.broker_spec.specs.RowWords.{AreAnswered, a, b, nth, connect, gets, sends, connack, small}
-use Rattle.broker_spec.specs.TopicRowWords.{publish_on, asks, asked_at, published_on}
+use Rattle.broker_spec.specs.TopicRowWords.{publish_on, subscribe_row, filters_at, publish_row}
 use Rattle.broker_spec.specs.declared.command.Command.{Command}
 use Rattle.broker_spec.specs.declared.command.Command.TheVariants as commands
 use Rattle.broker_spec.specs.declared.command.Output.TheVariants.{Close}
@@ -59,7 +59,7 @@ FifthSessionIsRefused =
 abbrev pub four_filters : List Command
 four_filters =
     connect 1 b
-    ∷ gets 1 (asks 1 (asked_at qualities.AtLeastOnce
+    ∷ gets 1 (subscribe_row 1 (filters_at qualities.AtLeastOnce
     (codes "f/1" ∷ codes "f/2" ∷ codes "f/3" ∷ codes "f/4" ∷ []))) ∷ connect 2 a ∷ []
 
 -- a fifth filter is answered 0x80 and is not set; an identical one is replaced, and is granted with
@@ -67,7 +67,7 @@ four_filters =
 abbrev pub FifthFilterIsRefused : Type 0
 FifthFilterIsRefused =
     AreAnswered (small 3 16) four_filters
-    (gets 1 (asks 2 (asked_at qualities.AtMostOnce (codes "f/5" ∷ codes "f/2" ∷ [])))
+    (gets 1 (subscribe_row 2 (filters_at qualities.AtMostOnce (codes "f/5" ∷ codes "f/2" ∷ [])))
     ∷ gets 2 (publish_on (codes "f/5") (deliveries.AtLeastOnce false 1) false (codes "x"))
     ∷ gets 2 (publish_on (codes "f/2") (deliveries.AtLeastOnce false 2) false (codes "x")) ∷ [])
     ((sends 1
@@ -82,7 +82,7 @@ FifthFilterIsRefused =
 -- four topics are retained, at QoS 1
 abbrev pub four_topics : List Command
 four_topics =
-    connect 2 a ∷ published_on qualities.AtLeastOnce
+    connect 2 a ∷ publish_row qualities.AtLeastOnce
     (codes "t/1" ∷ codes "t/2" ∷ codes "t/3" ∷ codes "t/4" ∷ [])
 
 -- a fifth is refused and its connection closed; an existing one is replaced, and an empty payload

@@ -5,16 +5,17 @@ use Rattle.packet.specs.declared.delivery.Delivery.TheVariants as deliveries
 use Rattle.packet.specs.declared.suback.SubackCode.TheVariants as return_codes
 use Rattle.packet.specs.declared.packet.Packet.TheVariants as packets
 use Rattle.broker_spec.specs.RowWords.{AreAnswered, a, b, connect, gets, sends, small}
-use Rattle.broker_spec.specs.TopicRowWords.{publish_on, asks}
-use Rattle.broker_spec.specs.TopicRowWords.{asked_at, published_on}
+use Rattle.broker_spec.specs.TopicRowWords.{publish_on, subscribe_row}
+use Rattle.broker_spec.specs.TopicRowWords.{filters_at, publish_row}
 
 -- t/1 needs one entry and t/# two, so t/2 finds no room left; at QoS 0 it needs none
 abbrev pub RoomIsLessWhatEarlierFiltersNeed : Type 0
 RoomIsLessWhatEarlierFiltersNeed =
     AreAnswered (small 3 16) (connect 2 a
-    ∷ published_on qualities.AtLeastOnce (codes "t/1" ∷ codes "t/2" ∷ []) ++ connect 1 b ∷ [])
-    (gets 1 (asks 1 (asked_at qualities.AtLeastOnce (codes "t/1" ∷ codes "t/#" ∷ codes "t/2" ∷ [])
-    ++ asked_at qualities.AtMostOnce (codes "t/2" ∷ []))) ∷ [])
+    ∷ publish_row qualities.AtLeastOnce (codes "t/1" ∷ codes "t/2" ∷ []) ++ connect 1 b ∷ [])
+    (gets 1 (subscribe_row 1 (filters_at qualities.AtLeastOnce
+    (codes "t/1" ∷ codes "t/#" ∷ codes "t/2" ∷ [])
+    ++ filters_at qualities.AtMostOnce (codes "t/2" ∷ []))) ∷ [])
     ((sends 1
     (packets.Suback
     (record {

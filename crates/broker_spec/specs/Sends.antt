@@ -14,43 +14,44 @@ use Rattle.broker_spec.specs.declared.command.Output.{Output}
 use Rattle.broker_spec.specs.declared.command.Output.TheVariants.{Send}
 
 -- a PUBLISH to the client
-abbrev pub publish : ConnectionName → Bool → ℕ → Publication → Output
-publish x dup id p = Send x (packets.Publish (publish_of dup id p))
+abbrev pub publish_output : ConnectionName → Bool → ℕ → Publication → Output
+publish_output x dup id p = Send x (packets.Publish (publish_of dup id p))
 
 -- an entry that starts at place n is sent for the first time, with DUP 0 (MQTT 3.3.1.1)
-abbrev pub sent_first : ConnectionName → ℕ → Entry → List Output
-sent_first x n (Entry.Started made p id start) =
-    if start == n then publish x false id p ∷ [] else []
-sent_first x n _ = []
+abbrev pub first_output : ConnectionName → ℕ → Entry → List Output
+first_output x n (Entry.Started made p id start) =
+    if start == n then publish_output x false id p ∷ [] else []
+first_output x n _ = []
 
 -- all entries that start at place n, in order
 abbrev pub all_started : ConnectionName → ℕ → List Entry → List Output
-all_started x n = flat_map (sent_first x n)
+all_started x n = flat_map (first_output x n)
 
 -- an entry that started below place n, and is not answered, is sent again with DUP 1 (MQTT 4.4)
-abbrev pub sent_again : ConnectionName → ℕ → Entry → List Output
-sent_again x n (Entry.Started made p id start) = if start == n then [] else publish x true id p ∷ []
-sent_again x n _ = []
+abbrev pub repeated_output : ConnectionName → ℕ → Entry → List Output
+repeated_output x n (Entry.Started made p id start) =
+    if start == n then [] else publish_output x true id p ∷ []
+repeated_output x n _ = []
 
 -- What a client that comes back at place n is sent: PUBREL for what is released and not finished,
 -- in the order of release; then what was sent before, in order; then what starts now (MQTT 4.4).
-abbrev pub resent : ConnectionName → ℕ → List Entry → List Output
-resent x n entries =
+abbrev pub resent_outputs : ConnectionName → ℕ → List Entry → List Output
+resent_outputs x n entries =
     map (λ id. Send x (packets.Pubrel id)) (released_below n entries)
-    ++ flat_map (sent_again x n) entries ++ all_started x n entries
+    ++ flat_map (repeated_output x n) entries ++ all_started x n entries
 
 -- What a connection is sent for the copies that place n made, in order: each copy at QoS 0 at once,
 -- and each other if its entry starts here. The entries are those that the place made, in order.
-abbrev pub handed : ConnectionName → ℕ → List Publication → List Entry → List Output
-handed x n (p ∷ copies) entries =
+abbrev pub copy_outputs : ConnectionName → ℕ → List Publication → List Entry → List Output
+copy_outputs x n (p ∷ copies) entries =
     if is_answered p.qos
-    then all_started x n (take 1 entries) ++ handed x n copies (drop 1 entries)
-    else publish x false 0 p ∷ handed x n copies entries
-handed x n [] entries = []
+    then all_started x n (take 1 entries) ++ copy_outputs x n copies (drop 1 entries)
+    else publish_output x false 0 p ∷ copy_outputs x n copies entries
+copy_outputs x n [] entries = []
 
 -- a client without a connection is sent nothing
 abbrev pub handed_to : Option ConnectionName → ℕ → List Publication → List Entry → List Output
-handed_to (Some x) n copies entries = handed x n copies entries
+handed_to (Some x) n copies entries = copy_outputs x n copies entries
 handed_to None n copies entries = []
 
 -- what a client is sent for the copies that a place makes for its session

@@ -9,7 +9,7 @@ use Rattle.session_base.specs.Publication.{publication_of}
 use Rattle.broker_spec.specs.Connection.{ConnectionName}
 use Rattle.broker_spec.specs.Subscriptions.{effective_qos}
 use Rattle.broker_spec.specs.Readings.{publication_in}
-use Rattle.broker_spec.specs.EntryLaws.{taken}
+use Rattle.broker_spec.specs.EntryLaws.{place_of_taken}
 use Rattle.packet.specs.declared.packet.Packet.TheVariants as packets
 use Rattle.broker_spec.specs.Place.{Client, Mark, Place, Past, Limits}
 use Rattle.broker_spec.specs.Times.{entries_of}
@@ -39,7 +39,7 @@ abbrev pub EntersAsPublished : Type 0
 EntersAsPublished =
     (limits : Limits) (past : Past) (x : ConnectionName) (p : Publish) (d c : Client)
     → map publication_in
-    (filter (is_from_publish (length past)) (entries_of limits (taken x p d ∷ past) c))
+    (filter (is_from_publish (length past)) (entries_of limits (place_of_taken x p d ∷ past) c))
     ≡ queued_at (publication_of p) (effective_qos past c (publication_of p))
 
 -- no session has an entry from a place that takes no publication, such as a repeat or a refused one

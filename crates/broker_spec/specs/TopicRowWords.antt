@@ -16,14 +16,14 @@ publish_on topic delivery retain payload =
     (record { topic = topic; delivery = delivery; retain = retain; payload = payload })
 
 -- filters, all requested at this QoS
-abbrev pub asked_at : QoS → List (List ℕ) → List Subscription
-asked_at qos = map (λ filter. record { filter = filter; qos = qos })
+abbrev pub filters_at : QoS → List (List ℕ) → List Subscription
+filters_at qos = map (λ filter. record { filter = filter; qos = qos })
 
 -- a SUBSCRIBE to these filters
-abbrev pub asks : ℕ → List Subscription → Packet
-asks id filters = packets.Subscribe (record { id = id; filters = filters })
+abbrev pub subscribe_row : ℕ → List Subscription → Packet
+subscribe_row id filters = packets.Subscribe (record { id = id; filters = filters })
 
 -- a sends x on each of these topics at this QoS on connection 2, with RETAIN 1 and the identifier 1
-abbrev pub published_on : QoS → List (List ℕ) → List Command
-published_on qos =
+abbrev pub publish_row : QoS → List (List ℕ) → List Command
+publish_row qos =
     map (λ topic. gets 2 (publish_on topic (delivery_at qos false 1) true (codes "x")))

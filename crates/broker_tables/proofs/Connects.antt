@@ -6,7 +6,7 @@ use Rattle.broker_session.specs.subs_base.Content.{without_client}
 use Rattle.broker_session.specs.subs_base.ListIndex.{content_of}
 use Rattle.broker_spec.specs.Connection.{ConnectionName}
 use Rattle.broker_spec.specs.Place.{Client, by_bytes}
-use Rattle.broker_spec.specs.Answers.{closed, welcome, turned_away}
+use Rattle.broker_spec.specs.Answers.{close_outputs, welcome, turned_away}
 use Rattle.broker_spec.specs.Commands.{usual_limits}
 use Rattle.broker_spec.specs.declared.command.Command.TheVariants as commands
 use Rattle.broker_spec.specs.declared.command.Output.TheVariants as outputs
@@ -62,7 +62,7 @@ module _ (tables : Tables) (x : ConnectionName) (c : Client) (clean : Bool) (ste
           sessions = insert_entry by_bytes tables.sessions.entries c (kept_anew (x, clean));
           retained = tables.retained;
         },
-        closed (connection_of (session_in c tables.sessions.entries)) ++ welcome x false ∷ [],
+        close_outputs (connection_of (session_in c tables.sessions.entries)) ++ welcome x false ∷ [],
       )
   unfolding stepped
   beginning_of admitted begins = beginning_step usual_limits 64 (state_in tables) x c clean step.sound (is_nobodys tables x none) admitted begins
@@ -92,7 +92,7 @@ module _ (tables : Tables) (x : ConnectionName) (c : Client) (clean : Bool) (ste
           sessions = changed c (kept_resumed tables.window (x, false)) tables.sessions.entries;
           retained = tables.retained;
         },
-        closed (connection_of (session_in c tables.sessions.entries)) ++ welcome x true
+        close_outputs (connection_of (session_in c tables.sessions.entries)) ++ welcome x true
             ∷ map (outputs.Send x) (sent_to_resumed tables.window (session_in c tables.sessions.entries)),
       )
   unfolding stepped
@@ -107,7 +107,7 @@ module _ (tables : Tables) (x : ConnectionName) (c : Client) (clean : Bool) (ste
               sessions = changed c (kept_resumed tables.window (x, false)) tables.sessions.entries;
               retained = tables.retained;
             },
-            closed (connection_of (session_in c tables.sessions.entries)) ++ welcome x true
+            close_outputs (connection_of (session_in c tables.sessions.entries)) ++ welcome x true
                 ∷ map (outputs.Send x) (sent_to_resumed tables.window (session_in c tables.sessions.entries)),
           )
       by true b p q h = absurd (cc)
@@ -121,7 +121,7 @@ module _ (tables : Tables) (x : ConnectionName) (c : Client) (clean : Bool) (ste
               sessions = written c (option_map (kept_resumed tables.window (x, false)) (sym held i)) tables.sessions.entries;
               retained = tables.retained;
             },
-            closed (connection_of (sym held i)) ++ welcome x true ∷ map (outputs.Send x) (sent_to_resumed tables.window (sym held i)),
+            close_outputs (connection_of (sym held i)) ++ welcome x true ∷ map (outputs.Send x) (sent_to_resumed tables.window (sym held i)),
           ))
 
   pub resuming_of : begins_in (state_in tables) c clean ≡ false →
@@ -132,7 +132,7 @@ module _ (tables : Tables) (x : ConnectionName) (c : Client) (clean : Bool) (ste
           sessions = changed c (kept_resumed tables.window (x, false)) tables.sessions.entries;
           retained = tables.retained;
         },
-        closed (connection_of (session_in c tables.sessions.entries)) ++ welcome x true
+        close_outputs (connection_of (session_in c tables.sessions.entries)) ++ welcome x true
             ∷ map (outputs.Send x) (sent_to_resumed tables.window (session_in c tables.sessions.entries)),
       )
   resuming_of on = resuming_by (session_in c tables.sessions.entries) refl on

@@ -3,7 +3,7 @@ use Rattle.std.proofs.Common.{◌≡◌, if◌then◌else◌, [], Option, Some, 
 use Rattle.broker_spec.specs.Connection.{ConnectionName, same_connection}
 use Rattle.broker_spec.specs.Place.{Client}
 use Rattle.broker_spec.specs.Commands.{usual_limits}
-use Rattle.broker_spec.specs.Answers.{closed}
+use Rattle.broker_spec.specs.Answers.{close_outputs}
 use Rattle.broker_spec.specs.declared.command.Command.TheVariants as commands
 use Rattle.broker_session.specs.broker_base.ClientSession.{ClientSession}
 use Rattle.broker_session.specs.broker_base.State.{session_in}
@@ -20,7 +20,7 @@ use Rattle.broker_tables.proofs.TiesOfRows.{tied_to}
 
 -- of a client with a session
 pub expelled : (tables : Tables) (c : Client) (kept : ClientSession) → IsConsistent tables → session_in c tables.sessions.entries ≡ Some kept →
-    stepped tables (commands.Expel c) ≡ (with_session c None (state_in tables), closed kept.connection)
+    stepped tables (commands.Expel c) ≡ (with_session c None (state_in tables), close_outputs kept.connection)
 unfolding stepped
 expelled tables c kept step held = expel_step usual_limits 64 (state_in tables) c kept step.sound held
 

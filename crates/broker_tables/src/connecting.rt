@@ -1,7 +1,7 @@
 // Connect: a client opens a connection (MQTT 3.1).
 
 ghost use Rattle.std.specs.Prelude.{◌≡◌, ◌++◌, [], ◌∷◌, true, false, Some, None, OnOk, IsSome, map};
-ghost use Rattle.broker_spec.specs.Answers.{turned_away, closed, welcome};
+ghost use Rattle.broker_spec.specs.Answers.{turned_away, close_outputs, welcome};
 ghost use Rattle.broker_spec.specs.Connection.{ConnectionName as SpecName};
 ghost use Rattle.broker_spec.specs.Commands.{usual_limits};
 ghost use Rattle.broker_spec.specs.declared.command.Command.TheVariants as commands;
@@ -126,7 +126,7 @@ impl Tables {
         ensures owners { OnOk result (TakesOver self.old connection client.now self.new) }
         ensures outputs { OnOk result
             (out.new.items ≡ out.old.items
-            ++ (closed (connection_of (session_in client.now self.old.sessions.entries))
+            ++ (close_outputs (connection_of (session_in client.now self.old.sessions.entries))
             ++ welcome connection present ∷ [])) }
         ensures others { HasOthersThanOwners self.old self.new }
     {
@@ -219,7 +219,7 @@ fn answer_connect(
     out: &mut Vec<Output>,
 ) -> Result<(), Halted>
     ensures { OnOk result
-        (out.new.items ≡ out.old.items ++ (closed left ++ welcome connection present ∷ [])) }
+        (out.new.items ≡ out.old.items ++ (close_outputs left ++ welcome connection present ∷ [])) }
 {
     push_close(left, out)?;
     out.push(Output::Send(connection, Packet::Connack(Connack::Accepted(present))))?;

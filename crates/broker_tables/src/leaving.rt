@@ -2,7 +2,7 @@
 // 4.8).
 
 ghost use Rattle.std.specs.Prelude.{◌≡◌, ◌++◌, [], ◌∷◌, OnOk, OnErr};
-ghost use Rattle.broker_spec.specs.Answers.{closed};
+ghost use Rattle.broker_spec.specs.Answers.{close_outputs};
 ghost use Rattle.broker_spec.specs.Connection.{ConnectionName as SpecName};
 ghost use Rattle.broker_spec.specs.declared.command.Command.TheVariants as commands;
 ghost use Rattle.broker_spec.specs.declared.command.Output.TheVariants as outputs;
@@ -58,7 +58,7 @@ impl Tables {
 
 /// Appends the Close of a connection, if there is one. The tables stay as they are.
 pub(crate) fn push_close(left: Option<ConnectionName>, out: &mut Vec<Output>) -> Result<(), Halted>
-    ensures closes { OnOk result (out.new.items ≡ out.old.items ++ closed left) }
+    ensures closes { OnOk result (out.new.items ≡ out.old.items ++ close_outputs left) }
     ensures unsent { OnErr result (out.new.items ≡ out.old.items) }
 {
     if let Some(left) = left {

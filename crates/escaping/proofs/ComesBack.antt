@@ -4,7 +4,7 @@ use Rattle.std.specs.Prelude.{◌==◌, flat_map, is_some, nat_lt}
 use Rattle.packet_world.specs.lists.Lists.{Each}
 use Rattle.packet_world.proofs.of_lists.OfEach.{each_append}
 use Rattle.packet_world.specs.packet.declared.packet.Packet.TheVariants as packets
-use Rattle.packet_world.specs.broker_spec.Answers.{closed, connect_answers, welcome}
+use Rattle.packet_world.specs.broker_spec.Answers.{close_outputs, connect_answers, welcome}
 use Rattle.packet_world.specs.broker_spec.AnswersInOrder.{answers_of}
 use Rattle.node_moves.specs.machine.Machine.{replay}
 use Rattle.packet_world.specs.broker_spec.declared.command.Command.{Command}
@@ -19,7 +19,7 @@ use Rattle.packet_world.specs.broker_spec.Owner.{clients, first_client, owner_of
 use Rattle.packet_world.specs.broker_spec.Past.{any_connection, begins_session, current_connection, ends, ends_any, is_beginning, newest_connection, newest_session, session_of}
 use Rattle.packet_world.specs.broker_spec.Place.{Client, Limits, Mark, Past, Place, only_if, same_client}
 use Rattle.packet_world.specs.broker_spec.Readings.{released_below}
-use Rattle.packet_world.specs.broker_spec.Sends.{all_started, publish, resent, sent_again, sent_first}
+use Rattle.packet_world.specs.broker_spec.Sends.{all_started, publish_output, resent_outputs, repeated_output, first_output}
 use Rattle.packet_world.specs.broker_spec.Times.{entries_of}
 use Rattle.packet_world.proofs.of_broker_spec.ClientsInOrder.{same_self}
 use Rattle.node_moves.specs.world_base.Core.{rules}
@@ -71,15 +71,15 @@ begins_none past x c there =
 
 answers_are : (limits : Limits) (past : Past) (x : ConnectionName) (c : Client) → ((d : Client) → current_connection past d ≡ None) → session_of past c ≡ Some false →
     answers_of limits past (commands.Connect x c false)
-    ≡ welcome x true ∷ resent x (length past) (entries_of limits (at_connect x c Mark.Accepted ∷ past) c)
+    ≡ welcome x true ∷ resent_outputs x (length past) (entries_of limits (at_connect x c Mark.Accepted ∷ past) c)
 answers_are limits past x c none there =
     ap (λ (mark : Mark). connect_answers limits (at_connect x c mark) past x c mark) (accepted limits past x c none there)
-    ∙ ap (λ (o : Option ConnectionName). closed o ++ connect_rest) (none c)
-    ∙ ap (λ (b : Bool). welcome x (not b) ∷ resent x (length past) (entries_of limits (at_connect x c Mark.Accepted ∷ past) c)) (begins_none past x c there)
+    ∙ ap (λ (o : Option ConnectionName). close_outputs o ++ connect_rest) (none c)
+    ∙ ap (λ (b : Bool). welcome x (not b) ∷ resent_outputs x (length past) (entries_of limits (at_connect x c Mark.Accepted ∷ past) c)) (begins_none past x c there)
   where
     connect_rest : List Output
     connect_rest = welcome x (not (is_beginning (only_if (same_client c c) (let o : Option (ConnectionName × Bool) = Some (x, false) in o)) (session_of past c)))
-        ∷ resent x (length past) (entries_of limits (at_connect x c Mark.Accepted ∷ past) c)
+        ∷ resent_outputs x (length past) (entries_of limits (at_connect x c Mark.Accepted ∷ past) c)
 
 -- ---- what is sent again
 
@@ -91,32 +91,32 @@ each_flat : {A : Type 0} (P : Output → Type 0) (f : A → List Output) → ((a
 each_flat P f each [] = tt
 each_flat P f each (a ∷ list) = each_append P (f a) (flat_map f list) (each a) (each_flat P f each list)
 
-again : (x : ConnectionName) (n : ℕ) (e : Entry) → Each (IsSentTo x) (sent_again x n e)
+again : (x : ConnectionName) (n : ℕ) (e : Entry) → Each (IsSentTo x) (repeated_output x n e)
 again x n (Entry.Waits made p) = tt
 again x n (Entry.Started made p id start) = by (start == n)
   where
-    by : (b : Bool) → Each (IsSentTo x) (if b then [] else publish x true id p ∷ [])
+    by : (b : Bool) → Each (IsSentTo x) (if b then [] else publish_output x true id p ∷ [])
     by true = tt
     by false = (refl, tt)
 again x n (Entry.Released made p id start release) = tt
 again x n (Entry.Finished made p id start release finish) = tt
 
-first : (x : ConnectionName) (n : ℕ) (e : Entry) → Each (IsSentTo x) (sent_first x n e)
+first : (x : ConnectionName) (n : ℕ) (e : Entry) → Each (IsSentTo x) (first_output x n e)
 first x n (Entry.Waits made p) = tt
 first x n (Entry.Started made p id start) = by (start == n)
   where
-    by : (b : Bool) → Each (IsSentTo x) (if b then publish x false id p ∷ [] else [])
+    by : (b : Bool) → Each (IsSentTo x) (if b then publish_output x false id p ∷ [] else [])
     by true = (refl, tt)
     by false = tt
 first x n (Entry.Released made p id start release) = tt
 first x n (Entry.Finished made p id start release finish) = tt
 
-each_resent : (x : ConnectionName) (n : ℕ) (es : List Entry) → Each (IsSentTo x) (resent x n es)
+each_resent : (x : ConnectionName) (n : ℕ) (es : List Entry) → Each (IsSentTo x) (resent_outputs x n es)
 each_resent x n es =
-    each_append (IsSentTo x) (map (λ (id : ℕ). Send x (packets.Pubrel id)) (released_below n es) ++ flat_map (sent_again x n) es) (all_started x n es)
-    (each_append (IsSentTo x) (map (λ (id : ℕ). Send x (packets.Pubrel id)) (released_below n es)) (flat_map (sent_again x n) es)
-    (each_pubrel x (released_below n es)) (each_flat (IsSentTo x) (sent_again x n) (again x n) es))
-    (each_flat (IsSentTo x) (sent_first x n) (first x n) es)
+    each_append (IsSentTo x) (map (λ (id : ℕ). Send x (packets.Pubrel id)) (released_below n es) ++ flat_map (repeated_output x n) es) (all_started x n es)
+    (each_append (IsSentTo x) (map (λ (id : ℕ). Send x (packets.Pubrel id)) (released_below n es)) (flat_map (repeated_output x n) es)
+    (each_pubrel x (released_below n es)) (each_flat (IsSentTo x) (repeated_output x n) (again x n) es))
+    (each_flat (IsSentTo x) (first_output x n) (first x n) es)
 
 -- ---- the law
 
@@ -130,7 +130,7 @@ gives_after list ballot x c =
 pub kept_sessions_are_welcomed : KeptSessionsAreWelcomed
 kept_sessions_are_welcomed list ballot x c there =
     record {
-      rest = resent x (length after) (entries_of usual_limits (at_connect x c Mark.Accepted ∷ after) c);
+      rest = resent_outputs x (length after) (entries_of usual_limits (at_connect x c Mark.Accepted ∷ after) c);
       gives = gives_after list ballot x c
           ∙ answers_are usual_limits after x c (λ d. none_current usual_limits (past_of usual_limits list) ballot d)
           (still_there usual_limits (past_of usual_limits list) ballot c there);

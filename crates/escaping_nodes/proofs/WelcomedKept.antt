@@ -1,7 +1,7 @@
 -- Who is welcomed back after the start of a ballot has a session that was kept.
 use Rattle.std.proofs.Common.{◌≡◌, ℕ, Bool, true, false, ◌||◌, if◌then◌else◌, not, List, ◌∷◌, ◌++◌, length, Option, Some, None, refl, sym, ap, ◌∙◌}
 use Rattle.std.specs.Prelude.{is_some, nat_lt}
-use Rattle.escaping.specs.broker_spec.Answers.{closed, connect_answers, welcome}
+use Rattle.escaping.specs.broker_spec.Answers.{close_outputs, connect_answers, welcome}
 use Rattle.escaping.specs.broker_spec.AnswersInOrder.{answers_of}
 use Rattle.escaping.specs.broker_spec.declared.command.Command.TheVariants as commands
 use Rattle.escaping.specs.broker_spec.Commands.{past_of, place_of, usual_limits}
@@ -11,7 +11,7 @@ use Rattle.escaping.specs.broker_spec.declared.command.Output.{Output}
 use Rattle.escaping.specs.broker_spec.Owner.{clients}
 use Rattle.escaping.specs.broker_spec.Past.{begins_session, current_connection, ends_any, is_beginning, newest_session, session_of}
 use Rattle.escaping.specs.broker_spec.Place.{Client, Limits, Mark, Past, only_if, same_client}
-use Rattle.escaping.specs.broker_spec.Sends.{resent}
+use Rattle.escaping.specs.broker_spec.Sends.{resent_outputs}
 use Rattle.escaping.specs.broker_spec.Times.{entries_of}
 use Rattle.escaping.proofs.of_broker_spec.ClientsInOrder.{same_self}
 use Rattle.escaping.proofs.ComesBack.{at_connect, gives_after, nobody_owns, none_current}
@@ -55,11 +55,11 @@ tells limits past x c none =
   where
     rest : List Output
     rest = welcome x (not (is_beginning (only_if (same_client c c) (let o : Option (ConnectionName × Bool) = Some (x, false) in o)) (session_of past c)))
-        ∷ resent x (length past) (entries_of limits (at_connect x c Mark.Accepted ∷ past) c)
+        ∷ resent_outputs x (length past) (entries_of limits (at_connect x c Mark.Accepted ∷ past) c)
 
     accepted : is_welcome (connect_answers limits (at_connect x c Mark.Accepted) past x c Mark.Accepted) ≡ is_kept (session_of past c)
     accepted =
-        ap (λ (o : Option ConnectionName). is_welcome (closed o ++ rest)) (none c)
+        ap (λ (o : Option ConnectionName). is_welcome (close_outputs o ++ rest)) (none c)
         ∙ ap (λ (b : Bool). not (is_beginning (only_if b (let o : Option (ConnectionName × Bool) = Some (x, false) in o)) (session_of past c))) (same_self c)
 
     answered : Mark → Bool

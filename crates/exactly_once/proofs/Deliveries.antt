@@ -10,7 +10,7 @@ use Rattle.broker_base.specs.broker_spec.Past.{any_connection, current_connectio
 use Rattle.broker_base.specs.broker_spec.Entries.{Entry, copies_at}
 use Rattle.broker_base.specs.broker_spec.Readings.{made_at}
 use Rattle.broker_base.specs.broker_spec.Times.{entries_of}
-use Rattle.broker_base.specs.broker_spec.Sends.{publish, sent_first, all_started, handed, handed_to, deliveries_to}
+use Rattle.broker_base.specs.broker_spec.Sends.{publish_output, first_output, all_started, copy_outputs, handed_to, deliveries_to}
 use Rattle.broker_base.specs.broker_spec.declared.command.Output.{Output}
 use Rattle.broker_base.specs.broker_spec.declared.command.Output.TheVariants.{Send, Close}
 use Rattle.client_base.specs.lists.Lists.{Each}
@@ -31,14 +31,14 @@ sends_append x (Close y ∷ xs) ys = sends_append x xs ys
 elsewhere_two : (x : ConnectionName) (xs ys : List Output) → sends_to x xs ≡ [] → sends_to x ys ≡ [] → sends_to x (xs ++ ys) ≡ []
 elsewhere_two x xs ys e f = sends_append x xs ys ∙ ap₂ (λ a b. a ++ b) e f
 
-publish_elsewhere : (x y : ConnectionName) (dup : Bool) (id : ℕ) (p : Publication) (more : List Output) → same_connection x y ≡ false → sends_to x (publish y dup id p ∷ more) ≡ sends_to x more
+publish_elsewhere : (x y : ConnectionName) (dup : Bool) (id : ℕ) (p : Publication) (more : List Output) → same_connection x y ≡ false → sends_to x (publish_output y dup id p ∷ more) ≡ sends_to x more
 publish_elsewhere x y dup id p more e = rw e refl
 
-first_elsewhere : (x y : ConnectionName) (n : ℕ) (entry : Entry) → same_connection x y ≡ false → sends_to x (sent_first y n entry) ≡ []
+first_elsewhere : (x y : ConnectionName) (n : ℕ) (entry : Entry) → same_connection x y ≡ false → sends_to x (first_output y n entry) ≡ []
 first_elsewhere x y n (Entry.Waits made p) e = refl
 first_elsewhere x y n (Entry.Started made p id start) e = by (start == n)
   where
-    by : (b : Bool) → sends_to x (if b then publish y false id p ∷ [] else []) ≡ []
+    by : (b : Bool) → sends_to x (if b then publish_output y false id p ∷ [] else []) ≡ []
     by true = publish_elsewhere x y false id p [] e
     by false = refl
 first_elsewhere x y n (Entry.Released made p id start release) e = refl
@@ -46,16 +46,16 @@ first_elsewhere x y n (Entry.Finished made p id start release finish) e = refl
 
 pub started_elsewhere : (x y : ConnectionName) (n : ℕ) (es : List Entry) → same_connection x y ≡ false → sends_to x (all_started y n es) ≡ []
 started_elsewhere x y n [] e = refl
-started_elsewhere x y n (entry ∷ es) e = elsewhere_two x (sent_first y n entry) (all_started y n es) (first_elsewhere x y n entry e) (started_elsewhere x y n es e)
+started_elsewhere x y n (entry ∷ es) e = elsewhere_two x (first_output y n entry) (all_started y n es) (first_elsewhere x y n entry e) (started_elsewhere x y n es e)
 
-handed_elsewhere : (x y : ConnectionName) (n : ℕ) (copies : List Publication) (es : List Entry) → same_connection x y ≡ false → sends_to x (handed y n copies es) ≡ []
+handed_elsewhere : (x y : ConnectionName) (n : ℕ) (copies : List Publication) (es : List Entry) → same_connection x y ≡ false → sends_to x (copy_outputs y n copies es) ≡ []
 handed_elsewhere x y n [] es e = refl
 handed_elsewhere x y n (p ∷ copies) es e = by (is_answered p.qos) (handed_elsewhere x y n copies (drop 1 es) e) (handed_elsewhere x y n copies es e)
   where
-    by : (b : Bool) → sends_to x (handed y n copies (drop 1 es)) ≡ [] → sends_to x (handed y n copies es) ≡ []
-        → sends_to x (if b then all_started y n (take 1 es) ++ handed y n copies (drop 1 es) else publish y false 0 p ∷ handed y n copies es) ≡ []
-    by true f g = elsewhere_two x (all_started y n (take 1 es)) (handed y n copies (drop 1 es)) (started_elsewhere x y n (take 1 es) e) f
-    by false f g = publish_elsewhere x y false 0 p (handed y n copies es) e ∙ g
+    by : (b : Bool) → sends_to x (copy_outputs y n copies (drop 1 es)) ≡ [] → sends_to x (copy_outputs y n copies es) ≡ []
+        → sends_to x (if b then all_started y n (take 1 es) ++ copy_outputs y n copies (drop 1 es) else publish_output y false 0 p ∷ copy_outputs y n copies es) ≡ []
+    by true f g = elsewhere_two x (all_started y n (take 1 es)) (copy_outputs y n copies (drop 1 es)) (started_elsewhere x y n (take 1 es) e) f
+    by false f g = publish_elsewhere x y false 0 p (copy_outputs y n copies es) e ∙ g
 
 -- a client that is not served on the connection
 abbrev pub IsElsewhere : ConnectionName → Past → Client → Type 0

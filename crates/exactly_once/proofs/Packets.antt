@@ -14,7 +14,7 @@ use Rattle.broker_base.specs.broker_spec.Received.{received_by, received_of}
 use Rattle.broker_base.specs.broker_spec.Entries.{Entry, copies_at}
 use Rattle.broker_base.specs.broker_spec.Readings.{made_at}
 use Rattle.broker_base.specs.broker_spec.Times.{entries_of}
-use Rattle.broker_base.specs.broker_spec.Sends.{publish, sent_first, all_started, handed, handed_to, deliveries_to}
+use Rattle.broker_base.specs.broker_spec.Sends.{publish_output, first_output, all_started, copy_outputs, handed_to, deliveries_to}
 use Rattle.broker_base.specs.broker_spec.declared.command.Command.TheVariants as commands
 use Rattle.broker_base.specs.broker_spec.declared.command.Output.{Output}
 use Rattle.exactly_once.specs.Sends.{sends_to}
@@ -94,18 +94,18 @@ none_two x xs ys e f = ap backward_of_own (sends_append x xs ys) ∙ joined (sen
     joined (packets.Pingresp ∷ ps) qs e f = joined ps qs e f
     joined (packets.Disconnect ∷ ps) qs e f = joined ps qs e f
 
-one_copy : (x y : ConnectionName) (dup : Bool) (id : ℕ) (p : Publication) (more : List Output) → backward_of_own (sends_to x more) ≡ [] → backward_of_own (sends_to x (publish y dup id p ∷ more)) ≡ []
+one_copy : (x y : ConnectionName) (dup : Bool) (id : ℕ) (p : Publication) (more : List Output) → backward_of_own (sends_to x more) ≡ [] → backward_of_own (sends_to x (publish_output y dup id p ∷ more)) ≡ []
 one_copy x y dup id p more e = by (same_connection x y)
   where
     by : (b : Bool) → backward_of_own (if b then packets.Publish (publish_of dup id p) ∷ sends_to x more else sends_to x more) ≡ []
     by true = e
     by false = e
 
-first_none : (x y : ConnectionName) (n : ℕ) (entry : Entry) → backward_of_own (sends_to x (sent_first y n entry)) ≡ []
+first_none : (x y : ConnectionName) (n : ℕ) (entry : Entry) → backward_of_own (sends_to x (first_output y n entry)) ≡ []
 first_none x y n (Entry.Waits made p) = refl
 first_none x y n (Entry.Started made p id start) = by (start == n)
   where
-    by : (b : Bool) → backward_of_own (sends_to x (if b then publish y false id p ∷ [] else [])) ≡ []
+    by : (b : Bool) → backward_of_own (sends_to x (if b then publish_output y false id p ∷ [] else [])) ≡ []
     by true = one_copy x y false id p [] refl
     by false = refl
 first_none x y n (Entry.Released made p id start release) = refl
@@ -113,16 +113,16 @@ first_none x y n (Entry.Finished made p id start release finish) = refl
 
 pub started_none : (x y : ConnectionName) (n : ℕ) (es : List Entry) → backward_of_own (sends_to x (all_started y n es)) ≡ []
 started_none x y n [] = refl
-started_none x y n (entry ∷ es) = none_two x (sent_first y n entry) (all_started y n es) (first_none x y n entry) (started_none x y n es)
+started_none x y n (entry ∷ es) = none_two x (first_output y n entry) (all_started y n es) (first_none x y n entry) (started_none x y n es)
 
-handed_none : (x y : ConnectionName) (n : ℕ) (copies : List Publication) (es : List Entry) → backward_of_own (sends_to x (handed y n copies es)) ≡ []
+handed_none : (x y : ConnectionName) (n : ℕ) (copies : List Publication) (es : List Entry) → backward_of_own (sends_to x (copy_outputs y n copies es)) ≡ []
 handed_none x y n [] es = refl
 handed_none x y n (p ∷ copies) es = by (is_answered p.qos) (handed_none x y n copies (drop 1 es)) (handed_none x y n copies es)
   where
-    by : (b : Bool) → backward_of_own (sends_to x (handed y n copies (drop 1 es))) ≡ [] → backward_of_own (sends_to x (handed y n copies es)) ≡ []
-        → backward_of_own (sends_to x (if b then all_started y n (take 1 es) ++ handed y n copies (drop 1 es) else publish y false 0 p ∷ handed y n copies es)) ≡ []
-    by true f g = none_two x (all_started y n (take 1 es)) (handed y n copies (drop 1 es)) (started_none x y n (take 1 es)) f
-    by false f g = one_copy x y false 0 p (handed y n copies es) g
+    by : (b : Bool) → backward_of_own (sends_to x (copy_outputs y n copies (drop 1 es))) ≡ [] → backward_of_own (sends_to x (copy_outputs y n copies es)) ≡ []
+        → backward_of_own (sends_to x (if b then all_started y n (take 1 es) ++ copy_outputs y n copies (drop 1 es) else publish_output y false 0 p ∷ copy_outputs y n copies es)) ≡ []
+    by true f g = none_two x (all_started y n (take 1 es)) (copy_outputs y n copies (drop 1 es)) (started_none x y n (take 1 es)) f
+    by false f g = one_copy x y false 0 p (copy_outputs y n copies es) g
 
 pub copies_none : (limits : Limits) (place : Place) (past : Past) (x : ConnectionName) (ds : List Client) → backward_of_own (sends_to x (flat_map (deliveries_to limits place past) ds)) ≡ []
 copies_none limits place past x [] = refl

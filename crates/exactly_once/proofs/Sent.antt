@@ -10,7 +10,7 @@ use Rattle.client_base.specs.session_base.Identifiers.{least_free}
 use Rattle.broker_base.specs.broker_spec.Connection.{ConnectionName}
 use Rattle.broker_base.specs.broker_spec.Entries.{Entry}
 use Rattle.broker_base.specs.broker_spec.Times.{start_all}
-use Rattle.broker_base.specs.broker_spec.Sends.{publish, sent_first, all_started}
+use Rattle.broker_base.specs.broker_spec.Sends.{publish_output, first_output, all_started}
 use Rattle.broker_base.specs.broker_spec.declared.command.Output.{Output}
 use Rattle.exactly_once.specs.Handshake.{Forward, publishing}
 use Rattle.exactly_once.specs.Sends.{sends_to}
@@ -37,18 +37,18 @@ pub forward_publish : (dup : Bool) (id : ℕ) (p : Publication) (rest : List Pac
     → forward_of (packets.Publish (publish_of dup id p) ∷ rest) ≡ (if is_two p.qos then Forward.Publish id p ∷ forward_of rest else forward_of rest)
 forward_publish dup id p rest = forward_fields dup id p.retain p.qos p.topic p.payload rest
 
-pub sends_publish : (x : ConnectionName) (dup : Bool) (id : ℕ) (p : Publication) (more : List Output) → sends_to x (publish x dup id p ∷ more) ≡ packets.Publish (publish_of dup id p) ∷ sends_to x more
+pub sends_publish : (x : ConnectionName) (dup : Bool) (id : ℕ) (p : Publication) (more : List Output) → sends_to x (publish_output x dup id p ∷ more) ≡ packets.Publish (publish_of dup id p) ∷ sends_to x more
 sends_publish x dup id p more = ap (λ b. if b then packets.Publish (publish_of dup id p) ∷ sends_to x more else sends_to x more) (same_name_self x)
 
 same_place : (n : ℕ) → (n == n) ≡ true
 same_place n = grind arith
 
 -- an entry that starts here is sent
-here_sent : (x : ConnectionName) (n made : ℕ) (p : Publication) (id : ℕ) (more : List Output) → sent_first x n (Entry.Started made p id n) ++ more ≡ publish x false id p ∷ more
-here_sent x n made p id more = ap (λ b. (if b then publish x false id p ∷ [] else []) ++ more) (same_place n)
+here_sent : (x : ConnectionName) (n made : ℕ) (p : Publication) (id : ℕ) (more : List Output) → first_output x n (Entry.Started made p id n) ++ more ≡ publish_output x false id p ∷ more
+here_sent x n made p id more = ap (λ b. (if b then publish_output x false id p ∷ [] else []) ++ more) (same_place n)
 
-elsewhere_sent : (x : ConnectionName) (n made : ℕ) (p : Publication) (id start : ℕ) (more : List Output) → (start == n) ≡ false → sent_first x n (Entry.Started made p id start) ++ more ≡ more
-elsewhere_sent x n made p id start more e = ap (λ b. (if b then publish x false id p ∷ [] else []) ++ more) e
+elsewhere_sent : (x : ConnectionName) (n made : ℕ) (p : Publication) (id start : ℕ) (more : List Output) → (start == n) ≡ false → first_output x n (Entry.Started made p id start) ++ more ≡ more
+elsewhere_sent x n made p id start more e = ap (λ b. (if b then publish_output x false id p ∷ [] else []) ++ more) e
 
 -- what waits is not sent
 none_sent_waiting : (x : ConnectionName) (n : ℕ) (es : List Entry) → NoneStartedAt n es → all_started x n es ≡ []

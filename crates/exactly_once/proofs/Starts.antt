@@ -6,7 +6,7 @@ use Rattle.client_base.specs.lists.Lists.{has_id}
 use Rattle.client_base.specs.session_base.Identifiers.{least_free}
 use Rattle.broker_base.specs.broker_spec.Entries.{Entry}
 use Rattle.broker_base.specs.broker_spec.Times.{start_all}
-use Rattle.broker_base.specs.broker_spec.IdentifierLaws.{WaitsLast, IsWaiting}
+use Rattle.broker_base.specs.broker_spec.IdentifierLaws.{WaitingAreLast, IsWaitingEntry}
 use Rattle.broker_base.proofs.of_broker_spec.LeastFree.{least-is-free}
 use Rattle.exactly_once.specs.Items.{SenderItem, busy, start_first, first_waiting}
 use Rattle.exactly_once.specs.Handshake.{sender_sends, with_items, Forward, Transit, Handshake}
@@ -49,7 +49,7 @@ start_after id (SenderItem.Released v i ∷ pre) more n = ap (λ l. SenderItem.R
 start_after id (SenderItem.Finished v ∷ pre) more n = ap (λ l. SenderItem.Finished v ∷ l) (start_after id pre more n)
 
 -- what waits is not busy
-waiting_free : (es : List Entry) → AllByRecursion IsWaiting es → busy (items_of_entries es) ≡ []
+waiting_free : (es : List Entry) → AllByRecursion IsWaitingEntry es → busy (items_of_entries es) ≡ []
 waiting_free [] w = refl
 waiting_free (Entry.Waits made p ∷ es) w = by (is_two p.qos) (waiting_free es w.1)
   where
@@ -109,7 +109,7 @@ in_front h pre items item rows s =
 
 -- the start of one that waits
 starts_one : (h : Handshake Publication) (pre : List (SenderItem Publication)) (id : ℕ) (p : Publication) (es : List Entry) (ids : List ℕ)
-    → h.items ≡ pre ++ SenderItem.Waits p ∷ items_of_entries es → NoneWaits pre → Covers ids pre → has_id id ids ≡ false → AllByRecursion IsWaiting es
+    → h.items ≡ pre ++ SenderItem.Waits p ∷ items_of_entries es → NoneWaits pre → Covers ids pre → has_id id ids ≡ false → AllByRecursion IsWaitingEntry es
     → HandshakeRun h (with_items (start_first id h.items) (sender_sends (Forward.Publish id p) h.transit) h) × (start_first id h.items ≡ (pre ++ SenderItem.Sent p id ∷ []) ++ items_of_entries es)
 starts_one h pre id p es ids e n c free w =
     let fresh : has_id id (busy h.items) ≡ false =
@@ -119,7 +119,7 @@ starts_one h pre id p es ids e n c free w =
       ap (start_first id) e ∙ start_after id pre (SenderItem.Waits p ∷ items_of_entries es) n ∙ sym (append_assoc pre (SenderItem.Sent p id ∷ []) (items_of_entries es)),
     )
 
-waits_after : (es : List Entry) → AllByRecursion IsWaiting es → WaitsLast es
+waits_after : (es : List Entry) → AllByRecursion IsWaitingEntry es → WaitingAreLast es
 waits_after [] w = tt
 waits_after (Entry.Waits made p ∷ es) w = w.1
 waits_after (Entry.Started made p id start ∷ es) w = elim w.0 [ ]
@@ -128,7 +128,7 @@ waits_after (Entry.Finished made p id start release finish ∷ es) w = elim w.0 
 
 -- all starts of a place
 pub all_starts : (w n : ℕ) (ids : List ℕ) (pre : List (SenderItem Publication)) (es : List Entry) (h : Handshake Publication)
-    → h.items ≡ pre ++ items_of_entries es → NoneWaits pre → Covers ids pre → WaitsLast es
+    → h.items ≡ pre ++ items_of_entries es → NoneWaits pre → Covers ids pre → WaitingAreLast es
     → Starts h (pre ++ items_of_entries (start_all w n ids es)) (rows_started w ids es)
 all_starts w n ids pre [] h e nw c l = record { after = h; run = stays; items_are = e; accepted = refl; received = refl; transit = refl }
 all_starts w n ids pre (Entry.Started made p id start ∷ es) h e nw c l =

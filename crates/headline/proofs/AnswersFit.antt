@@ -4,7 +4,7 @@ use Rattle.std.specs.List.{AllByRecursion}
 use Rattle.byte_world.specs.lists.Lists.{Each}
 use Rattle.byte_world.proofs.of_lists.OfEach.{each_append}
 use Rattle.byte_world.specs.packet.Spelling.{IsPacket}
-use Rattle.byte_world.specs.broker_spec.Answers.{closed}
+use Rattle.byte_world.specs.broker_spec.Answers.{close_outputs}
 use Rattle.byte_world.specs.broker_spec.AnswersInOrder.{answers_from, answers_of}
 use Rattle.byte_world.specs.broker_spec.declared.command.Command.{Command}
 use Rattle.byte_world.specs.broker_spec.declared.command.Command.TheVariants as commands
@@ -44,7 +44,7 @@ goes_in_range state (commands.Lost x) fits h = (loss_in_range state x h, tt)
 goes_in_range state (commands.Start ballot) fits h = (stays_in_range usual_limits 64 state (commands.Start ballot) (omega arith) tt h, tt)
 goes_in_range state (commands.Expel c) fits h = (expel_in_range state c h, by (connection_of (session_in c state.sessions)))
   where
-    by : (o : Option ConnectionName) → AllByRecursion CanBeSpelled (closed o)
+    by : (o : Option ConnectionName) → AllByRecursion CanBeSpelled (close_outputs o)
     by (Some x) = (tt, tt)
     by None = tt
 

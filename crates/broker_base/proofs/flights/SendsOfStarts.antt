@@ -14,7 +14,7 @@ use Rattle.broker_spec.specs.Connection.{ConnectionName}
 use Rattle.broker_spec.specs.Entries.{Entry}
 use Rattle.broker_spec.specs.Readings.{released_below, waiting_of, busy_ids}
 use Rattle.broker_spec.specs.Times.{start_all}
-use Rattle.broker_spec.specs.Sends.{publish, all_started, sent_again, resent}
+use Rattle.broker_spec.specs.Sends.{publish_output, all_started, repeated_output, resent_outputs}
 use Rattle.broker_base.specs.ClientSession.{sent_flights, released_flight, flights_below}
 use Rattle.broker_spec.specs.declared.command.Output.TheVariants.{Send}
 use Rattle.session_base.proofs.CountedIdentifiers.{count, SameIds, same_length, same_least}
@@ -50,7 +50,7 @@ waits_started x w n ids fs (Entry.Waits made p ∷ es) h same =
     by : (b : Bool) → all_started x n (start_all w n (least_free ids ∷ ids) es) ≡ map (Send x) (fill_sends w (fs ++ started_flight fs p ∷ []) (waiting_of es)) →
         all_started x n (if b then Entry.Started made p (least_free ids) n ∷ start_all w n (least_free ids ∷ ids) es else Entry.Waits made p ∷ es)
         ≡ map (Send x) (if b then packets.Publish (publish_of false (least_free (ids_of fs)) p) ∷ fill_sends w (fs ++ started_flight fs p ∷ []) (waiting_of es) else [])
-    by true e = rw (this_place n) (ap₂ (λ id answers. publish x false id p ∷ answers) (sym (same_least (ids_of fs) ids same)) e)
+    by true e = rw (this_place n) (ap₂ (λ id answers. publish_output x false id p ∷ answers) (sym (same_least (ids_of fs) ids same)) e)
     by false e = none_started x n es h
 waits_started x w n ids fs (Entry.Started made p id start ∷ es) h same = absurd h
 waits_started x w n ids fs (Entry.Released made p id start release ∷ es) h same = absurd h
@@ -69,14 +69,14 @@ starts_sent x w n ids fs (Entry.Finished made p id start release finish ∷ es) 
 
 -- ---- what is sent again
 
-again_started : (x : ConnectionName) (w n : ℕ) (ids : List ℕ) (es : List Entry) → flat_map (sent_again x n) (start_all w n ids es) ≡ flat_map (sent_again x n) es
+again_started : (x : ConnectionName) (w n : ℕ) (ids : List ℕ) (es : List Entry) → flat_map (repeated_output x n) (start_all w n ids es) ≡ flat_map (repeated_output x n) es
 again_started x w n ids [] = refl
 again_started x w n ids (Entry.Waits made p ∷ es) =
-    elim (nat_lt (length ids) w) as (λ (b : Bool). flat_map (sent_again x n) (if b then Entry.Started made p (least_free ids) n ∷ start_all w n (least_free ids ∷ ids) es else Entry.Waits made p ∷ es) ≡ flat_map (sent_again x n) es) [
+    elim (nat_lt (length ids) w) as (λ (b : Bool). flat_map (repeated_output x n) (if b then Entry.Started made p (least_free ids) n ∷ start_all w n (least_free ids ∷ ids) es else Entry.Waits made p ∷ es) ≡ flat_map (repeated_output x n) es) [
       | true ↦ rw (this_place n) (again_started x w n (least_free ids ∷ ids) es)
       | false ↦ refl
     ]
-again_started x w n ids (Entry.Started made p id start ∷ es) = ap (λ answers. sent_again x n (Entry.Started made p id start) ++ answers) (again_started x w n (id ∷ ids) es)
+again_started x w n ids (Entry.Started made p id start ∷ es) = ap (λ answers. repeated_output x n (Entry.Started made p id start) ++ answers) (again_started x w n (id ∷ ids) es)
 again_started x w n ids (Entry.Released made p id start release ∷ es) = again_started x w n (id ∷ ids) es
 again_started x w n ids (Entry.Finished made p id start release finish ∷ es) = again_started x w n ids es
 
@@ -84,7 +84,7 @@ anew_by : (b : Bool) (id : ℕ) (p : Publication) → sent_anew id (if b then wa
 anew_by true id p = refl
 anew_by false id p = refl
 
-again_sent : (x : ConnectionName) (n : ℕ) (es : List Entry) → StartedBefore n es → flat_map (sent_again x n) es ≡ map (Send x) (resend (sent_flights es))
+again_sent : (x : ConnectionName) (n : ℕ) (es : List Entry) → StartedBefore n es → flat_map (repeated_output x n) es ≡ map (Send x) (resend (sent_flights es))
 again_sent x n [] h = refl
 again_sent x n (Entry.Waits made p ∷ es) h = again_sent x n es h
 again_sent x n (Entry.Started made p id start ∷ es) h =
@@ -97,7 +97,7 @@ pubrels x [] = refl
 pubrels x (id ∷ ids) = ap (λ answers. Send x (packets.Pubrel id) ∷ answers) (pubrels x ids)
 
 pub resent_is : (x : ConnectionName) (w n : ℕ) (es : List Entry) → IsBelow n es → InOrder es →
-    resent x n (start_all w n [] es) ≡ map (Send x) (resend (flights_below n es) ++ fill_sends w (flights_below n es) (waiting_of es))
+    resent_outputs x n (start_all w n [] es) ≡ map (Send x) (resend (flights_below n es) ++ fill_sends w (flights_below n es) (waiting_of es))
 resent_is x w n es below order =
     ap₂ (λ xs ys. xs ++ ys)
     (ap₂ (λ xs ys. xs ++ ys)

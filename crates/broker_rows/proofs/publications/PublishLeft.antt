@@ -11,7 +11,7 @@ use Rattle.broker_spec.specs.session_base.Publication.{publication_of}
 use Rattle.broker_spec.specs.session_base.Subscriptions.{granted_qos}
 use Rattle.broker_spec.specs.Connection.{ConnectionName}
 use Rattle.broker_spec.specs.Place.{Client, by_bytes, same_client}
-use Rattle.broker_spec.specs.EntryLaws.{taken}
+use Rattle.broker_spec.specs.EntryLaws.{place_of_taken}
 use Rattle.broker_base.specs.ClientSession.{ClientSession}
 use Rattle.broker_base.specs.State.{Sessions, keyed}
 use Rattle.broker_base.specs.Step.{sessions_left}
@@ -76,7 +76,7 @@ delivered_first w p c kept (Some qos) granted rest after =
 
 -- the rows after a taken PUBLISH
 pub publish_left : (w : ℕ) (x : ConnectionName) (p : Publish) (d : Client) (content : RetainedTopics) (rows : Sessions) → AreByClient rows →
-    sessions_left w (taken x p d) content rows
+    sessions_left w (place_of_taken x p d) content rows
     ≡ all_delivered w (publication_of p) (granted_rows p.topic rows) (changed d (received_on p.delivery) rows)
 unfolding IsStrictlySortedBy
 publish_left w x p d content [] by_client = refl

@@ -14,8 +14,8 @@ use Rattle.broker_base.specs.broker_spec.Past.{current_connection}
 use Rattle.broker_base.specs.broker_spec.Entries.{Entry, copies_at}
 use Rattle.broker_base.specs.broker_spec.Readings.{made_at, released_below}
 use Rattle.broker_base.specs.broker_spec.Times.{entries_of}
-use Rattle.broker_base.specs.broker_spec.Sends.{publish, sent_first, all_started, sent_again, resent, handed, handed_to, deliveries_to}
-use Rattle.broker_base.specs.broker_spec.Answers.{acknowledged, handled}
+use Rattle.broker_base.specs.broker_spec.Sends.{publish_output, first_output, all_started, repeated_output, resent_outputs, copy_outputs, handed_to, deliveries_to}
+use Rattle.broker_base.specs.broker_spec.Answers.{acknowledged, other_answers}
 use Rattle.broker_base.specs.broker_spec.declared.command.Command.{Command}
 use Rattle.broker_base.specs.broker_spec.declared.command.Command.TheVariants as commands
 use Rattle.broker_base.specs.broker_spec.declared.command.Output.{Output}
@@ -48,10 +48,10 @@ each_flat P f h [] = tt
 each_flat P f h (x ∷ xs) = each_append P (f x) (flat_map f xs) (h x) (each_flat P f h xs)
 
 -- one entry that starts
-first_right : (P : Output → Type 0) (x : ConnectionName) (n : ℕ) → MayBeSent P x → (e : Entry) → Each P (sent_first x n e)
+first_right : (P : Output → Type 0) (x : ConnectionName) (n : ℕ) → MayBeSent P x → (e : Entry) → Each P (first_output x n e)
 first_right P x n may (Entry.Started made p id start) = by (start == n)
   where
-    by : (b : Bool) → Each P (if b then publish x false id p ∷ [] else [])
+    by : (b : Bool) → Each P (if b then publish_output x false id p ∷ [] else [])
     by true = (may (packets.Publish (publish_of false id p)) refl, tt)
     by false = tt
 first_right P x n may (Entry.Waits made p) = tt
@@ -60,13 +60,13 @@ first_right P x n may (Entry.Finished made p id start release finish) = tt
 
 -- all that start
 pub started_right : (P : Output → Type 0) (x : ConnectionName) (n : ℕ) → MayBeSent P x → (es : List Entry) → Each P (all_started x n es)
-started_right P x n may es = each_flat P (sent_first x n) (first_right P x n may) es
+started_right P x n may es = each_flat P (first_output x n) (first_right P x n may) es
 
 -- one that is sent again
-again_right : (P : Output → Type 0) (x : ConnectionName) (n : ℕ) → MayBeSent P x → (e : Entry) → Each P (sent_again x n e)
+again_right : (P : Output → Type 0) (x : ConnectionName) (n : ℕ) → MayBeSent P x → (e : Entry) → Each P (repeated_output x n e)
 again_right P x n may (Entry.Started made p id start) = by (start == n)
   where
-    by : (b : Bool) → Each P (if b then [] else publish x true id p ∷ [])
+    by : (b : Bool) → Each P (if b then [] else publish_output x true id p ∷ [])
     by true = tt
     by false = (may (packets.Publish (publish_of true id p)) refl, tt)
 again_right P x n may (Entry.Waits made p) = tt
@@ -79,19 +79,19 @@ releases_right P x may [] = tt
 releases_right P x may (id ∷ ids) = (may (packets.Pubrel id) refl, releases_right P x may ids)
 
 -- what is sent to a client that comes back
-pub resent_right : (P : Output → Type 0) (x : ConnectionName) (n : ℕ) → MayBeSent P x → (es : List Entry) → Each P (resent x n es)
+pub resent_right : (P : Output → Type 0) (x : ConnectionName) (n : ℕ) → MayBeSent P x → (es : List Entry) → Each P (resent_outputs x n es)
 resent_right P x n may es =
-    each_append P (map (λ id. Send x (packets.Pubrel id)) (released_below n es) ++ flat_map (sent_again x n) es) (all_started x n es)
-    (each_append P (map (λ id. Send x (packets.Pubrel id)) (released_below n es)) (flat_map (sent_again x n) es) (releases_right P x may (released_below n es))
-    (each_flat P (sent_again x n) (again_right P x n may) es)) (started_right P x n may es)
+    each_append P (map (λ id. Send x (packets.Pubrel id)) (released_below n es) ++ flat_map (repeated_output x n) es) (all_started x n es)
+    (each_append P (map (λ id. Send x (packets.Pubrel id)) (released_below n es)) (flat_map (repeated_output x n) es) (releases_right P x may (released_below n es))
+    (each_flat P (repeated_output x n) (again_right P x n may) es)) (started_right P x n may es)
 
 -- copies
-handed_right : (P : Output → Type 0) (x : ConnectionName) (n : ℕ) → MayBeSent P x → (copies : List Publication) (es : List Entry) → Each P (handed x n copies es)
+handed_right : (P : Output → Type 0) (x : ConnectionName) (n : ℕ) → MayBeSent P x → (copies : List Publication) (es : List Entry) → Each P (copy_outputs x n copies es)
 handed_right P x n may [] es = tt
 handed_right P x n may (p ∷ copies) es = by (is_answered p.qos) (λ l. handed_right P x n may copies l)
   where
-    by : (b : Bool) → ((l : List Entry) → Each P (handed x n copies l)) → Each P (if b then all_started x n (take 1 es) ++ handed x n copies (drop 1 es) else publish x false 0 p ∷ handed x n copies es)
-    by true more = each_append P (all_started x n (take 1 es)) (handed x n copies (drop 1 es)) (started_right P x n may (take 1 es)) (more (drop 1 es))
+    by : (b : Bool) → ((l : List Entry) → Each P (copy_outputs x n copies l)) → Each P (if b then all_started x n (take 1 es) ++ copy_outputs x n copies (drop 1 es) else publish_output x false 0 p ∷ copy_outputs x n copies es)
+    by true more = each_append P (all_started x n (take 1 es)) (copy_outputs x n copies (drop 1 es)) (started_right P x n may (take 1 es)) (more (drop 1 es))
     by false more = (may (packets.Publish (publish_of false 0 p)) refl, more es)
 
 -- a client's copies go to its connection
@@ -112,7 +112,7 @@ acknowledged_right P x may (deliveries.AtLeastOnce dup id) = (may (packets.Pubac
 acknowledged_right P x may (deliveries.ExactlyOnce dup id) = (may (packets.Pubrec id) refl, tt)
 
 -- of a packet that ends nothing
-pub handled_right : (P : Output → Type 0) (limits : Limits) (place : Place) (past : Past) (x : ConnectionName) (c : Client) → MayBeSent P x → (packet : Packet) → Each P (handled limits place past x c packet)
+pub handled_right : (P : Output → Type 0) (limits : Limits) (place : Place) (past : Past) (x : ConnectionName) (c : Client) → MayBeSent P x → (packet : Packet) → Each P (other_answers limits place past x c packet)
 handled_right P limits place past x c may (packets.Unsubscribe u) = (may (packets.Unsuback u.id) refl, tt)
 handled_right P limits place past x c may (packets.Pubrel id) = (may (packets.Pubcomp id) refl, tt)
 handled_right P limits place past x c may packets.Pingreq = (may packets.Pingresp refl, tt)

@@ -9,8 +9,8 @@ use Rattle.broker_base.specs.broker_spec.Place.{Client, Mark, Place, Past, Limit
 use Rattle.broker_base.specs.broker_spec.Past.{current_connection, begins}
 use Rattle.broker_base.specs.broker_spec.Owner.{clients}
 use Rattle.broker_base.specs.broker_spec.Times.{entries_of}
-use Rattle.broker_base.specs.broker_spec.Sends.{resent, deliveries_to}
-use Rattle.broker_base.specs.broker_spec.Answers.{closed, welcome, acknowledged, codes_of, packet_answers, connect_answers, answers_by}
+use Rattle.broker_base.specs.broker_spec.Sends.{resent_outputs, deliveries_to}
+use Rattle.broker_base.specs.broker_spec.Answers.{close_outputs, welcome, acknowledged, codes_of, packet_answers, connect_answers, answers_by}
 use Rattle.broker_base.specs.broker_spec.AnswersInOrder.{answers_at}
 use Rattle.broker_base.specs.broker_spec.declared.command.Command.{Command}
 use Rattle.broker_base.specs.broker_spec.declared.command.Command.TheVariants as commands
@@ -54,14 +54,14 @@ packet_right limits place past x packet mark = by packet mark
 connect_right : (limits : Limits) (place : Place) (past : Past) (x : ConnectionName) (c : Client) (clean : Bool) (mark : Mark)
     → Each (GoesRight (commands.Connect x c clean) past) (connect_answers limits place past x c mark)
 connect_right limits place past x c clean Mark.Accepted =
-    each_append P (closed (current_connection past c)) (welcome x (not (begins place past c)) ∷ resent x (length past) (entries_of limits (place ∷ past) c))
+    each_append P (close_outputs (current_connection past c)) (welcome x (not (begins place past c)) ∷ resent_outputs x (length past) (entries_of limits (place ∷ past) c))
     (closes (current_connection past c))
     ((inl (same_itself x), inr (same_itself x)), resent_right P x (length past) (λ q e. (inl (same_itself x), inl e)) (entries_of limits (place ∷ past) c))
   where
     P : Output → Type 0
     P = GoesRight (commands.Connect x c clean) past
 
-    closes : (o : Option ConnectionName) → Each P (closed o)
+    closes : (o : Option ConnectionName) → Each P (close_outputs o)
     closes None = tt
     closes (Some y) = (tt, tt)
 connect_right limits place past x c clean Mark.Full = ((inl (same_itself x), inr (same_itself x)), (tt, tt))
@@ -78,7 +78,7 @@ all_right limits place past = by place.command
     by (commands.Start b) = tt
     by (commands.Expel d) = closes (current_connection past d)
       where
-        closes : (o : Option ConnectionName) → Each (GoesRight (commands.Expel d) past) (closed o)
+        closes : (o : Option ConnectionName) → Each (GoesRight (commands.Expel d) past) (close_outputs o)
         closes None = tt
         closes (Some y) = (tt, tt)
 

@@ -6,7 +6,7 @@ use Rattle.client_base.specs.packet.declared.packet.Packet.{Packet}
 use Rattle.client_base.specs.packet.declared.packet.Packet.TheVariants as packets
 use Rattle.broker_base.specs.broker_spec.Connection.{ConnectionName, same_connection}
 use Rattle.broker_base.specs.broker_spec.Place.{Place, Past, Limits}
-use Rattle.broker_base.specs.broker_spec.Answers.{answers_by, closed}
+use Rattle.broker_base.specs.broker_spec.Answers.{answers_by, close_outputs}
 use Rattle.broker_base.specs.broker_spec.AnswersInOrder.{answers_at}
 use Rattle.broker_base.specs.broker_spec.Commands.{place_of}
 use Rattle.broker_base.specs.broker_spec.declared.command.Command.{Command}
@@ -50,7 +50,7 @@ place_none limits place past y = by place.command
     by (commands.Start b) e = refl
     by (commands.Expel d) e = closes (current_connection past d)
       where
-        closes : (o : Option ConnectionName) → NoneSent y (closed o)
+        closes : (o : Option ConnectionName) → NoneSent y (close_outputs o)
         closes None = refl
         closes (Some x) = refl
 

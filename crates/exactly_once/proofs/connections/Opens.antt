@@ -8,8 +8,8 @@ use Rattle.broker_base.specs.broker_spec.Place.{Client, Mark, Place, Past, Limit
 use Rattle.broker_base.specs.broker_spec.Past.{current_connection, begins, session_of}
 use Rattle.broker_base.specs.broker_spec.Owner.{clients, owner_of}
 use Rattle.broker_base.specs.broker_spec.Times.{entries_of}
-use Rattle.broker_base.specs.broker_spec.Sends.{resent}
-use Rattle.broker_base.specs.broker_spec.Answers.{closed, welcome, turned_away}
+use Rattle.broker_base.specs.broker_spec.Sends.{resent_outputs}
+use Rattle.broker_base.specs.broker_spec.Answers.{close_outputs, welcome, turned_away}
 use Rattle.broker_base.specs.broker_spec.AnswersInOrder.{answers_at}
 use Rattle.broker_base.specs.broker_spec.Marks.{connect_mark}
 use Rattle.broker_base.specs.broker_spec.Commands.{place_of}
@@ -48,7 +48,7 @@ abbrev pub at_own : ConnectionName → Client → Mark → Place
 at_own x c mark = record { command = commands.Connect x c false; mark = mark }
 
 -- what is sent of an accepted one
-welcomed : (n : ℕ) (y : ConnectionName) (o : Option ConnectionName) (present : Bool) (more : List Output) → no_connacks (sends_to y more) → ConnackFirst (suc n) (sends_to y (closed o ++ welcome y present ∷ more))
+welcomed : (n : ℕ) (y : ConnectionName) (o : Option ConnectionName) (present : Bool) (more : List Output) → no_connacks (sends_to y more) → ConnackFirst (suc n) (sends_to y (close_outputs o ++ welcome y present ∷ more))
 welcomed n y None present more h = rw (same_itself y) (refl, h)
 welcomed n y (Some z) present more h = rw (same_itself y) (refl, h)
 
@@ -57,10 +57,10 @@ turned : (n : ℕ) (y : ConnectionName) → ConnackFirst (suc n) (sends_to y (tu
 turned n y = rw (same_itself y) (refl, tt)
 
 -- what is sent again is no CONNACK
-resent_plain : (past : Past) (y : ConnectionName) (limits : Limits) (place : Place) (c : Client) → no_connacks (sends_to y (resent y (length past) (entries_of limits (place ∷ past) c)))
+resent_plain : (past : Past) (y : ConnectionName) (limits : Limits) (place : Place) (c : Client) → no_connacks (sends_to y (resent_outputs y (length past) (entries_of limits (place ∷ past) c)))
 resent_plain past y limits place c =
     let es = entries_of limits (place ∷ past) c in
-    no_connack_sent (commands.Packet y packets.Pingreq) past y refl (resent y (length past) es)
+    no_connack_sent (commands.Packet y packets.Pingreq) past y refl (resent_outputs y (length past) es)
     (resent_right (GoesRight (commands.Packet y packets.Pingreq) past) y (length past) (λ q e. (inl (same_itself y), inl e)) es)
 
 -- nothing came before, so what the place sends is all
@@ -89,7 +89,7 @@ own_first limits past c κ w shape next = by κ.taken refl
     accepted none =
         opens_with limits past c κ Mark.Accepted none
         (welcomed κ.taken κ.name (current_connection past c) (not (begins (at_own κ.name c Mark.Accepted) past c))
-        (resent κ.name (length past) (entries_of limits (at_own κ.name c Mark.Accepted ∷ past) c)) (resent_plain past κ.name limits (at_own κ.name c Mark.Accepted) c))
+        (resent_outputs κ.name (length past) (entries_of limits (at_own κ.name c Mark.Accepted ∷ past) c)) (resent_plain past κ.name limits (at_own κ.name c Mark.Accepted) c))
 
     room : (b : Bool) → put_to limits past κ.name ≡ [] → opened (if b then Mark.Accepted else Mark.Full)
     room true none = accepted none

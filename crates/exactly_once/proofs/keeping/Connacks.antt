@@ -10,8 +10,8 @@ use Rattle.broker_base.specs.broker_spec.Place.{Client, Mark, Place, Past, Limit
 use Rattle.broker_base.specs.broker_spec.Past.{current_connection, begins}
 use Rattle.broker_base.specs.broker_spec.Marks.{mark_of}
 use Rattle.broker_base.specs.broker_spec.Times.{entries_of}
-use Rattle.broker_base.specs.broker_spec.Sends.{resent}
-use Rattle.broker_base.specs.broker_spec.Answers.{closed, welcome}
+use Rattle.broker_base.specs.broker_spec.Sends.{resent_outputs}
+use Rattle.broker_base.specs.broker_spec.Answers.{close_outputs, welcome}
 use Rattle.broker_base.specs.broker_spec.AnswersInOrder.{answers_at}
 use Rattle.broker_base.specs.broker_spec.Commands.{place_of}
 use Rattle.broker_base.specs.broker_spec.declared.command.Command.{Command}
@@ -52,8 +52,8 @@ pub connect_sends : (P : Place → Packet → Type 0) → IsAsked P → (limits 
     → Each (P (at_connect x c false mark)) (sends_to y (answers_at limits (at_connect x c false mark) past))
 connect_sends P asked limits past y x c Mark.Accepted accepted =
     let place = at_connect x c false Mark.Accepted in
-    let more = resent x (length past) (entries_of limits (place ∷ past) c) in
-    let first = closed (current_connection past c) in
+    let more = resent_outputs x (length past) (entries_of limits (place ∷ past) c) in
+    let first = close_outputs (current_connection past c) in
     let last = welcome x (not (begins place past c)) ∷ more in
     subst (Each (P place)) (sym (sends_append y first last))
     (each_append (P place) (sends_to y first) (sends_to y last) (quiet_sends (P place) (asked.quiet place) y first (closed_quiet (current_connection past c)))
@@ -95,7 +95,7 @@ other_sends P asked limits past (commands.Lost x) y other = tt
 other_sends P asked limits past (commands.Start b) y other = tt
 other_sends P asked limits past (commands.Expel d) y other = closes (current_connection past d)
   where
-    closes : (o : Option ConnectionName) → Each (P (place_of limits past (commands.Expel d))) (sends_to y (closed o))
+    closes : (o : Option ConnectionName) → Each (P (place_of limits past (commands.Expel d))) (sends_to y (close_outputs o))
     closes None = tt
     closes (Some x) = tt
 other_sends P asked limits past (commands.Connect x d clean) y other =

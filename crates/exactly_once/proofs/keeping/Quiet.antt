@@ -15,8 +15,8 @@ use Rattle.broker_base.specs.broker_spec.Owner.{clients}
 use Rattle.broker_base.specs.broker_spec.Entries.{Entry, copies_at}
 use Rattle.broker_base.specs.broker_spec.Readings.{made_at, released_below}
 use Rattle.broker_base.specs.broker_spec.Times.{entries_of}
-use Rattle.broker_base.specs.broker_spec.Sends.{publish, sent_first, sent_again, all_started, resent, handed, handed_to, deliveries_to}
-use Rattle.broker_base.specs.broker_spec.Answers.{closed, acknowledged, handled, packet_answers}
+use Rattle.broker_base.specs.broker_spec.Sends.{publish_output, first_output, repeated_output, all_started, resent_outputs, copy_outputs, handed_to, deliveries_to}
+use Rattle.broker_base.specs.broker_spec.Answers.{close_outputs, acknowledged, other_answers, packet_answers}
 use Rattle.broker_base.specs.broker_spec.declared.command.Output.{Output}
 use Rattle.broker_base.specs.broker_spec.declared.command.Output.TheVariants.{Send, Close}
 use Rattle.client_base.proofs.of_lists.OfEach.{each_append}
@@ -47,11 +47,11 @@ quiet_sends P quiet x (Close y ∷ answers) h = quiet_sends P quiet x answers h.
 -- ---- what is sent of entries
 
 -- for the first time
-first_quiet : (x : ConnectionName) (n : ℕ) (e : Entry) → Each IsQuiet (sent_first x n e)
+first_quiet : (x : ConnectionName) (n : ℕ) (e : Entry) → Each IsQuiet (first_output x n e)
 first_quiet x n (Entry.Waits made p) = tt
 first_quiet x n (Entry.Started made p id start) = by (start == n)
   where
-    by : (b : Bool) → Each IsQuiet (if b then publish x false id p ∷ [] else [])
+    by : (b : Bool) → Each IsQuiet (if b then publish_output x false id p ∷ [] else [])
     by true = (refl, tt)
     by false = tt
 first_quiet x n (Entry.Released made p id start release) = tt
@@ -59,14 +59,14 @@ first_quiet x n (Entry.Finished made p id start release finish) = tt
 
 -- what starts
 started_quiet : (x : ConnectionName) (n : ℕ) (es : List Entry) → Each IsQuiet (all_started x n es)
-started_quiet x n es = each_flat (sent_first x n) es (first_quiet x n)
+started_quiet x n es = each_flat (first_output x n) es (first_quiet x n)
 
 -- again
-again_quiet : (x : ConnectionName) (n : ℕ) (e : Entry) → Each IsQuiet (sent_again x n e)
+again_quiet : (x : ConnectionName) (n : ℕ) (e : Entry) → Each IsQuiet (repeated_output x n e)
 again_quiet x n (Entry.Waits made p) = tt
 again_quiet x n (Entry.Started made p id start) = by (start == n)
   where
-    by : (b : Bool) → Each IsQuiet (if b then [] else publish x true id p ∷ [])
+    by : (b : Bool) → Each IsQuiet (if b then [] else publish_output x true id p ∷ [])
     by true = tt
     by false = (refl, tt)
 again_quiet x n (Entry.Released made p id start release) = tt
@@ -78,20 +78,20 @@ pubrels_quiet x [] = tt
 pubrels_quiet x (id ∷ ids) = (refl, pubrels_quiet x ids)
 
 -- to a client that comes back
-pub resent_quiet : (x : ConnectionName) (n : ℕ) (es : List Entry) → Each IsQuiet (resent x n es)
+pub resent_quiet : (x : ConnectionName) (n : ℕ) (es : List Entry) → Each IsQuiet (resent_outputs x n es)
 resent_quiet x n es =
-    each_append IsQuiet (map (λ id. Send x (packets.Pubrel id)) (released_below n es) ++ flat_map (sent_again x n) es) (all_started x n es)
-    (each_append IsQuiet (map (λ id. Send x (packets.Pubrel id)) (released_below n es)) (flat_map (sent_again x n) es)
-    (pubrels_quiet x (released_below n es)) (each_flat (sent_again x n) es (again_quiet x n))) (started_quiet x n es)
+    each_append IsQuiet (map (λ id. Send x (packets.Pubrel id)) (released_below n es) ++ flat_map (repeated_output x n) es) (all_started x n es)
+    (each_append IsQuiet (map (λ id. Send x (packets.Pubrel id)) (released_below n es)) (flat_map (repeated_output x n) es)
+    (pubrels_quiet x (released_below n es)) (each_flat (repeated_output x n) es (again_quiet x n))) (started_quiet x n es)
 
 -- copies that are handed out
-handed_by : (x : ConnectionName) (n : ℕ) (p : Publication) (copies : List Publication) (es : List Entry) → ((rest : List Entry) → Each IsQuiet (handed x n copies rest)) → (b : Bool)
-    → Each IsQuiet (if b then all_started x n (take 1 es) ++ handed x n copies (drop 1 es) else publish x false 0 p ∷ handed x n copies es)
-handed_by x n p copies es ih true = each_append IsQuiet (all_started x n (take 1 es)) (handed x n copies (drop 1 es)) (started_quiet x n (take 1 es)) (ih (drop 1 es))
+handed_by : (x : ConnectionName) (n : ℕ) (p : Publication) (copies : List Publication) (es : List Entry) → ((rest : List Entry) → Each IsQuiet (copy_outputs x n copies rest)) → (b : Bool)
+    → Each IsQuiet (if b then all_started x n (take 1 es) ++ copy_outputs x n copies (drop 1 es) else publish_output x false 0 p ∷ copy_outputs x n copies es)
+handed_by x n p copies es ih true = each_append IsQuiet (all_started x n (take 1 es)) (copy_outputs x n copies (drop 1 es)) (started_quiet x n (take 1 es)) (ih (drop 1 es))
 handed_by x n p copies es ih false = (refl, ih es)
 
 -- all of them
-handed_quiet : (x : ConnectionName) (n : ℕ) (copies : List Publication) (es : List Entry) → Each IsQuiet (handed x n copies es)
+handed_quiet : (x : ConnectionName) (n : ℕ) (copies : List Publication) (es : List Entry) → Each IsQuiet (copy_outputs x n copies es)
 handed_quiet x n [] es = tt
 handed_quiet x n (p ∷ copies) es = handed_by x n p copies es (λ rest. handed_quiet x n copies rest) (is_answered p.qos)
 
@@ -106,7 +106,7 @@ deliveries_quiet limits place past c = by (current_connection past c)
 -- ---- the answers
 
 -- the connection that a client leaves
-pub closed_quiet : (o : Option ConnectionName) → Each IsQuiet (closed o)
+pub closed_quiet : (o : Option ConnectionName) → Each IsQuiet (close_outputs o)
 closed_quiet None = tt
 closed_quiet (Some x) = (tt, tt)
 
@@ -117,7 +117,7 @@ acknowledged_quiet x (deliveries.AtLeastOnce dup id) = (refl, tt)
 acknowledged_quiet x (deliveries.ExactlyOnce dup id) = (refl, tt)
 
 -- a packet that ends nothing
-handled_quiet : (packet : Packet) (limits : Limits) (place : Place) (past : Past) (x : ConnectionName) (c : Client) → Each IsQuiet (handled limits place past x c packet)
+handled_quiet : (packet : Packet) (limits : Limits) (place : Place) (past : Past) (x : ConnectionName) (c : Client) → Each IsQuiet (other_answers limits place past x c packet)
 handled_quiet (packets.Puback i) limits place past x c = started_quiet x (length past) (entries_of limits (place ∷ past) c)
 handled_quiet (packets.Pubcomp i) limits place past x c = started_quiet x (length past) (entries_of limits (place ∷ past) c)
 handled_quiet (packets.Pubrec i) limits place past x c = by (has_id i (released_below (suc (length past)) (entries_of limits (place ∷ past) c)))

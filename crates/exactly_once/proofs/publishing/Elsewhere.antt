@@ -10,8 +10,8 @@ use Rattle.broker_base.specs.broker_spec.Past.{current_connection, begins}
 use Rattle.broker_base.specs.broker_spec.Entries.{Entry}
 use Rattle.broker_base.specs.broker_spec.Readings.{released_below}
 use Rattle.broker_base.specs.broker_spec.Times.{entries_of}
-use Rattle.broker_base.specs.broker_spec.Sends.{publish, sent_again, all_started, resent}
-use Rattle.broker_base.specs.broker_spec.Answers.{closed, welcome, turned_away, connect_answers}
+use Rattle.broker_base.specs.broker_spec.Sends.{publish_output, repeated_output, all_started, resent_outputs}
+use Rattle.broker_base.specs.broker_spec.Answers.{close_outputs, welcome, turned_away, connect_answers}
 use Rattle.broker_base.specs.broker_spec.declared.command.Output.{Output}
 use Rattle.broker_base.specs.broker_spec.declared.command.Output.TheVariants.{Send, Close}
 use Rattle.exactly_once.specs.Sends.{sends_to}
@@ -45,34 +45,34 @@ releases_none : (y x : ConnectionName) (ids : List ℕ) → NoneSent y (map (λ 
 releases_none y x [] = refl
 releases_none y x (id ∷ ids) = none_both y (Send x (packets.Pubrel id) ∷ []) (map (λ i. Send x (packets.Pubrel i)) ids) (none_one y x (packets.Pubrel id) refl) (releases_none y x ids)
 
-again_none : (y x : ConnectionName) (n : ℕ) (entry : Entry) → NoneSent y (sent_again x n entry)
+again_none : (y x : ConnectionName) (n : ℕ) (entry : Entry) → NoneSent y (repeated_output x n entry)
 again_none y x n (Entry.Started made p id start) = by (start == n)
   where
-    by : (b : Bool) → NoneSent y (if b then [] else publish x true id p ∷ [])
+    by : (b : Bool) → NoneSent y (if b then [] else publish_output x true id p ∷ [])
     by true = refl
     by false = none_one y x (packets.Publish (publish_of true id p)) refl
 again_none y x n (Entry.Waits made p) = refl
 again_none y x n (Entry.Released made p id start release) = refl
 again_none y x n (Entry.Finished made p id start release finish) = refl
 
-all_again_none : (y x : ConnectionName) (n : ℕ) (es : List Entry) → NoneSent y (flat_map (sent_again x n) es)
+all_again_none : (y x : ConnectionName) (n : ℕ) (es : List Entry) → NoneSent y (flat_map (repeated_output x n) es)
 all_again_none y x n [] = refl
-all_again_none y x n (e ∷ es) = none_both y (sent_again x n e) (flat_map (sent_again x n) es) (again_none y x n e) (all_again_none y x n es)
+all_again_none y x n (e ∷ es) = none_both y (repeated_output x n e) (flat_map (repeated_output x n) es) (again_none y x n e) (all_again_none y x n es)
 
-resent_none : (y x : ConnectionName) (n : ℕ) (es : List Entry) → NoneSent y (resent x n es)
+resent_none : (y x : ConnectionName) (n : ℕ) (es : List Entry) → NoneSent y (resent_outputs x n es)
 resent_none y x n es =
-    none_both y (map (λ id. Send x (packets.Pubrel id)) (released_below n es) ++ flat_map (sent_again x n) es) (all_started x n es)
-    (none_both y (map (λ id. Send x (packets.Pubrel id)) (released_below n es)) (flat_map (sent_again x n) es) (releases_none y x (released_below n es)) (all_again_none y x n es))
+    none_both y (map (λ id. Send x (packets.Pubrel id)) (released_below n es) ++ flat_map (repeated_output x n) es) (all_started x n es)
+    (none_both y (map (λ id. Send x (packets.Pubrel id)) (released_below n es)) (flat_map (repeated_output x n) es) (releases_none y x (released_below n es)) (all_again_none y x n es))
     (started_none y x n es)
 
-closed_none : (y : ConnectionName) (o : Option ConnectionName) → NoneSent y (closed o)
+closed_none : (y : ConnectionName) (o : Option ConnectionName) → NoneSent y (close_outputs o)
 closed_none y None = refl
 closed_none y (Some x) = refl
 
 pub connect_none : (y : ConnectionName) (limits : Limits) (place : Place) (past : Past) (x : ConnectionName) (c : Client) (mark : Mark) → NoneSent y (connect_answers limits place past x c mark)
 connect_none y limits place past x c Mark.Accepted =
-    let sends = resent x (length past) (entries_of limits (place ∷ past) c) in
-    none_both y (closed (current_connection past c)) (welcome x (not (begins place past c)) ∷ sends) (closed_none y (current_connection past c))
+    let sends = resent_outputs x (length past) (entries_of limits (place ∷ past) c) in
+    none_both y (close_outputs (current_connection past c)) (welcome x (not (begins place past c)) ∷ sends) (closed_none y (current_connection past c))
     (none_both y (welcome x (not (begins place past c)) ∷ []) sends (none_one y x _ refl) (resent_none y x (length past) (entries_of limits (place ∷ past) c)))
 connect_none y limits place past x c Mark.Full = none_both y (turned_away x ∷ []) (Close x ∷ []) (none_one y x _ refl) refl
 connect_none y limits place past x c _ = refl

@@ -14,7 +14,7 @@ use Rattle.broker_base.specs.broker_spec.Owner.{clients}
 use Rattle.broker_base.specs.broker_spec.Readings.{released_below}
 use Rattle.broker_base.specs.broker_spec.Times.{entries_of}
 use Rattle.broker_base.specs.broker_spec.Sends.{deliveries_to}
-use Rattle.broker_base.specs.broker_spec.Answers.{acknowledged, codes_of, handled, packet_answers}
+use Rattle.broker_base.specs.broker_spec.Answers.{acknowledged, codes_of, other_answers, packet_answers}
 use Rattle.broker_base.specs.broker_spec.declared.command.Output.TheVariants.{Send}
 use Rattle.exactly_once.specs.Sends.{sends_to}
 use Rattle.exactly_once.specs.Inside.Projections.{backward_of_own}
@@ -32,7 +32,7 @@ IsNoPubrel (packets.Pubrel id) = ⊥
 IsNoPubrel _ = Unit {0}
 
 handled_none : (y : ConnectionName) (limits : Limits) (place : Place) (past : Past) (x : ConnectionName) (c : Client) (packet : Packet) → IsNoPubrel packet
-    → NoneSent y (handled limits place past x c packet)
+    → NoneSent y (other_answers limits place past x c packet)
 handled_none y limits place past x c (packets.Pubrel id) h = elim h [ ]
 handled_none y limits place past x c (packets.Unsubscribe u) h = none_one y x (packets.Unsuback u.id) refl
 handled_none y limits place past x c packets.Pingreq h = none_one y x packets.Pingresp refl

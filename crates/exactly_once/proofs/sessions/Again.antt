@@ -11,7 +11,7 @@ use Rattle.broker_base.specs.broker_spec.Marks.{mark_of}
 use Rattle.broker_base.specs.broker_spec.Commands.{place_of, past_of}
 use Rattle.broker_base.specs.broker_spec.Answers.{welcome}
 use Rattle.broker_base.specs.broker_spec.AnswersInOrder.{answers_at}
-use Rattle.broker_base.specs.broker_spec.Sends.{resent}
+use Rattle.broker_base.specs.broker_spec.Sends.{resent_outputs}
 use Rattle.broker_base.specs.broker_spec.Times.{entries_of}
 use Rattle.broker_base.specs.broker_spec.declared.command.Command.{Command}
 use Rattle.broker_base.specs.broker_spec.declared.command.Command.TheVariants as commands
@@ -45,7 +45,7 @@ told_so : (limits : Limits) (past : Past) (c : Client) (x : ConnectionName) → 
 unfolding put_to
 told_so limits past c x none nothing =
     let place = accepted_at x c in
-    let rest = resent x (length past) (entries_of limits (place ∷ past) c) in (
+    let rest = resent_outputs x (length past) (entries_of limits (place ∷ past) c) in (
       sends_to x rest,
       ap (λ xs. xs ++ sends_to x (answers_at limits place past)) nothing
           ∙ closed_none x (current_connection past c) (welcome x (not (begins place past c)) ∷ rest)

@@ -6,7 +6,7 @@ use Rattle.client_base.specs.session_base.declared.publication.Publication.{Publ
 use Rattle.broker_base.specs.broker_spec.Connection.{ConnectionName}
 use Rattle.broker_base.specs.broker_spec.Entries.{Entry}
 use Rattle.broker_base.specs.broker_spec.Times.{started}
-use Rattle.broker_base.specs.broker_spec.IdentifierLaws.{WaitsLast, IsWaiting}
+use Rattle.broker_base.specs.broker_spec.IdentifierLaws.{WaitingAreLast, IsWaitingEntry}
 use Rattle.broker_base.proofs.of_broker_spec.SoundEntries.{AllWait, InOrder, Sound}
 use Rattle.broker_base.proofs.of_broker_spec.SoundStarts.{sound_new}
 use Rattle.exactly_once.specs.Items.{SenderItem}
@@ -50,7 +50,7 @@ rows_at w (Some x) es = rows_started w [] es
 rows_at w None es = []
 
 -- all that wait
-all_wait : (es : List Entry) → AllWait es → AllByRecursion IsWaiting es
+all_wait : (es : List Entry) → AllWait es → AllByRecursion IsWaitingEntry es
 all_wait [] h = tt
 all_wait (Entry.Waits made p ∷ es) h = (tt, all_wait es h)
 all_wait (Entry.Started made p id start ∷ es) h = absurd h
@@ -58,7 +58,7 @@ all_wait (Entry.Released made p id start release ∷ es) h = absurd h
 all_wait (Entry.Finished made p id start release finish ∷ es) h = absurd h
 
 -- the two ways to say that those that wait come last
-waits_last : (es : List Entry) → InOrder es → WaitsLast es
+waits_last : (es : List Entry) → InOrder es → WaitingAreLast es
 waits_last [] h = tt
 waits_last (Entry.Waits made p ∷ es) h = all_wait es h
 waits_last (Entry.Started made p id start ∷ es) h = waits_last es h

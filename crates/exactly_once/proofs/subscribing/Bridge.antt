@@ -10,7 +10,7 @@ use Rattle.broker_base.specs.broker_spec.Connection.{ConnectionName}
 use Rattle.broker_base.specs.broker_spec.Entries.{Entry, queued}
 use Rattle.broker_base.specs.broker_spec.Readings.{made_at, waiting_of, busy_ids}
 use Rattle.broker_base.specs.broker_spec.Times.{start_all}
-use Rattle.broker_base.specs.broker_spec.Sends.{publish, all_started, handed}
+use Rattle.broker_base.specs.broker_spec.Sends.{publish_output, all_started, copy_outputs}
 use Rattle.client_base.proofs.of_session_base.CountedIdentifiers.{count, same_length}
 use Rattle.broker_base.proofs.of_broker_spec.SoundEntries.{Sound}
 use Rattle.broker_base.proofs.flights.IdentifiersInFlight.{append_none}
@@ -45,7 +45,7 @@ rows_full w n ids (p ∷ ps) h = rw (shut (length ids) w h) refl
 
 -- one that is published first
 one_sent : (x : ConnectionName) (dup : Bool) (id : ℕ) (p : Publication) (more : List _)
-    → forward_of (sends_to x (publish x dup id p ∷ more)) ≡ (if is_two p.qos then Forward.Publish id p ∷ forward_of (sends_to x more) else forward_of (sends_to x more))
+    → forward_of (sends_to x (publish_output x dup id p ∷ more)) ≡ (if is_two p.qos then Forward.Publish id p ∷ forward_of (sends_to x more) else forward_of (sends_to x more))
 one_sent x dup id p more = ap forward_of (sends_publish x dup id p more) ∙ forward_publish dup id p (sends_to x more)
 
 -- if an entry starts at this place it is sent
@@ -54,7 +54,7 @@ same_place n = grind arith
 
 -- what is handed out of the place's own entries is what starts of them
 pub forward_handed : (x : ConnectionName) (w n : ℕ) (ids : List ℕ) (copies : List Publication)
-    → forward_of (sends_to x (handed x n copies (start_all w n ids (map (Entry.Waits n) (queued copies))))) ≡ map publishing (rows_started w ids (map (Entry.Waits n) (queued copies)))
+    → forward_of (sends_to x (copy_outputs x n copies (start_all w n ids (map (Entry.Waits n) (queued copies))))) ≡ map publishing (rows_started w ids (map (Entry.Waits n) (queued copies)))
 forward_handed x w n ids [] = refl
 forward_handed x w n ids (p ∷ copies) = by (cases_Bool (is_answered p.qos)) (forward_handed x w n ids copies) (forward_handed x w n (least_free ids ∷ ids) copies)
   where
@@ -65,7 +65,7 @@ forward_handed x w n ids (p ∷ copies) = by (cases_Bool (is_answered p.qos)) (f
     rows others = rows_started w others (map (Entry.Waits n) (queued copies))
 
     sent : List Entry → List (Forward Publication)
-    sent es = forward_of (sends_to x (handed x n copies es))
+    sent es = forward_of (sends_to x (copy_outputs x n copies es))
 
     starts : (b : Bool) → sent (rest (least_free ids ∷ ids)) ≡ map publishing (rows (least_free ids ∷ ids))
         → (if b then Forward.Publish (least_free ids) p ∷ sent (rest (least_free ids ∷ ids)) else sent (rest (least_free ids ∷ ids)))
@@ -75,17 +75,17 @@ forward_handed x w n ids (p ∷ copies) = by (cases_Bool (is_answered p.qos)) (f
 
     room : (b : Bool) → nat_lt (length ids) w ≡ b → sent (rest ids) ≡ map publishing (rows ids) → sent (rest (least_free ids ∷ ids)) ≡ map publishing (rows (least_free ids ∷ ids))
         → forward_of (sends_to x (all_started x n (take 1 (if b then Entry.Started n p (least_free ids) n ∷ rest (least_free ids ∷ ids) else Entry.Waits n p ∷ map (Entry.Waits n) (queued copies)))
-        ++ handed x n copies (drop 1 (if b then Entry.Started n p (least_free ids) n ∷ rest (least_free ids ∷ ids) else Entry.Waits n p ∷ map (Entry.Waits n) (queued copies)))))
+        ++ copy_outputs x n copies (drop 1 (if b then Entry.Started n p (least_free ids) n ∷ rest (least_free ids ∷ ids) else Entry.Waits n p ∷ map (Entry.Waits n) (queued copies)))))
         ≡ map publishing (if b then (if is_two p.qos then (least_free ids, p) ∷ rows (least_free ids ∷ ids) else rows (least_free ids ∷ ids)) else [])
     room true b shut_rest open_rest =
-        rw (same_place n) (one_sent x false (least_free ids) p (handed x n copies (rest (least_free ids ∷ ids))) ∙ starts (is_two p.qos) open_rest)
+        rw (same_place n) (one_sent x false (least_free ids) p (copy_outputs x n copies (rest (least_free ids ∷ ids))) ∙ starts (is_two p.qos) open_rest)
     room false b shut_rest open_rest =
         ap sent (sym (starts_full w n ids (queued copies) (beyond (length ids) w b))) ∙ shut_rest ∙ ap (map publishing) (rows_full w n ids (queued copies) (beyond (length ids) w b))
 
     by : (is_answered p.qos ≡ true) ⊎ (is_answered p.qos ≡ false) → sent (rest ids) ≡ map publishing (rows ids) → sent (rest (least_free ids ∷ ids)) ≡ map publishing (rows (least_free ids ∷ ids))
-        → forward_of (sends_to x (handed x n (p ∷ copies) (start_all w n ids (map (Entry.Waits n) (queued (p ∷ copies)))))) ≡ map publishing (rows_started w ids (map (Entry.Waits n) (queued (p ∷ copies))))
+        → forward_of (sends_to x (copy_outputs x n (p ∷ copies) (start_all w n ids (map (Entry.Waits n) (queued (p ∷ copies)))))) ≡ map publishing (rows_started w ids (map (Entry.Waits n) (queued (p ∷ copies))))
     by (inl e) f g = rw e (room (nat_lt (length ids) w) refl f g)
-    by (inr e) f g = rw e (one_sent x false 0 p (handed x n copies (rest ids)) ∙ rw (none_two p.qos e) f)
+    by (inr e) f g = rw e (one_sent x false 0 p (copy_outputs x n copies (rest ids)) ∙ rw (none_two p.qos e) f)
 
 -- ---- among all entries
 
@@ -101,10 +101,10 @@ rows_quiet w n ids (Entry.Finished made p id start release finish ∷ es) ps qui
 
 -- the bridge: what is sent of the place's copies is what starts of all entries
 pub forward_made : (x : ConnectionName) (w n : ℕ) (es : List Entry) (copies : List Publication) → Sound n es → QuietEntries w es
-    → forward_of (sends_to x (handed x n copies (made_at n (start_all w n [] (es ++ map (Entry.Waits n) (queued copies))))))
+    → forward_of (sends_to x (copy_outputs x n copies (made_at n (start_all w n [] (es ++ map (Entry.Waits n) (queued copies))))))
     ≡ map publishing (rows_started w [] (es ++ map (Entry.Waits n) (queued copies)))
 forward_made x w n es copies s quiet =
-    ap (λ (l : List Entry). forward_of (sends_to x (handed x n copies l))) (made_here w n [] es (queued copies) s.below s.in_order (by quiet))
+    ap (λ (l : List Entry). forward_of (sends_to x (copy_outputs x n copies l))) (made_here w n [] es (queued copies) s.below s.in_order (by quiet))
     ∙ forward_handed x w n (busy_from [] es) copies
     ∙ ap (map publishing) (sym (rows_quiet w n [] es (queued copies) (by quiet)))
   where

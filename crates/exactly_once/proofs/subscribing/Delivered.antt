@@ -6,7 +6,7 @@ use Rattle.broker_base.specs.broker_spec.Past.{any_connection, current_connectio
 use Rattle.broker_base.specs.broker_spec.Entries.{Entry, copies_at, queued}
 use Rattle.broker_base.specs.broker_spec.Readings.{made_at}
 use Rattle.broker_base.specs.broker_spec.Times.{started, window_at, entries_of}
-use Rattle.broker_base.specs.broker_spec.Sends.{handed, handed_to, deliveries_to}
+use Rattle.broker_base.specs.broker_spec.Sends.{copy_outputs, handed_to, deliveries_to}
 use Rattle.broker_base.proofs.ConnectionsOfSessions.{same_turned}
 use Rattle.broker_base.proofs.QueueAfter.{sound_entries}
 use Rattle.broker_base.proofs.QuietPasts.{QuietEntries, quiet_entries}
@@ -45,14 +45,14 @@ deliveries_sent limits place past c x same entries = by (current_connection past
     quiet z e = subst (λ (w : ℕ). QuietEntries w (entries_of limits past c)) (sym same) (quiet_entries limits past c z e)
 
     here : (z : ConnectionName) → current_connection past c ≡ Some z → z ≡ x
-        → forward_of (sends_to x (handed z n (copies_at place past c) (made_at n (entries_of limits (place ∷ past) c)))) ≡ map publishing (rows_at w (Some z) all)
+        → forward_of (sends_to x (copy_outputs z n (copies_at place past c) (made_at n (entries_of limits (place ∷ past) c)))) ≡ map publishing (rows_at w (Some z) all)
     here z e f =
-        ap (λ (es : List Entry). forward_of (sends_to x (handed z n (copies_at place past c) (made_at n es)))) (entries ∙ ap (λ o. started w n o all) e)
-        ∙ ap (λ (y : ConnectionName). forward_of (sends_to x (handed y n (copies_at place past c) (made_at n (started w n (Some z) all))))) f
+        ap (λ (es : List Entry). forward_of (sends_to x (copy_outputs z n (copies_at place past c) (made_at n es)))) (entries ∙ ap (λ o. started w n o all) e)
+        ∙ ap (λ (y : ConnectionName). forward_of (sends_to x (copy_outputs y n (copies_at place past c) (made_at n (started w n (Some z) all))))) f
         ∙ forward_made x w n (entries_of limits past c) (copies_at place past c) (sound_entries limits past c) (quiet z e)
 
     there : (z : ConnectionName) → current_connection past c ≡ Some z → same_connection z x ≡ false
-        → sends_to x (handed z n (copies_at place past c) (made_at n (entries_of limits (place ∷ past) c))) ≡ []
+        → sends_to x (copy_outputs z n (copies_at place past c) (made_at n (entries_of limits (place ∷ past) c))) ≡ []
     there z e f =
         ap (λ o. sends_to x (handed_to o n (copies_at place past c) (made_at n (entries_of limits (place ∷ past) c)))) (sym e)
         ∙ deliveries_elsewhere limits place past x c (subst (λ (o : Option ConnectionName). elsewhere o ≡ false) (sym e) (same_turned x z ∙ f))
@@ -65,6 +65,6 @@ deliveries_sent limits place past c x same entries = by (current_connection past
     by (Some z) e = one (same_connection z x) refl
       where
         one : (b : Bool) → same_connection z x ≡ b
-            → forward_of (sends_to x (handed z n (copies_at place past c) (made_at n (entries_of limits (place ∷ past) c)))) ≡ (if b then map publishing (rows_at w (Some z) all) else [])
+            → forward_of (sends_to x (copy_outputs z n (copies_at place past c) (made_at n (entries_of limits (place ∷ past) c)))) ≡ (if b then map publishing (rows_at w (Some z) all) else [])
         one true f = here z e (same_name z x f)
         one false f = ap forward_of (there z e f)

@@ -8,7 +8,7 @@ use Rattle.broker_base.specs.broker_spec.Connection.{ConnectionName}
 use Rattle.broker_base.specs.broker_spec.Entries.{Entry}
 use Rattle.broker_base.specs.broker_spec.Readings.{released_below}
 use Rattle.broker_base.specs.broker_spec.Times.{start_all}
-use Rattle.broker_base.specs.broker_spec.Sends.{sent_again, all_started, resent}
+use Rattle.broker_base.specs.broker_spec.Sends.{repeated_output, all_started, resent_outputs}
 use Rattle.broker_base.specs.broker_spec.declared.command.Output.{Output}
 use Rattle.broker_base.specs.broker_spec.declared.command.Output.TheVariants.{Send}
 use Rattle.broker_base.proofs.flights.StartsInFlight.{released_started}
@@ -39,15 +39,15 @@ earlier : (start n : ℕ) → start < n → (start == n) ≡ false
 earlier start n h = grind arith
 
 -- what starts now is not sent again
-again_of : (x : ConnectionName) (w n : ℕ) (ids : List ℕ) (es : List Entry) → flat_map (sent_again x n) (start_all w n ids es) ≡ flat_map (sent_again x n) es
+again_of : (x : ConnectionName) (w n : ℕ) (ids : List ℕ) (es : List Entry) → flat_map (repeated_output x n) (start_all w n ids es) ≡ flat_map (repeated_output x n) es
 again_of x w n ids [] = refl
 again_of x w n ids (Entry.Waits made p ∷ es) = by (nat_lt (length ids) w) (again_of x w n (least_free ids ∷ ids) es)
   where
-    by : (b : Bool) → flat_map (sent_again x n) (start_all w n (least_free ids ∷ ids) es) ≡ flat_map (sent_again x n) es
-        → flat_map (sent_again x n) (if b then Entry.Started made p (least_free ids) n ∷ start_all w n (least_free ids ∷ ids) es else Entry.Waits made p ∷ es) ≡ flat_map (sent_again x n) es
+    by : (b : Bool) → flat_map (repeated_output x n) (start_all w n (least_free ids ∷ ids) es) ≡ flat_map (repeated_output x n) es
+        → flat_map (repeated_output x n) (if b then Entry.Started made p (least_free ids) n ∷ start_all w n (least_free ids ∷ ids) es else Entry.Waits made p ∷ es) ≡ flat_map (repeated_output x n) es
     by true e = rw (eq_same n) e
     by false e = refl
-again_of x w n ids (Entry.Started made p id start ∷ es) = ap (λ l. sent_again x n (Entry.Started made p id start) ++ l) (again_of x w n (id ∷ ids) es)
+again_of x w n ids (Entry.Started made p id start ∷ es) = ap (λ l. repeated_output x n (Entry.Started made p id start) ++ l) (again_of x w n (id ∷ ids) es)
 again_of x w n ids (Entry.Released made p id start release ∷ es) = again_of x w n (id ∷ ids) es
 again_of x w n ids (Entry.Finished made p id start release finish ∷ es) = again_of x w n ids es
 
@@ -57,17 +57,17 @@ skip true item items e = sym e
 skip false item items e = refl
 
 -- what was sent before is sent again
-pub forward_again : (x : ConnectionName) (n : ℕ) (es : List Entry) → StartedBefore n es → forward_of (sends_to x (flat_map (sent_again x n) es)) ≡ map publishing (sent (items_of_entries es))
+pub forward_again : (x : ConnectionName) (n : ℕ) (es : List Entry) → StartedBefore n es → forward_of (sends_to x (flat_map (repeated_output x n) es)) ≡ map publishing (sent (items_of_entries es))
 forward_again x n [] h = refl
 forward_again x n (Entry.Waits made p ∷ es) h = forward_again x n es h ∙ ap (map publishing) (skip (is_two p.qos) (SenderItem.Waits p) (items_of_entries es) refl)
 forward_again x n (Entry.Started made p id start ∷ es) h =
     rw (earlier start n h.0)
-    (ap forward_of (sends_publish x true id p (flat_map (sent_again x n) es))
-    ∙ forward_publish true id p (sends_to x (flat_map (sent_again x n) es))
+    (ap forward_of (sends_publish x true id p (flat_map (repeated_output x n) es))
+    ∙ forward_publish true id p (sends_to x (flat_map (repeated_output x n) es))
     ∙ by (is_two p.qos) (forward_again x n es h.1))
   where
-    by : (b : Bool) → forward_of (sends_to x (flat_map (sent_again x n) es)) ≡ map publishing (sent (items_of_entries es))
-        → (if b then Forward.Publish id p ∷ forward_of (sends_to x (flat_map (sent_again x n) es)) else forward_of (sends_to x (flat_map (sent_again x n) es)))
+    by : (b : Bool) → forward_of (sends_to x (flat_map (repeated_output x n) es)) ≡ map publishing (sent (items_of_entries es))
+        → (if b then Forward.Publish id p ∷ forward_of (sends_to x (flat_map (repeated_output x n) es)) else forward_of (sends_to x (flat_map (repeated_output x n) es)))
         ≡ map publishing (sent (if b then SenderItem.Sent p id ∷ items_of_entries es else items_of_entries es))
     by true e = ap (λ l. Forward.Publish id p ∷ l) e
     by false e = e
@@ -86,7 +86,7 @@ none_here n (Entry.Finished made p id start release finish ∷ es) h = none_here
 
 -- what is sent again, then what starts
 pub forward_resent : (x : ConnectionName) (w n : ℕ) (es : List Entry) → StartedBefore n es
-    → forward_of (sends_to x (resent x n (start_all w n [] es))) ≡ sender_resends (released_below n es) (items_of_entries es) ++ map publishing (rows_started w [] es)
+    → forward_of (sends_to x (resent_outputs x n (start_all w n [] es))) ≡ sender_resends (released_below n es) (items_of_entries es) ++ map publishing (rows_started w [] es)
 forward_resent x w n es h =
     ap forward_of (sends_append x (pubrels ++ again) (all_started x n entries))
     ∙ forward_append (sends_to x (pubrels ++ again)) (sends_to x (all_started x n entries))
@@ -105,4 +105,4 @@ forward_resent x w n es h =
     pubrels = map (λ id. Send x (packets.Pubrel id)) (released_below n entries)
 
     again : List Output
-    again = flat_map (sent_again x n) entries
+    again = flat_map (repeated_output x n) entries

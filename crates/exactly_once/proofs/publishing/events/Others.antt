@@ -34,7 +34,7 @@ use Rattle.exactly_once.proofs.publishing.Last.{each_last, none_named}
 use Rattle.exactly_once.proofs.publishing.Elsewhere.{connect_none, NoneSent}
 use Rattle.exactly_once.proofs.publishing.PacketAnswers.{packet_none}
 use Rattle.exactly_once.proofs.publishing.AtPlaces.{NoneToLast, come_same, StaysOrLeaves, goes_place}
-use Rattle.broker_base.specs.broker_spec.Answers.{closed}
+use Rattle.broker_base.specs.broker_spec.Answers.{close_outputs}
 
 -- ---- it carries none of the client's publications
 
@@ -141,6 +141,6 @@ others_take_it limits past keeper connections (commands.Start b) shape other non
 others_take_it limits past keeper connections (commands.Expel d) shape other none =
     goes_other limits (place_of limits past (commands.Expel d)) past keeper connections shape refl (other_spares past keeper.client (commands.Expel d) other) refl none (λ κ e. closes κ.name (current_connection past d))
   where
-    closes : (y : ConnectionName) (o : Option ConnectionName) → NoneSent y (closed o)
+    closes : (y : ConnectionName) (o : Option ConnectionName) → NoneSent y (close_outputs o)
     closes y None = refl
     closes y (Some x) = refl

@@ -10,8 +10,8 @@ use Rattle.broker_base.specs.broker_spec.Past.{accepts, ends_any, current_connec
 use Rattle.broker_base.specs.broker_spec.Entries.{Entry}
 use Rattle.broker_base.specs.broker_spec.Readings.{released_below}
 use Rattle.broker_base.specs.broker_spec.Times.{entries_of}
-use Rattle.broker_base.specs.broker_spec.Sends.{publish, sent_again, all_started, resent}
-use Rattle.broker_base.specs.broker_spec.Answers.{closed, welcome}
+use Rattle.broker_base.specs.broker_spec.Sends.{publish_output, repeated_output, all_started, resent_outputs}
+use Rattle.broker_base.specs.broker_spec.Answers.{close_outputs, welcome}
 use Rattle.broker_base.specs.broker_spec.AnswersInOrder.{answers_at}
 use Rattle.broker_base.specs.broker_spec.NobodyLaws.{IsSteady}
 use Rattle.broker_base.specs.broker_spec.declared.command.Command.TheVariants as commands
@@ -31,33 +31,33 @@ use Rattle.exactly_once.proofs.subscribing.places.Publishes.{none_handed}
 use Rattle.exactly_once.proofs.subscribing.events.Others.{named_not, not_ended}
 
 -- what one that comes back is sent goes to its connection
-pub resent_elsewhere : (x y : ConnectionName) (n : ℕ) (es : List Entry) → same_connection x y ≡ false → sends_to x (resent y n es) ≡ []
+pub resent_elsewhere : (x y : ConnectionName) (n : ℕ) (es : List Entry) → same_connection x y ≡ false → sends_to x (resent_outputs y n es) ≡ []
 resent_elsewhere x y n es e =
-    sends_append x (map (λ id. Send y (packets.Pubrel id)) (released_below n es) ++ flat_map (sent_again y n) es) (all_started y n es)
+    sends_append x (map (λ id. Send y (packets.Pubrel id)) (released_below n es) ++ flat_map (repeated_output y n) es) (all_started y n es)
     ∙ ap₂ (λ a b. a ++ b)
-    (sends_append x (map (λ id. Send y (packets.Pubrel id)) (released_below n es)) (flat_map (sent_again y n) es) ∙ ap₂ (λ a b. a ++ b) (pubrels (released_below n es)) (again es))
+    (sends_append x (map (λ id. Send y (packets.Pubrel id)) (released_below n es)) (flat_map (repeated_output y n) es) ∙ ap₂ (λ a b. a ++ b) (pubrels (released_below n es)) (again es))
     (started_elsewhere x y n es e)
   where
     pubrels : (ids : List ℕ) → sends_to x (map (λ id. Send y (packets.Pubrel id)) ids) ≡ []
     pubrels [] = refl
     pubrels (id ∷ ids) = goes_elsewhere x y (packets.Pubrel id) (map (λ id. Send y (packets.Pubrel id)) ids) e ∙ pubrels ids
 
-    one : (entry : Entry) → sends_to x (sent_again y n entry) ≡ []
+    one : (entry : Entry) → sends_to x (repeated_output y n entry) ≡ []
     one (Entry.Waits made p) = refl
     one (Entry.Started made p id start) = by (start == n)
       where
-        by : (b : Bool) → sends_to x (if b then [] else publish y true id p ∷ []) ≡ []
+        by : (b : Bool) → sends_to x (if b then [] else publish_output y true id p ∷ []) ≡ []
         by true = refl
         by false = rw e refl
     one (Entry.Released made p id start release) = refl
     one (Entry.Finished made p id start release finish) = refl
 
-    again : (es : List Entry) → sends_to x (flat_map (sent_again y n) es) ≡ []
+    again : (es : List Entry) → sends_to x (flat_map (repeated_output y n) es) ≡ []
     again [] = refl
-    again (entry ∷ es) = sends_append x (sent_again y n entry) (flat_map (sent_again y n) es) ∙ ap₂ (λ a b. a ++ b) (one entry) (again es)
+    again (entry ∷ es) = sends_append x (repeated_output y n entry) (flat_map (repeated_output y n) es) ∙ ap₂ (λ a b. a ++ b) (one entry) (again es)
 
 -- what closes a connection is no packet
-pub closed_none : (x : ConnectionName) (o : Option ConnectionName) (more : List Output) → sends_to x (closed o ++ more) ≡ sends_to x more
+pub closed_none : (x : ConnectionName) (o : Option ConnectionName) (more : List Output) → sends_to x (close_outputs o ++ more) ≡ sends_to x more
 closed_none x None more = refl
 closed_none x (Some y) more = refl
 
@@ -69,8 +69,8 @@ at_connect y d clean mark = record { command = commands.Connect y d clean; mark 
 pub connect_elsewhere : (limits : Limits) (past : Past) (x y : ConnectionName) (d : Client) (clean : Bool) (mark : Mark) → same_connection x y ≡ false → sends_to x (answers_at limits (at_connect y d clean mark) past) ≡ []
 connect_elsewhere limits past x y d clean Mark.Accepted e =
     let place = at_connect y d clean Mark.Accepted in
-    closed_none x (current_connection past d) (welcome y (not (begins place past d)) ∷ resent y (length past) (entries_of limits (place ∷ past) d))
-    ∙ goes_elsewhere x y (packets.Connack (connacks.Accepted (not (begins place past d)))) (resent y (length past) (entries_of limits (place ∷ past) d)) e
+    closed_none x (current_connection past d) (welcome y (not (begins place past d)) ∷ resent_outputs y (length past) (entries_of limits (place ∷ past) d))
+    ∙ goes_elsewhere x y (packets.Connack (connacks.Accepted (not (begins place past d)))) (resent_outputs y (length past) (entries_of limits (place ∷ past) d)) e
     ∙ resent_elsewhere x y (length past) (entries_of limits (place ∷ past) d) e
 connect_elsewhere limits past x y d clean Mark.Full e = rw e refl
 connect_elsewhere limits past x y d clean _ e = refl

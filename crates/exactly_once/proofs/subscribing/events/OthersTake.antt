@@ -27,7 +27,7 @@ use Rattle.exactly_once.proofs.subscribing.places.Quiet.{current_same, current_o
 use Rattle.exactly_once.proofs.places.Spared.{other_spares}
 use Rattle.exactly_once.proofs.places.After.{IsSpared, none_opens}
 use Rattle.broker_base.proofs.QuietPasts.{no_connection}
-use Rattle.broker_base.specs.broker_spec.Answers.{closed}
+use Rattle.broker_base.specs.broker_spec.Answers.{close_outputs}
 
 -- a connection's loss
 abbrev pub at_lost : ConnectionName → Place
@@ -78,7 +78,7 @@ goes_start limits s shape b =
 abbrev pub at_expel : Client → Place
 at_expel d = record { command = commands.Expel d; mark = Mark.NoPart }
 
-pub closes_only : (x : ConnectionName) (o : Option ConnectionName) → sends_to x (closed o) ≡ []
+pub closes_only : (x : ConnectionName) (o : Option ConnectionName) → sends_to x (close_outputs o) ≡ []
 closes_only x None = refl
 closes_only x (Some y) = refl
 

@@ -11,7 +11,7 @@ use Rattle.broker_base.specs.broker_spec.Past.{accepts, expels, ends_any, newest
 use Rattle.broker_base.specs.broker_spec.Entries.{Entry}
 use Rattle.broker_base.specs.broker_spec.Readings.{released_below}
 use Rattle.broker_base.specs.broker_spec.Times.{start_all, started, window_at, entries_of}
-use Rattle.broker_base.specs.broker_spec.Sends.{resent}
+use Rattle.broker_base.specs.broker_spec.Sends.{resent_outputs}
 use Rattle.broker_base.specs.broker_spec.Answers.{welcome}
 use Rattle.broker_base.specs.broker_spec.AnswersInOrder.{answers_at}
 use Rattle.broker_base.specs.broker_spec.declared.command.Command.{Command}
@@ -87,9 +87,9 @@ pub accepted_sends : (limits : Limits) (past : Past) (y : ConnectionName) (c : C
 accepted_sends limits past y c session =
     let place = at_accepted y c in
     let n = length past in
-    ap forward_of (closed_none y (current_connection past c) (welcome y (not (begins place past c)) ∷ resent y n (entries_of limits (place ∷ past) c)))
-    ∙ skips y y (packets.Connack (connacks.Accepted (not (begins place past c)))) (resent y n (entries_of limits (place ∷ past) c)) (λ f. refl)
-    ∙ ap (λ (l : List Entry). forward_of (sends_to y (resent y n l))) (accepted_entries limits past y c session)
+    ap forward_of (closed_none y (current_connection past c) (welcome y (not (begins place past c)) ∷ resent_outputs y n (entries_of limits (place ∷ past) c)))
+    ∙ skips y y (packets.Connack (connacks.Accepted (not (begins place past c)))) (resent_outputs y n (entries_of limits (place ∷ past) c)) (λ f. refl)
+    ∙ ap (λ (l : List Entry). forward_of (sends_to y (resent_outputs y n l))) (accepted_entries limits past y c session)
     ∙ forward_resent y (window_at limits (place ∷ past)) n (entries_of limits past c) (before_below n (entries_of limits past c) (sound_entries limits past c).below)
 
 -- ---- a connection on which a client is served has a Connect in the list

@@ -1,7 +1,7 @@
 -- The client's session is removed, and its connection has no client.
 use Rattle.std.proofs.Common.{◌∙◌, ◌++◌, ap, sym}
 use Rattle.std.proofs.lemmas.List.{append-nil}
-use Rattle.broker_spec.specs.Answers.{closed}
+use Rattle.broker_spec.specs.Answers.{close_outputs}
 use Rattle.broker_session.specs.broker_base.State.{Sessions}
 use Rattle.broker_session.specs.broker_base.StepAnswers.{connection_of}
 use Rattle.broker_tables.proofs.Expulsions.{expelled, nobody_expelled, ties_expelled}
@@ -23,7 +23,7 @@ returns-clause-step c =
           ∙ sym (ap (λ p. p.0) (expelled t c.args.client.now c.in-Some._row.now c.requires (sym c.in-Some.ensures.value)));
       outputs = c.in_ok-push_close.ensures.closes
           ∙ ap (λ given. c.args.out.now.items ++ given)
-          (ap closed (c.connection_of.ensures ∙ ap connection_of (sym c.in-Some.ensures.value))
+          (ap close_outputs (c.connection_of.ensures ∙ ap connection_of (sym c.in-Some.ensures.value))
           ∙ sym (ap (λ p. p.1) (expelled c.args.self.now c.args.client.now c.in-Some._row.now c.requires (sym c.in-Some.ensures.value))));
     }
 

@@ -2,7 +2,7 @@
 use Rattle.std.proofs.Common.{◌∙◌, ◌++◌, ap, sym, true, false, [], ◌∷◌}
 use Rattle.std.proofs.lemmas.List.{append_assoc}
 use Rattle.std.specs.Prelude.{map}
-use Rattle.broker_spec.specs.Answers.{closed, welcome}
+use Rattle.broker_spec.specs.Answers.{close_outputs, welcome}
 use Rattle.broker_spec.specs.declared.command.Output.TheVariants as outputs
 use Rattle.broker_session.specs.broker_base.State.{session_in}
 use Rattle.broker_session.specs.broker_base.StepAnswers.{connection_of}
@@ -25,7 +25,7 @@ returns-clause-step c =
           ∙ sym (ap (λ p. p.0)
           (resuming_of c.args.self.now c.args.connection c.args.client.now c.args.clean c.requires.consistent c.requires.nobodys c.requires.resumes));
       outputs = let t = c.args.self.now in
-          let closes = closed (connection_of (session_in c.args.client.now t.sessions.entries)) in
+          let closes = close_outputs (connection_of (session_in c.args.client.now t.sessions.entries)) in
           let sent = map (outputs.Send c.args.connection) (sent_to_resumed t.window (session_in c.args.client.now t.sessions.entries)) in
           c.in_ok-resume_row.ensures.sends
           ∙ (λ i. c.in_ok-take_client_over.ensures.outputs i
