@@ -19,7 +19,7 @@ use Rattle.broker_spec.specs.Times.{entries_of, room_of}
 use Rattle.broker_spec.specs.Marks.{is_queued_at, lacks_room, is_refused}
 use Rattle.broker_base.specs.ClientSession.{flights_below, queue_of, client_session}
 use Rattle.broker_base.specs.State.{keyed, table, state_of}
-use Rattle.broker_base.specs.Decisions.{has_no_room_for, refuses, repeats}
+use Rattle.broker_base.specs.Decisions.{has_no_room_for, refuses, repeats_taken}
 use Rattle.session_base.proofs.CountedIdentifiers.{same_length}
 use Rattle.broker_spec.proofs.SoundEntries.{Sound}
 use Rattle.broker_base.proofs.flights.IdentifiersInFlight.{same_ids}
@@ -60,6 +60,6 @@ full_in limits past p (d ∷ ds) = by (session_of past d) (full_in limits past p
 pub refuses_is : (limits : Limits) (past : Past) (p : Publication) → refuses limits (state_of limits past) p ≡ is_refused limits past p
 refuses_is limits past p = ap (λ b. b || is_retained_over limits past p) (full_in limits past p (named past))
 
-pub again_is : (limits : Limits) (past : Past) (c : Client) (clean : Bool) (d : Delivery) → repeats (kept_now limits past c clean) d ≡ is_repeat past c d
+pub again_is : (limits : Limits) (past : Past) (c : Client) (clean : Bool) (d : Delivery) → repeats_taken (kept_now limits past c clean) d ≡ is_repeat past c d
 again_is limits past c clean (deliveries.ExactlyOnce dup id) = refl
 again_is limits past c clean _ = refl

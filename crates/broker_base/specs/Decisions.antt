@@ -39,14 +39,14 @@ refuses limits state p =
     list_any (has_no_room_for limits p) state.sessions || is_one_topic_over limits state.retained p
 
 -- whether a delivery repeats one that the session took
-abbrev pub repeats : ClientSession → Delivery → Bool
-repeats kept (deliveries.ExactlyOnce dup id) = has_id id kept.state.received
-repeats kept _ = false
+abbrev pub repeats_taken : ClientSession → Delivery → Bool
+repeats_taken kept (deliveries.ExactlyOnce dup id) = has_id id kept.state.received
+repeats_taken kept _ = false
 
 -- the mark of a packet on the current connection of this session
 abbrev pub owned_mark : Limits → State → Client × ClientSession → Packet → Mark
 owned_mark limits state owner (packets.Publish p) =
-    if repeats owner.1 p.delivery then Mark.Repeat owner.0 else
+    if repeats_taken owner.1 p.delivery then Mark.Repeat owner.0 else
     if refuses limits state (publication_of p) then Mark.Refused owner.0 else Mark.Taken owner.0
 owned_mark limits state owner (packets.Subscribe s) =
     Mark.Granted owner.0 (grants limits state.retained owner.1.state.subscriptions

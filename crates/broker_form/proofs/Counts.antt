@@ -19,7 +19,7 @@ use Rattle.broker_base.specs.ClientSession.{ClientSession}
 use Rattle.broker_base.specs.SessionStep.{kept_connected, kept_by}
 use Rattle.broker_base.specs.State.{Sessions, State, keyed, session_in, owner_in, put_session}
 use Rattle.broker_base.specs.StateLaws.{AreByClient}
-use Rattle.broker_base.specs.Decisions.{is_one_topic_over, has_no_room_for, refuses, repeats, packet_mark_in, connect_mark_in, place_in}
+use Rattle.broker_base.specs.Decisions.{is_one_topic_over, has_no_room_for, refuses, repeats_taken, packet_mark_in, connect_mark_in, place_in}
 use Rattle.broker_base.specs.Step.{session_after, sessions_left, sessions_with, window_after, step}
 use Rattle.broker_base.proofs.SessionsStayByClient.{left_by_client}
 use Rattle.session_base.specs.InRange.{CanBeSent}
@@ -182,7 +182,7 @@ pub stays_retained : (limits : Limits) (state : State) (command : Command) → (
 stays_retained limits state (commands.Packet x (packets.Publish p)) sent h =
     elim (owner_in x state.sessions) as (λ (o : Option (Client × ClientSession)). Kept (packet_mark_in limits state (packets.Publish p) o)) [
       | Some owner ↦
-          elim (repeats owner.1 p.delivery) as (λ (b : Bool). Kept (if b then Mark.Repeat owner.0 else if refuses limits state (publication_of p) then Mark.Refused owner.0 else Mark.Taken owner.0)) [
+          elim (repeats_taken owner.1 p.delivery) as (λ (b : Bool). Kept (if b then Mark.Repeat owner.0 else if refuses limits state (publication_of p) then Mark.Refused owner.0 else Mark.Taken owner.0)) [
             | true ↦ h
             | false ↦ elim (refuses limits state (publication_of p)) as (λ (b : Bool). refuses limits state (publication_of p) ≡ b → Kept (if b then Mark.Refused owner.0 else Mark.Taken owner.0)) [
               | true ↦ λ e. h

@@ -17,7 +17,7 @@ use Rattle.broker_spec.specs.declared.command.Command.{Command}
 use Rattle.broker_spec.specs.declared.command.Command.TheVariants as commands
 use Rattle.broker_base.specs.ClientSession.{ClientSession}
 use Rattle.broker_base.specs.State.{State, empty_state, session_in, owner_in}
-use Rattle.broker_base.specs.Decisions.{refuses, repeats, owned_mark, packet_mark_in, mark_in}
+use Rattle.broker_base.specs.Decisions.{refuses, repeats_taken, owned_mark, packet_mark_in, mark_in}
 use Rattle.broker_base.specs.StepAnswers.{packet_answers_in, connection_of, resumed, connect_answers_in}
 use Rattle.broker_base.specs.Step.{step, state_from, steps_from}
 use Rattle.broker_form.specs.InRange.{IsBrokerState}
@@ -41,7 +41,7 @@ owned : (w : ℕ) (limits : Limits) (state : State) (x : ConnectionName) (owner 
     AllHaveRoom limits (record { command = commands.Packet x packet; mark = owned_mark limits state owner packet }) state.retained state.sessions →
     Answered w state x packet (owned_mark limits state owner packet)
 owned w limits state x owner (packets.Publish p) m k h room =
-    elim (repeats owner.1 p.delivery) as (λ (b : Bool). RoomAt (again b) → Answered w state x (packets.Publish p) (again b)) [
+    elim (repeats_taken owner.1 p.delivery) as (λ (b : Bool). RoomAt (again b) → Answered w state x (packets.Publish p) (again b)) [
       | true ↦ λ room. acknowledged_spelled x p.delivery k.1.1
       | false ↦
           elim (refuses limits state (publication_of p)) as (λ (b : Bool). RoomAt (refused b) → Answered w state x (packets.Publish p) (refused b)) [

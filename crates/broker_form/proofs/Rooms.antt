@@ -25,7 +25,7 @@ use Rattle.broker_base.specs.ClientSession.{ClientSession}
 use Rattle.broker_base.specs.SessionStep.{copies_with}
 use Rattle.broker_base.specs.State.{Sessions, State, session_in, owner_in}
 use Rattle.broker_base.specs.StateLaws.{AreByClient}
-use Rattle.broker_base.specs.Decisions.{has_no_room_for, is_one_topic_over, refuses, repeats, owned_mark, packet_mark_in, place_in}
+use Rattle.broker_base.specs.Decisions.{has_no_room_for, is_one_topic_over, refuses, repeats_taken, owned_mark, packet_mark_in, place_in}
 use Rattle.broker_rows.proofs.FindsEach.{Finds, finds_each}
 use Rattle.broker_rows.proofs.OwnersRow.{owner_found}
 use Rattle.broker_form.specs.InRange.{IsSession}
@@ -142,7 +142,7 @@ owned_rooms : (limits : Limits) (state : State) (x : ConnectionName) (owner : Cl
     owner_in x state.sessions ≡ Some owner → AllInRange limits state.sessions →
     AllHaveRoom limits (record { command = commands.Packet x packet; mark = owned_mark limits state owner packet }) state.retained state.sessions
 owned_rooms limits state x owner (packets.Publish p) sorted e h =
-    elim (repeats owner.1 p.delivery) as (λ (b : Bool).
+    elim (repeats_taken owner.1 p.delivery) as (λ (b : Bool).
     AllHaveRoom limits (record {
       command = commands.Packet x (packets.Publish p);
       mark = if b then Mark.Repeat owner.0 else

@@ -8,7 +8,7 @@ use Rattle.broker_spec.specs.Place.{Client, Limits}
 use Rattle.broker_spec.specs.Answers.{acknowledged}
 use Rattle.broker_base.specs.ClientSession.{ClientSession}
 use Rattle.broker_base.specs.State.{State, owner_in}
-use Rattle.broker_base.specs.Decisions.{repeats}
+use Rattle.broker_base.specs.Decisions.{repeats_taken}
 use Rattle.broker_base.specs.Step.{step}
 use Rattle.broker_spec.specs.declared.command.Command.TheVariants as commands
 use Rattle.broker_spec.specs.declared.command.Output.TheVariants.{Send}
@@ -27,7 +27,7 @@ abbrev pub RepeatStep : Type 0
 RepeatStep =
     (limits : Limits) → (later : ℕ) → (state : State) → (x : ConnectionName) → (c : Client) →
     (kept : ClientSession) → ServesClient state x c kept → (p : Publish) →
-    repeats kept p.delivery ≡ true →
+    repeats_taken kept p.delivery ≡ true →
     step limits later state (commands.Packet x (packets.Publish p))
     ≡ (state, acknowledged x p.delivery)
 

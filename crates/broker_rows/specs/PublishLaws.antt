@@ -14,7 +14,7 @@ use Rattle.broker_spec.specs.Answers.{acknowledged}
 use Rattle.broker_spec.specs.Retained.{retains}
 use Rattle.broker_base.specs.ClientSession.{ClientSession}
 use Rattle.broker_base.specs.State.{Sessions, State, session_in}
-use Rattle.broker_base.specs.Decisions.{is_one_topic_over, repeats}
+use Rattle.broker_base.specs.Decisions.{is_one_topic_over, repeats_taken}
 use Rattle.broker_base.specs.StateLaws.{AreByClient}
 use Rattle.broker_base.specs.Step.{step}
 use Rattle.broker_spec.specs.declared.command.Command.TheVariants as commands
@@ -37,7 +37,7 @@ abbrev pub RefusedStep : Type 0
 RefusedStep =
     (limits : Limits) → (later : ℕ) → (state : State) → (x : ConnectionName) → (c : Client) →
     (kept : ClientSession) →
-    ServesClient state x c kept → (p : Publish) → repeats kept p.delivery ≡ false →
+    ServesClient state x c kept → (p : Publish) → repeats_taken kept p.delivery ≡ false →
     is_refused_in limits state (publication_of p) ≡ true →
     step limits later state (commands.Packet x (packets.Publish p))
     ≡ (with_session c (left_off kept) state, Close x ∷ [])
@@ -49,7 +49,7 @@ abbrev pub TakenStep : Type 0
 TakenStep =
     (limits : Limits) → (later : ℕ) → (state : State) → (x : ConnectionName) → (c : Client) →
     (kept : ClientSession) →
-    ServesClient state x c kept → (p : Publish) → repeats kept p.delivery ≡ false →
+    ServesClient state x c kept → (p : Publish) → repeats_taken kept p.delivery ≡ false →
     is_refused_in limits state (publication_of p) ≡ false →
     let granted = granted_rows p.topic state.sessions in
     let noted = changed c (received_on p.delivery) state.sessions in

@@ -18,7 +18,7 @@ use Rattle.broker_spec.specs.declared.command.Command.TheVariants as commands
 use Rattle.broker_spec.specs.declared.command.Output.TheVariants as outputs
 use Rattle.broker_session.specs.broker_base.ClientSession.{ClientSession}
 use Rattle.broker_session.specs.broker_base.State.{Sessions, session_in}
-use Rattle.broker_session.specs.broker_base.Decisions.{repeats, is_one_topic_over}
+use Rattle.broker_session.specs.broker_base.Decisions.{repeats_taken, is_one_topic_over}
 use Rattle.broker_session.specs.broker_rows.Served.{ServesClient}
 use Rattle.broker_session.specs.broker_rows.Published.{granted_rows, changed, received_on, all_delivered, answered_in_turn, is_full_at}
 use Rattle.broker_session.specs.broker_rows.PublishLaws.{is_refused_in, HaveRoomInTurn}
@@ -33,13 +33,13 @@ use Rattle.broker_tables.proofs.TiesOfRows.{tied_to}
 
 module _ (tables : Tables) (x : ConnectionName) (c : Client) (kept : ClientSession) (served : ServesClient (state_in tables) x c kept) (p : Publish) where
   -- another try
-  pub repeat_of : repeats kept p.delivery ≡ true →
+  pub repeat_of : repeats_taken kept p.delivery ≡ true →
       stepped tables (commands.Packet x (packets.Publish p)) ≡ (state_in tables, acknowledged x p.delivery)
   unfolding stepped
   repeat_of again = repeat_step usual_limits 64 (state_in tables) x c kept served p again
 
   -- one for which there is no room
-  pub refused_of : repeats kept p.delivery ≡ false → is_refused_in usual_limits (state_in tables) (publication_of p) ≡ true →
+  pub refused_of : repeats_taken kept p.delivery ≡ false → is_refused_in usual_limits (state_in tables) (publication_of p) ≡ true →
       stepped tables (commands.Packet x (packets.Publish p)) ≡ ((stepped tables (commands.Lost x)).0, outputs.Close x ∷ [])
   unfolding stepped
   refused_of new refused =
@@ -52,7 +52,7 @@ module _ (tables : Tables) (x : ConnectionName) (c : Client) (kept : ClientSessi
       after.sessions.entries ≡ all_delivered tables.window (publication_of p) granted (changed c (received_on p.delivery) tables.sessions.entries)
 
   -- one that is taken
-  pub taken_of : repeats kept p.delivery ≡ false → is_refused_in usual_limits (state_in tables) (publication_of p) ≡ false →
+  pub taken_of : repeats_taken kept p.delivery ≡ false → is_refused_in usual_limits (state_in tables) (publication_of p) ≡ false →
       (granted : List Row) → granted ≡ granted_rows p.topic tables.sessions.entries →
       stepped tables (commands.Packet x (packets.Publish p))
       ≡ (

@@ -11,7 +11,7 @@ ghost use Rattle.broker_tables.specs.Inside.{HasOthersOf};
 ghost use Rattle.broker_spec.specs.Answers.{acknowledged};
 ghost use Rattle.broker_spec.specs.Commands.{usual_limits};
 ghost use Rattle.broker_spec.specs.Retained.{retains};
-ghost use Rattle.broker_session.specs.broker_base.Decisions.{repeats, is_one_topic_over};
+ghost use Rattle.broker_session.specs.broker_base.Decisions.{repeats_taken, is_one_topic_over};
 ghost use Rattle.broker_session.specs.broker_base.State.{session_in};
 ghost use Rattle.broker_session.specs.broker_rows.Published.{is_full_at, all_delivered, answered_in_turn, changed};
 ghost use Rattle.broker_session.specs.broker_rows.Published.{copy_answered, delivered_on};
@@ -46,7 +46,7 @@ impl Tables {
             (commands.Packet connection (packets.Publish publish.now))) }
         ensures tied { OnOk result (IsTied self.new) }
     {
-        if repeats(&self.sessions[client], publish.delivery) {
+        if repeats_taken(&self.sessions[client], publish.delivery) {
             acknowledge(connection, publish.delivery, out)?;
             return Ok(());
         }
@@ -88,7 +88,7 @@ impl Tables {
     // 4.3.3).
     fn note_received(&mut self, client: &ClientId, delivery: Delivery) -> Result<(), Halted>
         requires { IfSome (session_in client.now self.old.sessions.entries)
-            (λ kept. repeats kept delivery ≡ false) }
+            (λ kept. repeats_taken kept delivery ≡ false) }
         ensures sessions { OnOk result
             (self.new.sessions.entries
             ≡ changed client.now (received_on delivery) self.old.sessions.entries) }
@@ -102,8 +102,8 @@ impl Tables {
 }
 
 // Says whether a delivery is a repeat of one that the session took (MQTT 4.3.3).
-fn repeats(row: &ClientRow, delivery: Delivery) -> bool
-    ensures { result ≡ repeats row.now delivery }
+fn repeats_taken(row: &ClientRow, delivery: Delivery) -> bool
+    ensures { result ≡ repeats_taken row.now delivery }
 {
     match delivery {
         Delivery::ExactlyOnce(_, id) => row.state.is_received(id),
@@ -129,7 +129,7 @@ fn acknowledge(
 
 // Notes the identifier of a PUBLISH at QoS 2 in the session of a row (MQTT 4.3.3).
 fn note_identifier(row: &mut ClientRow, delivery: Delivery) -> Result<(), Halted>
-    requires { repeats row.old delivery ≡ false }
+    requires { repeats_taken row.old delivery ≡ false }
     ensures { OnOk result (row.new ≡ received_on delivery row.old) }
 {
     if let Delivery::ExactlyOnce(_, id) = delivery {

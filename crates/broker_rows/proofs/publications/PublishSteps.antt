@@ -9,7 +9,7 @@ use Rattle.broker_spec.specs.Retained.{retains}
 use Rattle.broker_spec.specs.Past.{is_leaving}
 use Rattle.broker_base.specs.ClientSession.{ClientSession}
 use Rattle.broker_base.specs.State.{State}
-use Rattle.broker_base.specs.Decisions.{is_one_topic_over, refuses, repeats, owned_mark, packet_mark_in}
+use Rattle.broker_base.specs.Decisions.{is_one_topic_over, refuses, repeats_taken, owned_mark, packet_mark_in}
 use Rattle.broker_base.specs.Step.{step_at}
 use Rattle.broker_base.specs.StateLaws.{AreByClient}
 use Rattle.broker_spec.specs.declared.command.Command.TheVariants as commands
@@ -22,7 +22,7 @@ use Rattle.broker_rows.proofs.LeavingSteps.{leaving_step}
 
 -- what happens to it
 publish_mark : (limits : Limits) (state : State) (c : Client) (kept : ClientSession) (p : Publish) (refused : Bool) → AreByClient state.sessions →
-    repeats kept p.delivery ≡ false → is_refused_in limits state (publication_of p) ≡ refused →
+    repeats_taken kept p.delivery ≡ false → is_refused_in limits state (publication_of p) ≡ refused →
     owned_mark limits state (c, kept) (packets.Publish p) ≡ (if refused then Mark.Refused c else Mark.Taken c)
 publish_mark limits state c kept p refused by_client new is =
     ap (λ b. if b then Mark.Repeat c else if refuses limits state (publication_of p) then Mark.Refused c else Mark.Taken c) new

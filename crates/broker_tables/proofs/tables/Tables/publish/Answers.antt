@@ -17,18 +17,18 @@ use Rattle.broker_tables.proofs.tables.Tables.publish.Goals as goal
 pub index-requires : goal.index-requires
 index-requires c = has_session c.args.self.now c.args.connection c.args.client.now c.requires.consistent c.requires.served
 
-pub returns-then-repeats-clause-step : goal.returns-then-repeats-clause-step
-returns-then-repeats-clause-step c =
+pub returns-then-repeats_taken-clause-step : goal.returns-then-repeats_taken-clause-step
+returns-then-repeats_taken-clause-step c =
     let t = c.args.self.now in
     let kept = c.index.result.now in
     let served = is_served t c.args.connection c.args.client.now kept c.requires.consistent c.requires.served c.index.ensures in
     record {
       state = sym (ap (λ p. p.0)
-          (repeat_of t c.args.connection c.args.client.now kept served c.args.publish.now (sym c.repeats.ensures ∙ c.if-repeats.true)));
+          (repeat_of t c.args.connection c.args.client.now kept served c.args.publish.now (sym c.repeats_taken.ensures ∙ c.if-repeats_taken.true)));
       outputs = c.in_ok-acknowledge.ensures
           ∙ ap (λ given. c.args.out.now.items ++ given)
           (sym (ap (λ p. p.1)
-          (repeat_of t c.args.connection c.args.client.now kept served c.args.publish.now (sym c.repeats.ensures ∙ c.if-repeats.true))));
+          (repeat_of t c.args.connection c.args.client.now kept served c.args.publish.now (sym c.repeats_taken.ensures ∙ c.if-repeats_taken.true))));
     }
 
 pub returns-then-refuses-clause-step : goal.returns-then-refuses-clause-step
@@ -41,11 +41,11 @@ returns-then-refuses-clause-step c =
     record {
       state = c.in_ok-close.ensures.state
           ∙ sym (ap (λ p. p.0)
-          (refused_of t c.args.connection c.args.client.now kept served c.args.publish.now (sym c.repeats.ensures ∙ c.if-repeats.false) refused));
+          (refused_of t c.args.connection c.args.client.now kept served c.args.publish.now (sym c.repeats_taken.ensures ∙ c.if-repeats_taken.false) refused));
       outputs = c.in_ok-close.ensures.outputs
           ∙ ap (λ given. c.args.out.now.items ++ given)
           (sym (ap (λ p. p.1)
-          (refused_of t c.args.connection c.args.client.now kept served c.args.publish.now (sym c.repeats.ensures ∙ c.if-repeats.false) refused)));
+          (refused_of t c.args.connection c.args.client.now kept served c.args.publish.now (sym c.repeats_taken.ensures ∙ c.if-repeats_taken.false) refused)));
     }
 
 pub returns-clause-step : goal.returns-clause-step
@@ -63,7 +63,7 @@ returns-clause-step c =
         retained = (c.in_ok-retain.ensures ∙ (λ j. retains (c.in_ok-publication.ensures j) (c.in_ok-note_received.ensures.others.retained j))) i;
       })
           ∙ sym (ap (λ p. p.0)
-          (taken_of t c.args.connection c.args.client.now kept served c.args.publish.now (sym c.repeats.ensures ∙ c.if-repeats.false) taken
+          (taken_of t c.args.connection c.args.client.now kept served c.args.publish.now (sym c.repeats_taken.ensures ∙ c.if-repeats_taken.false) taken
           c.in_ok-granted.granted.items c.in_ok-granted.ensures));
       outputs = c.in_ok-deliver_all.ensures.outputs
           ∙ (λ i. c.in_ok-acknowledge-2.ensures i
@@ -73,7 +73,7 @@ returns-clause-step c =
           (changed c.args.client.now (received_on c.args.publish.now.delivery) t.sessions.entries))
           ∙ ap (λ given. c.args.out.now.items ++ given)
           (sym (ap (λ p. p.1)
-          (taken_of t c.args.connection c.args.client.now kept served c.args.publish.now (sym c.repeats.ensures ∙ c.if-repeats.false) taken
+          (taken_of t c.args.connection c.args.client.now kept served c.args.publish.now (sym c.repeats_taken.ensures ∙ c.if-repeats_taken.false) taken
           c.in_ok-granted.granted.items c.in_ok-granted.ensures)));
     }
 
