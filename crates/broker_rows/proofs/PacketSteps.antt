@@ -19,7 +19,7 @@ use Rattle.broker_spec.specs.declared.command.Command.TheVariants as commands
 use Rattle.broker_spec.specs.declared.command.Output.{Output}
 use Rattle.broker_spec.specs.declared.command.Output.TheVariants.{Send}
 use Rattle.broker_spec.proofs.ClientsInOrder.{same_self}
-use Rattle.broker_rows.specs.Served.{ServesClient, with_session, holding}
+use Rattle.broker_rows.specs.Served.{ServesClient, with_session, with_content}
 use Rattle.broker_rows.specs.PacketLaws.{handled_state, HandledStep, subscribed_to, subscribe_answers, SubscribeStep}
 use Rattle.broker_rows.specs.IdlePacketLaws.{PingreqStep, RepeatStep}
 use Rattle.broker_rows.proofs.ServedStep.{served_on, served_found, written_same, served_step}
@@ -43,7 +43,7 @@ answered w place state x packet c o found = by packet ∙ ap (λ o. handled_in w
 -- PUBACK, PUBREC, PUBREL, PUBCOMP, UNSUBSCRIBE, PINGREQ
 pub handled_step : HandledStep
 handled_step limits later state x c kept served packet marked =
-    served_step limits later state (commands.Packet x packet) x c kept (Mark.Handled c) (Some (holding (handled_state state.window packet kept.state) kept))
+    served_step limits later state (commands.Packet x packet) x c kept (Mark.Handled c) (Some (with_content (handled_state state.window packet kept.state) kept))
     (handled_in state.window x (Some kept) packet) served refl refl (ap (packet_mark_in limits state packet) served.owner ∙ marked) refl
     (handled_is state.window x state.retained c kept (served_on state x c kept served) packet)
     (answered state.window (packet_at x packet (Mark.Handled c)) state x packet c (Some kept) (served_found state x c kept served))
@@ -58,7 +58,7 @@ pingreq_step limits later state x c kept served =
 pub subscribe_step : SubscribeStep
 subscribe_step limits later state x c kept served s which granted =
     served_step limits later state (commands.Packet x (packets.Subscribe s)) x c kept (Mark.Granted c which)
-    (Some (holding (subscribed_to state.window state.retained (granted_of s.filters which) kept.state) kept))
+    (Some (with_content (subscribed_to state.window state.retained (granted_of s.filters which) kept.state) kept))
     (map (Send x) (subscribe_answers state.window state.retained s which kept.state)) served refl refl
     (ap (packet_mark_in limits state (packets.Subscribe s)) served.owner ∙ ap (Mark.Granted c) granted) refl
     (subscribe_is state.window x state.retained c kept (served_on state x c kept served) s which)

@@ -21,7 +21,7 @@ use Rattle.broker_base.specs.SessionStep.{kept_on, kept_after}
 use Rattle.broker_base.specs.Step.{is_about, session_after}
 use Rattle.broker_spec.specs.declared.command.Command.TheVariants as commands
 use Rattle.broker_spec.proofs.ClientsInOrder.{same_self}
-use Rattle.broker_rows.specs.Served.{holding}
+use Rattle.broker_rows.specs.Served.{with_content}
 use Rattle.broker_rows.specs.PacketLaws.{handled_state, subscribed_to}
 
 -- the place of a packet
@@ -58,7 +58,7 @@ module _ (w : ℕ) (x : ConnectionName) (content : RetainedTopics) (c : Client) 
   -- the session with these, on its connection
   back_on : (filters : List GrantedFilter) (ids : List ℕ) (queue : Queue) →
       Some (record { clean = kept.clean; connection = Some x; state = record { subscriptions = filters; received = ids; queue = queue } })
-      ≡ Some (holding (record { subscriptions = filters; received = ids; queue = queue }) kept)
+      ≡ Some (with_content (record { subscriptions = filters; received = ids; queue = queue }) kept)
   back_on filters ids queue =
       ap (λ connection. Some (record { clean = kept.clean; connection = connection; state = record { subscriptions = filters; received = ids; queue = queue } })) (sym on)
 
@@ -68,10 +68,10 @@ module _ (w : ℕ) (x : ConnectionName) (content : RetainedTopics) (c : Client) 
   about_sender _ = same_self c
 
   -- a packet that is handled
-  pub handled_is : (packet : Packet) → session_after w (packet_at x packet (Mark.Handled c)) content c kept ≡ Some (holding (handled_state w packet kept.state) kept)
+  pub handled_is : (packet : Packet) → session_after w (packet_at x packet (Mark.Handled c)) content c kept ≡ Some (with_content (handled_state w packet kept.state) kept)
   handled_is packet = goes_on packet (Mark.Handled c) refl (about_sender packet) ∙ by packet
     where
-      by : (packet : Packet) → Some (kept_on w (packet_at x packet (Mark.Handled c)) content c (Some x) kept) ≡ Some (holding (handled_state w packet kept.state) kept)
+      by : (packet : Packet) → Some (kept_on w (packet_at x packet (Mark.Handled c)) content c (Some x) kept) ≡ Some (with_content (handled_state w packet kept.state) kept)
       by (packets.Puback id) =
           ap (λ b. Some (record { clean = kept.clean; connection = Some x; state = with_queue (if b then fill w (on_puback id kept.state.queue.in_flight) kept.state.queue.waiting else kept.state.queue) kept.state })) (same_self c)
           ∙ back_on kept.state.subscriptions kept.state.received (fill w (on_puback id kept.state.queue.in_flight) kept.state.queue.waiting)
@@ -92,7 +92,7 @@ module _ (w : ℕ) (x : ConnectionName) (content : RetainedTopics) (c : Client) 
   -- SUBSCRIBE: the granted filters are held, and their retained copies come
   pub subscribe_is : (s : Subscribe) (which : List Bool) →
       session_after w (packet_at x (packets.Subscribe s) (Mark.Granted c which)) content c kept
-      ≡ Some (holding (subscribed_to w content (granted_of s.filters which) kept.state) kept)
+      ≡ Some (with_content (subscribed_to w content (granted_of s.filters which) kept.state) kept)
   subscribe_is s which =
       goes_on (packets.Subscribe s) (Mark.Granted c which) refl (same_self c)
       ∙ ap (λ b. Some (record {

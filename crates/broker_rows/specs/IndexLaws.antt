@@ -17,7 +17,7 @@ use Rattle.broker_base.specs.StateLaws.{AllSound, AreByClient}
 use Rattle.broker_rows.specs.Touched.{written}
 use Rattle.broker_rows.specs.Served.{left_off}
 use Rattle.broker_rows.specs.ConnectLaws.{all_left_off}
-use Rattle.broker_rows.specs.Published.{changed, received_on, all_delivered}
+use Rattle.broker_rows.specs.Published.{session_changed, received_on, all_delivered}
 use Rattle.broker_rows.specs.Indexed.{content_in, all_set, all_cleared, all_dropped}
 use Rattle.broker_rows.specs.Indexed.{clean_clients, all_told}
 
@@ -73,7 +73,7 @@ abbrev pub PublishingKeepsContent : Type 0
 PublishingKeepsContent =
     (window : ℕ) → (p : Publication) → (granted : List Row) → (c : Client) → (delivery : Delivery) →
     (rows : Sessions) →
-    content_in (all_delivered window p granted (changed c (received_on delivery) rows))
+    content_in (all_delivered window p granted (session_changed c (received_on delivery) rows))
     ≡ content_in rows
 
 -- an index that is rebuilt gets each session's filters

@@ -14,7 +14,7 @@ use Rattle.broker_base.specs.StepAnswers.{connection_of}
 use Rattle.broker_rows.specs.Touched.{written}
 use Rattle.broker_rows.specs.Served.{ServesClient, left_off}
 use Rattle.broker_rows.specs.ConnectLaws.{all_left_off}
-use Rattle.broker_rows.specs.Published.{changed, received_on, all_delivered}
+use Rattle.broker_rows.specs.Published.{session_changed, received_on, all_delivered}
 use Rattle.broker_rows.specs.Owners.{owners_in, with_owner, without_owner, no_owners, all_owned}
 
 -- nothing changes if a session is written with the connection that it had
@@ -66,7 +66,7 @@ PublishingKeepsOwners =
     (window : ℕ) → (p : Publication) → (granted : List Row) → (c : Client) → (delivery : Delivery) →
     (rows : Sessions) →
     (y : ConnectionName) →
-    owners_in (all_delivered window p granted (changed c (received_on delivery) rows)) y
+    owners_in (all_delivered window p granted (session_changed c (received_on delivery) rows)) y
     ≡ owners_in rows y
 
 -- a map that is rebuilt gets each session's connection

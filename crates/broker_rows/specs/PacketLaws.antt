@@ -25,7 +25,7 @@ use Rattle.broker_base.specs.StepAnswers.{handled_in}
 use Rattle.broker_base.specs.Step.{step}
 use Rattle.broker_spec.specs.declared.command.Command.TheVariants as commands
 use Rattle.broker_spec.specs.declared.command.Output.TheVariants.{Send}
-use Rattle.broker_rows.specs.Served.{ServesClient, with_session, holding}
+use Rattle.broker_rows.specs.Served.{ServesClient, with_session, with_content}
 
 -- ---- the packets that are handled
 
@@ -53,7 +53,8 @@ HandledStep =
     owned_mark limits state (c, kept) packet ≡ Mark.Handled c →
     step limits later state (commands.Packet x packet)
     ≡ (
-      with_session c (Some (holding (handled_state state.window packet kept.state) kept)) state,
+      with_session c (Some (with_content (handled_state state.window packet kept.state) kept))
+          state,
       handled_in state.window x (Some kept) packet,
     )
 
@@ -86,7 +87,7 @@ SubscribeStep =
     step limits later state (commands.Packet x (packets.Subscribe s))
     ≡ (
       with_session c
-          (Some (holding (subscribed_to state.window state.retained
+          (Some (with_content (subscribed_to state.window state.retained
           (granted_of s.filters which) kept.state) kept))
           state,
       map (Send x) (subscribe_answers state.window state.retained s which kept.state),

@@ -22,7 +22,7 @@ use Rattle.broker_spec.specs.declared.command.Output.TheVariants.{Close}
 use Rattle.subs_base.specs.Granted.{Row}
 use Rattle.broker_rows.specs.Touched.{written}
 use Rattle.broker_rows.specs.Served.{ServesClient, with_session, left_off}
-use Rattle.broker_rows.specs.Published.{granted_rows, changed, received_on, delivered_on}
+use Rattle.broker_rows.specs.Published.{granted_rows, session_changed, received_on, delivered_on}
 use Rattle.broker_rows.specs.Published.{all_delivered, is_full_at, answered_in_turn}
 
 -- whether a granted row's session is full for it, or it would be retained on a topic too many
@@ -52,7 +52,7 @@ TakenStep =
     ServesClient state x c kept → (p : Publish) → repeats_taken kept p.delivery ≡ false →
     is_refused_in limits state (publication_of p) ≡ false →
     let granted = granted_rows p.topic state.sessions in
-    let noted = changed c (received_on p.delivery) state.sessions in
+    let noted = session_changed c (received_on p.delivery) state.sessions in
     step limits later state (commands.Packet x (packets.Publish p))
     ≡ (
       record {
@@ -69,7 +69,8 @@ TakenStep =
 abbrev pub HaveRoomInTurn : Limits → ℕ → Publication → List Row → Sessions → Type 0
 HaveRoomInTurn limits window p (row ∷ granted) rows =
     (is_full_at limits p row.1 (session_in row.0 rows) ≡ false)
-    × HaveRoomInTurn limits window p granted (changed row.0 (delivered_on window p row.1) rows)
+    × HaveRoomInTurn limits window p granted
+    (session_changed row.0 (delivered_on window p row.1) rows)
 HaveRoomInTurn limits window p [] rows = Unit {0}
 
 -- if no granted session is full beforehand, no copy of a taken publication finds its queue full
@@ -80,7 +81,7 @@ RoomLastsToItsTurn =
     list_any (λ row. is_full_at limits p row.1 (session_in row.0 rows)) (granted_rows p.topic rows)
     ≡ false →
     HaveRoomInTurn limits window p (granted_rows p.topic rows)
-    (changed c (received_on delivery) rows)
+    (session_changed c (received_on delivery) rows)
 
 -- ---- one session changed
 
@@ -90,7 +91,7 @@ abbrev pub ChangeIsOfOneRow : Type 0
 ChangeIsOfOneRow =
     (d : Client) → (change : ClientSession → ClientSession) → (rows : Sessions) →
     ((kept : ClientSession) → session_in d rows ≡ Some kept →
-    changed d change rows ≡ written d (Some (change kept)) rows)
+    session_changed d change rows ≡ written d (Some (change kept)) rows)
     × ((kept : ClientSession) → session_in d rows ≡ Some kept → change kept ≡ kept →
-    changed d change rows ≡ rows)
-    × (session_in d rows ≡ None → changed d change rows ≡ rows)
+    session_changed d change rows ≡ rows)
+    × (session_in d rows ≡ None → session_changed d change rows ≡ rows)

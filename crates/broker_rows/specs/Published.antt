@@ -22,7 +22,7 @@ use Rattle.broker_base.specs.StepAnswers.{sent_on}
 use Rattle.broker_spec.specs.declared.command.Output.{Output}
 use Rattle.subs_base.specs.Granted.{Row, row_of}
 use Rattle.broker_rows.specs.Touched.{written}
-use Rattle.broker_rows.specs.Served.{holding}
+use Rattle.broker_rows.specs.Served.{with_content}
 
 -- a row for each session with a subscription that matches the topic, with the greatest QoS
 abbrev pub granted_rows : List ℕ → Sessions → List Row
@@ -33,18 +33,18 @@ granted_rows topic [] = []
 -- ---- sessions
 
 -- the client's session changed in its place, if the client has one
-abbrev pub changed : Client → (ClientSession → ClientSession) → Sessions → Sessions
-changed d change rows = written d (option_map change (session_in d rows)) rows
+abbrev pub session_changed : Client → (ClientSession → ClientSession) → Sessions → Sessions
+session_changed d change rows = written d (option_map change (session_in d rows)) rows
 
 -- a publisher's session takes note of the identifier of a PUBLISH at QoS 2 (MQTT 4.3.3)
 abbrev pub received_on : Delivery → ClientSession → ClientSession
 received_on delivery kept =
-    holding (with_received (receives delivery kept.state.received) kept.state) kept
+    with_content (with_received (receives delivery kept.state.received) kept.state) kept
 
 -- a session that is granted a publication at this QoS gets its copy, and what may start then starts
 abbrev pub delivered_on : ℕ → Publication → QoS → ClientSession → ClientSession
 delivered_on window p qos kept =
-    holding
+    with_content
     (with_queue
     (copied_queue window kept.connection (copy_of p (Some (lower_qos p.qos qos))) kept.state.queue)
     kept.state) kept
@@ -52,7 +52,7 @@ delivered_on window p qos kept =
 -- each granted row's session, one after another
 abbrev pub all_delivered : ℕ → Publication → List Row → Sessions → Sessions
 all_delivered window p granted sessions =
-    fold (λ rows row. changed row.0 (delivered_on window p row.1) rows) sessions granted
+    fold (λ rows row. session_changed row.0 (delivered_on window p row.1) rows) sessions granted
 
 -- ---- room and answers, of a granted row's session
 
@@ -73,5 +73,5 @@ copy_answered window p qos None = []
 abbrev pub answered_in_turn : ℕ → Publication → List Row → Sessions → List Output
 answered_in_turn window p (row ∷ granted) rows =
     copy_answered window p row.1 (session_in row.0 rows)
-    ++ answered_in_turn window p granted (changed row.0 (delivered_on window p row.1) rows)
+    ++ answered_in_turn window p granted (session_changed row.0 (delivered_on window p row.1) rows)
 answered_in_turn window p [] rows = []

@@ -17,7 +17,7 @@ use Rattle.broker_base.specs.State.{Sessions}
 use Rattle.broker_spec.specs.RowWords.{a, b, nth, sends, publish}
 use Rattle.broker_rows.specs.Owners.{owners_in, with_owner, without_owner}
 use Rattle.broker_rows.specs.Indexed.{content_in, all_set, all_cleared, all_dropped, clean_clients}
-use Rattle.broker_rows.specs.Published.{granted_rows, changed, received_on}
+use Rattle.broker_rows.specs.Published.{granted_rows, session_changed, received_on}
 use Rattle.broker_rows.specs.Published.{all_delivered, answered_in_turn}
 use Rattle.broker_rows.specs.ConnectLaws.{all_left_off}
 
@@ -71,7 +71,7 @@ TwoAreGranted =
 abbrev pub EachGetsItsCopy : Type 0
 EachGetsItsCopy =
     all_delivered 16 (o_at qualities.ExactlyOnce) (granted_rows (codes "t/1") three)
-    (changed a (received_on seventh) three)
+    (session_changed a (received_on seventh) three)
     ≡ row a true (Some (nth 1)) [] (7 ∷ []) empty_queue
     ∷ row b false None of_b []
     (record { in_flight = []; waiting = o_at qualities.AtLeastOnce ∷ [] })
@@ -83,7 +83,7 @@ EachGetsItsCopy =
 abbrev pub OneIsAnswered : Type 0
 OneIsAnswered =
     answered_in_turn 16 (o_at qualities.ExactlyOnce) (granted_rows (codes "t/1") three)
-    (changed a (received_on seventh) three)
+    (session_changed a (received_on seventh) three)
     ≡ sends 2 (publish (deliveries.ExactlyOnce false 1) false (codes "o")) ∷ []
 
 -- ---- the maps

@@ -25,8 +25,8 @@ with_session c session state =
     }
 
 -- a client's session with this content, and all else as it was
-abbrev pub holding : SessionState → ClientSession → ClientSession
-holding held kept = record { clean = kept.clean; connection = kept.connection; state = held }
+abbrev pub with_content : SessionState → ClientSession → ClientSession
+with_content held kept = record { clean = kept.clean; connection = kept.connection; state = held }
 
 -- a session whose connection is over: a clean one is over with it (MQTT 3.1.2.4)
 abbrev pub left_off : ClientSession → Option ClientSession

@@ -16,7 +16,7 @@ use Rattle.broker_session.specs.broker_base.SessionStep.{kept_anew, kept_resumed
 use Rattle.broker_session.specs.broker_base.State.{State, session_in, owner_in}
 use Rattle.broker_session.specs.broker_base.StepAnswers.{connection_of}
 use Rattle.broker_session.specs.broker_rows.Served.{ServesClient}
-use Rattle.broker_session.specs.broker_rows.Published.{changed}
+use Rattle.broker_session.specs.broker_rows.Published.{session_changed}
 use Rattle.broker_session.specs.broker_rows.ConnectLaws.{may_have_session, begins_in}
 use Rattle.broker_session.specs.broker_rows.Owners.{owners_in, with_owner, without_owner}
 use Rattle.broker_session.proofs.of_broker_rows.ConnectSteps.{beginning_step, resuming_step, full_step}
@@ -89,7 +89,7 @@ module _ (tables : Tables) (x : ConnectionName) (c : Client) (clean : Bool) (ste
       ≡ (
         record {
           window = tables.window;
-          sessions = changed c (kept_resumed tables.window (x, false)) tables.sessions.entries;
+          sessions = session_changed c (kept_resumed tables.window (x, false)) tables.sessions.entries;
           retained = tables.retained;
         },
         close_outputs (connection_of (session_in c tables.sessions.entries)) ++ welcome x true
@@ -104,7 +104,7 @@ module _ (tables : Tables) (x : ConnectionName) (c : Client) (clean : Bool) (ste
           ≡ (
             record {
               window = tables.window;
-              sessions = changed c (kept_resumed tables.window (x, false)) tables.sessions.entries;
+              sessions = session_changed c (kept_resumed tables.window (x, false)) tables.sessions.entries;
               retained = tables.retained;
             },
             close_outputs (connection_of (session_in c tables.sessions.entries)) ++ welcome x true
@@ -129,7 +129,7 @@ module _ (tables : Tables) (x : ConnectionName) (c : Client) (clean : Bool) (ste
       ≡ (
         record {
           window = tables.window;
-          sessions = changed c (kept_resumed tables.window (x, false)) tables.sessions.entries;
+          sessions = session_changed c (kept_resumed tables.window (x, false)) tables.sessions.entries;
           retained = tables.retained;
         },
         close_outputs (connection_of (session_in c tables.sessions.entries)) ++ welcome x true
@@ -138,7 +138,7 @@ module _ (tables : Tables) (x : ConnectionName) (c : Client) (clean : Bool) (ste
   resuming_of on = resuming_by (session_in c tables.sessions.entries) refl on
 
   pub ties_of_resuming : (after : Tables) → begins_in (state_in tables) c clean ≡ false →
-      after.sessions.entries ≡ changed c (kept_resumed tables.window (x, false)) tables.sessions.entries →
+      after.sessions.entries ≡ session_changed c (kept_resumed tables.window (x, false)) tables.sessions.entries →
       TakesOver tables x c after → content_of after.index ≡ content_of tables.index → IsTied after
   ties_of_resuming after on is owners index = by (session_in c tables.sessions.entries) refl on
     where

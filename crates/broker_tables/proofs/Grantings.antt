@@ -16,7 +16,7 @@ use Rattle.broker_spec.specs.declared.command.Command.TheVariants as commands
 use Rattle.broker_spec.specs.declared.command.Output.TheVariants as outputs
 use Rattle.broker_session.specs.broker_base.ClientSession.{ClientSession}
 use Rattle.broker_session.specs.broker_base.State.{session_in}
-use Rattle.broker_session.specs.broker_rows.Served.{ServesClient, with_session, holding}
+use Rattle.broker_session.specs.broker_rows.Served.{ServesClient, with_session, with_content}
 use Rattle.broker_session.specs.broker_rows.CopyLaws.{granted_in_turn, subscribed_in_turn, sent_in_turn}
 use Rattle.broker_session.specs.broker_rows.Indexed.{all_set}
 use Rattle.broker_session.proofs.of_broker_rows.PacketSteps.{subscribe_step}
@@ -34,7 +34,7 @@ which_of tables held s = granted_in_turn usual_limits tables.window tables.retai
 pub subscribe_of : (tables : Tables) (x : ConnectionName) (c : Client) (kept : ClientSession) (s : Subscribe) → ServesClient (state_in tables) x c kept →
     stepped tables (commands.Packet x (packets.Subscribe s))
     ≡ (
-      with_session c (Some (holding (subscribed_in_turn usual_limits tables.window tables.retained kept.state s.filters) kept)) (state_in tables),
+      with_session c (Some (with_content (subscribed_in_turn usual_limits tables.window tables.retained kept.state s.filters) kept)) (state_in tables),
       outputs.Send x (packets.Suback (record { id = s.id; codes = codes_of s.filters (which_of tables kept.state s) }))
           ∷ map (outputs.Send x) (sent_in_turn usual_limits tables.window tables.retained kept.state s.filters),
     )
@@ -43,7 +43,7 @@ subscribe_of tables x c kept s served =
     let turn = subscribes usual_limits tables.window tables.retained kept.state s.filters in
     subscribe_step usual_limits 64 (state_in tables) x c kept served s (which_of tables kept.state s) turn.0
     ∙ (λ i. (
-      with_session c (Some (holding (turn.1 i) kept)) (state_in tables),
+      with_session c (Some (with_content (turn.1 i) kept)) (state_in tables),
       outputs.Send x (packets.Suback (record { id = s.id; codes = codes_of s.filters (which_of tables kept.state s) }))
           ∷ map (outputs.Send x) (turn.2 i),
     ))

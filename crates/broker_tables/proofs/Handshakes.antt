@@ -12,7 +12,7 @@ use Rattle.broker_spec.specs.declared.command.Output.TheVariants as outputs
 use Rattle.broker_session.specs.broker_base.ClientSession.{ClientSession}
 use Rattle.broker_session.specs.broker_base.Decisions.{owned_mark}
 use Rattle.broker_session.specs.broker_base.StepAnswers.{handled_in, while_connected}
-use Rattle.broker_session.specs.broker_rows.Served.{ServesClient, with_session, holding}
+use Rattle.broker_session.specs.broker_rows.Served.{ServesClient, with_session, with_content}
 use Rattle.broker_session.specs.broker_rows.PacketLaws.{handled_state}
 use Rattle.broker_session.proofs.of_broker_rows.PacketSteps.{handled_step}
 use Rattle.broker_session.proofs.of_broker_rows.ServedStep.{served_on}
@@ -45,13 +45,13 @@ pub handshake_step : (tables : Tables) (x : ConnectionName) (c : Client) (kept :
     ServesClient (state_in tables) x c kept → is_handshake packet ≡ true →
     stepped tables (commands.Packet x packet)
     ≡ (
-      with_session c (Some (holding (handled_state tables.window packet kept.state) kept)) (state_in tables),
+      with_session c (Some (with_content (handled_state tables.window packet kept.state) kept)) (state_in tables),
       map (outputs.Send x) (handshake_sends tables.window packet kept.state),
     )
 unfolding stepped
 handshake_step tables x c kept packet served kind =
     handled_step usual_limits 64 (state_in tables) x c kept served packet (handled tables c kept packet kind)
-    ∙ ap (λ answers. (with_session c (Some (holding (handled_state tables.window packet kept.state) kept)) (state_in tables), answers))
+    ∙ ap (λ answers. (with_session c (Some (with_content (handled_state tables.window packet kept.state) kept)) (state_in tables), answers))
     (answered tables.window x kept packet kind (served_on (state_in tables) x c kept served))
 
 -- it leaves the subscriptions

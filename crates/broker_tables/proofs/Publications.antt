@@ -20,7 +20,7 @@ use Rattle.broker_session.specs.broker_base.ClientSession.{ClientSession}
 use Rattle.broker_session.specs.broker_base.State.{Sessions, session_in}
 use Rattle.broker_session.specs.broker_base.Decisions.{repeats_taken, is_one_topic_over}
 use Rattle.broker_session.specs.broker_rows.Served.{ServesClient}
-use Rattle.broker_session.specs.broker_rows.Published.{granted_rows, changed, received_on, all_delivered, answered_in_turn, is_full_at}
+use Rattle.broker_session.specs.broker_rows.Published.{granted_rows, session_changed, received_on, all_delivered, answered_in_turn, is_full_at}
 use Rattle.broker_session.specs.broker_rows.PublishLaws.{is_refused_in, HaveRoomInTurn}
 use Rattle.broker_session.proofs.of_broker_rows.PacketSteps.{repeat_step}
 use Rattle.broker_session.proofs.of_broker_rows.publications.RoomInTurn.{room_lasts}
@@ -49,7 +49,7 @@ module _ (tables : Tables) (x : ConnectionName) (c : Client) (kept : ClientSessi
   -- the sessions after one that is taken
   abbrev pub sessions_after : List Row → Tables → Type 0
   sessions_after granted after =
-      after.sessions.entries ≡ all_delivered tables.window (publication_of p) granted (changed c (received_on p.delivery) tables.sessions.entries)
+      after.sessions.entries ≡ all_delivered tables.window (publication_of p) granted (session_changed c (received_on p.delivery) tables.sessions.entries)
 
   -- one that is taken
   pub taken_of : repeats_taken kept p.delivery ≡ false → is_refused_in usual_limits (state_in tables) (publication_of p) ≡ false →
@@ -58,11 +58,11 @@ module _ (tables : Tables) (x : ConnectionName) (c : Client) (kept : ClientSessi
       ≡ (
         record {
           window = tables.window;
-          sessions = all_delivered tables.window (publication_of p) granted (changed c (received_on p.delivery) tables.sessions.entries);
+          sessions = all_delivered tables.window (publication_of p) granted (session_changed c (received_on p.delivery) tables.sessions.entries);
           retained = retains (publication_of p) tables.retained;
         },
         acknowledged x p.delivery
-            ++ answered_in_turn tables.window (publication_of p) granted (changed c (received_on p.delivery) tables.sessions.entries),
+            ++ answered_in_turn tables.window (publication_of p) granted (session_changed c (received_on p.delivery) tables.sessions.entries),
       )
   unfolding stepped
   taken_of new taken granted is =
@@ -70,17 +70,17 @@ module _ (tables : Tables) (x : ConnectionName) (c : Client) (kept : ClientSessi
       ∙ ap (λ rows. (
         record {
           window = tables.window;
-          sessions = all_delivered tables.window (publication_of p) rows (changed c (received_on p.delivery) tables.sessions.entries);
+          sessions = all_delivered tables.window (publication_of p) rows (session_changed c (received_on p.delivery) tables.sessions.entries);
           retained = retains (publication_of p) tables.retained;
         },
         acknowledged x p.delivery
-            ++ answered_in_turn tables.window (publication_of p) rows (changed c (received_on p.delivery) tables.sessions.entries),
+            ++ answered_in_turn tables.window (publication_of p) rows (session_changed c (received_on p.delivery) tables.sessions.entries),
       )) (sym is)
 
   -- each session that is granted one finds room for it when its turn comes
   pub room_of_taken : is_refused_in usual_limits (state_in tables) (publication_of p) ≡ false →
       (granted : List Row) → granted ≡ granted_rows p.topic tables.sessions.entries →
-      (noted : Sessions) → noted ≡ changed c (received_on p.delivery) tables.sessions.entries →
+      (noted : Sessions) → noted ≡ session_changed c (received_on p.delivery) tables.sessions.entries →
       HaveRoomInTurn usual_limits tables.window (publication_of p) granted noted
   room_of_taken taken granted is noted after =
       subst (λ (rows : List Row). HaveRoomInTurn usual_limits tables.window (publication_of p) rows noted) (sym is)
@@ -92,10 +92,10 @@ module _ (tables : Tables) (x : ConnectionName) (c : Client) (kept : ClientSessi
 
 -- the ties after it
 pub ties_of_taken : (tables after : Tables) (c : Client) (p : Publish) (granted : List Row) → IsTied tables →
-    after.sessions.entries ≡ all_delivered tables.window (publication_of p) granted (changed c (received_on p.delivery) tables.sessions.entries) →
+    after.sessions.entries ≡ all_delivered tables.window (publication_of p) granted (session_changed c (received_on p.delivery) tables.sessions.entries) →
     after.owners.entries ≡ tables.owners.entries → content_of after.index ≡ content_of tables.index → IsTied after
 ties_of_taken tables after c p granted tied is owners index =
-    tied_to after (all_delivered tables.window (publication_of p) granted (changed c (received_on p.delivery) tables.sessions.entries)) is
+    tied_to after (all_delivered tables.window (publication_of p) granted (session_changed c (received_on p.delivery) tables.sessions.entries)) is
     (λ q.
     ap (lookup (is_at (by_connection q))) owners ∙ tied.owners q
     ∙ sym (publishing_keeps_owners tables.window (publication_of p) granted c p.delivery tables.sessions.entries q))

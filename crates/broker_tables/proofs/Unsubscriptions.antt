@@ -13,7 +13,7 @@ use Rattle.broker_spec.specs.declared.command.Command.TheVariants as commands
 use Rattle.broker_spec.specs.declared.command.Output.TheVariants as outputs
 use Rattle.broker_session.specs.broker_base.ClientSession.{ClientSession}
 use Rattle.broker_session.specs.broker_base.State.{session_in}
-use Rattle.broker_session.specs.broker_rows.Served.{ServesClient, with_session, holding}
+use Rattle.broker_session.specs.broker_rows.Served.{ServesClient, with_session, with_content}
 use Rattle.broker_session.specs.broker_rows.Indexed.{all_cleared}
 use Rattle.broker_session.specs.broker_rows.PacketLaws.{handled_state}
 use Rattle.broker_session.proofs.of_broker_rows.PacketSteps.{handled_step}
@@ -26,7 +26,7 @@ use Rattle.broker_tables.proofs.TiesOfRows.{tied_to}
 pub unsubscribe_of : (tables : Tables) (x : ConnectionName) (c : Client) (kept : ClientSession) (u : Unsubscribe) → ServesClient (state_in tables) x c kept →
     stepped tables (commands.Packet x (packets.Unsubscribe u))
     ≡ (
-      with_session c (Some (holding (handled_state tables.window (packets.Unsubscribe u) kept.state) kept)) (state_in tables),
+      with_session c (Some (with_content (handled_state tables.window (packets.Unsubscribe u) kept.state) kept)) (state_in tables),
       outputs.Send x (packets.Unsuback u.id) ∷ [],
     )
 unfolding stepped

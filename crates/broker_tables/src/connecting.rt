@@ -12,7 +12,7 @@ ghost use Rattle.broker_session.specs.broker_base.StepAnswers.{connection_of};
 ghost use Rattle.broker_session.specs.broker_rows.Owners.{owners_in, with_owner, without_owner};
 ghost use Rattle.broker_session.specs.broker_rows.ConnectLaws.{may_have_session, begins_in};
 ghost use Rattle.broker_tables.specs.Tables.{DoesCommand, IsConsistent, IsTied, owners_at, state_in};
-ghost use Rattle.broker_session.specs.broker_rows.Published.{changed};
+ghost use Rattle.broker_session.specs.broker_rows.Published.{session_changed};
 ghost use Rattle.broker_tables.specs.Inside.{HasOthersOf, HasOthersThanOwners};
 ghost use Rattle.broker_tables.specs.Connecting.{connect_outcome, TakesOver};
 ghost use Rattle.broker_session.specs.OneSession.{sent_to_resumed};
@@ -178,7 +178,7 @@ impl Tables {
     ) -> Result<(), Halted>
         requires { IsSome (session_in client.now self.old.sessions.entries) }
         ensures sessions { OnOk result
-            (self.new.sessions.entries ≡ changed client.now
+            (self.new.sessions.entries ≡ session_changed client.now
             (kept_resumed self.old.window (connection, false)) self.old.sessions.entries) }
         ensures sends { OnOk result
             (out.new.items ≡ out.old.items ++ map (outputs.Send connection)

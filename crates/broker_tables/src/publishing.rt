@@ -13,7 +13,7 @@ ghost use Rattle.broker_spec.specs.Commands.{usual_limits};
 ghost use Rattle.broker_spec.specs.Retained.{retains};
 ghost use Rattle.broker_session.specs.broker_base.Decisions.{repeats_taken, is_one_topic_over};
 ghost use Rattle.broker_session.specs.broker_base.State.{session_in};
-ghost use Rattle.broker_session.specs.broker_rows.Published.{is_full_at, all_delivered, answered_in_turn, changed};
+ghost use Rattle.broker_session.specs.broker_rows.Published.{is_full_at, all_delivered, answered_in_turn, session_changed};
 ghost use Rattle.broker_session.specs.broker_rows.Published.{copy_answered, delivered_on};
 ghost use Rattle.broker_session.specs.broker_rows.Published.{granted_rows, received_on};
 
@@ -91,7 +91,7 @@ impl Tables {
             (λ kept. repeats_taken kept delivery ≡ false) }
         ensures sessions { OnOk result
             (self.new.sessions.entries
-            ≡ changed client.now (received_on delivery) self.old.sessions.entries) }
+            ≡ session_changed client.now (received_on delivery) self.old.sessions.entries) }
         ensures others { HasOthersOf self.old self.new }
     {
         if let Some(row) = self.sessions.get_mut(client) {
@@ -210,7 +210,7 @@ fn deliver_to(
     requires room { is_full_at usual_limits publication.now granted.now.1
         (session_in granted.now.0 sessions.old.entries) ≡ false }
     ensures state { OnOk result
-        (sessions.new.entries ≡ changed granted.now.0
+        (sessions.new.entries ≡ session_changed granted.now.0
         (delivered_on window publication.now granted.now.1) sessions.old.entries) }
     ensures outputs { OnOk result
         (out.new.items ≡ out.old.items ++ copy_answered window publication.now granted.now.1

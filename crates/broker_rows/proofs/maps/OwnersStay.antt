@@ -7,7 +7,7 @@ use Rattle.broker_spec.specs.Past.{any_connection}
 use Rattle.broker_base.specs.ClientSession.{ClientSession}
 use Rattle.broker_base.specs.State.{Sessions, session_in, owner_in}
 use Rattle.broker_rows.specs.Touched.{written}
-use Rattle.broker_rows.specs.Published.{changed}
+use Rattle.broker_rows.specs.Published.{session_changed}
 use Rattle.broker_rows.specs.Owners.{owners_in}
 use Rattle.broker_rows.specs.OwnerLaws.{WritingKeepsOwners}
 use Rattle.broker_rows.proofs.publications.OneChanged.{changed_next}
@@ -23,19 +23,19 @@ owners_row y row rows = by (any_connection (same_connection y) row.1.connection)
 
 -- a row is changed, except its connection
 pub owners_changed : (d : Client) (change : ClientSession → ClientSession) (rows : Sessions) (y : ConnectionName) → ((kept : ClientSession) → (change kept).connection ≡ kept.connection) →
-    owners_in (changed d change rows) y ≡ owners_in rows y
+    owners_in (session_changed d change rows) y ≡ owners_in rows y
 owners_changed d change [] y same = refl
 owners_changed d change (row ∷ rows) y same =
     ap (λ all. owners_in all y) (changed_next d change row rows)
     ∙ by (same_client d row.0) (owners_changed d change rows y same) ∙ sym (owners_row y row rows)
   where
-    by : (b : Bool) → owners_in (changed d change rows) y ≡ owners_in rows y →
-        owners_in (if b then (row.0, change row.1) ∷ rows else row ∷ changed d change rows) y
+    by : (b : Bool) → owners_in (session_changed d change rows) y ≡ owners_in rows y →
+        owners_in (if b then (row.0, change row.1) ∷ rows else row ∷ session_changed d change rows) y
         ≡ (if any_connection (same_connection y) row.1.connection then Some row.0 else owners_in rows y)
     by true more =
         owners_row y (row.0, change row.1) rows
         ∙ ap (λ connection. if any_connection (same_connection y) connection then Some row.0 else owners_in rows y) (same row.1)
-    by false more = owners_row y row (changed d change rows) ∙ ap (λ o. if any_connection (same_connection y) row.1.connection then Some row.0 else o) more
+    by false more = owners_row y row (session_changed d change rows) ∙ ap (λ o. if any_connection (same_connection y) row.1.connection then Some row.0 else o) more
 
 -- a row is written, with the connection that it had
 pub owners_written : WritingKeepsOwners

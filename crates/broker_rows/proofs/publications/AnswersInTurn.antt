@@ -13,7 +13,7 @@ use Rattle.broker_base.specs.ClientSession.{ClientSession}
 use Rattle.broker_base.specs.State.{Sessions, session_in}
 use Rattle.broker_base.specs.StateLaws.{AreByClient}
 use Rattle.subs_base.specs.Granted.{Row, row_of}
-use Rattle.broker_rows.specs.Published.{granted_rows, changed, received_on, delivered_on, copy_answered, answered_in_turn}
+use Rattle.broker_rows.specs.Published.{granted_rows, session_changed, received_on, delivered_on, copy_answered, answered_in_turn}
 use Rattle.broker_rows.proofs.publications.OneChanged.{changed_as, other_stays}
 use Rattle.broker_rows.proofs.publications.PublishLeft.{GrantedAfter, after_rows}
 
@@ -34,7 +34,7 @@ granted_rise topic (row ∷ rows) by_client = by (granted_qos topic row.1.state.
 
 -- the answers of rows after one that is changed stay
 answers_after : (w : ℕ) (p : Publication) (d : Client) (change : ClientSession → ClientSession) (granted : List Row) (rows : Sessions) → GrantedAfter d granted →
-    flat_map (λ row. copy_answered w p row.1 (session_in row.0 (changed d change rows))) granted
+    flat_map (λ row. copy_answered w p row.1 (session_in row.0 (session_changed d change rows))) granted
     ≡ flat_map (λ row. copy_answered w p row.1 (session_in row.0 rows)) granted
 answers_after w p d change [] rows after = refl
 answers_after w p d change (row ∷ granted) rows after =
@@ -46,11 +46,11 @@ in_turn : (w : ℕ) (p : Publication) (granted : List Row) (rows : Sessions) →
 in_turn w p [] rows rise = refl
 in_turn w p (row ∷ granted) rows rise =
     ap (λ more. copy_answered w p row.1 (session_in row.0 rows) ++ more)
-    (in_turn w p granted (changed row.0 (delivered_on w p row.1) rows) rise.1 ∙ answers_after w p row.0 (delivered_on w p row.1) granted rows rise.0)
+    (in_turn w p granted (session_changed row.0 (delivered_on w p row.1) rows) rise.1 ∙ answers_after w p row.0 (delivered_on w p row.1) granted rows rise.0)
 
 -- the publisher's identifier changes no answer
 noted_all : (w : ℕ) (p : Publication) (d : Client) (delivery : Delivery) (granted : List Row) (rows : Sessions) →
-    flat_map (λ row. copy_answered w p row.1 (session_in row.0 (changed d (received_on delivery) rows))) granted
+    flat_map (λ row. copy_answered w p row.1 (session_in row.0 (session_changed d (received_on delivery) rows))) granted
     ≡ flat_map (λ row. copy_answered w p row.1 (session_in row.0 rows)) granted
 noted_all w p d delivery [] rows = refl
 noted_all w p d delivery (row ∷ granted) rows =
@@ -60,7 +60,7 @@ noted_all w p d delivery (row ∷ granted) rows =
 -- so one loop may note, deliver and answer
 pub answered_from_noted : (w : ℕ) (p : Publication) (d : Client) (delivery : Delivery) (rows : Sessions) → AreByClient rows →
     flat_map (λ row. copy_answered w p row.1 (session_in row.0 rows)) (granted_rows p.topic rows)
-    ≡ answered_in_turn w p (granted_rows p.topic rows) (changed d (received_on delivery) rows)
+    ≡ answered_in_turn w p (granted_rows p.topic rows) (session_changed d (received_on delivery) rows)
 answered_from_noted w p d delivery rows by_client =
-    sym (in_turn w p (granted_rows p.topic rows) (changed d (received_on delivery) rows) (granted_rise p.topic rows by_client)
+    sym (in_turn w p (granted_rows p.topic rows) (session_changed d (received_on delivery) rows) (granted_rise p.topic rows by_client)
     ∙ noted_all w p d delivery (granted_rows p.topic rows) rows)

@@ -9,7 +9,7 @@ use Rattle.broker_spec.specs.Place.{Client, Limits}
 use Rattle.broker_base.specs.ClientSession.{ClientSession}
 use Rattle.broker_base.specs.State.{Sessions, session_in}
 use Rattle.subs_base.specs.Granted.{Row}
-use Rattle.broker_rows.specs.Published.{granted_rows, changed, received_on, delivered_on, is_full_at}
+use Rattle.broker_rows.specs.Published.{granted_rows, session_changed, received_on, delivered_on, is_full_at}
 use Rattle.broker_rows.specs.PublishLaws.{HaveRoomInTurn, RoomLastsToItsTurn}
 use Rattle.broker_rows.proofs.publications.OneChanged.{changed_as, other_stays}
 use Rattle.broker_rows.proofs.publications.PublishLeft.{GrantedAfter}
@@ -17,7 +17,7 @@ use Rattle.broker_rows.proofs.publications.AnswersInTurn.{AreRising, granted_ris
 
 -- the rows after one that is changed
 full_after : (limits : Limits) (p : Publication) (d : Client) (change : ClientSession → ClientSession) (granted : List Row) (rows : Sessions) → GrantedAfter d granted →
-    list_any (λ row. is_full_at limits p row.1 (session_in row.0 (changed d change rows))) granted
+    list_any (λ row. is_full_at limits p row.1 (session_in row.0 (session_changed d change rows))) granted
     ≡ list_any (λ row. is_full_at limits p row.1 (session_in row.0 rows)) granted
 full_after limits p d change [] rows after = refl
 full_after limits p d change (row ∷ granted) rows after =
@@ -30,13 +30,13 @@ in_turn limits w p [] rows rise none = tt
 in_turn limits w p (row ∷ granted) rows rise none =
     let parts = or_parts (is_full_at limits p row.1 (session_in row.0 rows)) (list_any (λ other. is_full_at limits p other.1 (session_in other.0 rows)) granted) none in (
       parts.0,
-      in_turn limits w p granted (changed row.0 (delivered_on w p row.1) rows) rise.1
+      in_turn limits w p granted (session_changed row.0 (delivered_on w p row.1) rows) rise.1
           (full_after limits p row.0 (delivered_on w p row.1) granted rows rise.0 ∙ parts.1),
     )
 
 -- the publisher's identifier takes no room
 noted_full : (limits : Limits) (p : Publication) (d : Client) (delivery : Delivery) (granted : List Row) (rows : Sessions) →
-    list_any (λ row. is_full_at limits p row.1 (session_in row.0 (changed d (received_on delivery) rows))) granted
+    list_any (λ row. is_full_at limits p row.1 (session_in row.0 (session_changed d (received_on delivery) rows))) granted
     ≡ list_any (λ row. is_full_at limits p row.1 (session_in row.0 rows)) granted
 noted_full limits p d delivery [] rows = refl
 noted_full limits p d delivery (row ∷ granted) rows =
@@ -46,5 +46,5 @@ noted_full limits p d delivery (row ∷ granted) rows =
 -- the same holds for all
 pub room_lasts : RoomLastsToItsTurn
 room_lasts limits w p c delivery rows by_client none =
-    in_turn limits w p (granted_rows p.topic rows) (changed c (received_on delivery) rows) (granted_rise p.topic rows by_client)
+    in_turn limits w p (granted_rows p.topic rows) (session_changed c (received_on delivery) rows) (granted_rise p.topic rows by_client)
     (noted_full limits p c delivery (granted_rows p.topic rows) rows ∙ none)

@@ -9,7 +9,7 @@ use Rattle.broker_spec.specs.declared.command.Output.TheVariants as outputs
 use Rattle.broker_session.specs.broker_base.ClientSession.{ClientSession}
 use Rattle.broker_session.specs.broker_base.State.{Sessions, session_in}
 use Rattle.broker_session.specs.broker_rows.PacketLaws.{handled_state}
-use Rattle.broker_session.specs.broker_rows.Served.{holding}
+use Rattle.broker_session.specs.broker_rows.Served.{with_content}
 use Rattle.broker_session.specs.OneSession.{handshake_sends}
 use Rattle.broker_tables.proofs.FoundByMaps.{has_session, is_served}
 use Rattle.broker_tables.proofs.TiesOfRows.{ties_of_set}
@@ -32,7 +32,7 @@ returns-clause-step c =
           ((c.get_mut.follows.holds _).0
           ∙ ap (λ (s : ClientSession). set_value (is_at (by_bytes c.args.client.now)) t.sessions.entries s)
           (ap (λ s. record { clean = c.row.inside.clean; connection = c.row.inside.connection; state = s }) c.in_ok-do_handshake.ensures.state
-          ∙ ap (λ (k : ClientSession). holding (handled_state t.window c.args.packet.now k.state) k) c.row.view_is))
+          ∙ ap (λ (k : ClientSession). with_content (handled_state t.window c.args.packet.now k.state) k) c.row.view_is))
           ∙ sym (ap (λ p. p.0)
           (handshake_step t c.args.connection c.args.client.now kept c.args.packet.now
           (is_served t c.args.connection c.args.client.now kept c.requires.consistent c.requires.served held) c.requires.kind));

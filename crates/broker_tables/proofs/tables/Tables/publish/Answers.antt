@@ -7,7 +7,7 @@ use Rattle.broker_session.specs.subs_base.Granted.{Row}
 use Rattle.broker_spec.specs.Answers.{acknowledged}
 use Rattle.broker_spec.specs.Retained.{retains}
 use Rattle.broker_spec.specs.Commands.{usual_limits}
-use Rattle.broker_session.specs.broker_rows.Published.{all_delivered, answered_in_turn, changed, received_on}
+use Rattle.broker_session.specs.broker_rows.Published.{all_delivered, answered_in_turn, session_changed, received_on}
 use Rattle.broker_session.specs.broker_rows.PublishLaws.{is_refused_in, HaveRoomInTurn}
 use Rattle.broker_tables.specs.Tables.{state_in}
 use Rattle.broker_tables.proofs.FoundByMaps.{has_session, is_served}
@@ -70,7 +70,7 @@ returns-clause-step c =
           ++ answered_in_turn (c.in_ok-note_received.ensures.others.window i) (c.in_ok-publication.ensures i) (c.deref-2.ensures.value i) (c.in_ok-note_received.ensures.sessions i))
           ∙ append_assoc c.args.out.now.items (acknowledged c.args.connection c.args.publish.now.delivery)
           (answered_in_turn t.window (publication_of c.args.publish.now) c.in_ok-granted.granted.items
-          (changed c.args.client.now (received_on c.args.publish.now.delivery) t.sessions.entries))
+          (session_changed c.args.client.now (received_on c.args.publish.now.delivery) t.sessions.entries))
           ∙ ap (λ given. c.args.out.now.items ++ given)
           (sym (ap (λ p. p.1)
           (taken_of t c.args.connection c.args.client.now kept served c.args.publish.now (sym c.repeats_taken.ensures ∙ c.if-repeats_taken.false) taken

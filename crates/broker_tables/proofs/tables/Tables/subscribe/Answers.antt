@@ -16,7 +16,7 @@ use Rattle.broker_session.specs.broker_base.ClientSession.{ClientSession}
 use Rattle.broker_session.specs.broker_base.State.{Sessions, session_in}
 use Rattle.broker_session.specs.broker_rows.CopyLaws.{granted_in_turn, subscribed_in_turn, sent_in_turn}
 use Rattle.broker_session.specs.broker_rows.Indexed.{all_set}
-use Rattle.broker_session.specs.broker_rows.Served.{holding}
+use Rattle.broker_session.specs.broker_rows.Served.{with_content}
 use Rattle.broker_tables.proofs.FoundByMaps.{has_session, is_served}
 use Rattle.broker_tables.proofs.Grantings.{subscribe_of, ties_of_subscribe}
 use Rattle.broker_tables.proofs.tables.Tables.subscribe.Goals as goal
@@ -39,7 +39,7 @@ returns-clause-step c =
           (ap (λ s. record { clean = c.row.inside.clean; connection = c.row.inside.connection; state = s })
           (c.in_ok-which.ensures.state
           ∙ ap (λ filters. subscribed_in_turn usual_limits t.window t.retained c.row.inside.state filters) c.as_slice-filters.ensures)
-          ∙ ap (λ (k : ClientSession). holding (subscribed_in_turn usual_limits t.window t.retained k.state c.args.subscribe.now.filters) k) c.row.view_is))
+          ∙ ap (λ (k : ClientSession). with_content (subscribed_in_turn usual_limits t.window t.retained k.state c.args.subscribe.now.filters) k) c.row.view_is))
           ∙ sym (ap (λ p. p.0)
           (subscribe_of t c.args.connection c.args.client.now kept c.args.subscribe.now
           (is_served t c.args.connection c.args.client.now kept c.requires.consistent c.requires.served held)));

@@ -12,7 +12,7 @@ use Rattle.broker_session.specs.broker_base.ClientSession.{ClientSession}
 use Rattle.broker_session.specs.broker_base.State.{Sessions, session_in}
 use Rattle.broker_session.specs.broker_rows.Indexed.{all_cleared}
 use Rattle.broker_session.specs.broker_rows.PacketLaws.{handled_state}
-use Rattle.broker_session.specs.broker_rows.Served.{holding}
+use Rattle.broker_session.specs.broker_rows.Served.{with_content}
 use Rattle.broker_tables.proofs.FoundByMaps.{has_session, is_served}
 use Rattle.broker_tables.proofs.Unsubscriptions.{unsubscribe_of, ties_of_unsubscribe}
 use Rattle.broker_tables.proofs.tables.Tables.unsubscribe.Goals as goal
@@ -34,7 +34,7 @@ returns-clause-step c =
           ∙ ap (λ (s : ClientSession). set_value (is_at (by_bytes c.args.client.now)) t.sessions.entries s)
           (ap (λ s. record { clean = c.row.inside.clean; connection = c.row.inside.connection; state = s })
           (c.unsubscribe_all.ensures ∙ ap (λ filters. with_filters (without_filters filters c.row.inside.state.subscriptions) c.row.inside.state) c.as_slice.ensures)
-          ∙ ap (λ (k : ClientSession). holding (handled_state t.window (packets.Unsubscribe c.args.unsubscribe.now) k.state) k) c.row.view_is))
+          ∙ ap (λ (k : ClientSession). with_content (handled_state t.window (packets.Unsubscribe c.args.unsubscribe.now) k.state) k) c.row.view_is))
           ∙ sym (ap (λ p. p.0)
           (unsubscribe_of t c.args.connection c.args.client.now kept c.args.unsubscribe.now
           (is_served t c.args.connection c.args.client.now kept c.requires.consistent c.requires.served held)));
