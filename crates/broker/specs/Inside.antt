@@ -32,11 +32,11 @@ state_read (window, rows, retained) =
     record { window = window; sessions = rows.sessions.entries; retained = retained }
 
 -- the QoS of each filter of a session, the last of a filter counting
-abbrev pub last_held : List GrantedFilter → List ℕ → Option QoS
-last_held held = update_all bytes_eq (λ _. None) held
+abbrev pub granted_last : List GrantedFilter → List ℕ → Option QoS
+granted_last held = update_all bytes_eq (λ _. None) held
 
 -- the filters of all these sessions are put in, client by client
 abbrev pub all_held : Sessions → Content → Content
 all_held [] content = content
 all_held (row ∷ rows) content =
-    all_held rows (with_filters content row.0 (last_held row.1.state.subscriptions))
+    all_held rows (with_filters content row.0 (granted_last row.1.state.subscriptions))

@@ -13,7 +13,7 @@ ghost use Rattle.broker_form.specs.Form.{broker_at, retained_at};
 ghost use Rattle.broker_form.specs.Follows.{is_after, topic_follows};
 ghost use Rattle.broker_tables.specs.Tables.{IsTied, state_in};
 ghost use Rattle.retained.specs.Retained.{IsRising};
-ghost use Rattle.broker.specs.Inside.{AreOwned, state_read, all_held, last_held};
+ghost use Rattle.broker.specs.Inside.{AreOwned, state_read, all_held, granted_last};
 
 use crate::reading::{read_head, read_topic};
 use crate::rows::Rows;
@@ -137,7 +137,7 @@ fn index_of(
 // Returns a session's subscriptions by the bytes of their filters.
 fn filters_of(alloc: Global, session: &Session) -> Result<BTreeMap<Filter, QoS>, AllocError>
     ensures { IfOk result
-        (λ filters. get (slice_cmp nat_cmp) filters ≡ last_held session.now.subscriptions) }
+        (λ filters. get (slice_cmp nat_cmp) filters ≡ granted_last session.now.subscriptions) }
 {
     let held = held_of(alloc, session)?;
     let filters = BTreeMap::from_iter(alloc, held)?;

@@ -6,7 +6,7 @@ use Rattle.std.specs.Cmp.Lexicographic.{slice_cmp}
 use Rattle.std.specs.Ordering.{nat_cmp}
 use Rattle.std.proofs.lemmas.Iterator.Adapters.{YieldsList-from_vec}
 use Rattle.subs.proofs.RowsGathered.{made_of, same_tests}
-use Rattle.broker.specs.Inside.{last_held}
+use Rattle.broker.specs.Inside.{granted_last}
 use Rattle.broker.proofs.thawing.filters_of.Goals as goal
 
 pub returns : goal.returns
@@ -16,4 +16,4 @@ returns c =
     (YieldsList-from_vec c.in_ok-held.held.items ran.2.0 (search rules)) ran.4 in
     (λ i f. made.0 f i)
     ∙ ap (λ e. update_all e (λ _. None) c.in_ok-held.held.items) same_tests
-    ∙ ap last_held c.in_ok-held.ensures
+    ∙ ap granted_last c.in_ok-held.ensures
