@@ -2,7 +2,7 @@
 use Rattle.std.proofs.Common.{◌≡◌, ℕ, List, [], ◌∷◌, ◌++◌, map, refl, sym, ap, ◌∙◌, subst}
 use Rattle.node_group.specs.ballot_base.declared.config.Config.{Config}
 use Rattle.node_group.specs.broker_spec.Place.{Client}
-use Rattle.node_group.specs.client_base.Connected.{opens}
+use Rattle.node_group.specs.client_base.Connected.{opening_connect}
 use Rattle.node_group.specs.client_base.Keeper.{Written}
 use Rattle.node_group.specs.client_base.Written.{writes_first}
 use Rattle.node_group.specs.lists.Lists.{Each}
@@ -18,7 +18,7 @@ use Rattle.byte_world.proofs.WorldsKeep.{call_writes}
 pub record BeginsKept (κ : ClientConnection) : Type 0 where
   pub client : Client
   pub more : List Written
-  pub written : κ.written ≡ opens client ∷ more
+  pub written : κ.written ≡ opening_connect client ∷ more
 
 -- so it does if more is written
 begins_still : (κ later : ClientConnection) (new : List Written) → later.written ≡ κ.written ++ new → BeginsKept κ → BeginsKept later

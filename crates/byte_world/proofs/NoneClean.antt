@@ -5,7 +5,7 @@ use Rattle.node_group.specs.broker_spec.declared.command.Command.{Command}
 use Rattle.node_group.specs.broker_spec.declared.command.Command.TheVariants as commands
 use Rattle.node_group.specs.broker_spec.Connection.{ConnectionName}
 use Rattle.node_group.specs.broker_spec.Place.{Client}
-use Rattle.node_group.specs.client_base.Connected.{opens}
+use Rattle.node_group.specs.client_base.Connected.{opening_connect}
 use Rattle.node_group.specs.client_base.Keeper.{Written}
 use Rattle.node_group.specs.lists.Lists.{Each, In, IsPrefixOf}
 use Rattle.node_group.specs.lists.Lists.In.{here, there}
@@ -52,7 +52,7 @@ none_later x n (packet ∷ packets) y c clean i = by (none_later x (suc n) packe
 
 -- and the first one is not clean
 first_kept : (x : ConnectionName) (d : Client) (more : List Written) (y : ConnectionName) (c : Client) (clean : Bool) →
-    In (commands.Connect y c clean) (commands_of x 0 (packets_of (opens d ∷ more))) → clean ≡ false
+    In (commands.Connect y c clean) (commands_of x 0 (packets_of (opening_connect d ∷ more))) → clean ≡ false
 first_kept x d more y c clean i = by (in_first _ _ _ i)
   where
     by : (commands.Connect y c clean ≡ commands.Connect x d false) ⊎ In (commands.Connect y c clean) (commands_of x 1 (packets_of more)) → clean ≡ false

@@ -10,7 +10,7 @@ use Rattle.node_group.specs.broker_spec.Connection.{ConnectionName, same_connect
 use Rattle.node_group.specs.broker_spec.Place.{Limits}
 use Rattle.node_group.proofs.of_broker_spec.ConnectionNames.{same_name}
 use Rattle.node_group.specs.client_base.Called.{written_for}
-use Rattle.node_group.specs.client_base.Handled.{handled}
+use Rattle.node_group.specs.client_base.Handled.{packet_handled}
 use Rattle.node_group.specs.client_base.Keeper.{Keeper, Written}
 use Rattle.node_group.specs.client_base.Written.{plain, writes, writes_first}
 use Rattle.node_group.specs.cutter.Stream.{Stream, Takes}
@@ -140,10 +140,10 @@ calls_hold v went i c keeper connections new at is whole h = by c.connections c.
 
 pub handles_hold : {nodes : ℕ} {config : Config} (v : World) (went : GroupTrace nodes config v.group) (i : ℕ) (c : ClientPipes) (κ : ClientConnection) (others : List ClientConnection) (p : Pipe)
     (pipes : List Pipe) (packet : Packet) (left : Stream) → slice_get v.clients i ≡ Some c → c.connections ≡ κ ∷ others → c.pipes ≡ p ∷ pipes → Takes p.came (Ok (Some packet)) left
-    → WritesCanBeSpelled c.connections ((handled packet (record { keeper = c.keeper; connection = κ })).connection ∷ others) → Holds v went
-    → Holds (with_client i (after_packet others pipes p left (handled packet (record { keeper = c.keeper; connection = κ })) c) v) went
+    → WritesCanBeSpelled c.connections ((packet_handled packet (record { keeper = c.keeper; connection = κ })).connection ∷ others) → Holds v went
+    → Holds (with_client i (after_packet others pipes p left (packet_handled packet (record { keeper = c.keeper; connection = κ })) c) v) went
 handles_hold v went i c κ others p pipes packet left at are piped cut whole h =
-    let side : Side = handled packet (record { keeper = c.keeper; connection = κ }) in
+    let side : Side = packet_handled packet (record { keeper = c.keeper; connection = κ }) in
     let grown = handled_grows κ c.keeper packet in
     let more : newly_written c.connections (side.connection ∷ others) ≡ packets_of grown.more =
     ap (λ l. newly_written l (side.connection ∷ others)) are ∙ newly_is κ side.connection others others grown.more grown.written in

@@ -8,7 +8,7 @@ use Rattle.node_group.specs.ballot_base.declared.config.Config.{Config}
 use Rattle.node_group.specs.agreement.World.{can_open}
 use Rattle.node_group.specs.broker_spec.Commands.{usual_limits}
 use Rattle.node_group.specs.broker_spec.Place.{Client}
-use Rattle.node_group.specs.client_base.Handled.{handled}
+use Rattle.node_group.specs.client_base.Handled.{packet_handled}
 use Rattle.node_group.specs.exactly_once.Sides.{ClientConnection}
 use Rattle.node_group.specs.exactly_once.Story.{Story, StoryStep}
 use Rattle.node_group.specs.packet_world.Steps.{is_call}
@@ -79,10 +79,10 @@ pub data WorldStep (w : World) : World → Type 0 where
       slice_get w.clients i ≡ Some c → c.connections ≡ κ ∷ others → c.pipes ≡ p ∷ pipes →
       c.keeper.is_open ≡ true → Takes p.came (Ok (Some packet)) left →
       WritesCanBeSpelled c.connections
-      ((handled packet (record { keeper = c.keeper; connection = κ })).connection ∷ others) →
+      ((packet_handled packet (record { keeper = c.keeper; connection = κ })).connection ∷ others) →
       WorldStep w (with_client i
       (after_packet others pipes p left
-      (handled packet (record { keeper = c.keeper; connection = κ })) c) w)
+      (packet_handled packet (record { keeper = c.keeper; connection = κ })) c) w)
 
 -- the worlds that are reached with this many nodes, a configuration at first, and these clients
 pub data Reached (nodes : ℕ) (config : Config) (cs : List Client) : World → Type 0 where

@@ -7,7 +7,7 @@ use Rattle.cutter.specs.Stream.{Stream}
 use Rattle.session_base.specs.declared.publication.Publication.{Publication}
 use Rattle.client_base.specs.declared.error.ClientError.{ClientError}
 use Rattle.client_base.specs.declared.error.ClientError.TheVariants as errors
-use Rattle.client_base.specs.State.{ClientState, new_client, lost}
+use Rattle.client_base.specs.State.{ClientState, new_client_state, lost}
 use Rattle.client_base.specs.Answered.{ClientOutcome}
 
 -- a client between two calls
@@ -23,7 +23,7 @@ nothing_read = record { bytes = []; failed = false }
 -- a new client: it never was connected, has read nothing, and has nothing to write
 abbrev pub new_core : List ℕ → ℕ → Core
 new_core client keep_alive =
-    record { state = new_client client keep_alive; unread = nothing_read; out = [] }
+    record { state = new_client_state client keep_alive; unread = nothing_read; out = [] }
 
 -- new is old with the spellings of these packets appended, one after another
 abbrev pub AppendsAll : List ℕ → List ℕ → List Packet → Type 0

@@ -10,12 +10,12 @@ use Rattle.client_base.specs.declared.error.ClientError.TheVariants as errors
 use Rattle.client_base.specs.declared.stage.Stage.{Stage}
 use Rattle.client_base.specs.declared.stage.Stage.TheVariants as stages
 use Rattle.client_base.specs.Answered.{ClientOutcome}
-use Rattle.client_base.specs.Calls.{received}
+use Rattle.client_base.specs.Calls.{client_receives}
 use Rattle.client.specs.Core.{Core, IsDone, gone}
 
 -- what the server's packet does to a client
 abbrev pub outcome_of : Packet → Core → ClientOutcome
-outcome_of packet core = received packet core.state.stage core.state
+outcome_of packet core = client_receives packet core.state.stage core.state
 
 -- the first whole packet that is not yet read, and the client without it
 abbrev pub ReadsPacket : Core → Packet → Core → Type 0

@@ -17,7 +17,7 @@ use Rattle.client_base.specs.State.{ClientState, is_online, lost}
 use Rattle.client_base.specs.Calls.{opened}
 use Rattle.client_base.specs.Publishing.{next_id, published, publish_refusal}
 use Rattle.client_base.specs.Steps.{Call, unless_refused, request_refusal, asked, disconnected}
-use Rattle.client_base.specs.Called.{asks, keeper_goes}
+use Rattle.client_base.specs.Called.{with_request, keeper_goes}
 use Rattle.client_base.specs.Connected as connected
 use Rattle.client_base.specs.HistoryLaws.{CallsFollow}
 use Rattle.client_base.specs.Written.{plain, writes}
@@ -33,11 +33,11 @@ use Rattle.client_base.proofs.FollowsHandled.{lost_stands, requests_stand, handl
 
 asks_follow : (request : Request) (packet : Packet) (side : Side ℕ) (state : ClientState) → KeeperStandsFor side.keeper state
     → Same side
-    (record { keeper = asks request side.keeper; connection = writes (plain packet ∷ []) side.connection })
+    (record { keeper = with_request request side.keeper; connection = writes (plain packet ∷ []) side.connection })
     (asked request packet state)
 asks_follow request packet side state s =
     record {
-      stands = subst (λ (requests : List Request). KeeperStandsFor (asks request side.keeper) (record state { requests = requests }))
+      stands = subst (λ (requests : List Request). KeeperStandsFor (with_request request side.keeper) (record state { requests = requests }))
           (ap (λ l. l ++ request ∷ []) (sym s.requests)) (requests_stand side.keeper state (side.keeper.requests ++ request ∷ []) s);
       writes = one_written side.connection packet;
     }
@@ -47,14 +47,14 @@ request_follows : (refusal : Option ClientError) (make : ℕ → Request) (write
     → (unless_refused refusal (asked (make (next_id state)) (write (next_id state)) state) state).refusal ≡ None
     → Same side
     (record {
-      keeper = asks (make (least_free (ids_in_use side.keeper))) side.keeper;
+      keeper = with_request (make (least_free (ids_in_use side.keeper))) side.keeper;
       connection = writes (plain (write (least_free (ids_in_use side.keeper))) ∷ []) side.connection;
     })
     (unless_refused refusal (asked (make (next_id state)) (write (next_id state)) state) state)
 request_follows (Some cause) make write law side state s taken = absurd (both_ways true (ap is_some taken) refl)
 request_follows None make write law side state s taken =
     subst (λ (id : ℕ). Same side
-    (record { keeper = asks (make id) side.keeper; connection = writes (plain (write id) ∷ []) side.connection })
+    (record { keeper = with_request (make id) side.keeper; connection = writes (plain (write id) ∷ []) side.connection })
     (asked (make (next_id state)) (write (next_id state)) state))
     (next_same side.keeper state law s) (asks_follow (make (next_id state)) (write (next_id state)) side state s)
 

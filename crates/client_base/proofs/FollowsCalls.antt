@@ -8,8 +8,8 @@ use Rattle.session_base.specs.Publication.{publish_of}
 use Rattle.client_base.specs.declared.unacknowledged_publication.UnacknowledgedPublication.{UnacknowledgedPublication}
 use Rattle.client_base.specs.State.{ClientState}
 use Rattle.client_base.specs.Answered.{ClientOutcome}
-use Rattle.client_base.specs.Keeper.{Own, Keeper, Side, next_number}
-use Rattle.client_base.specs.Written.{publishes}
+use Rattle.client_base.specs.Keeper.{Own, Keeper, Side, next_own_number}
+use Rattle.client_base.specs.Written.{written_publish}
 use Rattle.client_base.specs.History.{KeeperStandsFor, sent_of, unsent_of, released_of, IsSentFirst}
 use Rattle.client_base.proofs.SentAll.{sent_more, unsent_more, released_more}
 use Rattle.client_base.proofs.FollowsPackets.{Same}
@@ -48,8 +48,8 @@ kept_of p id = record { id = id; publication = p }
 abbrev pub side_of : Publication → ℕ → Side ℕ → Bool → Bool → Side ℕ
 side_of p id side answered online =
     record {
-      keeper = record side.keeper { own = side.keeper.own ++ own_of p id (next_number side.keeper) answered online ∷ [] };
-      connection = record side.connection { written = side.connection.written ++ (if online then publishes false (next_number side.keeper) id p ∷ [] else []) };
+      keeper = record side.keeper { own = side.keeper.own ++ own_of p id (next_own_number side.keeper) answered online ∷ [] };
+      connection = record side.connection { written = side.connection.written ++ (if online then written_publish false (next_own_number side.keeper) id p ∷ [] else []) };
     }
 
 abbrev pub publish_outcome : Publication → ℕ → ClientState → Bool → Bool → ClientOutcome
@@ -125,11 +125,11 @@ done_stands p n keeper state s =
 pub publish_follows : (p : Publication) (id : ℕ) (side : Side ℕ) (state : ClientState) (answered online up : Bool) → KeeperStandsFor side.keeper state → online ≡ up
     → side.keeper.is_online ≡ up → (answered ≡ false → online ≡ true) → Same side (side_of p id side answered up) (publish_outcome p id state answered online)
 publish_follows p id side state true true true s e f g =
-    record { stands = sent_stands p id (next_number side.keeper) side.keeper state s f; writes = (publishes false (next_number side.keeper) id p ∷ [], refl, refl) }
+    record { stands = sent_stands p id (next_own_number side.keeper) side.keeper state s f; writes = (written_publish false (next_own_number side.keeper) id p ∷ [], refl, refl) }
 publish_follows p id side state true false false s e f g =
-    record { stands = unsent_stands p id (next_number side.keeper) side.keeper state s f; writes = ([], refl, refl) }
+    record { stands = unsent_stands p id (next_own_number side.keeper) side.keeper state s f; writes = ([], refl, refl) }
 publish_follows p id side state false true true s e f g =
-    record { stands = done_stands p (next_number side.keeper) side.keeper state s; writes = (publishes false (next_number side.keeper) id p ∷ [], refl, refl) }
+    record { stands = done_stands p (next_own_number side.keeper) side.keeper state s; writes = (written_publish false (next_own_number side.keeper) id p ∷ [], refl, refl) }
 publish_follows p id side state false false up s e f g = absurd (both_ways false refl (g refl))
 publish_follows p id side state answered true false s e f g = absurd (both_ways false refl (sym e))
 publish_follows p id side state answered false true s e f g = absurd (both_ways false refl e)

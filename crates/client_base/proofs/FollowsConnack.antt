@@ -10,7 +10,7 @@ use Rattle.client_base.specs.State.{ClientState, publish_kept, resent}
 use Rattle.client_base.specs.Answered.{ClientOutcome}
 use Rattle.client_base.specs.Calls.{confirmed, discarded, numbered}
 use Rattle.client_base.specs.Keeper.{Written, Keeper, Side}
-use Rattle.client_base.specs.Written.{plain, sent_all, sent_again, sent_first}
+use Rattle.client_base.specs.Written.{plain, sent_all, written_again, written_first}
 use Rattle.client_base.specs.Written as history
 use Rattle.client_base.specs.Handled as handling
 use Rattle.client_base.specs.History.{KeeperStandsFor}
@@ -33,11 +33,11 @@ counted : (n : ℕ) → nat_lt 0 (if n == 0 then 1 else n) ≡ true
 counted n = grind arith
 
 -- what is sent again
-resent_same : (keeper : Keeper) (state : ClientState) → KeeperStandsFor keeper state → packets_in (history.resent keeper) ≡ resent state
+resent_same : (keeper : Keeper) (state : ClientState) → KeeperStandsFor keeper state → packets_in (history.resent_written keeper) ≡ resent state
 resent_same keeper state s =
-    joined_packets (map (λ id. plain (packets.Pubrel id)) keeper.releases ++ sent_again keeper.own) (sent_first keeper.own)
+    joined_packets (map (λ id. plain (packets.Pubrel id)) keeper.releases ++ written_again keeper.own) (written_first keeper.own)
     ∙ ap₂ (λ x y. x ++ y)
-    (joined_packets (map (λ id. plain (packets.Pubrel id)) keeper.releases) (sent_again keeper.own)
+    (joined_packets (map (λ id. plain (packets.Pubrel id)) keeper.releases) (written_again keeper.own)
     ∙ ap₂ (λ x y. x ++ y) (pubrels keeper.releases ∙ ap (map packets.Pubrel) (sym s.released))
     (again_same keeper.own ∙ ap (map (publish_kept true)) (sym s.sent)))
     (first_same keeper.own ∙ ap (map (publish_kept false)) (sym s.unsent))
@@ -104,7 +104,7 @@ abbrev settled_side : Side ℕ → Keeper → Side ℕ
 settled_side side kept =
     record {
       keeper = record kept { own = sent_all kept.own; is_online = true; was_served = true };
-      connection = record side.connection { written = side.connection.written ++ history.resent kept; confirmed = true };
+      connection = record side.connection { written = side.connection.written ++ history.resent_written kept; confirmed = true };
     }
 
 abbrev settled_turn : Bool → ClientState → Option ClientError → ClientOutcome
@@ -118,7 +118,7 @@ settled_turn present kept refusal =
 settles : (present : Bool) (side : Side ℕ) (keeper : Keeper) (state : ClientState) (refusal : Option ClientError) → KeeperStandsFor keeper state
     → nat_lt 0 state.session ≡ true → keeper.is_open ≡ true → Same side (settled_side side keeper) (settled_turn present state refusal)
 settles present side keeper state refusal s served up =
-    record { stands = all_stand keeper state present s served up; writes = (history.resent keeper, refl, resent_same keeper state s) }
+    record { stands = all_stand keeper state present s served up; writes = (history.resent_written keeper, refl, resent_same keeper state s) }
 
 second : (b c : Bool) → (not b && c) ≡ true → c ≡ true
 second true c e = absurd (both_ways false refl e)

@@ -10,7 +10,7 @@ use Rattle.client_base.specs.declared.stage.Stage.{Stage}
 use Rattle.client_base.specs.declared.stage.Stage.TheVariants as stages
 use Rattle.client_base.specs.State.{ClientState, is_open, is_online, lost}
 use Rattle.client_base.specs.Answered.{ClientOutcome}
-use Rattle.client_base.specs.Calls.{received, on_later, on_first, opened}
+use Rattle.client_base.specs.Calls.{client_receives, on_later, on_first, opened}
 use Rattle.client_base.specs.Keeper.{Keeper, Side}
 use Rattle.client_base.specs.Handled as handling
 use Rattle.client_base.specs.History.{KeeperStandsFor}
@@ -94,7 +94,7 @@ uncounted side after outcome same = record { stands = same.stands; writes = same
 
 pub handled_follows : (packet : Packet) (stage : Stage) (online : Bool) (side : Side ℕ) (state : ClientState) → KeeperStandsFor side.keeper state → is_open stage ≡ true
     → side.keeper.is_open ≡ true → is_online stage ≡ online
-    → Same side (if online then handling.handled_online packet (counted side) else handling.handled_first packet (counted side)) (received packet stage state)
+    → Same side (if online then handling.handled_online packet (counted side) else handling.handled_first packet (counted side)) (client_receives packet stage state)
 handled_follows packet stages.Closed online side state s opened up e = absurd (both_ways false refl opened)
 handled_follows packet stages.Opened false side state s opened up e = uncounted side _ _ (first_follows packet (counted side) state s up)
 handled_follows packet stages.Opened true side state s opened up e = absurd (both_ways false refl e)

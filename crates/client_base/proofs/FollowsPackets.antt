@@ -16,7 +16,7 @@ use Rattle.client_base.specs.Answered.{ClientOutcome, awaits_puback, on_publish,
 use Rattle.session_base.specs.Identifiers.{without_id}
 use Rattle.client_base.specs.Keeper.{Own, ClientConnection, Keeper, Side}
 use Rattle.client_base.specs.Written.{plain, writing}
-use Rattle.client_base.specs.Handshakes.{at_puback, takes_in}
+use Rattle.client_base.specs.Handshakes.{own_at_puback, takes_in}
 use Rattle.client_base.specs.History.{KeeperStandsFor, WritesMore, IsSentFirst}
 use Rattle.client_base.proofs.Readings.{puback_sent, puback_unsent, puback_released}
 use Rattle.client_base.proofs.Released.{has_without}
@@ -113,20 +113,20 @@ pubrel_follows id side state s =
 
 -- ---- its own publications
 
-first_puback : (i : ℕ) (own : List Own) → IsSentFirst own → IsSentFirst (map (at_puback i) own)
+first_puback : (i : ℕ) (own : List Own) → IsSentFirst own → IsSentFirst (map (own_at_puback i) own)
 first_puback i [] first = tt
 first_puback i (Own.Unsent k p id ∷ own) first =
     (puback_sent i own ∙ ap (λ l. filter (λ one. not (awaits_puback i one)) l) first.0, first_puback i own first.1)
 first_puback i (Own.Sent k p id ∷ own) first = by ((i == id) && is_acknowledged p.qos) (first_puback i own first)
   where
-    by : (b : Bool) → IsSentFirst (map (at_puback i) own) → IsSentFirst ((if b then Own.Done k p else Own.Sent k p id) ∷ map (at_puback i) own)
+    by : (b : Bool) → IsSentFirst (map (own_at_puback i) own) → IsSentFirst ((if b then Own.Done k p else Own.Sent k p id) ∷ map (own_at_puback i) own)
     by true ih = ih
     by false ih = ih
 first_puback i (Own.Released k p id ∷ own) first = first_puback i own first
 first_puback i (Own.Done k p ∷ own) first = first_puback i own first
 
 pub puback_follows : (i : ℕ) (side : Side ℕ) (state : ClientState) → KeeperStandsFor side.keeper state
-    → Same side (record side { keeper = record side.keeper { own = map (at_puback i) side.keeper.own } }) (on_puback i state)
+    → Same side (record side { keeper = record side.keeper { own = map (own_at_puback i) side.keeper.own } }) (on_puback i state)
 puback_follows i side state s =
     record {
       stands = record {

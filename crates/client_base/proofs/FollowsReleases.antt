@@ -12,7 +12,7 @@ use Rattle.client_base.specs.Answered.{awaits_pubrec, on_pubrec, on_pubcomp}
 use Rattle.session_base.specs.Identifiers.{without_id}
 use Rattle.client_base.specs.Keeper.{Own, Keeper, Side}
 use Rattle.client_base.specs.Written.{plain, writing}
-use Rattle.client_base.specs.Handshakes.{at_pubrec, at_pubcomp, is_sent_with, releasing}
+use Rattle.client_base.specs.Handshakes.{own_at_pubrec, own_at_pubcomp, is_sent_with, pubrec_answered}
 use Rattle.client_base.specs.History.{KeeperStandsFor, released_of, IsSentFirst}
 use Rattle.client_base.proofs.Readings.{pubrec_sent, pubrec_unsent, pubrec_waits, pubcomp_sent, pubcomp_unsent, pubcomp_released}
 use Rattle.client_base.proofs.Released.{has_without, pubrec_released}
@@ -20,13 +20,13 @@ use Rattle.client_base.proofs.FollowsPackets.{Same, silent, one_written}
 
 -- ---- PUBREC
 
-first_pubrec : (i : ℕ) (own : List Own) → IsSentFirst own → IsSentFirst (map (at_pubrec i) own)
+first_pubrec : (i : ℕ) (own : List Own) → IsSentFirst own → IsSentFirst (map (own_at_pubrec i) own)
 first_pubrec i [] first = tt
 first_pubrec i (Own.Unsent k p id ∷ own) first =
     (pubrec_sent i own ∙ ap (λ l. filter (λ one. not (awaits_pubrec i one)) l) first.0, first_pubrec i own first.1)
 first_pubrec i (Own.Sent k p id ∷ own) first = by ((i == id) && not (is_acknowledged p.qos)) (first_pubrec i own first)
   where
-    by : (b : Bool) → IsSentFirst (map (at_pubrec i) own) → IsSentFirst ((if b then Own.Released k p id else Own.Sent k p id) ∷ map (at_pubrec i) own)
+    by : (b : Bool) → IsSentFirst (map (own_at_pubrec i) own) → IsSentFirst ((if b then Own.Released k p id else Own.Sent k p id) ∷ map (own_at_pubrec i) own)
     by true ih = ih
     by false ih = ih
 first_pubrec i (Own.Released k p id ∷ own) first = first_pubrec i own first
@@ -34,7 +34,7 @@ first_pubrec i (Own.Done k p ∷ own) first = first_pubrec i own first
 
 -- the released one comes last
 released_last : (i : ℕ) (keeper : Keeper) (state : ClientState) → KeeperStandsFor keeper state → is_sent_with i keeper.own ≡ true
-    → KeeperStandsFor (record keeper { own = map (at_pubrec i) keeper.own; releases = keeper.releases ++ i ∷ [] })
+    → KeeperStandsFor (record keeper { own = map (own_at_pubrec i) keeper.own; releases = keeper.releases ++ i ∷ [] })
     (record state { released = state.released ++ i ∷ []; sent = filter (λ one. not (awaits_pubrec i one)) state.sent })
 released_last i keeper state s waits =
     record {
@@ -58,7 +58,7 @@ released_last i keeper state s waits =
     alone true = refl
     alone false = refl
 
-pub pubrec_follows : (i : ℕ) (side : Side ℕ) (state : ClientState) → KeeperStandsFor side.keeper state → Same side (releasing i side) (on_pubrec i state)
+pub pubrec_follows : (i : ℕ) (side : Side ℕ) (state : ClientState) → KeeperStandsFor side.keeper state → Same side (pubrec_answered i side) (on_pubrec i state)
 pubrec_follows i side state s =
     by (list_any (awaits_pubrec i) state.sent) (is_sent_with i side.keeper.own)
     (ap (λ l. list_any (awaits_pubrec i) l) s.sent ∙ pubrec_waits i side.keeper.own) refl
@@ -68,7 +68,7 @@ pubrec_follows i side state s =
     left = record state { released = state.released ++ i ∷ []; sent = filter (λ one. not (awaits_pubrec i one)) state.sent }
 
     right : Side ℕ
-    right = record side { keeper = record side.keeper { own = map (at_pubrec i) side.keeper.own; releases = side.keeper.releases ++ i ∷ [] } }
+    right = record side { keeper = record side.keeper { own = map (own_at_pubrec i) side.keeper.own; releases = side.keeper.releases ++ i ∷ [] } }
 
     again : (d e : Bool) → d ≡ e
         → Same side (if e then writing (plain (packets.Pubrel i) ∷ []) side else side) (record { state = state; writes = if d then packets.Pubrel i ∷ [] else []; refusal = None })
@@ -88,19 +88,19 @@ pubrec_follows i side state s =
 
 -- ---- PUBCOMP
 
-first_pubcomp : (i : ℕ) (own : List Own) → IsSentFirst own → IsSentFirst (map (at_pubcomp i) own)
+first_pubcomp : (i : ℕ) (own : List Own) → IsSentFirst own → IsSentFirst (map (own_at_pubcomp i) own)
 first_pubcomp i [] first = tt
 first_pubcomp i (Own.Unsent k p id ∷ own) first = (pubcomp_sent i own ∙ first.0, first_pubcomp i own first.1)
 first_pubcomp i (Own.Sent k p id ∷ own) first = first_pubcomp i own first
 first_pubcomp i (Own.Released k p id ∷ own) first = by (i == id) (first_pubcomp i own first)
   where
-    by : (b : Bool) → IsSentFirst (map (at_pubcomp i) own) → IsSentFirst ((if b then Own.Done k p else Own.Released k p id) ∷ map (at_pubcomp i) own)
+    by : (b : Bool) → IsSentFirst (map (own_at_pubcomp i) own) → IsSentFirst ((if b then Own.Done k p else Own.Released k p id) ∷ map (own_at_pubcomp i) own)
     by true ih = ih
     by false ih = ih
 first_pubcomp i (Own.Done k p ∷ own) first = first_pubcomp i own first
 
 pub pubcomp_follows : (i : ℕ) (side : Side ℕ) (state : ClientState) → KeeperStandsFor side.keeper state
-    → Same side (record side { keeper = record side.keeper { own = map (at_pubcomp i) side.keeper.own; releases = without_id i side.keeper.releases } }) (on_pubcomp i state)
+    → Same side (record side { keeper = record side.keeper { own = map (own_at_pubcomp i) side.keeper.own; releases = without_id i side.keeper.releases } }) (on_pubcomp i state)
 pubcomp_follows i side state s =
     record {
       stands = record {

@@ -9,8 +9,8 @@ use Rattle.session_base.specs.Laws.{IsLeastFree}
 use Rattle.client_base.specs.declared.unacknowledged_publication.UnacknowledgedPublication.{UnacknowledgedPublication}
 use Rattle.client_base.specs.declared.stage.Stage.{Stage}
 use Rattle.client_base.specs.declared.stage.Stage.TheVariants as stages
-use Rattle.client_base.specs.State.{ClientState, new_client, ids_of_kept, used_ids, publication_ids, request_ids}
-use Rattle.client_base.specs.Calls.{received, on_first, loses_session, discarded, numbered}
+use Rattle.client_base.specs.State.{ClientState, new_client_state, ids_of_kept, used_ids, publication_ids, request_ids}
+use Rattle.client_base.specs.Calls.{client_receives, on_first, loses_session, discarded, numbered}
 use Rattle.client_base.specs.Publishing.{published, publish_refusal}
 use Rattle.client_base.specs.Steps.{Call, keeper_step, request_refusal, subscribed, unsubscribed, state_after}
 use Rattle.client_base.specs.IdentifierLaws.{IdentifiersAreDistinct, RequestsAreApart}
@@ -38,7 +38,7 @@ first_once (packets.Connack (connacks.Accepted present)) state few = confirmed_o
 first_once (packets.Connack (connacks.Refused code)) state few = lost_once state stages.Closed few
 first_once _ state few = lost_once state stages.Closed few
 
-received_once : (packet : Packet) (stage : Stage) (state : ClientState) → AreOnce state → AreOnce (received packet stage state).state
+received_once : (packet : Packet) (stage : Stage) (state : ClientState) → AreOnce state → AreOnce (client_receives packet stage state).state
 received_once packet stages.Closed state few = few
 received_once packet stages.Opened state few = first_once packet state few
 received_once packet stages.Online state few = later_once packet state few
@@ -60,11 +60,11 @@ calls_once law (call ∷ calls) state few = calls_once law calls (keeper_step ca
 
 pub identifiers_distinct : IsLeastFree → IdentifiersAreDistinct
 identifiers_distinct law calls client keep_alive =
-    from_once (used_ids (state_after calls (new_client client keep_alive)))
-    (λ i. let few = calls_once law calls (new_client client keep_alive) (λ j. omega arith) i in
-    let same = used_tally i (state_after calls (new_client client keep_alive)) in omega (arith, few, same))
+    from_once (used_ids (state_after calls (new_client_state client keep_alive)))
+    (λ i. let few = calls_once law calls (new_client_state client keep_alive) (λ j. omega arith) i in
+    let same = used_tally i (state_after calls (new_client_state client keep_alive)) in omega (arith, few, same))
 
 pub requests_apart : IsLeastFree → RequestsAreApart
 requests_apart law calls client keep_alive id has =
-    let state = state_after calls (new_client client keep_alive) in
+    let state = state_after calls (new_client_state client keep_alive) in
     distinct_apart id (publication_ids state) (request_ids state) (identifiers_distinct law calls client keep_alive) has

@@ -8,9 +8,9 @@ use Rattle.packet.specs.declared.packet.Packet.TheVariants as packets
 use Rattle.session_base.specs.lists.Lists.{has_id}
 use Rattle.session_base.specs.declared.publication.Publication.{Publication}
 use Rattle.session_base.specs.Publication.{is_answered, publication_of}
-use Rattle.client_base.specs.Keeper.{Own, Keeper, Side, next_number, number_in}
-use Rattle.client_base.specs.Handled.{discarded, handled, handled_online, handled_first}
-use Rattle.client_base.specs.Handshakes.{at_puback, at_pubrec, at_pubcomp, is_sent_with, releasing, takes_in}
+use Rattle.client_base.specs.Keeper.{Own, Keeper, Side, next_own_number, number_in}
+use Rattle.client_base.specs.Handled.{discarded, packet_handled, handled_online, handled_first}
+use Rattle.client_base.specs.Handshakes.{own_at_puback, own_at_pubrec, own_at_pubcomp, is_sent_with, pubrec_answered, takes_in}
 use Rattle.client_base.specs.Steps.{Call}
 use Rattle.client_base.specs.Called.{adds_own, keeper_goes}
 use Rattle.client_base.specs.OrderLaws.{AreNumbered, NumbersStay}
@@ -53,16 +53,16 @@ taken_in deliveries.AtMostOnce p side numbered = numbered
 taken_in (deliveries.AtLeastOnce dup id) p side numbered = numbered
 taken_in (deliveries.ExactlyOnce dup id) p side numbered = either (has_id id side.keeper.received) side _ numbered numbered
 
-released : {Name : Type 0} (i : ℕ) (side : Side Name) → AreAllNumbered side.keeper → AreAllNumbered (releasing i side).keeper
+released : {Name : Type 0} (i : ℕ) (side : Side Name) → AreAllNumbered side.keeper → AreAllNumbered (pubrec_answered i side).keeper
 released i side numbered =
-    either (is_sent_with i side.keeper.own) _ _ (numbered.0, changed (at_pubrec i) (pubrec_same i) (length side.keeper.earlier) side.keeper.own numbered.1)
+    either (is_sent_with i side.keeper.own) _ _ (numbered.0, changed (own_at_pubrec i) (pubrec_same i) (length side.keeper.earlier) side.keeper.own numbered.1)
     (either (has_id i side.keeper.releases) _ side numbered numbered)
 
 online : {Name : Type 0} (packet : Packet) (side : Side Name) → AreAllNumbered side.keeper → AreAllNumbered (handled_online packet side).keeper
 online (packets.Publish p) side numbered = taken_in p.delivery (publication_of p) side numbered
-online (packets.Puback i) side numbered = (numbered.0, changed (at_puback i) (puback_same i) (length side.keeper.earlier) side.keeper.own numbered.1)
+online (packets.Puback i) side numbered = (numbered.0, changed (own_at_puback i) (puback_same i) (length side.keeper.earlier) side.keeper.own numbered.1)
 online (packets.Pubrec i) side numbered = released i side numbered
-online (packets.Pubcomp i) side numbered = (numbered.0, changed (at_pubcomp i) (pubcomp_same i) (length side.keeper.earlier) side.keeper.own numbered.1)
+online (packets.Pubcomp i) side numbered = (numbered.0, changed (own_at_pubcomp i) (pubcomp_same i) (length side.keeper.earlier) side.keeper.own numbered.1)
 online _ side numbered = numbered
 
 first : {Name : Type 0} (packet : Packet) (side : Side Name) → AreAllNumbered side.keeper → AreAllNumbered (handled_first packet side).keeper
@@ -82,10 +82,10 @@ published p id n false up = refl
 -- one more is published
 pub publishes_numbers : (p : Publication) (keeper : Keeper) → AreAllNumbered keeper → AreAllNumbered (adds_own p keeper)
 publishes_numbers p keeper numbered =
-    (numbered.0, one_more (length keeper.earlier) keeper.own _ (published p _ (next_number keeper) (is_answered p.qos) keeper.is_online) numbered.1)
+    (numbered.0, one_more (length keeper.earlier) keeper.own _ (published p _ (next_own_number keeper) (is_answered p.qos) keeper.is_online) numbered.1)
 
 -- a packet comes
-pub handled_numbers : {Name : Type 0} (packet : Packet) (side : Side Name) → AreAllNumbered side.keeper → AreAllNumbered (handled packet side).keeper
+pub handled_numbers : {Name : Type 0} (packet : Packet) (side : Side Name) → AreAllNumbered side.keeper → AreAllNumbered (packet_handled packet side).keeper
 handled_numbers packet side numbered = either side.keeper.is_online _ _ (online packet _ numbered) (first packet _ numbered)
 
 goes : (call : Call) (fresh : ℕ) (side : Side ℕ) → AreAllNumbered side.keeper → AreAllNumbered (keeper_goes fresh call side).keeper

@@ -4,14 +4,14 @@ use Rattle.std.proofs.lemmas.Bool.{both_ways}
 use Rattle.session_base.specs.Publication.{is_acknowledged}
 use Rattle.client_base.specs.declared.unacknowledged_publication.UnacknowledgedPublication.{UnacknowledgedPublication}
 use Rattle.client_base.specs.Keeper.{Own, Written, number_in}
-use Rattle.client_base.specs.Written.{sent_all, sent_again, sent_first, publishes}
-use Rattle.client_base.specs.Handshakes.{at_puback, at_pubrec, at_pubcomp}
+use Rattle.client_base.specs.Written.{sent_all, written_again, written_first, written_publish}
+use Rattle.client_base.specs.Handshakes.{own_at_puback, own_at_pubrec, own_at_pubcomp}
 use Rattle.client_base.specs.History.{IsSentFirst, sent_of}
-use Rattle.client_base.specs.OrderLaws.{AreNumbered, numbers_of, RisesFrom, GoesOutInOrder}
+use Rattle.client_base.specs.OrderLaws.{AreNumbered, written_numbers, RisesFrom, GoesOutInOrder}
 
 -- ---- what is sent, in order
 
-none_again : (own : List Own) → sent_of own ≡ [] → sent_again own ≡ []
+none_again : (own : List Own) → sent_of own ≡ [] → written_again own ≡ []
 none_again [] none = refl
 none_again (Own.Unsent k p id ∷ own) none = none_again own none
 none_again (Own.Sent k p id ∷ own) none = absurd (both_ways true (ap is_none none) refl)
@@ -27,21 +27,21 @@ lower : (n : ℕ) (ks : List ℕ) → RisesFrom (suc n) ks → RisesFrom n ks
 lower n [] rises = tt
 lower n (k ∷ ks) rises = let first = rises.0 in (omega (arith, first), rises.1)
 
-rises : (n : ℕ) (own : List Own) → AreNumbered n own → IsSentFirst own → RisesFrom n (numbers_of (sent_again own ++ sent_first own))
+rises : (n : ℕ) (own : List Own) → AreNumbered n own → IsSentFirst own → RisesFrom n (written_numbers (written_again own ++ written_first own))
 rises n [] numbered first = tt
 rises n (Own.Unsent k p id ∷ own) numbered first =
     let none = none_again own first.0 in
-    subst (λ (ws : List Written). RisesFrom n (numbers_of (ws ++ publishes false k id p ∷ sent_first own))) (sym none) (
+    subst (λ (ws : List Written). RisesFrom n (written_numbers (ws ++ written_publish false k id p ∷ written_first own))) (sym none) (
       let same = numbered.0 in omega (arith, same),
-      subst (λ (m : ℕ). RisesFrom (suc m) (numbers_of (sent_first own))) (sym numbered.0)
-          (subst (λ (ws : List Written). RisesFrom (suc n) (numbers_of (ws ++ sent_first own))) none (rises (suc n) own numbered.1 first.1)),
+      subst (λ (m : ℕ). RisesFrom (suc m) (written_numbers (written_first own))) (sym numbered.0)
+          (subst (λ (ws : List Written). RisesFrom (suc n) (written_numbers (ws ++ written_first own))) none (rises (suc n) own numbered.1 first.1)),
     )
 rises n (Own.Sent k p id ∷ own) numbered first = (
   let same = numbered.0 in omega (arith, same),
-  subst (λ (m : ℕ). RisesFrom (suc m) (numbers_of (sent_again own ++ sent_first own))) (sym numbered.0) (rises (suc n) own numbered.1 first),
+  subst (λ (m : ℕ). RisesFrom (suc m) (written_numbers (written_again own ++ written_first own))) (sym numbered.0) (rises (suc n) own numbered.1 first),
 )
-rises n (Own.Released k p id ∷ own) numbered first = lower n (numbers_of (sent_again own ++ sent_first own)) (rises (suc n) own numbered.1 first)
-rises n (Own.Done k p ∷ own) numbered first = lower n (numbers_of (sent_again own ++ sent_first own)) (rises (suc n) own numbered.1 first)
+rises n (Own.Released k p id ∷ own) numbered first = lower n (written_numbers (written_again own ++ written_first own)) (rises (suc n) own numbered.1 first)
+rises n (Own.Done k p ∷ own) numbered first = lower n (written_numbers (written_again own ++ written_first own)) (rises (suc n) own numbered.1 first)
 
 pub goes_out : GoesOutInOrder
 goes_out n own numbered first = rises n own numbered first
@@ -53,7 +53,7 @@ pub changed : (f : Own → Own) → ((o : Own) → number_in (f o) ≡ number_in
 changed f same n [] numbered = tt
 changed f same n (o ∷ own) numbered = (same o ∙ numbered.0, changed f same (suc n) own numbered.1)
 
-pub puback_same : (i : ℕ) (o : Own) → number_in (at_puback i o) ≡ number_in o
+pub puback_same : (i : ℕ) (o : Own) → number_in (own_at_puback i o) ≡ number_in o
 puback_same i (Own.Unsent k p id) = refl
 puback_same i (Own.Sent k p id) = by ((i == id) && is_acknowledged p.qos)
   where
@@ -63,7 +63,7 @@ puback_same i (Own.Sent k p id) = by ((i == id) && is_acknowledged p.qos)
 puback_same i (Own.Released k p id) = refl
 puback_same i (Own.Done k p) = refl
 
-pub pubrec_same : (i : ℕ) (o : Own) → number_in (at_pubrec i o) ≡ number_in o
+pub pubrec_same : (i : ℕ) (o : Own) → number_in (own_at_pubrec i o) ≡ number_in o
 pubrec_same i (Own.Unsent k p id) = refl
 pubrec_same i (Own.Sent k p id) = by ((i == id) && not (is_acknowledged p.qos))
   where
@@ -73,7 +73,7 @@ pubrec_same i (Own.Sent k p id) = by ((i == id) && not (is_acknowledged p.qos))
 pubrec_same i (Own.Released k p id) = refl
 pubrec_same i (Own.Done k p) = refl
 
-pub pubcomp_same : (i : ℕ) (o : Own) → number_in (at_pubcomp i o) ≡ number_in o
+pub pubcomp_same : (i : ℕ) (o : Own) → number_in (own_at_pubcomp i o) ≡ number_in o
 pubcomp_same i (Own.Unsent k p id) = refl
 pubcomp_same i (Own.Sent k p id) = refl
 pubcomp_same i (Own.Released k p id) = by (i == id)

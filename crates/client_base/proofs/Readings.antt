@@ -7,12 +7,12 @@ use Rattle.client_base.specs.declared.unacknowledged_publication.UnacknowledgedP
 use Rattle.client_base.specs.Answered.{awaits_puback, awaits_pubrec}
 use Rattle.session_base.specs.Identifiers.{without_id}
 use Rattle.client_base.specs.Keeper.{Own}
-use Rattle.client_base.specs.Handshakes.{at_puback, at_pubrec, at_pubcomp, is_sent_with}
+use Rattle.client_base.specs.Handshakes.{own_at_puback, own_at_pubrec, own_at_pubcomp, is_sent_with}
 use Rattle.client_base.specs.History.{sent_of, unsent_of, released_of}
 
 -- ---- PUBACK
 
-pub puback_sent : (i : ℕ) (own : List Own) → sent_of (map (at_puback i) own) ≡ filter (λ one. not (awaits_puback i one)) (sent_of own)
+pub puback_sent : (i : ℕ) (own : List Own) → sent_of (map (own_at_puback i) own) ≡ filter (λ one. not (awaits_puback i one)) (sent_of own)
 puback_sent i [] = refl
 puback_sent i (Own.Unsent k p id ∷ own) = puback_sent i own
 puback_sent i (Own.Sent k p id ∷ own) = by ((i == id) && is_acknowledged p.qos) (puback_sent i own)
@@ -20,30 +20,30 @@ puback_sent i (Own.Sent k p id ∷ own) = by ((i == id) && is_acknowledged p.qos
     left : List UnacknowledgedPublication
     left = filter (λ one. not (awaits_puback i one)) (sent_of own)
 
-    by : (b : Bool) → sent_of (map (at_puback i) own) ≡ left
-        → sent_of ((if b then Own.Done k p else Own.Sent k p id) ∷ map (at_puback i) own) ≡ (if not b then record { id = id; publication = p } ∷ left else left)
+    by : (b : Bool) → sent_of (map (own_at_puback i) own) ≡ left
+        → sent_of ((if b then Own.Done k p else Own.Sent k p id) ∷ map (own_at_puback i) own) ≡ (if not b then record { id = id; publication = p } ∷ left else left)
     by true ih = ih
     by false ih = ap (λ (l : List UnacknowledgedPublication). record { id = id; publication = p } ∷ l) ih
 puback_sent i (Own.Released k p id ∷ own) = puback_sent i own
 puback_sent i (Own.Done k p ∷ own) = puback_sent i own
 
-pub puback_unsent : (i : ℕ) (own : List Own) → unsent_of (map (at_puback i) own) ≡ unsent_of own
+pub puback_unsent : (i : ℕ) (own : List Own) → unsent_of (map (own_at_puback i) own) ≡ unsent_of own
 puback_unsent i [] = refl
 puback_unsent i (Own.Unsent k p id ∷ own) = ap (λ (l : List UnacknowledgedPublication). record { id = id; publication = p } ∷ l) (puback_unsent i own)
 puback_unsent i (Own.Sent k p id ∷ own) = by ((i == id) && is_acknowledged p.qos) (puback_unsent i own)
   where
-    by : (b : Bool) → unsent_of (map (at_puback i) own) ≡ unsent_of own → unsent_of ((if b then Own.Done k p else Own.Sent k p id) ∷ map (at_puback i) own) ≡ unsent_of own
+    by : (b : Bool) → unsent_of (map (own_at_puback i) own) ≡ unsent_of own → unsent_of ((if b then Own.Done k p else Own.Sent k p id) ∷ map (own_at_puback i) own) ≡ unsent_of own
     by true ih = ih
     by false ih = ih
 puback_unsent i (Own.Released k p id ∷ own) = puback_unsent i own
 puback_unsent i (Own.Done k p ∷ own) = puback_unsent i own
 
-pub puback_released : (i : ℕ) (own : List Own) → released_of (map (at_puback i) own) ≡ released_of own
+pub puback_released : (i : ℕ) (own : List Own) → released_of (map (own_at_puback i) own) ≡ released_of own
 puback_released i [] = refl
 puback_released i (Own.Unsent k p id ∷ own) = puback_released i own
 puback_released i (Own.Sent k p id ∷ own) = by ((i == id) && is_acknowledged p.qos) (puback_released i own)
   where
-    by : (b : Bool) → released_of (map (at_puback i) own) ≡ released_of own → released_of ((if b then Own.Done k p else Own.Sent k p id) ∷ map (at_puback i) own) ≡ released_of own
+    by : (b : Bool) → released_of (map (own_at_puback i) own) ≡ released_of own → released_of ((if b then Own.Done k p else Own.Sent k p id) ∷ map (own_at_puback i) own) ≡ released_of own
     by true ih = ih
     by false ih = ih
 puback_released i (Own.Released k p id ∷ own) = ap (λ l. id ∷ l) (puback_released i own)
@@ -51,7 +51,7 @@ puback_released i (Own.Done k p ∷ own) = puback_released i own
 
 -- ---- PUBREC
 
-pub pubrec_sent : (i : ℕ) (own : List Own) → sent_of (map (at_pubrec i) own) ≡ filter (λ one. not (awaits_pubrec i one)) (sent_of own)
+pub pubrec_sent : (i : ℕ) (own : List Own) → sent_of (map (own_at_pubrec i) own) ≡ filter (λ one. not (awaits_pubrec i one)) (sent_of own)
 pubrec_sent i [] = refl
 pubrec_sent i (Own.Unsent k p id ∷ own) = pubrec_sent i own
 pubrec_sent i (Own.Sent k p id ∷ own) = by ((i == id) && not (is_acknowledged p.qos)) (pubrec_sent i own)
@@ -59,19 +59,19 @@ pubrec_sent i (Own.Sent k p id ∷ own) = by ((i == id) && not (is_acknowledged 
     left : List UnacknowledgedPublication
     left = filter (λ one. not (awaits_pubrec i one)) (sent_of own)
 
-    by : (b : Bool) → sent_of (map (at_pubrec i) own) ≡ left
-        → sent_of ((if b then Own.Released k p id else Own.Sent k p id) ∷ map (at_pubrec i) own) ≡ (if not b then record { id = id; publication = p } ∷ left else left)
+    by : (b : Bool) → sent_of (map (own_at_pubrec i) own) ≡ left
+        → sent_of ((if b then Own.Released k p id else Own.Sent k p id) ∷ map (own_at_pubrec i) own) ≡ (if not b then record { id = id; publication = p } ∷ left else left)
     by true ih = ih
     by false ih = ap (λ (l : List UnacknowledgedPublication). record { id = id; publication = p } ∷ l) ih
 pubrec_sent i (Own.Released k p id ∷ own) = pubrec_sent i own
 pubrec_sent i (Own.Done k p ∷ own) = pubrec_sent i own
 
-pub pubrec_unsent : (i : ℕ) (own : List Own) → unsent_of (map (at_pubrec i) own) ≡ unsent_of own
+pub pubrec_unsent : (i : ℕ) (own : List Own) → unsent_of (map (own_at_pubrec i) own) ≡ unsent_of own
 pubrec_unsent i [] = refl
 pubrec_unsent i (Own.Unsent k p id ∷ own) = ap (λ (l : List UnacknowledgedPublication). record { id = id; publication = p } ∷ l) (pubrec_unsent i own)
 pubrec_unsent i (Own.Sent k p id ∷ own) = by ((i == id) && not (is_acknowledged p.qos)) (pubrec_unsent i own)
   where
-    by : (b : Bool) → unsent_of (map (at_pubrec i) own) ≡ unsent_of own → unsent_of ((if b then Own.Released k p id else Own.Sent k p id) ∷ map (at_pubrec i) own) ≡ unsent_of own
+    by : (b : Bool) → unsent_of (map (own_at_pubrec i) own) ≡ unsent_of own → unsent_of ((if b then Own.Released k p id else Own.Sent k p id) ∷ map (own_at_pubrec i) own) ≡ unsent_of own
     by true ih = ih
     by false ih = ih
 pubrec_unsent i (Own.Released k p id ∷ own) = pubrec_unsent i own
@@ -86,36 +86,36 @@ pubrec_waits i (Own.Done k p ∷ own) = pubrec_waits i own
 
 -- ---- PUBCOMP
 
-pub pubcomp_sent : (i : ℕ) (own : List Own) → sent_of (map (at_pubcomp i) own) ≡ sent_of own
+pub pubcomp_sent : (i : ℕ) (own : List Own) → sent_of (map (own_at_pubcomp i) own) ≡ sent_of own
 pubcomp_sent i [] = refl
 pubcomp_sent i (Own.Unsent k p id ∷ own) = pubcomp_sent i own
 pubcomp_sent i (Own.Sent k p id ∷ own) = ap (λ (l : List UnacknowledgedPublication). record { id = id; publication = p } ∷ l) (pubcomp_sent i own)
 pubcomp_sent i (Own.Released k p id ∷ own) = by (i == id) (pubcomp_sent i own)
   where
-    by : (b : Bool) → sent_of (map (at_pubcomp i) own) ≡ sent_of own → sent_of ((if b then Own.Done k p else Own.Released k p id) ∷ map (at_pubcomp i) own) ≡ sent_of own
+    by : (b : Bool) → sent_of (map (own_at_pubcomp i) own) ≡ sent_of own → sent_of ((if b then Own.Done k p else Own.Released k p id) ∷ map (own_at_pubcomp i) own) ≡ sent_of own
     by true ih = ih
     by false ih = ih
 pubcomp_sent i (Own.Done k p ∷ own) = pubcomp_sent i own
 
-pub pubcomp_unsent : (i : ℕ) (own : List Own) → unsent_of (map (at_pubcomp i) own) ≡ unsent_of own
+pub pubcomp_unsent : (i : ℕ) (own : List Own) → unsent_of (map (own_at_pubcomp i) own) ≡ unsent_of own
 pubcomp_unsent i [] = refl
 pubcomp_unsent i (Own.Unsent k p id ∷ own) = ap (λ (l : List UnacknowledgedPublication). record { id = id; publication = p } ∷ l) (pubcomp_unsent i own)
 pubcomp_unsent i (Own.Sent k p id ∷ own) = pubcomp_unsent i own
 pubcomp_unsent i (Own.Released k p id ∷ own) = by (i == id) (pubcomp_unsent i own)
   where
-    by : (b : Bool) → unsent_of (map (at_pubcomp i) own) ≡ unsent_of own → unsent_of ((if b then Own.Done k p else Own.Released k p id) ∷ map (at_pubcomp i) own) ≡ unsent_of own
+    by : (b : Bool) → unsent_of (map (own_at_pubcomp i) own) ≡ unsent_of own → unsent_of ((if b then Own.Done k p else Own.Released k p id) ∷ map (own_at_pubcomp i) own) ≡ unsent_of own
     by true ih = ih
     by false ih = ih
 pubcomp_unsent i (Own.Done k p ∷ own) = pubcomp_unsent i own
 
-pub pubcomp_released : (i : ℕ) (own : List Own) → released_of (map (at_pubcomp i) own) ≡ without_id i (released_of own)
+pub pubcomp_released : (i : ℕ) (own : List Own) → released_of (map (own_at_pubcomp i) own) ≡ without_id i (released_of own)
 pubcomp_released i [] = refl
 pubcomp_released i (Own.Unsent k p id ∷ own) = pubcomp_released i own
 pubcomp_released i (Own.Sent k p id ∷ own) = pubcomp_released i own
 pubcomp_released i (Own.Released k p id ∷ own) = by (i == id) (pubcomp_released i own)
   where
-    by : (b : Bool) → released_of (map (at_pubcomp i) own) ≡ without_id i (released_of own)
-        → released_of ((if b then Own.Done k p else Own.Released k p id) ∷ map (at_pubcomp i) own) ≡ (if not b then id ∷ without_id i (released_of own) else without_id i (released_of own))
+    by : (b : Bool) → released_of (map (own_at_pubcomp i) own) ≡ without_id i (released_of own)
+        → released_of ((if b then Own.Done k p else Own.Released k p id) ∷ map (own_at_pubcomp i) own) ≡ (if not b then id ∷ without_id i (released_of own) else without_id i (released_of own))
     by true ih = ih
     by false ih = ap (λ l. id ∷ l) ih
 pubcomp_released i (Own.Done k p ∷ own) = pubcomp_released i own

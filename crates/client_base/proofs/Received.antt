@@ -18,7 +18,7 @@ use Rattle.client_base.specs.declared.stage.Stage.TheVariants as stages
 use Rattle.client_base.specs.State.{ClientState, is_online}
 use Rattle.client_base.specs.Answered.{ClientOutcome, on_publish, accepting, awaits_pubrec}
 use Rattle.session_base.specs.Identifiers.{without_id}
-use Rattle.client_base.specs.Calls.{received, on_first, on_later}
+use Rattle.client_base.specs.Calls.{client_receives, on_first, on_later}
 use Rattle.client_base.specs.Publishing.{published, publish_refusal}
 use Rattle.client_base.specs.Steps.{Call, unless_refused, request_refusal, subscribed, unsubscribed, disconnected}
 use Rattle.client_base.specs.Laws.{AcceptsUnlessKept, StaysKept}
@@ -126,7 +126,7 @@ stays_later id (packets.Pubrel other) state e = stays_pubrel id other state e
 stays_later id _ state e = inl e
 
 stays_received : (id : ℕ) (packet : Packet) (stage : Stage) (state : ClientState) → has_id id state.received ≡ true
-    → Stays id (Call.Receives packet) (received packet stage state)
+    → Stays id (Call.Receives packet) (client_receives packet stage state)
 stays_received id packet stages.Closed state e = inl e
 stays_received id packet stages.Opened state e = stays_first id packet state e
 stays_received id packet stages.Online state e = stays_later id packet state e

@@ -4,7 +4,7 @@ use Rattle.session_base.specs.lists.Lists.{has_id}
 use Rattle.session_base.specs.Publication.{is_acknowledged}
 use Rattle.session_base.specs.Identifiers.{without_id}
 use Rattle.client_base.specs.Keeper.{Own}
-use Rattle.client_base.specs.Handshakes.{at_pubrec, is_sent_with}
+use Rattle.client_base.specs.Handshakes.{own_at_pubrec, is_sent_with}
 use Rattle.client_base.specs.History.{released_of}
 
 -- without one identifier, the others are there as before
@@ -37,7 +37,7 @@ has_without j i (x ∷ xs) = by (i == x) refl (has_without j i xs)
     by false h ih = ap (λ b. (j == x) || b) ih ∙ other (j == x) (i == j) (differs h)
 
 -- what PUBREC releases
-pub pubrec_released : (j i : ℕ) (own : List Own) → has_id j (released_of (map (at_pubrec i) own)) ≡ (has_id j (released_of own) || ((j == i) && is_sent_with i own))
+pub pubrec_released : (j i : ℕ) (own : List Own) → has_id j (released_of (map (own_at_pubrec i) own)) ≡ (has_id j (released_of own) || ((j == i) && is_sent_with i own))
 pubrec_released j i [] = none (j == i)
   where
     none : (b : Bool) → false ≡ (b && false)
@@ -54,8 +54,8 @@ pubrec_released j i (Own.Sent k p id ∷ own) = by (i == id) (not (is_acknowledg
     more true false s = refl
     more false r s = refl
 
-    by : (b c : Bool) → (i == id) ≡ b → has_id j (released_of (map (at_pubrec i) own)) ≡ (has_id j (released_of own) || ((j == i) && is_sent_with i own))
-        → has_id j (released_of ((if b && c then Own.Released k p id else Own.Sent k p id) ∷ map (at_pubrec i) own))
+    by : (b c : Bool) → (i == id) ≡ b → has_id j (released_of (map (own_at_pubrec i) own)) ≡ (has_id j (released_of own) || ((j == i) && is_sent_with i own))
+        → has_id j (released_of ((if b && c then Own.Released k p id else Own.Sent k p id) ∷ map (own_at_pubrec i) own))
         ≡ (has_id j (released_of own) || ((j == i) && ((b && c) || is_sent_with i own)))
     by true true h ih = ap₂ (λ x y. x || y) (same h) ih ∙ more (j == i) (has_id j (released_of own)) (is_sent_with i own)
     by true false h ih = ih

@@ -5,7 +5,7 @@ use Rattle.packet.specs.declared.packet.Packet.{Packet}
 use Rattle.client_base.specs.declared.unacknowledged_publication.UnacknowledgedPublication.{UnacknowledgedPublication}
 use Rattle.client_base.specs.State.{publish_kept}
 use Rattle.client_base.specs.Keeper.{Own, Written}
-use Rattle.client_base.specs.Written.{sent_all, sent_again, sent_first}
+use Rattle.client_base.specs.Written.{sent_all, written_again, written_first}
 use Rattle.client_base.specs.History.{sent_of, unsent_of, released_of, IsSentFirst}
 
 -- ---- all are sent
@@ -46,14 +46,14 @@ all_sent (Own.Done k p ∷ own) first = all_sent own first
 abbrev pub packets_in : List Written → List Packet
 packets_in = map (λ written. written.packet)
 
-pub again_same : (own : List Own) → packets_in (sent_again own) ≡ map (publish_kept true) (sent_of own)
+pub again_same : (own : List Own) → packets_in (written_again own) ≡ map (publish_kept true) (sent_of own)
 again_same [] = refl
 again_same (Own.Unsent k p id ∷ own) = again_same own
 again_same (Own.Sent k p id ∷ own) = ap (λ l. publish_kept true (record { id = id; publication = p }) ∷ l) (again_same own)
 again_same (Own.Released k p id ∷ own) = again_same own
 again_same (Own.Done k p ∷ own) = again_same own
 
-pub first_same : (own : List Own) → packets_in (sent_first own) ≡ map (publish_kept false) (unsent_of own)
+pub first_same : (own : List Own) → packets_in (written_first own) ≡ map (publish_kept false) (unsent_of own)
 first_same [] = refl
 first_same (Own.Unsent k p id ∷ own) = ap (λ l. publish_kept false (record { id = id; publication = p }) ∷ l) (first_same own)
 first_same (Own.Sent k p id ∷ own) = first_same own

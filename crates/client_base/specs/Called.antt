@@ -9,9 +9,9 @@ use Rattle.session_base.specs.Identifiers.{least_free}
 use Rattle.client_base.specs.declared.request.Request.{Request}
 use Rattle.client_base.specs.declared.request.Request.TheVariants as requests
 use Rattle.client_base.specs.Keeper.{Own, Written, Keeper, Side}
-use Rattle.client_base.specs.Keeper.{ids_in_use, next_number}
-use Rattle.client_base.specs.Written.{plain, publishes, writes}
-use Rattle.client_base.specs.Handled.{lost, handled}
+use Rattle.client_base.specs.Keeper.{ids_in_use, next_own_number}
+use Rattle.client_base.specs.Written.{plain, written_publish, writes}
+use Rattle.client_base.specs.Handled.{lost, packet_handled}
 use Rattle.client_base.specs.Steps.{Call}
 use Rattle.client_base.specs.Connected.{opened, disconnects}
 
@@ -25,33 +25,33 @@ adds_own p keeper =
       own = keeper.own
           ++ (if is_answered p.qos
           then (if keeper.is_online
-          then Own.Sent (next_number keeper) p (least_free (ids_in_use keeper))
-          else Own.Unsent (next_number keeper) p (least_free (ids_in_use keeper)))
-          else Own.Done (next_number keeper) p) ∷ [];
+          then Own.Sent (next_own_number keeper) p (least_free (ids_in_use keeper))
+          else Own.Unsent (next_own_number keeper) p (least_free (ids_in_use keeper)))
+          else Own.Done (next_own_number keeper) p) ∷ [];
     }
 
 -- what is written for a publication: its PUBLISH if the client is online
 abbrev pub written_for : Publication → Keeper → List Written
 written_for p keeper =
     if keeper.is_online
-    then publishes false (next_number keeper) (least_free (ids_in_use keeper)) p ∷ []
+    then written_publish false (next_own_number keeper) (least_free (ids_in_use keeper)) p ∷ []
     else []
 
 -- one request more waits for its answer
-abbrev pub asks : Request → Keeper → Keeper
-asks request keeper = record keeper { requests = keeper.requests ++ request ∷ [] }
+abbrev pub with_request : Request → Keeper → Keeper
+with_request request keeper = record keeper { requests = keeper.requests ++ request ∷ [] }
 
 -- the SUBSCRIBE to one filter, with the least free identifier
-abbrev pub subscribe_of : List ℕ → QoS → Keeper → Packet
-subscribe_of filter qos keeper =
+abbrev pub next_subscribe : List ℕ → QoS → Keeper → Packet
+next_subscribe filter qos keeper =
     packets.Subscribe (record {
       id = least_free (ids_in_use keeper);
       filters = record { filter = filter; qos = qos } ∷ [];
     })
 
 -- the UNSUBSCRIBE from one filter, with the least free identifier
-abbrev pub unsubscribe_of : List ℕ → Keeper → Packet
-unsubscribe_of filter keeper =
+abbrev pub next_unsubscribe : List ℕ → Keeper → Packet
+next_unsubscribe filter keeper =
     packets.Unsubscribe (record { id = least_free (ids_in_use keeper); filters = filter ∷ [] })
 
 -- ---- the step: a call that is not refused, or a packet, on the connection that was opened last;
@@ -67,15 +67,16 @@ keeper_goes fresh (Call.Publishes p) side =
     }
 keeper_goes fresh (Call.Subscribes filter qos) side =
     record {
-      keeper = asks (requests.Subscribes (least_free (ids_in_use side.keeper))) side.keeper;
-      connection = writes (plain (subscribe_of filter qos side.keeper) ∷ []) side.connection;
+      keeper = with_request (requests.Subscribes (least_free (ids_in_use side.keeper))) side.keeper;
+      connection = writes (plain (next_subscribe filter qos side.keeper) ∷ []) side.connection;
     }
 keeper_goes fresh (Call.Unsubscribes filter) side =
     record {
-      keeper = asks (requests.Unsubscribes (least_free (ids_in_use side.keeper))) side.keeper;
-      connection = writes (plain (unsubscribe_of filter side.keeper) ∷ []) side.connection;
+      keeper = with_request (requests.Unsubscribes (least_free (ids_in_use side.keeper)))
+          side.keeper;
+      connection = writes (plain (next_unsubscribe filter side.keeper) ∷ []) side.connection;
     }
-keeper_goes fresh (Call.Receives packet) side = handled packet side
+keeper_goes fresh (Call.Receives packet) side = packet_handled packet side
 keeper_goes fresh Call.Loses side = record side { keeper = lost side.keeper }
 keeper_goes fresh Call.Disconnects side =
     record {

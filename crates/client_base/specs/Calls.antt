@@ -14,8 +14,8 @@ use Rattle.client_base.specs.Answered.{on_pubrec, on_pubcomp, is_subscribe}
 use Rattle.client_base.specs.Answered.{is_unsubscribe, answered}
 
 -- nothing changes, for this cause
-abbrev pub refused : ClientError → ClientState → ClientOutcome
-refused cause state = record { state = state; writes = []; refusal = Some cause }
+abbrev pub refused_call : ClientError → ClientState → ClientOutcome
+refused_call cause state = record { state = state; writes = []; refusal = Some cause }
 
 -- ---- a connection begins
 
@@ -82,7 +82,7 @@ on_later packets.Pingresp state = going_on state []
 on_later _ state = ending errors.Protocol state
 
 -- a packet of the server, by how far the connection has come
-abbrev pub received : Packet → Stage → ClientState → ClientOutcome
-received packet stages.Closed state = refused errors.NotActive state
-received packet stages.Opened state = on_first packet state
-received packet stages.Online state = on_later packet state
+abbrev pub client_receives : Packet → Stage → ClientState → ClientOutcome
+client_receives packet stages.Closed state = refused_call errors.NotActive state
+client_receives packet stages.Opened state = on_first packet state
+client_receives packet stages.Online state = on_later packet state

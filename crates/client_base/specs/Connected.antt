@@ -3,23 +3,23 @@ use Rattle.std.specs.Prelude.{ℕ, true, false, if◌then◌else◌, List, [], �
 use Rattle.packet.specs.declared.packet.Packet.TheVariants as packets
 use Rattle.client_base.specs.Keeper.{Written, ClientConnection, Keeper, Side}
 use Rattle.client_base.specs.Written.{plain}
-use Rattle.client_base.specs.Handled.{lost, handled}
+use Rattle.client_base.specs.Handled.{lost, packet_handled}
 
 -- CONNECT with CleanSession 0 and this keep alive
-abbrev pub connects : ℕ → List ℕ → Written
-connects keep_alive c =
+abbrev pub written_connect : ℕ → List ℕ → Written
+written_connect keep_alive c =
     plain (packets.Connect (record { client = c; clean = false; keep_alive = keep_alive }))
 
 -- with keep alive 0, as the clients of the headline theorem have it
-abbrev pub opens : List ℕ → Written
-opens = connects 0
+abbrev pub opening_connect : List ℕ → Written
+opening_connect = written_connect 0
 
 -- a connection of a client, on which nothing but a CONNECT was written
 abbrev pub new_connection : {Name : Type 0} → List ℕ → Name → ClientConnection Name
 new_connection c x =
     record {
       name = x;
-      written = opens c ∷ [];
+      written = opening_connect c ∷ [];
       taken = 0;
       handled = 0;
       confirmed = false;
@@ -33,7 +33,7 @@ opened keep_alive x keeper =
       keeper = record (lost keeper) { is_open = true };
       connection =
           record (new_connection keeper.client x)
-          { written = connects keep_alive keeper.client ∷ [] };
+          { written = written_connect keep_alive keeper.client ∷ [] };
     }
 
 -- what a disconnecting client writes: DISCONNECT if it is online

@@ -9,8 +9,8 @@ use Rattle.client_base.specs.declared.request.Request.{Request}
 use Rattle.client_base.specs.Answered.{is_subscribe, is_unsubscribe}
 use Rattle.session_base.specs.Identifiers.{without_id}
 use Rattle.client_base.specs.Keeper.{Keeper, Side, all_own}
-use Rattle.client_base.specs.Written.{plain, resent, sent_all, writing}
-use Rattle.client_base.specs.Handshakes.{at_puback, at_pubcomp, releasing, takes_in}
+use Rattle.client_base.specs.Written.{plain, resent_written, sent_all, writing}
+use Rattle.client_base.specs.Handshakes.{own_at_puback, own_at_pubcomp, pubrec_answered, takes_in}
 
 -- ---- CONNACK 0, and the end of a connection
 
@@ -27,7 +27,7 @@ confirmed present side =
     record {
       keeper = record kept { own = sent_all kept.own; is_online = true; was_served = true };
       connection = record side.connection {
-        written = side.connection.written ++ resent kept;
+        written = side.connection.written ++ resent_written kept;
         confirmed = true;
       };
     }
@@ -51,12 +51,12 @@ not_unsubscribes i request = not (is_unsubscribe i request)
 abbrev pub handled_online : {Name : Type 0} → Packet → Side Name → Side Name
 handled_online (packets.Publish p) side = takes_in p.delivery (publication_of p) side
 handled_online (packets.Puback i) side =
-    record side { keeper = record side.keeper { own = map (at_puback i) side.keeper.own } }
-handled_online (packets.Pubrec i) side = releasing i side
+    record side { keeper = record side.keeper { own = map (own_at_puback i) side.keeper.own } }
+handled_online (packets.Pubrec i) side = pubrec_answered i side
 handled_online (packets.Pubcomp i) side =
     record side {
       keeper = record side.keeper {
-        own = map (at_pubcomp i) side.keeper.own;
+        own = map (own_at_pubcomp i) side.keeper.own;
         releases = without_id i side.keeper.releases;
       };
     }
@@ -82,8 +82,8 @@ handled_first (packets.Connack (connacks.Accepted present)) side = confirmed pre
 handled_first _ side = record side { keeper = lost side.keeper }
 
 -- a packet is handled and counted
-abbrev pub handled : {Name : Type 0} → Packet → Side Name → Side Name
-handled packet side =
+abbrev pub packet_handled : {Name : Type 0} → Packet → Side Name → Side Name
+packet_handled packet side =
     let counted = record side
     { connection = record side.connection { handled = suc side.connection.handled } } in
     if side.keeper.is_online then handled_online packet counted else handled_first packet counted

@@ -11,21 +11,21 @@ use Rattle.client_base.specs.Keeper.{Own, Side}
 use Rattle.client_base.specs.Written.{plain, writing}
 
 -- a publication at PUBACK: one of QoS 1 with this identifier is done
-abbrev pub at_puback : ℕ → Own → Own
-at_puback i (Own.Sent k p id) =
+abbrev pub own_at_puback : ℕ → Own → Own
+own_at_puback i (Own.Sent k p id) =
     if (i == id) && is_acknowledged p.qos then Own.Done k p else Own.Sent k p id
-at_puback i o = o
+own_at_puback i o = o
 
 -- at PUBREC: one of QoS 2 with this identifier is released
-abbrev pub at_pubrec : ℕ → Own → Own
-at_pubrec i (Own.Sent k p id) =
+abbrev pub own_at_pubrec : ℕ → Own → Own
+own_at_pubrec i (Own.Sent k p id) =
     if (i == id) && not (is_acknowledged p.qos) then Own.Released k p id else Own.Sent k p id
-at_pubrec i o = o
+own_at_pubrec i o = o
 
 -- at PUBCOMP: a released one with this identifier is done
-abbrev pub at_pubcomp : ℕ → Own → Own
-at_pubcomp i (Own.Released k p id) = if i == id then Own.Done k p else Own.Released k p id
-at_pubcomp i o = o
+abbrev pub own_at_pubcomp : ℕ → Own → Own
+own_at_pubcomp i (Own.Released k p id) = if i == id then Own.Done k p else Own.Released k p id
+own_at_pubcomp i o = o
 
 -- whether a publication of QoS 2 with this identifier waits for PUBREC
 abbrev pub is_sent_with : ℕ → List Own → Bool
@@ -35,13 +35,13 @@ is_sent_with i (_ ∷ own) = is_sent_with i own
 is_sent_with i [] = false
 
 -- PUBREC is answered by PUBREL, the first time and again
-abbrev pub releasing : {Name : Type 0} → ℕ → Side Name → Side Name
-releasing i side =
+abbrev pub pubrec_answered : {Name : Type 0} → ℕ → Side Name → Side Name
+pubrec_answered i side =
     if is_sent_with i side.keeper.own
     then writing (plain (packets.Pubrel i) ∷ [])
     (record side {
       keeper = record side.keeper {
-        own = map (at_pubrec i) side.keeper.own;
+        own = map (own_at_pubrec i) side.keeper.own;
         releases = side.keeper.releases ++ i ∷ [];
       };
     })

@@ -1,18 +1,18 @@
 -- The identifiers that a client uses (MQTT 2.3.1).
 use Rattle.std.specs.Prelude.{◌≡◌, ℕ, true, false, List}
 use Rattle.session_base.specs.lists.Lists.{has_id, IsDistinct}
-use Rattle.client_base.specs.State.{new_client, publication_ids, request_ids, used_ids}
+use Rattle.client_base.specs.State.{new_client_state, publication_ids, request_ids, used_ids}
 use Rattle.client_base.specs.Steps.{Call, state_after}
 
 -- whatever the client is asked for and the server sends, no identifier is in flight twice
 abbrev pub IdentifiersAreDistinct : Type 0
 IdentifiersAreDistinct =
     (calls : List Call) (client : List ℕ) (keep_alive : ℕ) →
-    IsDistinct (used_ids (state_after calls (new_client client keep_alive)))
+    IsDistinct (used_ids (state_after calls (new_client_state client keep_alive)))
 
 -- no identifier in flight is both a publication's and a request's
 abbrev pub RequestsAreApart : Type 0
 RequestsAreApart =
     (calls : List Call) (client : List ℕ) (keep_alive id : ℕ) →
-    let state = state_after calls (new_client client keep_alive) in
+    let state = state_after calls (new_client_state client keep_alive) in
     has_id id (publication_ids state) ≡ true → has_id id (request_ids state) ≡ false

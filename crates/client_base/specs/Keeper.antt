@@ -83,8 +83,8 @@ abbrev pub all_own : Keeper → List Own
 all_own keeper = keeper.earlier ++ keeper.own
 
 -- the number of the next publication: how many the client has published
-abbrev pub next_number : Keeper → ℕ
-next_number keeper = length keeper.earlier + length keeper.own
+abbrev pub next_own_number : Keeper → ℕ
+next_own_number keeper = length keeper.earlier + length keeper.own
 
 -- the identifiers that a client uses
 abbrev pub ids_in_use : Keeper → List ℕ

@@ -1,7 +1,7 @@
 -- What is kept is sent in the order in which it was published (MQTT 4.6).
 use Rattle.std.specs.Prelude.{◌≡◌, ℕ, ◌<◌, suc, List, [], ◌∷◌, ◌++◌, Option, Some, None}
 use Rattle.client_base.specs.Keeper.{Own, Written, Side, all_own, number_in}
-use Rattle.client_base.specs.Written.{sent_again, sent_first}
+use Rattle.client_base.specs.Written.{written_again, written_first}
 use Rattle.client_base.specs.Steps.{Call}
 use Rattle.client_base.specs.Called.{keeper_goes}
 use Rattle.client_base.specs.History.{IsSentFirst}
@@ -12,13 +12,13 @@ AreNumbered n (o ∷ own) = (number_in o ≡ n) × AreNumbered (suc n) own
 AreNumbered n [] = Unit {0}
 
 -- the publications that these packets belong to
-abbrev pub numbers_of : List Written → List ℕ
-numbers_of (w ∷ more) = with_number w.number (numbers_of more)
+abbrev pub written_numbers : List Written → List ℕ
+written_numbers (w ∷ more) = with_number w.number (written_numbers more)
   where
     with_number : Option ℕ → List ℕ → List ℕ
     with_number (Some k) ks = k ∷ ks
     with_number None ks = ks
-numbers_of [] = []
+written_numbers [] = []
 
 -- each is above the one before it, and the first is not below this
 abbrev pub RisesFrom : ℕ → List ℕ → Type 0
@@ -37,4 +37,4 @@ NumbersStay =
 abbrev pub GoesOutInOrder : Type 0
 GoesOutInOrder =
     (n : ℕ) (own : List Own) → AreNumbered n own → IsSentFirst own
-    → RisesFrom n (numbers_of (sent_again own ++ sent_first own))
+    → RisesFrom n (written_numbers (written_again own ++ written_first own))

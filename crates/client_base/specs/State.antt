@@ -26,8 +26,8 @@ pub record ClientState : Type 0 where
   pub accepted : List Accepted  -- not taken out yet
 
 -- a client that never was connected
-abbrev pub new_client : List ℕ → ℕ → ClientState
-new_client client keep_alive =
+abbrev pub new_client_state : List ℕ → ℕ → ClientState
+new_client_state client keep_alive =
     record {
       client = client;
       keep_alive = keep_alive;

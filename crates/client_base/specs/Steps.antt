@@ -12,7 +12,7 @@ use Rattle.client_base.specs.declared.stage.Stage.{Stage}
 use Rattle.client_base.specs.declared.stage.Stage.TheVariants as stages
 use Rattle.client_base.specs.State.{ClientState, is_online, lost}
 use Rattle.client_base.specs.Answered.{ClientOutcome, going_on}
-use Rattle.client_base.specs.Calls.{refused, opened, received}
+use Rattle.client_base.specs.Calls.{refused_call, opened, client_receives}
 use Rattle.client_base.specs.Publishing.{next_id, has_free_id, publish_refusal, published}
 
 -- ---- requests (MQTT 3.8, 3.10)
@@ -45,7 +45,7 @@ unsubscribed filter state =
 
 -- DISCONNECT is written if the client is online (MQTT 3.14)
 abbrev pub disconnected : Stage → ClientState → ClientOutcome
-disconnected stages.Closed state = refused errors.NotActive state
+disconnected stages.Closed state = refused_call errors.NotActive state
 disconnected stages.Opened state = going_on (lost state) []
 disconnected stages.Online state = going_on (lost state) (packets.Disconnect ∷ [])
 
@@ -63,7 +63,7 @@ pub data Call : Type 0 where
 
 -- what a call does, unless it is refused for a cause
 abbrev pub unless_refused : Option ClientError → ClientOutcome → ClientState → ClientOutcome
-unless_refused (Some cause) outcome state = refused cause state
+unless_refused (Some cause) outcome state = refused_call cause state
 unless_refused None outcome state = outcome
 
 -- what each call does to a client
@@ -75,7 +75,7 @@ keeper_step (Call.Subscribes filter qos) state =
     unless_refused (request_refusal state) (subscribed filter qos state) state
 keeper_step (Call.Unsubscribes filter) state =
     unless_refused (request_refusal state) (unsubscribed filter state) state
-keeper_step (Call.Receives packet) state = received packet state.stage state
+keeper_step (Call.Receives packet) state = client_receives packet state.stage state
 keeper_step Call.Loses state = going_on (lost state) []
 keeper_step Call.Disconnects state = disconnected state.stage state
 

@@ -12,28 +12,28 @@ abbrev pub plain : Packet → Written
 plain packet = record { packet = packet; number = None }
 
 -- the PUBLISH of a publication, by its number and identifier
-abbrev pub publishes : Bool → ℕ → ℕ → Publication → Written
-publishes dup number id p =
+abbrev pub written_publish : Bool → ℕ → ℕ → Publication → Written
+written_publish dup number id p =
     record { packet = packets.Publish (publish_of dup id p); number = Some number }
 
 -- PUBLISH with DUP 1 for each that was sent and is not acknowledged
-abbrev pub sent_again : List Own → List Written
-sent_again (Own.Sent k p id ∷ own) = publishes true k id p ∷ sent_again own
-sent_again (_ ∷ own) = sent_again own
-sent_again [] = []
+abbrev pub written_again : List Own → List Written
+written_again (Own.Sent k p id ∷ own) = written_publish true k id p ∷ written_again own
+written_again (_ ∷ own) = written_again own
+written_again [] = []
 
 -- PUBLISH with DUP 0 for each that was not sent yet
-abbrev pub sent_first : List Own → List Written
-sent_first (Own.Unsent k p id ∷ own) = publishes false k id p ∷ sent_first own
-sent_first (_ ∷ own) = sent_first own
-sent_first [] = []
+abbrev pub written_first : List Own → List Written
+written_first (Own.Unsent k p id ∷ own) = written_publish false k id p ∷ written_first own
+written_first (_ ∷ own) = written_first own
+written_first [] = []
 
 -- after a CONNACK 0: PUBREL for what is released, then PUBLISH with DUP 1 for what was sent, then
 -- what was not
-abbrev pub resent : Keeper → List Written
-resent keeper =
+abbrev pub resent_written : Keeper → List Written
+resent_written keeper =
     map (λ id. plain (packets.Pubrel id)) keeper.releases
-    ++ sent_again keeper.own ++ sent_first keeper.own
+    ++ written_again keeper.own ++ written_first keeper.own
 
 -- all publications once those that were not sent yet are sent
 abbrev pub sent_all : List Own → List Own

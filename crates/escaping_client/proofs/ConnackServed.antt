@@ -4,7 +4,7 @@ use Rattle.client.specs.Core.{Core, nothing_read}
 use Rattle.client.specs.Reading.{EndsWith, Handles, OnBytes, ReadsPacket, StopsFor, fed, outcome_of}
 use Rattle.client.specs.Reading.Handles.{none, more}
 use Rattle.client.specs.client_base.Answered.{ClientOutcome}
-use Rattle.client.specs.client_base.Calls.{received}
+use Rattle.client.specs.client_base.Calls.{client_receives}
 use Rattle.client.specs.client_base.State.{ClientState, is_online}
 use Rattle.client.specs.client_base.declared.error.ClientError.{ClientError}
 use Rattle.client.specs.client_base.declared.error.ClientError.TheVariants as errors
@@ -64,10 +64,10 @@ module _ (piece : List ℕ) (old : Core) (whole : verdict piece ≡ Ok (connack,
   reads_it packet next reads =
       let z = same_packet (verdict (fed piece old).unread.bytes) packet connack next.unread.bytes [] reads.0.1 stands in (z.0, z.1, reads.1)
 
-  turn_is : (packet : Packet) (next : Core) → ReadsPacket (fed piece old) packet next → outcome_of packet next ≡ received connack stages.Opened old.state
+  turn_is : (packet : Packet) (next : Core) → ReadsPacket (fed piece old) packet next → outcome_of packet next ≡ client_receives connack stages.Opened old.state
   turn_is packet next reads =
       let z = reads_it packet next reads in
-      ap (λ (p : Packet). outcome_of p next) z.0 ∙ ap (λ (s : ClientState). received connack s.stage s) z.2 ∙ ap (λ (s : Stage). received connack s old.state) opened
+      ap (λ (p : Packet). outcome_of p next) z.0 ∙ ap (λ (s : ClientState). client_receives connack s.stage s) z.2 ∙ ap (λ (s : Stage). client_receives connack s old.state) opened
 
   nothing_more : (core : Core) → core.unread.bytes ≡ [] → verdict core.unread.bytes ≡ Err stops.More
   nothing_more core e = ap verdict e ∙ nothing_whole

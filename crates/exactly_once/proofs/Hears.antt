@@ -26,8 +26,8 @@ use Rattle.broker_base.specs.broker_spec.Past.{current_connection}
 use Rattle.exactly_once.specs.Sends.{put_to}
 use Rattle.client_base.specs.Keeper.{Own, Written, Keeper}
 use Rattle.exactly_once.specs.Sides.{ClientConnection, Side}
-use Rattle.client_base.specs.Handled.{handled}
-use Rattle.client_base.specs.Handshakes.{at_pubrec, is_sent_with}
+use Rattle.client_base.specs.Handled.{packet_handled}
+use Rattle.client_base.specs.Handshakes.{own_at_pubrec, is_sent_with}
 use Rattle.client_base.specs.Written.{plain, writes}
 use Rattle.exactly_once.specs.Story.{Story, with_side}
 use Rattle.exactly_once.specs.StoryCommands.{is_packet_of, packet_count}
@@ -61,19 +61,19 @@ own_map i p x y es fs e f = by (is_two p.qos)
     by true = ap₂ (λ z l. z ∷ l) e f
     by false = f
 
-pub own_pubrec : (i : ℕ) (own : List Own) → OwnAnswered own → items_of_own (map (at_pubrec i) own) ≡ map (item_released i) (items_of_own own)
+pub own_pubrec : (i : ℕ) (own : List Own) → OwnAnswered own → items_of_own (map (own_at_pubrec i) own) ≡ map (item_released i) (items_of_own own)
 own_pubrec i [] h = refl
-own_pubrec i (Own.Unsent k p id ∷ own) h = own_map i p (SenderItem.Waits k) (SenderItem.Waits k) (items_of_own own) (items_of_own (map (at_pubrec i) own)) refl (own_pubrec i own h.1)
+own_pubrec i (Own.Unsent k p id ∷ own) h = own_map i p (SenderItem.Waits k) (SenderItem.Waits k) (items_of_own own) (items_of_own (map (own_at_pubrec i) own)) refl (own_pubrec i own h.1)
 own_pubrec i (Own.Sent k p id ∷ own) h = by (cases_Bool (i == id)) (cases_Bool (is_two p.qos)) (own_pubrec i own h.1)
   where
-    by : ((i == id) ≡ true) ⊎ ((i == id) ≡ false) → (is_two p.qos ≡ true) ⊎ (is_two p.qos ≡ false) → items_of_own (map (at_pubrec i) own) ≡ map (item_released i) (items_of_own own)
-        → items_of_own (at_pubrec i (Own.Sent k p id) ∷ map (at_pubrec i) own) ≡ map (item_released i) (own_item p (SenderItem.Sent k id) (items_of_own own))
+    by : ((i == id) ≡ true) ⊎ ((i == id) ≡ false) → (is_two p.qos ≡ true) ⊎ (is_two p.qos ≡ false) → items_of_own (map (own_at_pubrec i) own) ≡ map (item_released i) (items_of_own own)
+        → items_of_own (own_at_pubrec i (Own.Sent k p id) ∷ map (own_at_pubrec i) own) ≡ map (item_released i) (own_item p (SenderItem.Sent k id) (items_of_own own))
     by (inl b) (inl t) ih = rw (b, t, two_not_one p.qos t) (rw t (rw b (ap (λ l. SenderItem.Released k id ∷ l) ih)))
     by (inl b) (inr t) ih = rw (b, t, not_two_one p.qos h.0 t) (rw t ih)
     by (inr b) (inl t) ih = rw (b, t) (rw b (ap (λ l. SenderItem.Sent k id ∷ l) ih))
     by (inr b) (inr t) ih = rw (b, t) ih
-own_pubrec i (Own.Released k p id ∷ own) h = own_map i p (SenderItem.Released k id) (SenderItem.Released k id) (items_of_own own) (items_of_own (map (at_pubrec i) own)) refl (own_pubrec i own h.1)
-own_pubrec i (Own.Done k p ∷ own) h = own_map i p (SenderItem.Finished k) (SenderItem.Finished k) (items_of_own own) (items_of_own (map (at_pubrec i) own)) refl (own_pubrec i own h)
+own_pubrec i (Own.Released k p id ∷ own) h = own_map i p (SenderItem.Released k id) (SenderItem.Released k id) (items_of_own own) (items_of_own (map (own_at_pubrec i) own)) refl (own_pubrec i own h.1)
+own_pubrec i (Own.Done k p ∷ own) h = own_map i p (SenderItem.Finished k) (SenderItem.Finished k) (items_of_own own) (items_of_own (map (own_at_pubrec i) own)) refl (own_pubrec i own h)
 
 -- the item that the PUBREC is of is there
 skip : (i : ℕ) (b : Bool) (x : SenderItem ℕ) (items : List (SenderItem ℕ)) → has_sent i (x ∷ items) ≡ has_sent i items → has_sent i (if b then x ∷ items else items) ≡ has_sent i items
@@ -167,8 +167,8 @@ same_self x = rw (same x.ballot, same x.count) refl
 
 -- the connection with more written, whatever else of it changes
 abbrev pub written_more : ClientConnection → List Written → ℕ → ℕ → Bool → List Publication → ClientConnection
-written_more κ more taken handled confirmed accepted =
-    record { name = κ.name; written = κ.written ++ more; taken = taken; handled = handled; confirmed = confirmed; accepted = accepted }
+written_more κ more taken packet_handled confirmed accepted =
+    record { name = κ.name; written = κ.written ++ more; taken = taken; handled = packet_handled; confirmed = confirmed; accepted = accepted }
 
 number_more : (x : ConnectionName) (κ κ' : ClientConnection) (others : List ClientConnection) (more : List Written) (j : ℕ) → κ'.name ≡ κ.name → κ'.written ≡ κ.written ++ more → (x ≡ κ.name → j < length κ.written)
     → number_at j (connection_named x (κ' ∷ others)) ≡ number_at j (connection_named x (κ ∷ others))
@@ -222,12 +222,12 @@ sent_front i (SenderItem.Finished v ∷ old) new e = sent_front i old new e
 abbrev pub heard_pubrec : ℕ → Keeper → ClientConnection → Side
 heard_pubrec i keeper κ =
     record {
-      keeper = record keeper { own = map (at_pubrec i) keeper.own; releases = keeper.releases ++ i ∷ [] };
+      keeper = record keeper { own = map (own_at_pubrec i) keeper.own; releases = keeper.releases ++ i ∷ [] };
       connection = writes (plain (packets.Pubrel i) ∷ []) (record κ { handled = suc κ.handled });
     }
 
 handled_is : (i : ℕ) (keeper : Keeper) (κ : ClientConnection) → keeper.is_online ≡ true → is_sent_with i keeper.own ≡ true
-    → handled (packets.Pubrec i) (record { keeper = keeper; connection = κ }) ≡ heard_pubrec i keeper κ
+    → packet_handled (packets.Pubrec i) (record { keeper = keeper; connection = κ }) ≡ heard_pubrec i keeper κ
 handled_is i keeper κ on has = rw (on, has) refl
 
 pub hears_pubrec : (limits : Limits) (past : Past) (keeper : Keeper) (κ : ClientConnection) (others : List ClientConnection) (i : ℕ)
@@ -235,7 +235,7 @@ pub hears_pubrec : (limits : Limits) (past : Past) (keeper : Keeper) (κ : Clien
     → is_current (current_connection past keeper.client) κ.name ≡ true → slice_get (put_to limits past κ.name) κ.handled ≡ Some (packets.Pubrec i)
     → IsGood (as_publisher limits (record { past = past; connections = κ ∷ others; keeper = keeper }))
     → GoesTo (as_publisher limits (record { past = past; connections = κ ∷ others; keeper = keeper }))
-    (as_publisher limits (with_side (record { past = past; connections = κ ∷ others; keeper = keeper }) others (handled (packets.Pubrec i) (record { keeper = keeper; connection = κ }))))
+    (as_publisher limits (with_side (record { past = past; connections = κ ∷ others; keeper = keeper }) others (packet_handled (packets.Pubrec i) (record { keeper = keeper; connection = κ }))))
 hears_pubrec limits past keeper κ others i two on conf within counted current next good =
     let s : Story = record { past = past; connections = κ ∷ others; keeper = keeper } in
     let h = as_publisher limits s in

@@ -17,7 +17,7 @@ use Rattle.client_base.specs.Keeper.{Written, Keeper, new_keeper, ids_in_use}
 use Rattle.client_base.specs.declared.request.Request.TheVariants as requests
 use Rattle.exactly_once.specs.Sides.{ClientConnection, Side}
 use Rattle.client_base.specs.Written.{plain}
-use Rattle.client_base.specs.Handled.{handled, lost}
+use Rattle.client_base.specs.Handled.{packet_handled, lost}
 use Rattle.client_base.specs.Called.{adds_own, written_for}
 use Rattle.client_base.specs.Connected.{new_connection}
 use Rattle.client_base.specs.Written.{writes_first}
@@ -62,7 +62,7 @@ pub data StoryStep (limits : Limits) (s : Story) : Story → Type 0 where
       s.connections ≡ κ ∷ others → s.keeper.is_open ≡ true →
       slice_get (put_to limits s.past κ.name) κ.handled ≡ Some packet →
       StoryStep limits s
-      (with_side s others (handled packet (record { keeper = s.keeper; connection = κ })))
+      (with_side s others (packet_handled packet (record { keeper = s.keeper; connection = κ })))
   -- it opens a connection with a name of which nothing is in the list or was sent
   opens_anew : (x : ConnectionName) → any_named (same_connection x) s.connections ≡ false →
       put_to limits s.past x ≡ [] → packet_count x s.past ≡ 0 →

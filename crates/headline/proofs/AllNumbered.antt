@@ -10,10 +10,10 @@ use Rattle.byte_world.specs.session_base.Publication.{publication_of}
 use Rattle.byte_world.specs.session_base.declared.publication.Publication.{Publication}
 use Rattle.byte_world.specs.broker_spec.Place.{Limits}
 use Rattle.byte_world.specs.client_base.Called.{written_for}
-use Rattle.byte_world.specs.client_base.Handled.{confirmed, discarded, handled, handled_first, handled_online}
-use Rattle.byte_world.specs.client_base.Handshakes.{at_pubrec, is_sent_with, releasing, takes_in}
-use Rattle.byte_world.specs.client_base.Keeper.{Keeper, Own, Written, ids_in_use, next_number}
-use Rattle.byte_world.specs.client_base.Written.{plain, publishes, resent, sent_again, sent_first, writes_first, writing}
+use Rattle.byte_world.specs.client_base.Handled.{confirmed, discarded, packet_handled, handled_first, handled_online}
+use Rattle.byte_world.specs.client_base.Handshakes.{own_at_pubrec, is_sent_with, pubrec_answered, takes_in}
+use Rattle.byte_world.specs.client_base.Keeper.{Keeper, Own, Written, ids_in_use, next_own_number}
+use Rattle.byte_world.specs.client_base.Written.{plain, written_publish, resent_written, written_again, written_first, writes_first, writing}
 use Rattle.byte_world.specs.lists.Lists.{Each, has_id}
 use Rattle.byte_world.proofs.of_lists.OfEach.{each_append}
 use Rattle.byte_world.specs.exactly_once.Sides.{ClientConnection, Side}
@@ -42,24 +42,24 @@ releases_numbered : (ids : List ℕ) → Each IsNumbered (map (λ id. plain (pac
 releases_numbered [] = tt
 releases_numbered (id ∷ ids) = (refl, releases_numbered ids)
 
-again_numbered : (own : List Own) → Each IsNumbered (sent_again own)
+again_numbered : (own : List Own) → Each IsNumbered (written_again own)
 again_numbered [] = tt
 again_numbered (Own.Unsent k p id ∷ own) = again_numbered own
 again_numbered (Own.Sent k p id ∷ own) = (refl, again_numbered own)
 again_numbered (Own.Released k p id ∷ own) = again_numbered own
 again_numbered (Own.Done k p ∷ own) = again_numbered own
 
-first_numbered : (own : List Own) → Each IsNumbered (sent_first own)
+first_numbered : (own : List Own) → Each IsNumbered (written_first own)
 first_numbered [] = tt
 first_numbered (Own.Unsent k p id ∷ own) = (refl, first_numbered own)
 first_numbered (Own.Sent k p id ∷ own) = first_numbered own
 first_numbered (Own.Released k p id ∷ own) = first_numbered own
 first_numbered (Own.Done k p ∷ own) = first_numbered own
 
-resent_numbered : (keeper : Keeper) → Each IsNumbered (resent keeper)
+resent_numbered : (keeper : Keeper) → Each IsNumbered (resent_written keeper)
 resent_numbered keeper =
-    each_append IsNumbered (map (λ id. plain (packets.Pubrel id)) keeper.releases ++ sent_again keeper.own) (sent_first keeper.own)
-    (each_append IsNumbered (map (λ id. plain (packets.Pubrel id)) keeper.releases) (sent_again keeper.own) (releases_numbered keeper.releases) (again_numbered keeper.own))
+    each_append IsNumbered (map (λ id. plain (packets.Pubrel id)) keeper.releases ++ written_again keeper.own) (written_first keeper.own)
+    (each_append IsNumbered (map (λ id. plain (packets.Pubrel id)) keeper.releases) (written_again keeper.own) (releases_numbered keeper.releases) (again_numbered keeper.own))
     (first_numbered keeper.own)
 
 -- ---- what a packet does to the newest connection
@@ -70,7 +70,7 @@ StaysNumbered κ side = Each IsNumbered κ.written → Each IsNumbered side.conn
 confirmed_numbered : (κ : ClientConnection) (keeper : Keeper) (present : Bool) → StaysNumbered κ (confirmed present (counted_side keeper κ))
 confirmed_numbered κ keeper present all =
     let kept = if not present && keeper.was_served then discarded keeper else keeper in
-    each_append IsNumbered κ.written (resent kept) all (resent_numbered kept)
+    each_append IsNumbered κ.written (resent_written kept) all (resent_numbered kept)
 
 publish_numbered : (κ : ClientConnection) (keeper : Keeper) (d : Delivery) (p : Publication) → StaysNumbered κ (takes_in d p (counted_side keeper κ))
 publish_numbered κ keeper deliveries.AtMostOnce p all = all
@@ -84,11 +84,11 @@ publish_numbered κ keeper (deliveries.ExactlyOnce dup id) p all = by (has_id id
     by true = one_more κ (plain (packets.Pubrec id)) refl all
     by false = one_more κ (plain (packets.Pubrec id)) refl all
 
-pubrec_numbered : (κ : ClientConnection) (keeper : Keeper) (i : ℕ) → StaysNumbered κ (releasing i (counted_side keeper κ))
+pubrec_numbered : (κ : ClientConnection) (keeper : Keeper) (i : ℕ) → StaysNumbered κ (pubrec_answered i (counted_side keeper κ))
 pubrec_numbered κ keeper i all = by (is_sent_with i keeper.own) (has_id i keeper.releases)
   where
     by : (b r : Bool) → Each IsNumbered (if b then writing (plain (packets.Pubrel i) ∷ [])
-        (counted_side (record keeper { own = map (at_pubrec i) keeper.own; releases = keeper.releases ++ i ∷ [] }) κ)
+        (counted_side (record keeper { own = map (own_at_pubrec i) keeper.own; releases = keeper.releases ++ i ∷ [] }) κ)
         else if r then writing (plain (packets.Pubrel i) ∷ []) (counted_side keeper κ) else counted_side keeper κ).connection.written
     by true r = one_more κ (plain (packets.Pubrel i)) refl all
     by false true = one_more κ (plain (packets.Pubrel i)) refl all
@@ -100,7 +100,7 @@ online_numbered κ keeper (packets.Pubrec i) all = pubrec_numbered κ keeper i a
 online_numbered κ keeper (packets.Pubrel i) all = one_more κ (plain (packets.Pubcomp i)) refl all
 online_numbered κ keeper _ all = all
 
-handled_numbered : (κ : ClientConnection) (keeper : Keeper) (packet : Packet) → StaysNumbered κ (handled packet (record { keeper = keeper; connection = κ }))
+handled_numbered : (κ : ClientConnection) (keeper : Keeper) (packet : Packet) → StaysNumbered κ (packet_handled packet (record { keeper = keeper; connection = κ }))
 handled_numbered κ keeper packet all = by keeper.is_online
   where
     first : (q : Packet) → Each IsNumbered (handled_first q (counted_side keeper κ)).connection.written
@@ -137,7 +137,7 @@ happens_numbered limits s t disconnects all = by s.keeper.is_online
     by false = all
 happens_numbered limits s t (publishes_one p needs) all = more_numbered (written_for p s.keeper) s.connections (by s.keeper.is_online) all
   where
-    by : (b : Bool) → Each IsNumbered (if b then publishes false (next_number s.keeper) (least_free (ids_in_use s.keeper)) p ∷ [] else [])
+    by : (b : Bool) → Each IsNumbered (if b then written_publish false (next_own_number s.keeper) (least_free (ids_in_use s.keeper)) p ∷ [] else [])
     by true = (refl, tt)
     by false = tt
 happens_numbered limits s t (subscribes p on id) all = more_numbered (plain (packets.Subscribe p) ∷ []) s.connections (refl, tt) all

@@ -8,7 +8,7 @@ use Rattle.byte_world.specs.broker_spec.Commands.{past_of, usual_limits}
 use Rattle.byte_world.specs.broker_spec.Connection.{ConnectionName, same_connection}
 use Rattle.byte_world.specs.broker_spec.Place.{Client}
 use Rattle.byte_world.specs.client_base.Connected.{new_connection}
-use Rattle.byte_world.specs.client_base.Handled.{handled, lost}
+use Rattle.byte_world.specs.client_base.Handled.{packet_handled, lost}
 use Rattle.byte_world.specs.client_base.Keeper.{Keeper, Written}
 use Rattle.byte_world.specs.client_base.Written.{writes, writes_first}
 use Rattle.byte_world.proofs.of_node_group.Placed.{get_of_set, set_mapped, set_twice}
@@ -110,7 +110,7 @@ calls_beside {cs = cs} {agreed = agreed} {clients = clients} b i s t h call at =
 pub handles_beside : {cs : List Client} {agreed : List Command} {clients : List Alone} (b : Beside cs agreed clients) (i : ℕ) (keeper : Keeper) (κ : ClientConnection)
     (others : List ClientConnection) (packet : Packet) → slice_get clients i ≡ Some (alone keeper (κ ∷ others)) → keeper.is_open ≡ true
     → slice_get (put_to usual_limits (past_of usual_limits agreed) κ.name) κ.handled ≡ Some packet → (side : Side)
-    → side ≡ handled packet (record { keeper = keeper; connection = κ }) → Beside cs agreed (set clients i (alone side.keeper (side.connection ∷ others)))
+    → side ≡ packet_handled packet (record { keeper = keeper; connection = κ }) → Beside cs agreed (set clients i (alone side.keeper (side.connection ∷ others)))
 handles_beside {cs = cs} {agreed = agreed} {clients = clients} b i keeper κ others packet at is_open next side side_is =
     by (map_back ends_alone b.world.clients i (alone keeper (κ ∷ others)) (ap (λ l. slice_get l i) b.same ∙ at))
   where
@@ -125,7 +125,7 @@ handles_beside {cs = cs} {agreed = agreed} {clients = clients} b i keeper κ oth
             let one : untaken_connection μ ≡ untaken_connection κ = cc in
             let more : map untaken_connection rest ≡ map untaken_connection others = cc in
             let ends : d.ends ≡ end_of agreed μ ∷ ends_of agreed rest = each_get (IsFull agreed) b.world.clients i d b.full there ∙ ap (ends_of agreed) are in
-            let mine : Side = handled packet (record { keeper = d.keeper; connection = μ }) in
+            let mine : Side = packet_handled packet (record { keeper = d.keeper; connection = μ }) in
             let like = same_handled packet (record { keeper = d.keeper; connection = μ }) (record { keeper = keeper; connection = κ })
             (record { keeper = ap (λ (a : Alone). a.keeper) is; connection = one }) in
             let grown = handled_grows μ d.keeper packet in

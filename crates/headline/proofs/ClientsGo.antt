@@ -13,7 +13,7 @@ use Rattle.byte_world.specs.broker_spec.Connection.{ConnectionName, same_connect
 use Rattle.byte_world.specs.broker_spec.Place.{Client}
 use Rattle.byte_world.proofs.of_broker_spec.ConnectionNames.{same_name}
 use Rattle.byte_world.specs.client_base.Connected.{new_connection}
-use Rattle.byte_world.specs.client_base.Handled.{handled}
+use Rattle.byte_world.specs.client_base.Handled.{packet_handled}
 use Rattle.byte_world.specs.client_base.Keeper.{Written}
 use Rattle.byte_world.specs.client_base.Written.{writes_first}
 use Rattle.byte_world.specs.lists.Lists.{Each, In, IsPrefixOf}
@@ -117,10 +117,10 @@ module _ {nodes : ℕ} {config : Config} {cs : List Client} (v : World) (went : 
 
 pub handles_so : {nodes : ℕ} {config : Config} {cs : List Client} (v : World) (went : GroupTrace nodes config v.group) (i : ℕ) (c : ClientPipes) (κ : ClientConnection) (others : List ClientConnection) (p : Pipe) (pipes : List Pipe)
     (packet : Packet) (left : Stream) (s : GoesBeside nodes config cs v went) → slice_get v.clients i ≡ Some c → c.connections ≡ κ ∷ others → c.pipes ≡ p ∷ pipes → c.keeper.is_open ≡ true
-    → Takes p.came (Ok (Some packet)) left → Holds (with_client i (after_packet others pipes p left (handled packet (record { keeper = c.keeper; connection = κ })) c) v) went
-    → GoesBeside nodes config cs (with_client i (after_packet others pipes p left (handled packet (record { keeper = c.keeper; connection = κ })) c) v) went
+    → Takes p.came (Ok (Some packet)) left → Holds (with_client i (after_packet others pipes p left (packet_handled packet (record { keeper = c.keeper; connection = κ })) c) v) went
+    → GoesBeside nodes config cs (with_client i (after_packet others pipes p left (packet_handled packet (record { keeper = c.keeper; connection = κ })) c) v) went
 handles_so v went i c κ others p pipes packet left s at are piped is_open cut holds =
-    let side : Side = handled packet (record { keeper = c.keeper; connection = κ }) in
+    let side : Side = packet_handled packet (record { keeper = c.keeper; connection = κ }) in
     let all = each_get HasAllPipes v.clients i c s.piped at in
     client_rests v went i (after_packet others pipes p left side c) s holds
     (sent_length (newly_written c.connections (side.connection ∷ others)) (record p { came = left } ∷ pipes) ∙ ap length (sym piped) ∙ all ∙ ap length are)

@@ -8,10 +8,10 @@ use Rattle.byte_world.specs.packet.declared.packet.Packet.TheVariants as packets
 use Rattle.byte_world.specs.session_base.declared.publication.Publication.{Publication}
 use Rattle.byte_world.specs.session_base.Publication.{publication_of}
 use Rattle.byte_world.specs.lists.Lists.{has_id}
-use Rattle.byte_world.specs.client_base.Handled.{confirmed, discarded, handled, handled_first, handled_online}
-use Rattle.byte_world.specs.client_base.Handshakes.{at_pubrec, is_sent_with, releasing, takes_in}
+use Rattle.byte_world.specs.client_base.Handled.{confirmed, discarded, packet_handled, handled_first, handled_online}
+use Rattle.byte_world.specs.client_base.Handshakes.{own_at_pubrec, is_sent_with, pubrec_answered, takes_in}
 use Rattle.byte_world.specs.client_base.Keeper.{Keeper}
-use Rattle.byte_world.specs.client_base.Written.{plain, resent, sent_all, writing}
+use Rattle.byte_world.specs.client_base.Written.{plain, resent_written, sent_all, writing}
 use Rattle.byte_world.specs.exactly_once.Sides.{ClientConnection, Side}
 use Rattle.headline.proofs.Untaken.{untaken_connection}
 
@@ -23,12 +23,12 @@ untaken_side side = record side { connection = untaken_connection side.connectio
 abbrev releases : ℕ → Side → Side
 releases id side =
     writing (plain (packets.Pubrel id) ∷ [])
-    (record side { keeper = record side.keeper { own = map (at_pubrec id) side.keeper.own; releases = side.keeper.releases ++ id ∷ [] } })
+    (record side { keeper = record side.keeper { own = map (own_at_pubrec id) side.keeper.own; releases = side.keeper.releases ++ id ∷ [] } })
 
 abbrev releasing_by : Bool → Bool → ℕ → Side → Side
 releasing_by sent kept id side = if sent then releases id side else if kept then writing (plain (packets.Pubrel id) ∷ []) side else side
 
-releasing_untaken : (id : ℕ) (side : Side) → untaken_side (releasing id side) ≡ releasing id (untaken_side side)
+releasing_untaken : (id : ℕ) (side : Side) → untaken_side (pubrec_answered id side) ≡ pubrec_answered id (untaken_side side)
 releasing_untaken id side = by (is_sent_with id side.keeper.own) (has_id id side.keeper.releases)
   where
     by : (sent kept : Bool) → untaken_side (releasing_by sent kept id side) ≡ releasing_by sent kept id (untaken_side side)
@@ -62,7 +62,7 @@ abbrev confirming_by : Keeper → Side → Side
 confirming_by kept side =
     record {
       keeper = record kept { own = sent_all kept.own; is_online = true; was_served = true };
-      connection = record side.connection { written = side.connection.written ++ resent kept; confirmed = true };
+      connection = record side.connection { written = side.connection.written ++ resent_written kept; confirmed = true };
     }
 
 confirmed_untaken : (present : Bool) (side : Side) → untaken_side (confirmed present side) ≡ confirmed present (untaken_side side)
@@ -87,7 +87,7 @@ first_untaken _ side = refl
 abbrev counted : Side → Side
 counted side = record side { connection = record side.connection { handled = suc side.connection.handled } }
 
-handled_untaken : (packet : Packet) (side : Side) → untaken_side (handled packet side) ≡ handled packet (untaken_side side)
+handled_untaken : (packet : Packet) (side : Side) → untaken_side (packet_handled packet side) ≡ packet_handled packet (untaken_side side)
 handled_untaken packet side = by side.keeper.is_online
   where
     by : (online : Bool) → untaken_side (if online then handled_online packet (counted side) else handled_first packet (counted side))
@@ -102,15 +102,15 @@ pub record AreAlike (one other : Side) : Type 0 where
   pub keeper : one.keeper ≡ other.keeper
   pub connection : untaken_connection one.connection ≡ untaken_connection other.connection
 
-pub same_handled : (packet : Packet) (one other : Side) → AreAlike one other → AreAlike (handled packet one) (handled packet other)
+pub same_handled : (packet : Packet) (one other : Side) → AreAlike one other → AreAlike (packet_handled packet one) (packet_handled packet other)
 same_handled packet one other alike =
     record { keeper = ap (λ (side : Side). side.keeper) same; connection = ap (λ (side : Side). side.connection) same }
   where
     sides : (k l : Keeper) (κ μ : ClientConnection) → k ≡ l → κ ≡ μ → (let a : Side = record { keeper = k; connection = κ } in a) ≡ (let b : Side = record { keeper = l; connection = μ } in b)
     sides k l κ μ e f = rw (e, f) refl
 
-    same : untaken_side (handled packet one) ≡ untaken_side (handled packet other)
+    same : untaken_side (packet_handled packet one) ≡ untaken_side (packet_handled packet other)
     same =
         handled_untaken packet one
-        ∙ ap (handled packet) (sides one.keeper other.keeper (untaken_connection one.connection) (untaken_connection other.connection) alike.keeper alike.connection)
+        ∙ ap (packet_handled packet) (sides one.keeper other.keeper (untaken_connection one.connection) (untaken_connection other.connection) alike.keeper alike.connection)
         ∙ sym (handled_untaken packet other)

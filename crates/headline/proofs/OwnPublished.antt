@@ -12,8 +12,8 @@ use Rattle.byte_world.proofs.of_snapshots.PastsAgree.{has_agreed}
 use Rattle.byte_world.specs.broker_spec.Commands.{usual_limits}
 use Rattle.byte_world.specs.broker_spec.Place.{Client}
 use Rattle.byte_world.specs.client_base.Called.{adds_own}
-use Rattle.byte_world.specs.client_base.Handled.{handled}
-use Rattle.byte_world.specs.client_base.Keeper.{Keeper, Own, all_own, ids_in_use, next_number}
+use Rattle.byte_world.specs.client_base.Handled.{packet_handled}
+use Rattle.byte_world.specs.client_base.Keeper.{Keeper, Own, all_own, ids_in_use, next_own_number}
 use Rattle.byte_world.specs.client_base.OrderLaws.{AreNumbered}
 use Rattle.byte_world.specs.exactly_once.Carried.{own_publication, own_publications}
 use Rattle.byte_world.specs.exactly_once.Sides.{ClientConnection, Side}
@@ -73,8 +73,8 @@ said_more keeper p =
   where
     new : Bool → Bool → Own
     new a on =
-        if a then (if on then Own.Sent (next_number keeper) p (least_free (ids_in_use keeper)) else Own.Unsent (next_number keeper) p (least_free (ids_in_use keeper)))
-        else Own.Done (next_number keeper) p
+        if a then (if on then Own.Sent (next_own_number keeper) p (least_free (ids_in_use keeper)) else Own.Unsent (next_own_number keeper) p (least_free (ids_in_use keeper)))
+        else Own.Done (next_own_number keeper) p
 
     same : (a on : Bool) → own_publication (new a on) ≡ p
     same true true = refl
@@ -96,7 +96,7 @@ call_says {s = s} (unsubscribes p on id) call = sym (append-nil (own_publication
 
 packet_says : {nodes : ℕ} {config : Config} {cs : List Client} → ClientsAreApart cs → (v : World) (went : GroupTrace nodes config v.group) (s : GoesBeside nodes config cs v went) (i : ℕ)
     (c : ClientPipes) (κ : ClientConnection) (packet : Packet) → slice_get v.clients i ≡ Some c
-    → own_publications (all_own (handled packet (let side : Side = record { keeper = c.keeper; connection = κ } in side)).keeper) ≡ own_publications (all_own c.keeper)
+    → own_publications (all_own (packet_handled packet (let side : Side = record { keeper = c.keeper; connection = κ } in side)).keeper) ≡ own_publications (all_own c.keeper)
 packet_says {config = config} apart v went s i c κ packet at =
     let list = has_agreed rules config (moment_of v.group) s.so.of.earlier s.so.of.past in
     let h = lived_beside apart v went s list.0 list.1 i c at in

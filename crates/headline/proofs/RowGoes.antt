@@ -8,7 +8,7 @@ use Rattle.byte_world.proofs.of_packet.OneSpelling.{spelling_is}
 use Rattle.byte_world.proofs.of_packet.PacketReads.{verdict_again}
 use Rattle.byte_world.specs.broker_spec.Commands.{usual_limits}
 use Rattle.byte_world.specs.broker_spec.Connection.{ConnectionName}
-use Rattle.byte_world.specs.client_base.Handled.{handled}
+use Rattle.byte_world.specs.client_base.Handled.{packet_handled}
 use Rattle.byte_world.specs.client_base.Keeper.{Keeper}
 use Rattle.byte_world.specs.exactly_once.Rows.{writer}
 use Rattle.byte_world.specs.exactly_once.Sides.{ClientConnection, Side}
@@ -113,7 +113,7 @@ module _ {core : CoreState} {keeper : Keeper} {κ : ClientConnection} {up down h
       }
 
   -- the client handles a packet
-  pub row_handles : (packet : Packet) (rest : List ℕ) (side : Side) → side ≡ handled packet (record { keeper = keeper; connection = κ }) → keeper.is_open ≡ true → IsPacket packet
+  pub row_handles : (packet : Packet) (rest : List ℕ) (side : Side) → side ≡ packet_handled packet (record { keeper = keeper; connection = κ }) → keeper.is_open ≡ true → IsPacket packet
       → held ≡ spelling packet ++ rest → WritesCanBeSpelled (κ ∷ []) (side.connection ∷ [])
       → Row core (client_with side.keeper side.connection (pipe_with (up ++ spelled (newly_written (κ ∷ []) (side.connection ∷ []))) down rest))
   row_handles packet rest side same is_open whole e fits =

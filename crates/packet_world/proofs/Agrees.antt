@@ -12,7 +12,7 @@ use Rattle.exactly_once.specs.broker_spec.declared.command.Command.TheVariants a
 use Rattle.exactly_once.proofs.of_broker_spec.ConnectionNames.{same_name}
 use Rattle.exactly_once.proofs.of_broker_spec.PacketOfNobody.{window_is_steady}
 use Rattle.exactly_once.specs.client_base.Keeper.{Written}
-use Rattle.exactly_once.specs.client_base.Connected.{opens}
+use Rattle.exactly_once.specs.client_base.Connected.{opening_connect}
 use Rattle.exactly_once.specs.Sides.{ClientConnection}
 use Rattle.exactly_once.specs.Story.{Story}
 use Rattle.exactly_once.specs.StoryCommands.{any_named, is_packet_of, with_one_counted, command_of, names_client}
@@ -105,8 +105,8 @@ not_theirs c d κ v limits past untouched next other = by κ.taken refl
   where
     by : (n : ℕ) → κ.taken ≡ n → names_client past d (command_of κ.name n v.packet) → ⊥
     by zero e =
-        let first : Some (opens c) ≡ Some v = sym (ap (λ (z : ClientConnection). slice_get z.written z.taken) (untouched e).is) ∙ next in
-        let same : opens c ≡ v = cc in
+        let first : Some (opening_connect c) ≡ Some v = sym (ap (λ (z : ClientConnection). slice_get z.written z.taken) (untouched e).is) ∙ next in
+        let same : opening_connect c ≡ v = cc in
         subst (λ (z : Written). names_client past d (command_of κ.name 0 z.packet) → ⊥) same other
     by (suc n) e = no_client past d κ.name n v.packet
 

@@ -9,7 +9,7 @@ use Rattle.exactly_once.specs.broker_spec.Commands.{past_of, usual_limits}
 use Rattle.snapshots.specs.lists.Lists.{IsPrefixOf}
 use Rattle.snapshots.proofs.of_lists.Prefixes.{prefix_get, prefix_take}
 use Rattle.exactly_once.specs.client_base.Connected.{new_connection}
-use Rattle.exactly_once.specs.client_base.Handled.{handled}
+use Rattle.exactly_once.specs.client_base.Handled.{packet_handled}
 use Rattle.exactly_once.specs.Sends.{put_to}
 use Rattle.exactly_once.specs.Sides.{ClientConnection}
 use Rattle.exactly_once.specs.Story.{StoryStep}
@@ -31,9 +31,9 @@ use Rattle.packet_world.proofs.Holds.{IsTold, HasPipes, Holds, keeps_client, kee
 
 pub keeps_handled : (w : World) (i : ℕ) (c : ClientEnds) (κ : ClientConnection) (e : End) (others : List ClientConnection) (ends : List End) (packet : Packet) → Holds w → slice_get w.clients i ≡ Some c
     → c.connections ≡ κ ∷ others → c.ends ≡ e ∷ ends → c.keeper.is_open ≡ true → slice_get e.put κ.handled ≡ Some packet
-    → Holds (with_client i (after_packet others (e ∷ ends) (handled packet (record { keeper = c.keeper; connection = κ }))) w)
+    → Holds (with_client i (after_packet others (e ∷ ends) (packet_handled packet (record { keeper = c.keeper; connection = κ }))) w)
 keeps_handled w i c κ e others ends packet h there' are ends_are opened next =
-    let side = handled packet (record { keeper = c.keeper; connection = κ }) in
+    let side = packet_handled packet (record { keeper = c.keeper; connection = κ }) in
     let grown = handled_grows κ c.keeper packet in
     let pipes : PipesHold w.agreed (κ ∷ others) (e ∷ ends) =
     subst (λ (cs : List ClientConnection). PipesHold w.agreed cs (e ∷ ends)) are (subst (λ (es : List End). PipesHold w.agreed c.connections es) ends_are (each_get (HasPipes w.agreed) w.clients i c h.pipes there')) in

@@ -16,8 +16,8 @@ use Rattle.exactly_once.specs.broker_spec.Commands.{past_from}
 use Rattle.exactly_once.specs.broker_spec.declared.command.Command.{Command}
 use Rattle.exactly_once.specs.broker_spec.declared.command.Command.TheVariants as commands
 use Rattle.exactly_once.specs.client_base.Keeper.{Own, Keeper}
-use Rattle.exactly_once.specs.client_base.Written.{plain, publishes}
-use Rattle.exactly_once.specs.client_base.Connected.{opens}
+use Rattle.exactly_once.specs.client_base.Written.{plain, written_publish}
+use Rattle.exactly_once.specs.client_base.Connected.{opening_connect}
 use Rattle.exactly_once.specs.Sides.{ClientConnection}
 use Rattle.exactly_once.specs.Story.StoryStep.{subscribes, publishes_one, loses}
 use Rattle.exactly_once.specs.Rows.{writer, first_name, second_name, news, asks_for_news}
@@ -37,7 +37,7 @@ abbrev first_one : ClientConnection
 first_one =
     record {
       name = first_name;
-      written = opens writer ∷ plain (packets.Subscribe asks_for_news) ∷ publishes false 0 1 news ∷ [];
+      written = opening_connect writer ∷ plain (packets.Subscribe asks_for_news) ∷ written_publish false 0 1 news ∷ [];
       taken = 3;
       handled = 2;
       confirmed = true;
@@ -100,7 +100,7 @@ abbrev second_one : ClientConnection
 second_one =
     record {
       name = second_name;
-      written = opens writer ∷ publishes true 0 1 news ∷ plain (packets.Pubrec 1) ∷ [];
+      written = opening_connect writer ∷ written_publish true 0 1 news ∷ plain (packets.Pubrec 1) ∷ [];
       taken = 2;
       handled = 2;
       confirmed = true;
@@ -153,7 +153,7 @@ until_again =
 abbrev released_one : ClientConnection
 released_one =
     record second_one {
-      written = opens writer ∷ publishes true 0 1 news ∷ plain (packets.Pubrec 1) ∷ plain (packets.Pubrel 1) ∷ plain (packets.Pubcomp 1) ∷ [];
+      written = opening_connect writer ∷ written_publish true 0 1 news ∷ plain (packets.Pubrec 1) ∷ plain (packets.Pubrel 1) ∷ plain (packets.Pubcomp 1) ∷ [];
       taken = 3;
       handled = 4;
     }

@@ -9,7 +9,7 @@ use Rattle.exactly_once.specs.broker_spec.declared.command.Command.{Command}
 use Rattle.exactly_once.specs.broker_spec.declared.command.Command.TheVariants as commands
 use Rattle.exactly_once.specs.client_base.Keeper.{Written}
 use Rattle.exactly_once.specs.client_base.Connected.{new_connection}
-use Rattle.exactly_once.specs.client_base.Handled.{handled, lost}
+use Rattle.exactly_once.specs.client_base.Handled.{packet_handled, lost}
 use Rattle.exactly_once.specs.Sends.{sends_to}
 use Rattle.exactly_once.specs.Sides.{ClientConnection, Side}
 use Rattle.exactly_once.specs.Story.{Story, StoryStep}
@@ -85,7 +85,7 @@ pub data Goes (w : World) : World → Type 0 where
       slice_get e.put κ.handled ≡ Some packet →
       Goes w (with_client i
       (after_packet others (e ∷ ends)
-      (handled packet (record { keeper = c.keeper; connection = κ }))) w)
+      (packet_handled packet (record { keeper = c.keeper; connection = κ }))) w)
   -- a node reads the next packet of an open connection, and proposes it
   reads : (i j : ℕ) (c : ClientEnds) (κ : ClientConnection) (e : End) → HasPipe w i c j κ e →
       e.is_open ≡ true → e.read < length κ.written →

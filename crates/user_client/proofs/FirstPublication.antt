@@ -7,7 +7,7 @@ use Rattle.packet.specs.declared.publish.Publish.{Publish}
 use Rattle.client.specs.session_base.declared.publication.Publication.{Publication}
 use Rattle.client.specs.session_base.Publication.{is_answered}
 use Rattle.client.specs.client_base.declared.error.ClientError.{ClientError}
-use Rattle.client.specs.client_base.State.{ClientState, new_client}
+use Rattle.client.specs.client_base.State.{ClientState, new_client_state}
 use Rattle.client.specs.client_base.Publishing.{published, publish_refusal}
 use Rattle.client.specs.client_base.Steps.{unless_refused}
 use Rattle.client.specs.Core.{publication_with}
@@ -17,13 +17,13 @@ use Rattle.user_client.proofs.Acknowledged.{made_of}
 
 -- a publication that is not refused is the one that is kept
 kept_unless : (id : List ℕ) (p : Publication) (refusal : Option ClientError) (new : ClientState)
-    → (unless_refused refusal (published p (new_client id 0)) (new_client id 0)).refusal ≡ None
-    → new ≡ (unless_refused refusal (published p (new_client id 0)) (new_client id 0)).state → new ≡ client_keeping id p
+    → (unless_refused refusal (published p (new_client_state id 0)) (new_client_state id 0)).refusal ≡ None
+    → new ≡ (unless_refused refusal (published p (new_client_state id 0)) (new_client_state id 0)).state → new ≡ client_keeping id p
 kept_unless id p (Some cause) new taken same = absurd (both_ways true (ap is_some taken) refl)
 kept_unless id p None new taken same = same
 
 kept_first : (id : List ℕ) (p : Publication) (new : Called) → IsAsked p (new_called id) new → new.core.state ≡ client_keeping id p
-kept_first id p new (does, was) = kept_unless id p (publish_refusal p (new_client id 0)) new.core.state does.0 does.1.0
+kept_first id p new (does, was) = kept_unless id p (publish_refusal p (new_client_state id 0)) new.core.state does.0 does.1.0
 
 -- a publisher whose client, a new one, was asked for it
 pub has_kept : (id : List ℕ) (retain : Bool) (qos : QoS) (topic payload : List ℕ) (caller new : Called) → is_answered qos ≡ true

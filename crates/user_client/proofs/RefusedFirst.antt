@@ -13,7 +13,7 @@ use Rattle.packet.specs.Spelling.{AppendsSpelling}
 use Rattle.client.specs.session_base.Publication.{is_answered}
 use Rattle.client.specs.client_base.declared.error.ClientError.{ClientError}
 use Rattle.client.specs.client_base.declared.error.ClientError.TheVariants as errors
-use Rattle.client.specs.client_base.State.{ClientState, is_online, new_client}
+use Rattle.client.specs.client_base.State.{ClientState, is_online, new_client_state}
 use Rattle.client.specs.client_base.Answered.{ClientOutcome, going_on}
 use Rattle.client.specs.client_base.Publishing.{is_over_limit, next_id, published, publish_packet}
 use Rattle.client.specs.client_base.Steps.{Call, keeper_step, unless_refused}
@@ -50,11 +50,11 @@ pub refuses_first : (id : List ℕ) (retain : Bool) (qos : QoS) (topic payload :
 refuses_first id retain qualities.AtMostOnce topic payload caller it answered is refused = absurd cc
 refuses_first id retain qualities.AtLeastOnce topic payload caller it answered is refused =
     let p = publication_with retain qualities.AtLeastOnce topic payload in
-    large_only (is_over_limit (first_publish id p)) (published p (new_client id 0)) (new_client id 0) it refl
+    large_only (is_over_limit (first_publish id p)) (published p (new_client_state id 0)) (new_client_state id 0) it refl
     (subst (λ (c : Called). IsRefusedFor (keeper_step (Call.Publishes p) c.core.state).refusal it) is refused)
 refuses_first id retain qualities.ExactlyOnce topic payload caller it answered is refused =
     let p = publication_with retain qualities.ExactlyOnce topic payload in
-    large_only (is_over_limit (first_publish id p)) (published p (new_client id 0)) (new_client id 0) it refl
+    large_only (is_over_limit (first_publish id p)) (published p (new_client_state id 0)) (new_client_state id 0) it refl
     (subst (λ (c : Called). IsRefusedFor (keeper_step (Call.Publishes p) c.core.state).refusal it) is refused)
 
 -- what a new client took is not over the limit
@@ -64,11 +64,11 @@ pub fits_first : (id : List ℕ) (retain : Bool) (qos : QoS) (topic payload : Li
 fits_first id retain qualities.AtMostOnce topic payload caller new answered is asked = absurd cc
 fits_first id retain qualities.AtLeastOnce topic payload caller new answered is asked =
     let p = publication_with retain qualities.AtLeastOnce topic payload in
-    not_large (is_over_limit (first_publish id p)) (published p (new_client id 0)) (new_client id 0)
+    not_large (is_over_limit (first_publish id p)) (published p (new_client_state id 0)) (new_client_state id 0)
     (subst (λ (c : Called). IsAsked p c new) is asked).0.0
 fits_first id retain qualities.ExactlyOnce topic payload caller new answered is asked =
     let p = publication_with retain qualities.ExactlyOnce topic payload in
-    not_large (is_over_limit (first_publish id p)) (published p (new_client id 0)) (new_client id 0)
+    not_large (is_over_limit (first_publish id p)) (published p (new_client_state id 0)) (new_client_state id 0)
     (subst (λ (c : Called). IsAsked p c new) is asked).0.0
 
 -- the PUBLISH at QoS 0 has no identifier

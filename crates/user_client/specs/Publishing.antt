@@ -8,7 +8,7 @@ use Rattle.packet.specs.declared.publish.Publish.{Publish}
 use Rattle.client.specs.packet.packet_base.declared.qos.QoS.{QoS}
 use Rattle.client.specs.packet.packet_base.declared.qos.QoS.TheVariants as qualities
 use Rattle.client.specs.session_base.declared.publication.Publication.{Publication}
-use Rattle.client.specs.client_base.State.{ClientState, kept_count, new_client}
+use Rattle.client.specs.client_base.State.{ClientState, kept_count, new_client_state}
 use Rattle.user_client.specs.Tracing.{Called, new_called}
 
 -- a client, and its publication if that has QoS 0: otherwise the client keeps it
@@ -18,7 +18,10 @@ pub record Publishing : Type 0 where
 
 -- a client that was never connected, and keeps just this publication, with identifier 1
 abbrev pub client_keeping : List ℕ → Publication → ClientState
-client_keeping id p = record (new_client id 0) { unsent = record { id = 1; publication = p } ∷ [] }
+client_keeping id p = record (new_client_state id 0) {
+  unsent = record { id = 1; publication = p }
+      ∷ [];
+}
 
 -- the PUBLISH of a publication at QoS 0
 abbrev pub unkept : Publication → Publish

@@ -2,7 +2,7 @@
 use Rattle.std.specs.Prelude.{◌≡◌, ◌⊎◌, ℕ, true, false, List, Option, Some, None, option_map}
 use Rattle.client.specs.client_base.Publishing.{is_over_limit, publish_packet}
 use Rattle.client.specs.client_base.Refusals.{client_number}
-use Rattle.client.specs.client_base.State.{new_client}
+use Rattle.client.specs.client_base.State.{new_client_state}
 use Rattle.client.specs.client_base.declared.error.ClientError.{ClientError}
 use Rattle.client.specs.client_base.declared.error.ClientError.TheVariants as errors
 use Rattle.client.specs.packet_base.ClientId.{client_fault}
@@ -42,7 +42,7 @@ RefusesListener id filter it =
 
 -- the PUBLISH of a new client's first publication
 abbrev pub first_publish : List ℕ → Publication → Packet
-first_publish id p = publish_packet p (new_client id 0)
+first_publish id p = publish_packet p (new_client_state id 0)
 
 -- a packet is refused if it is over the limit; if it is not, only because memory ran out
 abbrev pub RefusesPacket : Packet → UserClientError → Type 0

@@ -20,10 +20,10 @@ use Rattle.client.specs.client_base.declared.stage.Stage.{Stage}
 use Rattle.client.specs.client_base.declared.stage.Stage.TheVariants as stages
 use Rattle.client.specs.client_base.State.{ClientState, is_online, is_open}
 use Rattle.client.specs.client_base.Answered.{ClientOutcome, accepted_of, accepting, awaits_pubrec, on_publish, on_pubrec}
-use Rattle.client.specs.client_base.Calls.{confirmed, discarded, loses_session, numbered, on_first, on_later, received}
+use Rattle.client.specs.client_base.Calls.{confirmed, discarded, loses_session, numbered, on_first, on_later, client_receives}
 use Rattle.client.specs.client_base.Publishing.{publish_refusal, published}
-use Rattle.client.specs.client_base.Handled.{handled, handled_first, handled_online}
-use Rattle.client.specs.client_base.Handshakes.{is_sent_with, releasing, takes_in}
+use Rattle.client.specs.client_base.Handled.{packet_handled, handled_first, handled_online}
+use Rattle.client.specs.client_base.Handshakes.{is_sent_with, pubrec_answered, takes_in}
 use Rattle.client.specs.client_base.Steps.{Call, disconnected, keeper_step, request_refusal, subscribed, unless_refused, unsubscribed}
 use Rattle.byte_world.specs.exactly_once.Sides.{Side}
 use Rattle.byte_world.specs.Accepted.{accepted_once, is_accepted_once, publication_accepted}
@@ -70,7 +70,7 @@ module _ (before : List Publication) (side : Side) (state : ClientState) (alike 
       (record {
         keeper = record side.keeper { received = id ∷ side.keeper.received };
         connection = record side.connection { accepted = side.connection.accepted ++ publication_of p ∷ [] };
-      }) state (record (accepting p state) { received = state.received ++ id ∷ [] }) (has_id id state.received) (has_id id side.keeper.received) (received id) alike
+      }) state (record (accepting p state) { received = state.received ++ id ∷ [] }) (has_id id state.received) (has_id id side.keeper.received) (client_receives id) alike
       (at_two (accepted_of state.session p) (publication_of p) refl)
 
   -- a test by which neither accepts
@@ -87,15 +87,15 @@ module _ (before : List Publication) (side : Side) (state : ClientState) (alike 
   still : (later : Side) (after : ClientState) → later.connection.accepted ≡ side.connection.accepted → after.accepted ≡ state.accepted → Alike before later after
   still later after one two = ap accepted_once two ∙ alike ∙ ap (λ (l : List Publication). before ++ l) (sym one)
 
-  releasing_still : (id : ℕ) → (releasing id side).connection.accepted ≡ side.connection.accepted
+  releasing_still : (id : ℕ) → (pubrec_answered id side).connection.accepted ≡ side.connection.accepted
   releasing_still id = side_still (is_sent_with id side.keeper.own) _ _ refl (side_still (has_id id side.keeper.releases) _ side refl refl)
 
   pubrec_still : (id : ℕ) → (on_pubrec id state).state.accepted ≡ state.accepted
   pubrec_still id = outcome_still (list_any (awaits_pubrec id) state.sent) _ _ refl refl
 
   later_alike : (packet : Packet) → ((id : ℕ) → has_id id state.received ≡ has_id id side.keeper.received) → Alike before (handled_online packet side) (on_later packet state).state
-  later_alike (packets.Publish p) received = published_alike p.topic p.payload p.retain p.delivery received
-  later_alike (packets.Pubrec id) received = still (releasing id side) (on_pubrec id state).state (releasing_still id) (pubrec_still id)
+  later_alike (packets.Publish p) received = published_alike p.topic p.payload p.retain p.delivery client_receives
+  later_alike (packets.Pubrec id) received = still (pubrec_answered id side) (on_pubrec id state).state (releasing_still id) (pubrec_still id)
   later_alike (packets.Puback id) received = alike
   later_alike (packets.Pubcomp id) received = alike
   later_alike (packets.Pubrel id) received = alike
@@ -141,15 +141,15 @@ handled_where before packet side state after false true e x y = absurd (both_way
 
 pub accepts_alike : (before : List Publication) (packet : Packet) (stage : Stage) (side : Side) (state : ClientState) → is_open stage ≡ true → is_online stage ≡ side.keeper.is_online
     → ((id : ℕ) → has_id id state.received ≡ has_id id side.keeper.received) → accepted_once state.accepted ≡ before ++ side.connection.accepted
-    → accepted_once (received packet stage state).state.accepted ≡ before ++ (handled packet side).connection.accepted
+    → accepted_once (client_receives packet stage state).state.accepted ≡ before ++ (packet_handled packet side).connection.accepted
 accepts_alike before packet stages.Closed side state up online kept alike = absurd (both_ways false refl up)
 accepts_alike before packet stages.Opened side state up online kept alike =
     let counted : Side = record side { connection = record side.connection { handled = suc side.connection.handled } } in
-    handled_where before packet counted state (received packet stages.Opened state).state false side.keeper.is_online online
+    handled_where before packet counted state (client_receives packet stages.Opened state).state false side.keeper.is_online online
     (λ e. absurd (both_ways false refl e)) (λ e. first_alike before counted state alike packet)
 accepts_alike before packet stages.Online side state up online kept alike =
     let counted : Side = record side { connection = record side.connection { handled = suc side.connection.handled } } in
-    handled_where before packet counted state (received packet stages.Online state).state true side.keeper.is_online online
+    handled_where before packet counted state (client_receives packet stages.Online state).state true side.keeper.is_online online
     (λ e. later_alike before counted state alike packet kept) (λ e. absurd (both_ways true e refl))
 
 -- ---- of a call

@@ -77,13 +77,13 @@ subscribes_too filter qos m state s zero taken =
     let f = calls_follow least_free_is (Call.Subscribes filter qos) 0 (alone m.keeper) state zero s taken in
     let is = asked_so (is_online state.stage) (has_free_id state) (not_refused (request_refusal state) (subscribed filter qos state) state taken) in
     record {
-      keeper = called.asks (requests.Subscribes (least_free (ids_in_use m.keeper))) m.keeper;
-      connections = writes_first (plain (called.subscribe_of filter qos m.keeper) ∷ []) m.connections;
+      keeper = called.with_request (requests.Subscribes (least_free (ids_in_use m.keeper))) m.keeper;
+      connections = writes_first (plain (called.next_subscribe filter qos m.keeper) ∷ []) m.connections;
       call = StoryStep.subscribes (record { id = least_free (ids_in_use m.keeper); filters = record { filter = filter; qos = qos } ∷ [] })
           (sym s.is_online ∙ is.0) refl;
       is_one = refl;
       stands = f.0;
-      more = plain (called.subscribe_of filter qos m.keeper) ∷ [];
+      more = plain (called.next_subscribe filter qos m.keeper) ∷ [];
       on_first = refl;
       writes = ap packets_of f.1.1 ∙ f.1.2;
     }
@@ -99,12 +99,12 @@ unsubscribes_too filter m state s zero taken =
     let f = calls_follow least_free_is (Call.Unsubscribes filter) 0 (alone m.keeper) state zero s taken in
     let is = asked_so (is_online state.stage) (has_free_id state) (not_refused (request_refusal state) (unsubscribed filter state) state taken) in
     record {
-      keeper = called.asks (requests.Unsubscribes (least_free (ids_in_use m.keeper))) m.keeper;
-      connections = writes_first (plain (called.unsubscribe_of filter m.keeper) ∷ []) m.connections;
+      keeper = called.with_request (requests.Unsubscribes (least_free (ids_in_use m.keeper))) m.keeper;
+      connections = writes_first (plain (called.next_unsubscribe filter m.keeper) ∷ []) m.connections;
       call = StoryStep.unsubscribes (record { id = least_free (ids_in_use m.keeper); filters = filter ∷ [] }) (sym s.is_online ∙ is.0) refl;
       is_one = refl;
       stands = f.0;
-      more = plain (called.unsubscribe_of filter m.keeper) ∷ [];
+      more = plain (called.next_unsubscribe filter m.keeper) ∷ [];
       on_first = refl;
       writes = ap packets_of f.1.1 ∙ f.1.2;
     }

@@ -8,7 +8,7 @@ use Rattle.client.specs.cutter.Stream.{Stream, Takes}
 use Rattle.client.specs.lists.Lists.{Each}
 use Rattle.client.specs.client_base.State.{ClientState, is_open}
 use Rattle.client.specs.client_base.Answered.{ClientOutcome}
-use Rattle.client.specs.client_base.Handled.{handled}
+use Rattle.client.specs.client_base.Handled.{packet_handled}
 use Rattle.client.specs.client_base.History as history
 use Rattle.client.specs.client_base.Keeper as keepers
 use Rattle.client.proofs.of_client_base.FollowsHandled.{handled_follows}
@@ -72,7 +72,7 @@ one_goes before core next after m others p₀ further packet up s reads done =
     let κ = s.connection in
     let p = s.pipe in
     let side : Side = record { keeper = m.keeper; connection = κ } in
-    let later : Side = handled packet side in
+    let later : Side = packet_handled packet side in
     let outcome : ClientOutcome = outcome_of packet next in
     let stands : history.KeeperStandsFor m.keeper next.state = subst (history.KeeperStandsFor m.keeper) (sym reads.1) s.keeper in
     let opened : is_open next.state.stage ≡ true = ap (λ (state : ClientState). is_open state.stage) reads.1 ∙ up in

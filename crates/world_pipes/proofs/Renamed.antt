@@ -9,8 +9,8 @@ use Rattle.client.specs.session_base.declared.publication.Publication.{Publicati
 use Rattle.client.specs.session_base.Publication.{publication_of}
 use Rattle.client.specs.lists.Lists.{has_id}
 use Rattle.client.specs.client_base.Keeper as keepers
-use Rattle.client.specs.client_base.Handled.{handled, handled_first, handled_online}
-use Rattle.client.specs.client_base.Handshakes.{is_sent_with, releasing, takes_in}
+use Rattle.client.specs.client_base.Handled.{packet_handled, handled_first, handled_online}
+use Rattle.client.specs.client_base.Handshakes.{is_sent_with, pubrec_answered, takes_in}
 use Rattle.byte_world.specs.exactly_once.Sides.{ClientConnection, Side}
 
 -- a side whose connection has a number for a name
@@ -34,10 +34,10 @@ takes_in_renamed (deliveries.ExactlyOnce dup id) p side = by (has_id id side.kee
     by true e = rw e refl
     by false e = rw e refl
 
-releasing_renamed : (id : ℕ) (side : Side) → releasing id (renamed side) ≡ renamed (releasing id side)
+releasing_renamed : (id : ℕ) (side : Side) → pubrec_answered id (renamed side) ≡ renamed (pubrec_answered id side)
 releasing_renamed id side = by (is_sent_with id side.keeper.own) refl (has_id id side.keeper.releases) refl
   where
-    by : (b : Bool) → is_sent_with id side.keeper.own ≡ b → (c : Bool) → has_id id side.keeper.releases ≡ c → releasing id (renamed side) ≡ renamed (releasing id side)
+    by : (b : Bool) → is_sent_with id side.keeper.own ≡ b → (c : Bool) → has_id id side.keeper.releases ≡ c → pubrec_answered id (renamed side) ≡ renamed (pubrec_answered id side)
     by true e c f = rw e refl
     by false e true f = rw (e, f) refl
     by false e false f = rw (e, f) refl
@@ -68,6 +68,6 @@ handled_where : (b : Bool) (packet : Packet) (side : Side) →
 handled_where true packet side = online_renamed packet side
 handled_where false packet side = first_renamed packet side
 
-pub handled_renamed : (packet : Packet) (side : Side) → handled packet (renamed side) ≡ renamed (handled packet side)
+pub handled_renamed : (packet : Packet) (side : Side) → packet_handled packet (renamed side) ≡ renamed (packet_handled packet side)
 handled_renamed packet side =
     handled_where side.keeper.is_online packet (record side { connection = record side.connection { handled = suc side.connection.handled } })

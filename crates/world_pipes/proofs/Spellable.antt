@@ -18,7 +18,7 @@ use Rattle.client.specs.client_base.declared.stage.Stage.{Stage}
 use Rattle.client.specs.client_base.declared.stage.Stage.TheVariants as stages
 use Rattle.client.specs.client_base.State.{ClientState, lost, publish_kept, resent}
 use Rattle.client.specs.client_base.Answered.{ClientOutcome, awaits_pubrec, on_publish, on_pubrec}
-use Rattle.client.specs.client_base.Calls.{confirmed, discarded, numbered, loses_session, on_first, on_later, received}
+use Rattle.client.specs.client_base.Calls.{confirmed, discarded, numbered, loses_session, on_first, on_later, client_receives}
 use Rattle.world_pipes.specs.StandsFor.{CanGoOut}
 
 -- what a step writes, and what it leaves
@@ -147,7 +147,7 @@ first_fits (packets.Connack (connacks.Accepted present)) state fits = confirmed_
 first_fits (packets.Connack (connacks.Refused code)) state fits = record { writes = tt; left = lost_fits state fits }
 first_fits _ state fits = record { writes = tt; left = lost_fits state fits }
 
-pub received_fits : (packet : Packet) (stage : Stage) (state : ClientState) → Fits packet → CanGoOut state → AllSpelled (received packet stage state)
+pub received_fits : (packet : Packet) (stage : Stage) (state : ClientState) → Fits packet → CanGoOut state → AllSpelled (client_receives packet stage state)
 received_fits packet stages.Closed state one fits = record { writes = tt; left = fits }
 received_fits packet stages.Opened state one fits = first_fits packet state fits
 received_fits packet stages.Online state one fits = later_fits packet state one fits

@@ -17,7 +17,7 @@ use Rattle.client.specs.client_base.declared.stage.Stage.{Stage}
 use Rattle.client.specs.client_base.declared.stage.Stage.TheVariants as stages
 use Rattle.client.specs.client_base.State.{ClientState, is_open, is_online}
 use Rattle.client.specs.client_base.Answered.{ClientOutcome, on_publish, on_pubrec, awaits_pubrec}
-use Rattle.client.specs.client_base.Calls.{on_first, on_later, received}
+use Rattle.client.specs.client_base.Calls.{on_first, on_later, client_receives}
 use Rattle.client.specs.client_base.Publishing.{publish_refusal, published}
 use Rattle.client.specs.client_base.Steps.{Call, keeper_step, request_refusal, subscribed, unsubscribed, unless_refused}
 use Rattle.client.specs.Core.{Core}
@@ -89,8 +89,8 @@ first_opens (packets.Connack (connacks.Accepted present)) state ok = refl
 first_opens (packets.Connack (connacks.Refused code)) state ok = absurd (both_ways false refl ok)
 first_opens _ state ok = absurd (both_ways false refl ok)
 
-outcome_stays : (packet : Packet) (stage : Stage) (state : ClientState) → state.stage ≡ stage → goes_on (received packet stage state).refusal ≡ true
-    → is_open (received packet stage state).state.stage ≡ true
+outcome_stays : (packet : Packet) (stage : Stage) (state : ClientState) → state.stage ≡ stage → goes_on (client_receives packet stage state).refusal ≡ true
+    → is_open (client_receives packet stage state).state.stage ≡ true
 outcome_stays packet stages.Closed state is ok = absurd (both_ways false refl ok)
 outcome_stays packet stages.Opened state is ok = first_opens packet state ok
 outcome_stays packet stages.Online state is ok = ap is_open (later_stays packet state ok ∙ is)

@@ -4,7 +4,7 @@ use Rattle.packet.specs.declared.packet.Packet.{Packet}
 use Rattle.client.specs.cutter.Stream.{Stream, Takes}
 use Rattle.byte_world.specs.broker_spec.Commands.{usual_limits}
 use Rattle.client.specs.session_base.declared.publication.Publication.{Publication}
-use Rattle.client.specs.client_base.Handled.{handled}
+use Rattle.client.specs.client_base.Handled.{packet_handled}
 use Rattle.byte_world.specs.exactly_once.Sides.{ClientConnection}
 use Rattle.byte_world.specs.exactly_once.Story.{Story, StoryStep}
 use Rattle.byte_world.specs.packet_world.Steps.{is_call}
@@ -31,10 +31,10 @@ pub data ClientStep (c : ClientPipes) : ClientPipes → Type 0 where
       (packet : Packet) (left : Stream) → c.connections ≡ κ ∷ others →
       c.pipes ≡ p ∷ pipes → c.keeper.is_open ≡ true → Takes p.came (Ok (Some packet)) left →
       WritesCanBeSpelled c.connections
-      ((handled packet (record { keeper = c.keeper; connection = κ })).connection ∷ others) →
+      ((packet_handled packet (record { keeper = c.keeper; connection = κ })).connection ∷ others) →
       ClientStep c
       (after_packet others pipes p left
-      (handled packet (record { keeper = c.keeper; connection = κ })) c)
+      (packet_handled packet (record { keeper = c.keeper; connection = κ })) c)
 
 -- steps of a client, one after another
 pub data ClientGoes (c : ClientPipes) : ClientPipes → Type 0 where

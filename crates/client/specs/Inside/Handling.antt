@@ -11,7 +11,7 @@ use Rattle.client_base.specs.declared.error.ClientError.TheVariants as errors
 use Rattle.client_base.specs.declared.unacknowledged_publication.UnacknowledgedPublication.{UnacknowledgedPublication}
 use Rattle.client_base.specs.State.{ClientState, is_online, publish_kept}
 use Rattle.client_base.specs.Answered.{ClientOutcome, going_on}
-use Rattle.client_base.specs.Calls.{refused}
+use Rattle.client_base.specs.Calls.{refused_call}
 use Rattle.client_base.specs.Publishing.{is_over_limit}
 use Rattle.client.specs.Core.{Core, IsDone}
 use Rattle.client.specs.Reading.{ReadsPacket, outcome_of, StopsFor, Handles, cause_of, fed}
@@ -107,6 +107,6 @@ sending kept state =
 -- a publication that is not too large is kept, and sent at once if the client is online
 abbrev pub keeping : UnacknowledgedPublication → ClientState → ClientOutcome
 keeping kept state =
-    if is_over_limit (publish_kept false kept) then refused errors.TooLarge state else
+    if is_over_limit (publish_kept false kept) then refused_call errors.TooLarge state else
     if is_online state.stage then sending kept state
     else going_on (record state { unsent = state.unsent ++ kept ∷ [] }) []

@@ -10,9 +10,9 @@ use Rattle.client_base.specs.session_base.Publication.{publication_of}
 use Rattle.client_base.specs.lists.Lists.{has_id, Each}
 use Rattle.client_base.proofs.of_lists.OfEach.{each_append}
 use Rattle.client_base.specs.Keeper.{Keeper, all_own}
-use Rattle.client_base.specs.Written.{plain, writing, resent, sent_all}
-use Rattle.client_base.specs.Handled.{discarded, confirmed, handled, handled_online, handled_first}
-use Rattle.client_base.specs.Handshakes.{at_pubrec, is_sent_with, takes_in, releasing, at_puback, at_pubcomp}
+use Rattle.client_base.specs.Written.{plain, writing, resent_written, sent_all}
+use Rattle.client_base.specs.Handled.{discarded, confirmed, packet_handled, handled_online, handled_first}
+use Rattle.client_base.specs.Handshakes.{own_at_pubrec, is_sent_with, takes_in, pubrec_answered, own_at_puback, own_at_pubcomp}
 use Rattle.exactly_once.specs.Sides.{ClientConnection, Side}
 use Rattle.exactly_once.specs.Carried.{own_publications}
 use Rattle.client_base.specs.OrderLaws.{AreNumbered}
@@ -43,21 +43,21 @@ publish_handles keeper κ (deliveries.ExactlyOnce dup id) p = by (has_id id keep
     by false = record { said = refl; of = one_more keeper κ (packets.Pubrec id) }
 
 -- after a PUBREC
-pubrec_handles : (keeper : Keeper) (κ : ClientConnection) (i : ℕ) → Handles keeper κ (releasing i (counted_side keeper κ))
+pubrec_handles : (keeper : Keeper) (κ : ClientConnection) (i : ℕ) → Handles keeper κ (pubrec_answered i (counted_side keeper κ))
 pubrec_handles keeper κ i = by (is_sent_with i keeper.own) (has_id i keeper.releases)
   where
     by : (b r : Bool) → Handles keeper κ (if b then writing (plain (packets.Pubrel i) ∷ [])
-        (counted_side (record keeper { own = map (at_pubrec i) keeper.own; releases = keeper.releases ++ i ∷ [] }) κ)
+        (counted_side (record keeper { own = map (own_at_pubrec i) keeper.own; releases = keeper.releases ++ i ∷ [] }) κ)
         else if r then writing (plain (packets.Pubrel i) ∷ []) (counted_side keeper κ) else counted_side keeper κ)
-    by true r = record { said = said_after keeper.earlier keeper.own (map (at_pubrec i) keeper.own) (said_pubrec i keeper.own); of = one_more keeper κ (packets.Pubrel i) }
+    by true r = record { said = said_after keeper.earlier keeper.own (map (own_at_pubrec i) keeper.own) (said_pubrec i keeper.own); of = one_more keeper κ (packets.Pubrel i) }
     by false true = record { said = refl; of = one_more keeper κ (packets.Pubrel i) }
     by false false = record { said = refl; of = λ all. all }
 
 online_handles : (keeper : Keeper) (κ : ClientConnection) (packet : Packet) → Handles keeper κ (handled_online packet (counted_side keeper κ))
 online_handles keeper κ (packets.Publish p) = publish_handles keeper κ p.delivery (publication_of p)
-online_handles keeper κ (packets.Puback i) = record { said = said_after keeper.earlier keeper.own (map (at_puback i) keeper.own) (said_puback i keeper.own); of = λ all. all }
+online_handles keeper κ (packets.Puback i) = record { said = said_after keeper.earlier keeper.own (map (own_at_puback i) keeper.own) (said_puback i keeper.own); of = λ all. all }
 online_handles keeper κ (packets.Pubrec i) = pubrec_handles keeper κ i
-online_handles keeper κ (packets.Pubcomp i) = record { said = said_after keeper.earlier keeper.own (map (at_pubcomp i) keeper.own) (said_pubcomp i keeper.own); of = λ all. all }
+online_handles keeper κ (packets.Pubcomp i) = record { said = said_after keeper.earlier keeper.own (map (own_at_pubcomp i) keeper.own) (said_pubcomp i keeper.own); of = λ all. all }
 online_handles keeper κ (packets.Pubrel i) = record { said = refl; of = one_more keeper κ (packets.Pubcomp i) }
 online_handles keeper κ _ = record { said = refl; of = λ all. all }
 
@@ -67,7 +67,7 @@ confirmed_handles keeper κ present numbered = by (not present && keeper.was_ser
   where
     by : (gone : Bool) → Handles keeper κ (let kept = if gone then discarded keeper else keeper in record {
       keeper = record kept { own = sent_all kept.own; is_online = true; was_served = true };
-      connection = record κ { written = κ.written ++ resent kept; handled = suc κ.handled; confirmed = true };
+      connection = record κ { written = κ.written ++ resent_written kept; handled = suc κ.handled; confirmed = true };
     })
     by true =
         record {
@@ -77,7 +77,7 @@ confirmed_handles keeper κ present numbered = by (not present && keeper.was_ser
     by false =
         record {
           said = said_after keeper.earlier keeper.own (sent_all keeper.own) (said_sent keeper.own);
-          of = λ all. each_append (IsOfOwn (own_publications (all_own keeper))) κ.written (resent keeper) all (resent_of keeper numbered);
+          of = λ all. each_append (IsOfOwn (own_publications (all_own keeper))) κ.written (resent_written keeper) all (resent_of keeper numbered);
         }
 
 first_handles : (keeper : Keeper) (κ : ClientConnection) (packet : Packet) → AreNumbered (length keeper.earlier) keeper.own → Handles keeper κ (handled_first packet (counted_side keeper κ))
@@ -85,7 +85,7 @@ first_handles keeper κ (packets.Connack (connacks.Accepted present)) numbered =
 first_handles keeper κ (packets.Connack (connacks.Refused code)) numbered = record { said = refl; of = λ all. all }
 first_handles keeper κ _ numbered = record { said = refl; of = λ all. all }
 
-pub handles : (keeper : Keeper) (κ : ClientConnection) (packet : Packet) → AreNumbered (length keeper.earlier) keeper.own → Handles keeper κ (handled packet (record { keeper = keeper; connection = κ }))
+pub handles : (keeper : Keeper) (κ : ClientConnection) (packet : Packet) → AreNumbered (length keeper.earlier) keeper.own → Handles keeper κ (packet_handled packet (record { keeper = keeper; connection = κ }))
 handles keeper κ packet numbered = by keeper.is_online
   where
     by : (b : Bool) → Handles keeper κ (if b then handled_online packet (counted_side keeper κ) else handled_first packet (counted_side keeper κ))

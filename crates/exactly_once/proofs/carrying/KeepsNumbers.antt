@@ -7,7 +7,7 @@ use Rattle.client_base.specs.Keeper.{Written}
 use Rattle.client_base.specs.Written.{plain, writes, writes_first}
 use Rattle.client_base.specs.Called.{written_for}
 use Rattle.client_base.specs.Connected.{new_connection}
-use Rattle.client_base.specs.Handled.{handled}
+use Rattle.client_base.specs.Handled.{packet_handled}
 use Rattle.exactly_once.specs.Sides.{ClientConnection}
 use Rattle.exactly_once.specs.Story.{Story, StoryStep}
 use Rattle.exactly_once.specs.StoryCommands.{packet_count}
@@ -37,7 +37,7 @@ numbers_keep limits s t within (takes i κ w stands next) = same_counted s.past 
 numbers_keep limits s t within (others_take command other none) = same_itself s.past s.connections
 numbers_keep limits s t within (receives κ others packet are opened next) =
     let mine = subst (AreWithin s.past) are within in
-    let after = (handled packet (record { keeper = s.keeper; connection = κ })).connection in
+    let after = (packet_handled packet (record { keeper = s.keeper; connection = κ })).connection in
     let grown = handled_grows κ s.keeper packet in
     subst (λ (cs : List ClientConnection). SameNumbers cs (after ∷ others) s.past) (sym are) (same_written s.past κ after others grown.more grown.name grown.written mine.0)
 numbers_keep limits s t within (opens_anew x fresh none uncounted) = same_opened s.past (new_connection s.keeper.client x) s.connections uncounted

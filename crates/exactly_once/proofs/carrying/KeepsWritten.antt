@@ -11,8 +11,8 @@ use Rattle.client_base.specs.lists.Lists.{Each, IsPrefixOf}
 use Rattle.client_base.proofs.of_lists.Prefixes.{prefix_same}
 use Rattle.client_base.proofs.of_lists.OfEach.{each_append, each_then}
 use Rattle.client_base.proofs.of_lists.Places.{get_pushed}
-use Rattle.client_base.specs.Keeper.{Own, Written, Keeper, ids_in_use, all_own, next_number}
-use Rattle.client_base.specs.Written.{plain, publishes, writes_first}
+use Rattle.client_base.specs.Keeper.{Own, Written, Keeper, ids_in_use, all_own, next_own_number}
+use Rattle.client_base.specs.Written.{plain, written_publish, writes_first}
 use Rattle.client_base.specs.Called.{adds_own, written_for}
 use Rattle.exactly_once.specs.Sides.{ClientConnection}
 use Rattle.exactly_once.specs.Carried.{own_publication, own_publications}
@@ -32,8 +32,8 @@ said_more keeper p =
   where
     new : Bool → Bool → Own
     new a on =
-        if a then (if on then Own.Sent (next_number keeper) p (least_free (ids_in_use keeper)) else Own.Unsent (next_number keeper) p (least_free (ids_in_use keeper)))
-        else Own.Done (next_number keeper) p
+        if a then (if on then Own.Sent (next_own_number keeper) p (least_free (ids_in_use keeper)) else Own.Unsent (next_own_number keeper) p (least_free (ids_in_use keeper)))
+        else Own.Done (next_own_number keeper) p
 
     same : (a on : Bool) → own_publication (new a on) ≡ p
     same true true = refl
@@ -85,13 +85,13 @@ published_of keeper p = by keeper.is_online
     id : ℕ
     id = least_free (ids_in_use keeper)
 
-    there' : slice_get (own_publications (all_own (adds_own p keeper))) (next_number keeper) ≡ Some (publication_of (publish_of false (least_free (ids_in_use keeper)) p))
+    there' : slice_get (own_publications (all_own (adds_own p keeper))) (next_own_number keeper) ≡ Some (publication_of (publish_of false (least_free (ids_in_use keeper)) p))
     there' =
-        ap (λ ps. slice_get ps (next_number keeper)) (said_more keeper p)
+        ap (λ ps. slice_get ps (next_own_number keeper)) (said_more keeper p)
         ∙ ap (λ n. slice_get (own_publications (all_own keeper) ++ p ∷ []) n) (sym (length-map (all_own keeper) own_publication ∙ length-append keeper.earlier keeper.own))
         ∙ get_pushed (own_publications (all_own keeper)) p ∙ ap (λ q. Some q) (sym (carried_is false id p))
 
-    by : (b : Bool) → Each (IsOfOwn (own_publications (all_own (adds_own p keeper)))) (if b then publishes false (next_number keeper) (least_free (ids_in_use keeper)) p ∷ [] else [])
+    by : (b : Bool) → Each (IsOfOwn (own_publications (all_own (adds_own p keeper)))) (if b then written_publish false (next_own_number keeper) (least_free (ids_in_use keeper)) p ∷ [] else [])
     by true = (there', tt)
     by false = tt
 

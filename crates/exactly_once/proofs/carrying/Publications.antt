@@ -12,8 +12,8 @@ use Rattle.client_base.specs.lists.Lists.{Each, IsPrefixOf}
 use Rattle.client_base.proofs.of_lists.Prefixes.{prefix_get}
 use Rattle.client_base.proofs.of_lists.OfEach.{each_append}
 use Rattle.client_base.specs.Keeper.{Own, Written, Keeper, all_own}
-use Rattle.client_base.specs.Written.{plain, sent_again, sent_first, sent_all, resent}
-use Rattle.client_base.specs.Handshakes.{at_puback, at_pubrec, at_pubcomp}
+use Rattle.client_base.specs.Written.{plain, written_again, written_first, sent_all, resent_written}
+use Rattle.client_base.specs.Handshakes.{own_at_puback, own_at_pubrec, own_at_pubcomp}
 use Rattle.exactly_once.specs.Sides.{ClientConnection}
 use Rattle.exactly_once.specs.Carried.{own_publication, own_publications}
 use Rattle.client_base.specs.OrderLaws.{AreNumbered}
@@ -54,7 +54,7 @@ carried_is dup id p = λ i. record { retain = p.retain; qos = level p.qos i; top
 
 -- ---- answers change none of it
 
-pub said_puback : (i : ℕ) (own : List Own) → own_publications (map (at_puback i) own) ≡ own_publications own
+pub said_puback : (i : ℕ) (own : List Own) → own_publications (map (own_at_puback i) own) ≡ own_publications own
 said_puback i [] = refl
 said_puback i (Own.Unsent k p id ∷ own) = ap (λ l. p ∷ l) (said_puback i own)
 said_puback i (Own.Sent k p id ∷ own) = ap₂ (λ q l. q ∷ l) (by ((i == id) && is_acknowledged p.qos)) (said_puback i own)
@@ -65,7 +65,7 @@ said_puback i (Own.Sent k p id ∷ own) = ap₂ (λ q l. q ∷ l) (by ((i == id)
 said_puback i (Own.Released k p id ∷ own) = ap (λ l. p ∷ l) (said_puback i own)
 said_puback i (Own.Done k p ∷ own) = ap (λ l. p ∷ l) (said_puback i own)
 
-pub said_pubrec : (i : ℕ) (own : List Own) → own_publications (map (at_pubrec i) own) ≡ own_publications own
+pub said_pubrec : (i : ℕ) (own : List Own) → own_publications (map (own_at_pubrec i) own) ≡ own_publications own
 said_pubrec i [] = refl
 said_pubrec i (Own.Unsent k p id ∷ own) = ap (λ l. p ∷ l) (said_pubrec i own)
 said_pubrec i (Own.Sent k p id ∷ own) = ap₂ (λ q l. q ∷ l) (by ((i == id) && not (is_acknowledged p.qos))) (said_pubrec i own)
@@ -76,7 +76,7 @@ said_pubrec i (Own.Sent k p id ∷ own) = ap₂ (λ q l. q ∷ l) (by ((i == id)
 said_pubrec i (Own.Released k p id ∷ own) = ap (λ l. p ∷ l) (said_pubrec i own)
 said_pubrec i (Own.Done k p ∷ own) = ap (λ l. p ∷ l) (said_pubrec i own)
 
-pub said_pubcomp : (i : ℕ) (own : List Own) → own_publications (map (at_pubcomp i) own) ≡ own_publications own
+pub said_pubcomp : (i : ℕ) (own : List Own) → own_publications (map (own_at_pubcomp i) own) ≡ own_publications own
 said_pubcomp i [] = refl
 said_pubcomp i (Own.Unsent k p id ∷ own) = ap (λ l. p ∷ l) (said_pubcomp i own)
 said_pubcomp i (Own.Sent k p id ∷ own) = ap (λ l. p ∷ l) (said_pubcomp i own)
@@ -111,7 +111,7 @@ first_of ps n k p qs dup id e stand =
     let same : n + 0 ≡ k = omega (arith, e) in
     subst (λ (m : ℕ). slice_get ps m ≡ Some p) same (stand 0 p refl) ∙ ap (λ q. Some q) (sym (carried_is dup id p))
 
-again_of : (ps : List Publication) (n : ℕ) (own : List Own) → AreNumbered n own → StandFrom ps n (own_publications own) → Each (IsOfOwn ps) (sent_again own)
+again_of : (ps : List Publication) (n : ℕ) (own : List Own) → AreNumbered n own → StandFrom ps n (own_publications own) → Each (IsOfOwn ps) (written_again own)
 again_of ps n [] h stand = tt
 again_of ps n (Own.Unsent k p id ∷ own) h stand = again_of ps (suc n) own h.1 (behind ps n p (own_publications own) stand)
 again_of ps n (Own.Sent k p id ∷ own) h stand =
@@ -119,7 +119,7 @@ again_of ps n (Own.Sent k p id ∷ own) h stand =
 again_of ps n (Own.Released k p id ∷ own) h stand = again_of ps (suc n) own h.1 (behind ps n p (own_publications own) stand)
 again_of ps n (Own.Done k p ∷ own) h stand = again_of ps (suc n) own h.1 (behind ps n p (own_publications own) stand)
 
-unsent_of : (ps : List Publication) (n : ℕ) (own : List Own) → AreNumbered n own → StandFrom ps n (own_publications own) → Each (IsOfOwn ps) (sent_first own)
+unsent_of : (ps : List Publication) (n : ℕ) (own : List Own) → AreNumbered n own → StandFrom ps n (own_publications own) → Each (IsOfOwn ps) (written_first own)
 unsent_of ps n [] h stand = tt
 unsent_of ps n (Own.Unsent k p id ∷ own) h stand =
     (first_of ps n k p (own_publications own) false id h.0 stand, unsent_of ps (suc n) own h.1 (behind ps n p (own_publications own) stand))
@@ -139,7 +139,7 @@ get_after (x ∷ xs) ys j = let same : suc (length xs) + j ≡ suc (length xs + 
 pub said_after : (earlier own later : List Own) → own_publications later ≡ own_publications own → own_publications (earlier ++ later) ≡ own_publications (earlier ++ own)
 said_after earlier own later e = map-append own_publication earlier later ∙ ap (λ l. own_publications earlier ++ l) e ∙ sym (map-append own_publication earlier own)
 
-pub resent_of : (keeper : Keeper) → AreNumbered (length keeper.earlier) keeper.own → Each (IsOfOwn (own_publications (all_own keeper))) (resent keeper)
+pub resent_of : (keeper : Keeper) → AreNumbered (length keeper.earlier) keeper.own → Each (IsOfOwn (own_publications (all_own keeper))) (resent_written keeper)
 resent_of keeper numbered =
     let ps = own_publications (all_own keeper) in
     let n = length keeper.earlier in
@@ -147,7 +147,7 @@ resent_of keeper numbered =
     ap (λ l. slice_get l (n + j)) (map-append own_publication keeper.earlier keeper.own)
     ∙ ap (λ m. slice_get (own_publications keeper.earlier ++ own_publications keeper.own) (m + j)) (sym (length-map keeper.earlier own_publication))
     ∙ get_after (own_publications keeper.earlier) (own_publications keeper.own) j ∙ e in
-    each_append (IsOfOwn ps) (map (λ id. plain (packets.Pubrel id)) keeper.releases ++ sent_again keeper.own) (sent_first keeper.own)
-    (each_append (IsOfOwn ps) (map (λ id. plain (packets.Pubrel id)) keeper.releases) (sent_again keeper.own) (releases_of ps keeper.releases)
+    each_append (IsOfOwn ps) (map (λ id. plain (packets.Pubrel id)) keeper.releases ++ written_again keeper.own) (written_first keeper.own)
+    (each_append (IsOfOwn ps) (map (λ id. plain (packets.Pubrel id)) keeper.releases) (written_again keeper.own) (releases_of ps keeper.releases)
     (again_of ps n keeper.own numbered stand))
     (unsent_of ps n keeper.own numbered stand)

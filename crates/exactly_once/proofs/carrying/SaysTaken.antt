@@ -23,7 +23,7 @@ use Rattle.exactly_once.specs.Exact.{next_of}
 use Rattle.exactly_once.specs.HandshakeInvariant.{IsGood}
 use Rattle.exactly_once.proofs.Repeats.{good_repeat}
 use Rattle.client_base.specs.Keeper.{Written, Keeper}
-use Rattle.client_base.specs.Connected.{opens}
+use Rattle.client_base.specs.Connected.{opening_connect}
 use Rattle.exactly_once.specs.Sides.{ClientConnection}
 use Rattle.exactly_once.specs.StoryCommands.{with_one_counted, packet_count, command_of}
 use Rattle.exactly_once.specs.Carried.{connection_named, number_at, new_numbers}
@@ -152,9 +152,9 @@ publish_says limits past keeper connections ps i n κ p (Some j) shape good stan
 no_connect : (q : Connect) (p : Publish) → packets.Connect q ≡ packets.Publish p → ⊥
 no_connect q p e = cc
 
-no_publish : (c : Client) (p : Publish) (number : Option ℕ) → Some (opens c) ≡ Some (let w : Written = record { packet = packets.Publish p; number = number } in w) → ⊥
+no_publish : (c : Client) (p : Publish) (number : Option ℕ) → Some (opening_connect c) ≡ Some (let w : Written = record { packet = packets.Publish p; number = number } in w) → ⊥
 no_publish c p number e =
-    let same : opens c ≡ (let w : Written = record { packet = packets.Publish p; number = number } in w) = cc in
+    let same : opening_connect c ≡ (let w : Written = record { packet = packets.Publish p; number = number } in w) = cc in
     no_connect (record { client = c; clean = false; keep_alive = 0 }) p (ap (λ (w : Written). w.packet) same)
 
 -- any packet of one of the client's connections

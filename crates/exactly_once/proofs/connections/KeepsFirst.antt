@@ -18,7 +18,7 @@ use Rattle.exactly_once.specs.Sends.{sends_to, put_to}
 use Rattle.client_base.specs.Keeper.{Written}
 use Rattle.exactly_once.specs.Sides.{ClientConnection}
 use Rattle.client_base.specs.Written.{plain}
-use Rattle.client_base.specs.Handled.{handled}
+use Rattle.client_base.specs.Handled.{packet_handled}
 use Rattle.exactly_once.specs.Story.{Story, StoryStep}
 use Rattle.exactly_once.specs.StoryCommands.{is_packet_of, packet_count, command_of, with_one_counted, any_named}
 use Rattle.client_base.specs.Written.{writes_first}
@@ -144,7 +144,7 @@ events_keep_first limits s t shape (others_take command other none) = each_other
 events_keep_first limits s t shape (receives κ others packet are opened next) =
     let mine = subst (Each (FirstOf limits s.past)) are (first_of limits s shape) in
     let grown = handled_grows κ s.keeper packet in
-    (first_same limits s.past κ (handled packet (record { keeper = s.keeper; connection = κ })).connection grown.name grown.taken mine.0, mine.1)
+    (first_same limits s.past κ (packet_handled packet (record { keeper = s.keeper; connection = κ })).connection grown.name grown.taken mine.0, mine.1)
 events_keep_first limits s t shape (opens_anew x fresh none uncounted) = (record { connack_first = none; asks_first = λ few. ap backward_of_own none }, first_of limits s shape)
 events_keep_first limits s t shape loses = first_of limits s shape
 events_keep_first limits s t shape disconnects = by s.keeper.is_online

@@ -7,13 +7,13 @@ use Rattle.client_base.specs.session_base.Identifiers.{least_free}
 use Rattle.broker_base.specs.broker_spec.Place.{Client, Past, Limits}
 use Rattle.client_base.specs.lists.Lists.{Each}
 use Rattle.client_base.proofs.of_lists.OfEach.{each_append, each_then}
-use Rattle.client_base.specs.Keeper.{Written, Keeper, ids_in_use, next_number}
+use Rattle.client_base.specs.Keeper.{Written, Keeper, ids_in_use, next_own_number}
 use Rattle.exactly_once.specs.Sides.{ClientConnection}
-use Rattle.client_base.specs.Written.{plain, publishes, writes}
-use Rattle.client_base.specs.Handled.{handled}
+use Rattle.client_base.specs.Written.{plain, written_publish, writes}
+use Rattle.client_base.specs.Handled.{packet_handled}
 use Rattle.exactly_once.specs.Story.{Story, StoryStep}
 use Rattle.exactly_once.specs.StoryCommands.{with_one_counted}
-use Rattle.client_base.specs.Connected.{opens}
+use Rattle.client_base.specs.Connected.{opening_connect}
 use Rattle.client_base.specs.Written.{writes_first}
 use Rattle.exactly_once.specs.Story.StoryStep.{takes, others_take, receives, opens_anew, loses, disconnects, publishes_one, subscribes, unsubscribes}
 use Rattle.exactly_once.specs.Inside.Shape.{HeldInShape, HasShape}
@@ -24,7 +24,7 @@ use Rattle.exactly_once.proofs.connections.Silent.{StaysSilent, handled_silent}
 -- the rows of one connection
 pub record WritesOf (c : Client) (κ : ClientConnection) : Type 0 where
   pub more : List Written
-  pub written : κ.written ≡ opens c ∷ more
+  pub written : κ.written ≡ opening_connect c ∷ more
   pub one_connect : Each (λ w. is_connect w ≡ false) more
   pub silent : κ.confirmed ≡ false → more ≡ []
   pub handled_some : κ.confirmed ≡ true → 1 ≤ κ.handled
@@ -34,14 +34,14 @@ pub record WritesOf (c : Client) (κ : ClientConnection) : Type 0 where
 -- more is written
 writes_grown : (c : Client) (κ after : ClientConnection) (n : ℕ) → Grown κ after n → StaysSilent κ after → (after.confirmed ≡ true → 1 ≤ n) → WritesOf c κ → WritesOf c after
 writes_grown c κ after n g still some r =
-    let all : after.written ≡ opens c ∷ r.more ++ g.more = g.written ∙ ap (λ ws. ws ++ g.more) r.written in
+    let all : after.written ≡ opening_connect c ∷ r.more ++ g.more = g.written ∙ ap (λ ws. ws ++ g.more) r.written in
     record {
       more = r.more ++ g.more;
       written = all;
       one_connect = each_append (λ w. is_connect w ≡ false) r.more g.more r.one_connect (each_then IsLater (λ w. is_connect w ≡ false) g.more (λ w later. later.1) g.later);
       silent = λ e.
           let before = still e in
-          let one : opens c ∷ r.more ++ g.more ≡ opens c ∷ [] = sym all ∙ before.1 ∙ r.written ∙ ap (λ ws. opens c ∷ ws) (r.silent before.0) in
+          let one : opening_connect c ∷ r.more ++ g.more ≡ opening_connect c ∷ [] = sym all ∙ before.1 ∙ r.written ∙ ap (λ ws. opening_connect c ∷ ws) (r.silent before.0) in
           cc;
       handled_some = λ e. subst (λ (m : ℕ). 1 ≤ m) (sym g.handled) (some e);
     }
@@ -99,7 +99,7 @@ events_keep_written limits s t shape (others_take command other none) = writes_o
 events_keep_written limits s t shape (receives κ others packet are opened next) =
     let mine = subst (Each (WritesOf s.keeper.client)) are (writes_of limits s shape) in
     let held = subst (HeldInShape limits s.past s.keeper) are shape.held in (
-      writes_grown s.keeper.client κ (handled packet (record { keeper = s.keeper; connection = κ })).connection (suc κ.handled) (handled_grows κ s.keeper packet)
+      writes_grown s.keeper.client κ (packet_handled packet (record { keeper = s.keeper; connection = κ })).connection (suc κ.handled) (handled_grows κ s.keeper packet)
           (handled_silent packet s.keeper κ (first_confirmed limits s.past s.keeper (κ ∷ others) held)) (λ e. omega arith) mine.0,
       mine.1,
     )
@@ -110,8 +110,8 @@ events_keep_written limits s t shape disconnects = writes_online limits s s.keep
 events_keep_written limits s t shape (publishes_one p needs) = by s.keeper.is_online refl
   where
     by : (b : Bool) → s.keeper.is_online ≡ b
-        → Each (WritesOf s.keeper.client) (writes_first (if b then publishes false (next_number s.keeper) (least_free (ids_in_use s.keeper)) p ∷ [] else []) s.connections)
-    by true on = writes_online limits s true shape on (publishes false (next_number s.keeper) (least_free (ids_in_use s.keeper)) p ∷ []) ((refl, refl), tt)
+        → Each (WritesOf s.keeper.client) (writes_first (if b then written_publish false (next_own_number s.keeper) (least_free (ids_in_use s.keeper)) p ∷ [] else []) s.connections)
+    by true on = writes_online limits s true shape on (written_publish false (next_own_number s.keeper) (least_free (ids_in_use s.keeper)) p ∷ []) ((refl, refl), tt)
     by false on = writes_none s.keeper.client s.connections (writes_of limits s shape)
 events_keep_written limits s t shape (subscribes p on id) = writes_online limits s true shape on (plain (packets.Subscribe p) ∷ []) ((refl, refl), tt)
 events_keep_written limits s t shape (unsubscribes p on id) = writes_online limits s true shape on (plain (packets.Unsubscribe p) ∷ []) ((refl, refl), tt)

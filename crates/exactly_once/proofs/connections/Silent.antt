@@ -13,8 +13,8 @@ use Rattle.client_base.specs.session_base.Publication.{publication_of}
 use Rattle.exactly_once.specs.Sides.{ClientConnection, Side}
 use Rattle.client_base.specs.Keeper.{Keeper}
 use Rattle.client_base.specs.Written.{plain, writing}
-use Rattle.client_base.specs.Handled.{handled, handled_online, handled_first}
-use Rattle.client_base.specs.Handshakes.{at_pubrec, is_sent_with, takes_in, releasing}
+use Rattle.client_base.specs.Handled.{packet_handled, handled_online, handled_first}
+use Rattle.client_base.specs.Handshakes.{own_at_pubrec, is_sent_with, takes_in, pubrec_answered}
 use Rattle.exactly_once.proofs.publishing.Answered.{counted_side}
 
 -- ---- what is confirmed stays so
@@ -33,11 +33,11 @@ taking_confirmed (deliveries.ExactlyOnce dup id) p side = by (has_id id side.kee
     by false = refl
 
 -- after a PUBREC
-releasing_confirmed : (i : ℕ) (side : Side) → (releasing i side).connection.confirmed ≡ side.connection.confirmed
+releasing_confirmed : (i : ℕ) (side : Side) → (pubrec_answered i side).connection.confirmed ≡ side.connection.confirmed
 releasing_confirmed i side = by (is_sent_with i side.keeper.own) (has_id i side.keeper.releases)
   where
     by : (b r : Bool) → (if b then writing (plain (packets.Pubrel i) ∷ [])
-        (record side { keeper = record side.keeper { own = map (at_pubrec i) side.keeper.own; releases = side.keeper.releases ++ i ∷ [] } })
+        (record side { keeper = record side.keeper { own = map (own_at_pubrec i) side.keeper.own; releases = side.keeper.releases ++ i ∷ [] } })
         else if r then writing (plain (packets.Pubrel i) ∷ []) side else side).connection.confirmed ≡ side.connection.confirmed
     by true r = refl
     by false true = refl
@@ -60,7 +60,7 @@ first_silent (packets.Connack (connacks.Refused code)) keeper κ e = (e, refl)
 first_silent _ keeper κ e = (e, refl)
 
 -- after any
-pub handled_silent : (packet : Packet) (keeper : Keeper) (κ : ClientConnection) → (keeper.is_online ≡ true → κ.confirmed ≡ true) → StaysSilent κ (handled packet (record { keeper = keeper; connection = κ })).connection
+pub handled_silent : (packet : Packet) (keeper : Keeper) (κ : ClientConnection) → (keeper.is_online ≡ true → κ.confirmed ≡ true) → StaysSilent κ (packet_handled packet (record { keeper = keeper; connection = κ })).connection
 handled_silent packet keeper κ on = by keeper.is_online on
   where
     by : (b : Bool) → (b ≡ true → κ.confirmed ≡ true) → StaysSilent κ (if b then handled_online packet (counted_side keeper κ) else handled_first packet (counted_side keeper κ)).connection

@@ -20,7 +20,7 @@ use Rattle.client_base.specs.Keeper.{Own, Written, Keeper}
 use Rattle.client_base.specs.declared.request.Request.{Request}
 use Rattle.exactly_once.specs.Sides.{ClientConnection, Side}
 use Rattle.client_base.specs.Written.{plain}
-use Rattle.client_base.specs.Handled.{handled, lost}
+use Rattle.client_base.specs.Handled.{packet_handled, lost}
 use Rattle.exactly_once.specs.Story.{Story, StoryStep}
 use Rattle.exactly_once.specs.StoryCommands.{any_named, is_packet_of, command_of, with_one_counted}
 use Rattle.client_base.specs.Written.{writes_first}
@@ -121,7 +121,7 @@ events_keep_held limits s t sound (others_take command other none) =
 events_keep_held limits s t sound (receives κ others packet are opened next) =
     let side : Side = record { keeper = s.keeper; connection = κ } in
     let mine = subst (HeldInShape limits s.past s.keeper) are sound.shape.held in
-    held_settled limits s.past (handled packet side) others (settled_handled packet side opened (mine.0 opened))
+    held_settled limits s.past (packet_handled packet side) others (settled_handled packet side opened (mine.0 opened))
 events_keep_held limits s t sound (opens_anew x fresh none uncounted) =
     (λ e. refl, λ e. absurd (both_ways false refl e), λ e off served. subst (Each IsPresent) (sym none) tt)
 events_keep_held limits s t sound loses = held_lost limits s.past s.keeper s.connections

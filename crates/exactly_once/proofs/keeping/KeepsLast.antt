@@ -9,7 +9,7 @@ use Rattle.client_base.specs.lists.Lists.{Each}
 use Rattle.exactly_once.specs.Sends.{put_to}
 use Rattle.exactly_once.specs.Sides.{Side}
 use Rattle.client_base.specs.Written.{plain}
-use Rattle.client_base.specs.Handled.{handled}
+use Rattle.client_base.specs.Handled.{packet_handled}
 use Rattle.exactly_once.specs.Story.{Story, StoryStep}
 use Rattle.client_base.specs.Called.{written_for}
 use Rattle.client_base.specs.Connected.{new_connection}
@@ -35,8 +35,8 @@ keeps_top limits s t shape h = by h (top_one (current_connection s.past s.keeper
         let st = stays_handled packet side in
         let of_first = (subst (Each (ConnectionInShape limits s.past s.keeper.client)) are shape.connections).0 in
         let current = current_connection s.past s.keeper.client in
-        subst (λ (c : Client). IsTopOne (current_connection s.past c) ((handled packet side).connection ∷ others)) (sym st.client)
-        (one_handled current κ (handled packet side).connection others (subst NamesApart are shape.names_apart) st.name
+        subst (λ (c : Client). IsTopOne (current_connection s.past c) ((packet_handled packet side).connection ∷ others)) (sym st.client)
+        (one_handled current κ (packet_handled packet side).connection others (subst NamesApart are shape.names_apart) st.name
         (some_taken κ.taken (put_to limits s.past κ.name) κ.handled packet of_first.connack_first next)
         (subst (NewestIsServed current) are shape.newest_is_served) (subst (IsTopOne current) are g))
     by (opens_anew x fresh none uncounted) g = one_new (current_connection s.past s.keeper.client) (new_connection s.keeper.client x) s.connections refl g

@@ -11,8 +11,8 @@ use Rattle.client_base.specs.session_base.declared.publication.Publication.{Publ
 use Rattle.client_base.specs.session_base.Publication.{publication_of}
 use Rattle.client_base.specs.lists.Lists.{has_id}
 use Rattle.exactly_once.specs.Sides.{Side}
-use Rattle.client_base.specs.Handled.{handled_online, handled_first, handled}
-use Rattle.client_base.specs.Handshakes.{is_sent_with, takes_in, releasing}
+use Rattle.client_base.specs.Handled.{handled_online, handled_first, packet_handled}
+use Rattle.client_base.specs.Handshakes.{is_sent_with, takes_in, pubrec_answered}
 use Rattle.exactly_once.proofs.subscribing.Given.{one_handled}
 
 -- online on an open connection that is confirmed
@@ -41,10 +41,10 @@ leaves_taking (deliveries.ExactlyOnce dup id) p side = by (cases_Bool (has_id id
     by (inr e) = rw e (record { settled = λ h. inl h; served = refl })
 
 -- a PUBREC
-leaves_releasing : (id : ℕ) (side : Side) → Leaves side (releasing id side)
+leaves_releasing : (id : ℕ) (side : Side) → Leaves side (pubrec_answered id side)
 leaves_releasing id side = by (cases_Bool (is_sent_with id side.keeper.own)) (cases_Bool (has_id id side.keeper.releases))
   where
-    by : (is_sent_with id side.keeper.own ≡ true) ⊎ (is_sent_with id side.keeper.own ≡ false) → (has_id id side.keeper.releases ≡ true) ⊎ (has_id id side.keeper.releases ≡ false) → Leaves side (releasing id side)
+    by : (is_sent_with id side.keeper.own ≡ true) ⊎ (is_sent_with id side.keeper.own ≡ false) → (has_id id side.keeper.releases ≡ true) ⊎ (has_id id side.keeper.releases ≡ false) → Leaves side (pubrec_answered id side)
     by (inl e) f = rw e (record { settled = λ h. inl h; served = refl })
     by (inr e) (inl f) = rw (e, f) (record { settled = λ h. inl h; served = refl })
     by (inr e) (inr f) = rw (e, f) (record { settled = λ h. inl h; served = refl })
@@ -84,7 +84,7 @@ served_first _ side e = inl e
 -- ---- any packet that the client handles
 
 -- if it is open, and online as far as its connection is confirmed
-pub settled_handled : (packet : Packet) (side : Side) → side.keeper.is_open ≡ true → side.connection.confirmed ≡ side.keeper.is_online → IsSettled (handled packet side)
+pub settled_handled : (packet : Packet) (side : Side) → side.keeper.is_open ≡ true → side.connection.confirmed ≡ side.keeper.is_online → IsSettled (packet_handled packet side)
 settled_handled packet side opened same = by side.keeper.is_online refl
   where
     by : (b : Bool) → side.keeper.is_online ≡ b → IsSettled (if b then handled_online packet (one_handled side) else handled_first packet (one_handled side))
@@ -92,7 +92,7 @@ settled_handled packet side opened same = by side.keeper.is_online refl
     by false e = settled_first packet (one_handled side) opened
 
 -- who is served was served, or is welcome
-pub served_handled : (packet : Packet) (side : Side) → (handled packet side).keeper.was_served ≡ true → (side.keeper.was_served ≡ true) ⊎ IsWelcome packet
+pub served_handled : (packet : Packet) (side : Side) → (packet_handled packet side).keeper.was_served ≡ true → (side.keeper.was_served ≡ true) ⊎ IsWelcome packet
 served_handled packet side = by side.keeper.is_online
   where
     by : (b : Bool) → (if b then handled_online packet (one_handled side) else handled_first packet (one_handled side)).keeper.was_served ≡ true → (side.keeper.was_served ≡ true) ⊎ IsWelcome packet

@@ -18,7 +18,7 @@ use Rattle.exactly_once.specs.Sends.{sends_to, put_to}
 use Rattle.client_base.specs.Keeper.{Written}
 use Rattle.exactly_once.specs.Sides.{ClientConnection, Side}
 use Rattle.client_base.specs.Written.{plain}
-use Rattle.client_base.specs.Handled.{handled}
+use Rattle.client_base.specs.Handled.{packet_handled}
 use Rattle.exactly_once.specs.Story.{Story, StoryStep}
 use Rattle.exactly_once.specs.StoryCommands.{any_named, is_packet_of, command_of, with_one_counted}
 use Rattle.client_base.specs.Written.{writes_first}
@@ -111,7 +111,7 @@ events_keep_welcomed limits s t sound h (receives κ others packet are opened ne
     let side : Side = record { keeper = s.keeper; connection = κ } in
     let st = stays_handled packet side in
     let mine = subst (AreWelcomed limits s.past s.keeper.client) are h in
-    subst (λ (c : Client). AreWelcomed limits s.past c ((handled packet side).connection ∷ others)) (sym st.client)
+    subst (λ (c : Client). AreWelcomed limits s.past c ((packet_handled packet side).connection ∷ others)) (sym st.client)
     (subst (IsWelcomed limits s.past s.keeper.client) (sym st.name) mine.0, mine.1)
 events_keep_welcomed limits s t sound h (opens_anew x fresh none uncounted) = (subst (Each (IsMeant s.keeper.client s.past)) (sym none) tt, h)
 events_keep_welcomed limits s t sound h loses = h

@@ -16,7 +16,7 @@ use Rattle.exactly_once.specs.Sides.{ClientConnection, Side}
 use Rattle.client_base.specs.Keeper.{Keeper}
 use Rattle.client_base.specs.Written.{plain, writing}
 use Rattle.client_base.specs.Handled.{handled_online}
-use Rattle.client_base.specs.Handshakes.{at_pubrec, at_pubcomp, is_sent_with}
+use Rattle.client_base.specs.Handshakes.{own_at_pubrec, own_at_pubcomp, is_sent_with}
 use Rattle.client_base.specs.session_base.Identifiers.{without_id}
 use Rattle.exactly_once.specs.Story.{with_side}
 use Rattle.exactly_once.specs.Inside.Projections.{forward_of_own, backward_of_own, to_be_taken, is_current, as_publisher, GoesTo}
@@ -48,7 +48,7 @@ counted_side keeper κ = record { keeper = keeper; connection = record κ { hand
 abbrev pub releasing_by : Bool → ℕ → Keeper → ClientConnection → Side
 releasing_by has i keeper κ =
     if has
-    then writing (plain (packets.Pubrel i) ∷ []) (counted_side (record keeper { own = map (at_pubrec i) keeper.own; releases = keeper.releases ++ i ∷ [] }) κ)
+    then writing (plain (packets.Pubrel i) ∷ []) (counted_side (record keeper { own = map (own_at_pubrec i) keeper.own; releases = keeper.releases ++ i ∷ [] }) κ)
     else if has_id i keeper.releases then writing (plain (packets.Pubrel i) ∷ []) (counted_side keeper κ) else counted_side keeper κ
 
 -- the transit with the answer that comes in front
@@ -77,7 +77,7 @@ hears_pubrec limits past keeper κ others i shape on conf next good =
     let has : is_sent_with i keeper.own ≡ true =
     sent_then i keeper.own (ap (has_sent i) good.sides.is ∙ sent_among i good.old good.new (due_first h good cur (Backward.Pubrec i) f b transit)) in
     let more = plain (packets.Pubrel i) ∷ [] in
-    let later : Keeper = record keeper { own = map (at_pubrec i) keeper.own; releases = keeper.releases ++ i ∷ [] } in
+    let later : Keeper = record keeper { own = map (own_at_pubrec i) keeper.own; releases = keeper.releases ++ i ∷ [] } in
     let goes =
     goes_first limits past keeper later κ others (κ.written ++ more) more (suc κ.handled) κ.confirmed κ.accepted (sender_hears (Backward.Pubrec i) h.items) (f ++ reply (Backward.Pubrec i)) b
     shape refl conf refl
@@ -96,7 +96,7 @@ hears_pubcomp limits past keeper κ others i shape on conf next =
     let b = backward_of_own (drop (suc κ.handled) (put_to limits past κ.name)) in
     let transit : h.transit ≡ link_by cur true f (Backward.Pubcomp i ∷ b) =
     answer_link limits past keeper κ others (Backward.Pubcomp i) b on conf (ap backward_of_own (dropped_next κ.handled (put_to limits past κ.name) (packets.Pubcomp i) next)) in
-    let later : Keeper = record keeper { own = map (at_pubcomp i) keeper.own; releases = without_id i keeper.releases } in
+    let later : Keeper = record keeper { own = map (own_at_pubcomp i) keeper.own; releases = without_id i keeper.releases } in
     goes_first limits past keeper later κ others κ.written [] (suc κ.handled) κ.confirmed κ.accepted (sender_hears (Backward.Pubcomp i) h.items) (f ++ []) b
     shape refl conf (sym (append-nil κ.written))
     (subst (λ (online : Bool). Reaches h (sender_hears (Backward.Pubcomp i) h.items) (link_by cur online (f ++ []) b)) (sym on) (hears_one h cur (Backward.Pubcomp i) f b transit))

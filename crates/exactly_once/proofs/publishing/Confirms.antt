@@ -16,10 +16,10 @@ use Rattle.exactly_once.specs.Sends.{put_to}
 use Rattle.client_base.specs.Keeper.{Written, Keeper, Own, ids_of_own}
 use Rattle.exactly_once.specs.Sides.{ClientConnection}
 use Rattle.client_base.specs.State.{id_of_request}
-use Rattle.client_base.specs.Written.{sent_all, sent_first, resent}
+use Rattle.client_base.specs.Written.{sent_all, written_first, resent_written}
 use Rattle.client_base.specs.Handled.{discarded, confirmed}
 use Rattle.exactly_once.specs.Story.{with_side}
-use Rattle.client_base.specs.Connected.{opens}
+use Rattle.client_base.specs.Connected.{opening_connect}
 use Rattle.exactly_once.specs.Inside.Projections.{items_of_own, forward_of_own, backward_of_own, is_current, as_publisher, GoesTo}
 use Rattle.exactly_once.specs.Inside.Shape.{OwnInShape}
 use Rattle.exactly_once.specs.Inside.ConnectionShape.{ConnectionInShape}
@@ -47,14 +47,14 @@ restarts_by h true releases d e = reaches_by h h.items (Transit.Joined (sender_r
 restarts_by h false releases d e = reaches_by h h.items (Transit.Behind []) (Transit.Behind []) parts refl
 
 pub begins_again : (h : Handshake ℕ) (cur : Bool) (keeper : Keeper) → OwnInShape keeper → h.items ≡ items_of_own keeper.own
-    → Reaches h (items_of_own (sent_all keeper.own)) (link_by cur true (forward_of_own (resent keeper)) [])
+    → Reaches h (items_of_own (sent_all keeper.own)) (link_by cur true (forward_of_own (resent_written keeper)) [])
 begins_again h cur keeper shape items =
     let again = sender_resends keeper.releases (items_of_own keeper.own) in
     let all = items_of_own (sent_all keeper.own) in
     let known : Each (λ id. has_released id h.items ≡ true) keeper.releases =
     subst (λ (xs : List (SenderItem ℕ)). Each (λ id. has_released id xs ≡ true) keeper.releases) (sym items) (each_among keeper.own keeper.releases keeper.releases (λ id e. e) shape.releases_are) in
     subst (λ (f : List (Forward ℕ)). Reaches h all (link_by cur true f [])) (sym (forward_resent keeper))
-    (reaches_then h h.items all (link_by cur true (sender_resends keeper.releases h.items) []) (link_by cur true (again ++ forward_of_own (sent_first keeper.own)) [])
+    (reaches_then h h.items all (link_by cur true (sender_resends keeper.releases h.items) []) (link_by cur true (again ++ forward_of_own (written_first keeper.own)) [])
     (restarts_by h cur keeper.releases (shape.releases_apart) known)
     (λ k e l. starts_unsent keeper.own [] k cur again [] (e ∙ items) tt (λ i g. refl)
     (distinct_front (ids_of_own keeper.own) (map id_of_request keeper.requests) (shape.ids_apart))
@@ -79,18 +79,18 @@ confirms limits past keeper κ others present own shape unconfirmed served next 
     let put = put_to limits past κ.name in
     let none : κ.handled ≡ 0 = connack_at_first κ.taken κ.handled put (connacks.Accepted present) shape.connack_first next in
     let few : κ.taken ≤ 1 =
-    let one : length κ.written ≡ 1 = ap length (shape.written ∙ ap (λ l. opens keeper.client ∷ l) (shape.silent unconfirmed)) in
+    let one : length κ.written ≡ 1 = ap length (shape.written ∙ ap (λ l. opening_connect keeper.client ∷ l) (shape.silent unconfirmed)) in
     let within = shape.within in
     omega (arith, one, within) in
     let come : [] ≡ backward_of_own (drop (suc κ.handled) put) =
     sym (sym (ap backward_of_own (dropped_next κ.handled put (packets.Connack (connacks.Accepted present)) next)) ∙ ap (λ n. backward_of_own (drop n put)) none ∙ shape.asks_first few) in
     let later : Keeper = record keeper { own = sent_all keeper.own; is_online = true; was_served = true } in
-    let goes : GoesTo h (as_publisher limits (story_by past (after_by κ (κ.written ++ resent keeper) (suc κ.handled) true κ.accepted ∷ others) later)) =
-    goes_first limits past keeper later κ others (κ.written ++ resent keeper) (resent keeper) (suc κ.handled) true κ.accepted (items_of_own (sent_all keeper.own))
-    (forward_of_own (resent keeper)) [] shape refl refl refl
+    let goes : GoesTo h (as_publisher limits (story_by past (after_by κ (κ.written ++ resent_written keeper) (suc κ.handled) true κ.accepted ∷ others) later)) =
+    goes_first limits past keeper later κ others (κ.written ++ resent_written keeper) (resent_written keeper) (suc κ.handled) true κ.accepted (items_of_own (sent_all keeper.own))
+    (forward_of_own (resent_written keeper)) [] shape refl refl refl
     (begins_again h (is_current (current_connection past keeper.client) κ.name) keeper own refl) refl
-    (ap (λ l. l ++ forward_of_own (resent keeper)) (sym (forward_opens κ.taken κ.written shape.more (opens keeper.client) refl shape.written (shape.silent unconfirmed)))) come in
-    subst (λ (kept : Keeper). GoesTo h (as_publisher limits (story_by past (after_by κ (κ.written ++ resent kept) (suc κ.handled) true κ.accepted ∷ others)
+    (ap (λ l. l ++ forward_of_own (resent_written keeper)) (sym (forward_opens κ.taken κ.written shape.more (opening_connect keeper.client) refl shape.written (shape.silent unconfirmed)))) come in
+    subst (λ (kept : Keeper). GoesTo h (as_publisher limits (story_by past (after_by κ (κ.written ++ resent_written kept) (suc κ.handled) true κ.accepted ∷ others)
     (record kept { own = sent_all kept.own; is_online = true; was_served = true })))) (sym (kept present (cases_Bool keeper.was_served) served)) goes
   where
     kept : (b : Bool) → (keeper.was_served ≡ true) ⊎ (keeper.was_served ≡ false) → (b ≡ false → keeper.was_served ≡ false)

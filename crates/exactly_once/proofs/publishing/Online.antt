@@ -16,7 +16,7 @@ use Rattle.client_base.specs.Keeper.{Written, Keeper}
 use Rattle.exactly_once.specs.Sides.{ClientConnection}
 use Rattle.client_base.specs.Written.{plain, writing}
 use Rattle.client_base.specs.Handled.{not_subscribes, not_unsubscribes, lost, handled_online}
-use Rattle.client_base.specs.Handshakes.{at_puback, takes_in}
+use Rattle.client_base.specs.Handshakes.{own_at_puback, takes_in}
 use Rattle.client_base.specs.session_base.Identifiers.{without_id}
 use Rattle.exactly_once.specs.Story.{with_side}
 use Rattle.exactly_once.specs.Inside.Projections.{items_of_own, forward_of_own, backward_of_own, as_publisher, GoesTo}
@@ -79,7 +79,7 @@ pub handles_online : (limits : Limits) (past : Past) (keeper : Keeper) (κ : Cli
     → GoesTo (as_publisher limits (story_by past (κ ∷ others) keeper)) (as_publisher limits (with_side (story_by past (κ ∷ others) keeper) others (handled_online packet (counted_side keeper κ))))
 handles_online limits past keeper κ others (packets.Publish p) c good = takes_publish limits past keeper κ others (packets.Publish p) p.delivery (publication_of p) c (λ rest. refl)
 handles_online limits past keeper κ others (packets.Puback i) c good =
-    quiet limits past keeper (record keeper { own = map (at_puback i) keeper.own }) κ others κ.written [] κ.accepted (packets.Puback i) c refl refl (sym (append-nil κ.written))
+    quiet limits past keeper (record keeper { own = map (own_at_puback i) keeper.own }) κ others κ.written [] κ.accepted (packets.Puback i) c refl refl (sym (append-nil κ.written))
     (sym (items_acknowledged i keeper.own)) refl (λ rest. refl)
 handles_online limits past keeper κ others (packets.Pubrec i) c good = hears_pubrec limits past keeper κ others i c.shape c.on c.confirmed c.next good
 handles_online limits past keeper κ others (packets.Pubcomp i) c good = hears_pubcomp limits past keeper κ others i c.shape c.on c.confirmed c.next

@@ -8,7 +8,7 @@ use Rattle.client_base.specs.session_base.Publication.{is_acknowledged}
 use Rattle.exactly_once.specs.Items.{SenderItem, item_released, finishing, has_sent}
 use Rattle.client_base.proofs.of_lists.Tests.{or_right}
 use Rattle.client_base.specs.Keeper.{Own}
-use Rattle.client_base.specs.Handshakes.{at_puback, at_pubrec, at_pubcomp, is_sent_with}
+use Rattle.client_base.specs.Handshakes.{own_at_puback, own_at_pubrec, own_at_pubcomp, is_sent_with}
 use Rattle.exactly_once.specs.Carried.{is_two}
 use Rattle.exactly_once.specs.Inside.Projections.{items_of_own, own_item}
 
@@ -26,14 +26,14 @@ own_map g p x y es fs e f = by (is_two p.qos)
     by false = f
 
 -- a PUBREC releases
-pub items_released : (i : ℕ) (own : List Own) → items_of_own (map (at_pubrec i) own) ≡ map (item_released i) (items_of_own own)
+pub items_released : (i : ℕ) (own : List Own) → items_of_own (map (own_at_pubrec i) own) ≡ map (item_released i) (items_of_own own)
 items_released i [] = refl
-items_released i (Own.Unsent k p id ∷ own) = own_map (item_released i) p (SenderItem.Waits k) (SenderItem.Waits k) (items_of_own own) (items_of_own (map (at_pubrec i) own)) refl (items_released i own)
+items_released i (Own.Unsent k p id ∷ own) = own_map (item_released i) p (SenderItem.Waits k) (SenderItem.Waits k) (items_of_own own) (items_of_own (map (own_at_pubrec i) own)) refl (items_released i own)
 items_released i (Own.Sent k p id ∷ own) = by (cases_Bool (i == id)) (is_acknowledged p.qos) (cases_Bool (is_two p.qos)) (two_unacknowledged p.qos) (items_released i own)
   where
     by : ((i == id) ≡ true) ⊎ ((i == id) ≡ false) → (a : Bool) → (is_two p.qos ≡ true) ⊎ (is_two p.qos ≡ false) → (is_two p.qos ≡ true → a ≡ false)
-        → items_of_own (map (at_pubrec i) own) ≡ map (item_released i) (items_of_own own)
-        → items_of_own ((if (i == id) && not a then Own.Released k p id else Own.Sent k p id) ∷ map (at_pubrec i) own) ≡ map (item_released i) (own_item p (SenderItem.Sent k id) (items_of_own own))
+        → items_of_own (map (own_at_pubrec i) own) ≡ map (item_released i) (items_of_own own)
+        → items_of_own ((if (i == id) && not a then Own.Released k p id else Own.Sent k p id) ∷ map (own_at_pubrec i) own) ≡ map (item_released i) (own_item p (SenderItem.Sent k id) (items_of_own own))
     by (inl b) true (inl t) n ih = absurd (both_ways true (n t) refl)
     by (inl b) false (inl t) n ih = rw (b, t) (rw b (ap (λ l. SenderItem.Released k id ∷ l) ih))
     by (inl b) true (inr t) n ih = rw (b, t) ih
@@ -41,40 +41,40 @@ items_released i (Own.Sent k p id ∷ own) = by (cases_Bool (i == id)) (is_ackno
     by (inr b) a (inl t) n ih = rw (b, t) (rw b (ap (λ l. SenderItem.Sent k id ∷ l) ih))
     by (inr b) a (inr t) n ih = rw (b, t) ih
 items_released i (Own.Released k p id ∷ own) =
-    own_map (item_released i) p (SenderItem.Released k id) (SenderItem.Released k id) (items_of_own own) (items_of_own (map (at_pubrec i) own)) refl (items_released i own)
-items_released i (Own.Done k p ∷ own) = own_map (item_released i) p (SenderItem.Finished k) (SenderItem.Finished k) (items_of_own own) (items_of_own (map (at_pubrec i) own)) refl (items_released i own)
+    own_map (item_released i) p (SenderItem.Released k id) (SenderItem.Released k id) (items_of_own own) (items_of_own (map (own_at_pubrec i) own)) refl (items_released i own)
+items_released i (Own.Done k p ∷ own) = own_map (item_released i) p (SenderItem.Finished k) (SenderItem.Finished k) (items_of_own own) (items_of_own (map (own_at_pubrec i) own)) refl (items_released i own)
 
 -- a PUBCOMP finishes
-pub items_finished : (i : ℕ) (own : List Own) → items_of_own (map (at_pubcomp i) own) ≡ map (finishing i) (items_of_own own)
+pub items_finished : (i : ℕ) (own : List Own) → items_of_own (map (own_at_pubcomp i) own) ≡ map (finishing i) (items_of_own own)
 items_finished i [] = refl
-items_finished i (Own.Unsent k p id ∷ own) = own_map (finishing i) p (SenderItem.Waits k) (SenderItem.Waits k) (items_of_own own) (items_of_own (map (at_pubcomp i) own)) refl (items_finished i own)
-items_finished i (Own.Sent k p id ∷ own) = own_map (finishing i) p (SenderItem.Sent k id) (SenderItem.Sent k id) (items_of_own own) (items_of_own (map (at_pubcomp i) own)) refl (items_finished i own)
+items_finished i (Own.Unsent k p id ∷ own) = own_map (finishing i) p (SenderItem.Waits k) (SenderItem.Waits k) (items_of_own own) (items_of_own (map (own_at_pubcomp i) own)) refl (items_finished i own)
+items_finished i (Own.Sent k p id ∷ own) = own_map (finishing i) p (SenderItem.Sent k id) (SenderItem.Sent k id) (items_of_own own) (items_of_own (map (own_at_pubcomp i) own)) refl (items_finished i own)
 items_finished i (Own.Released k p id ∷ own) = by (cases_Bool (i == id)) (items_finished i own)
   where
-    by : ((i == id) ≡ true) ⊎ ((i == id) ≡ false) → items_of_own (map (at_pubcomp i) own) ≡ map (finishing i) (items_of_own own)
-        → items_of_own (at_pubcomp i (Own.Released k p id) ∷ map (at_pubcomp i) own) ≡ map (finishing i) (own_item p (SenderItem.Released k id) (items_of_own own))
-    by (inl b) ih = rw b (own_map (finishing i) p (SenderItem.Released k id) (SenderItem.Finished k) (items_of_own own) (items_of_own (map (at_pubcomp i) own)) (rw b refl) ih)
-    by (inr b) ih = rw b (own_map (finishing i) p (SenderItem.Released k id) (SenderItem.Released k id) (items_of_own own) (items_of_own (map (at_pubcomp i) own)) (rw b refl) ih)
-items_finished i (Own.Done k p ∷ own) = own_map (finishing i) p (SenderItem.Finished k) (SenderItem.Finished k) (items_of_own own) (items_of_own (map (at_pubcomp i) own)) refl (items_finished i own)
+    by : ((i == id) ≡ true) ⊎ ((i == id) ≡ false) → items_of_own (map (own_at_pubcomp i) own) ≡ map (finishing i) (items_of_own own)
+        → items_of_own (own_at_pubcomp i (Own.Released k p id) ∷ map (own_at_pubcomp i) own) ≡ map (finishing i) (own_item p (SenderItem.Released k id) (items_of_own own))
+    by (inl b) ih = rw b (own_map (finishing i) p (SenderItem.Released k id) (SenderItem.Finished k) (items_of_own own) (items_of_own (map (own_at_pubcomp i) own)) (rw b refl) ih)
+    by (inr b) ih = rw b (own_map (finishing i) p (SenderItem.Released k id) (SenderItem.Released k id) (items_of_own own) (items_of_own (map (own_at_pubcomp i) own)) (rw b refl) ih)
+items_finished i (Own.Done k p ∷ own) = own_map (finishing i) p (SenderItem.Finished k) (SenderItem.Finished k) (items_of_own own) (items_of_own (map (own_at_pubcomp i) own)) refl (items_finished i own)
 
 -- ---- PUBACK is of no item
 
 own_same : (p : Publication) (x : SenderItem ℕ) (es fs : List (SenderItem ℕ)) → fs ≡ es → own_item p x fs ≡ own_item p x es
 own_same p x es fs e = ap (own_item p x) e
 
-pub items_acknowledged : (i : ℕ) (own : List Own) → items_of_own (map (at_puback i) own) ≡ items_of_own own
+pub items_acknowledged : (i : ℕ) (own : List Own) → items_of_own (map (own_at_puback i) own) ≡ items_of_own own
 items_acknowledged i [] = refl
-items_acknowledged i (Own.Unsent k p id ∷ own) = own_same p (SenderItem.Waits k) (items_of_own own) (items_of_own (map (at_puback i) own)) (items_acknowledged i own)
+items_acknowledged i (Own.Unsent k p id ∷ own) = own_same p (SenderItem.Waits k) (items_of_own own) (items_of_own (map (own_at_puback i) own)) (items_acknowledged i own)
 items_acknowledged i (Own.Sent k p id ∷ own) = by (i == id) (is_acknowledged p.qos) (cases_Bool (is_two p.qos)) (two_unacknowledged p.qos) (items_acknowledged i own)
   where
-    by : (b a : Bool) → (is_two p.qos ≡ true) ⊎ (is_two p.qos ≡ false) → (is_two p.qos ≡ true → a ≡ false) → items_of_own (map (at_puback i) own) ≡ items_of_own own
-        → items_of_own ((if b && a then Own.Done k p else Own.Sent k p id) ∷ map (at_puback i) own) ≡ own_item p (SenderItem.Sent k id) (items_of_own own)
+    by : (b a : Bool) → (is_two p.qos ≡ true) ⊎ (is_two p.qos ≡ false) → (is_two p.qos ≡ true → a ≡ false) → items_of_own (map (own_at_puback i) own) ≡ items_of_own own
+        → items_of_own ((if b && a then Own.Done k p else Own.Sent k p id) ∷ map (own_at_puback i) own) ≡ own_item p (SenderItem.Sent k id) (items_of_own own)
     by true true (inl t) n ih = absurd (both_ways true (n t) refl)
     by true true (inr t) n ih = rw t ih
-    by true false t n ih = own_same p (SenderItem.Sent k id) (items_of_own own) (items_of_own (map (at_puback i) own)) ih
-    by false a t n ih = own_same p (SenderItem.Sent k id) (items_of_own own) (items_of_own (map (at_puback i) own)) ih
-items_acknowledged i (Own.Released k p id ∷ own) = own_same p (SenderItem.Released k id) (items_of_own own) (items_of_own (map (at_puback i) own)) (items_acknowledged i own)
-items_acknowledged i (Own.Done k p ∷ own) = own_same p (SenderItem.Finished k) (items_of_own own) (items_of_own (map (at_puback i) own)) (items_acknowledged i own)
+    by true false t n ih = own_same p (SenderItem.Sent k id) (items_of_own own) (items_of_own (map (own_at_puback i) own)) ih
+    by false a t n ih = own_same p (SenderItem.Sent k id) (items_of_own own) (items_of_own (map (own_at_puback i) own)) ih
+items_acknowledged i (Own.Released k p id ∷ own) = own_same p (SenderItem.Released k id) (items_of_own own) (items_of_own (map (own_at_puback i) own)) (items_acknowledged i own)
+items_acknowledged i (Own.Done k p ∷ own) = own_same p (SenderItem.Finished k) (items_of_own own) (items_of_own (map (own_at_puback i) own)) (items_acknowledged i own)
 
 -- ---- a sent item is a sent publication
 

@@ -5,7 +5,7 @@ use Rattle.client_base.specs.session_base.declared.publication.Publication.{Publ
 use Rattle.exactly_once.specs.Items.{SenderItem, sent}
 use Rattle.exactly_once.specs.Handshake.{Forward, publishing, sender_resends}
 use Rattle.client_base.specs.Keeper.{Own, Keeper}
-use Rattle.client_base.specs.Written.{plain, sent_again, sent_first, resent}
+use Rattle.client_base.specs.Written.{plain, written_again, written_first, resent_written}
 use Rattle.exactly_once.specs.Carried.{is_two}
 use Rattle.exactly_once.specs.Inside.Projections.{items_of_own, own_item, forward_of_own}
 use Rattle.exactly_once.proofs.Hears.{forward_append}
@@ -25,21 +25,21 @@ not_again p item items e = by (is_two p.qos)
     by false = refl
 
 -- PUBLISHes with DUP 1
-publishes_again : (own : List Own) → forward_of_own (sent_again own) ≡ map publishing (sent (items_of_own own))
+publishes_again : (own : List Own) → forward_of_own (written_again own) ≡ map publishing (sent (items_of_own own))
 publishes_again [] = refl
 publishes_again (Own.Unsent k p id ∷ own) = publishes_again own ∙ ap (map publishing) (not_again p (SenderItem.Waits k) (items_of_own own) refl)
-publishes_again (Own.Sent k p id ∷ own) = forward_publishes true k id p (sent_again own) ∙ by (is_two p.qos) (publishes_again own)
+publishes_again (Own.Sent k p id ∷ own) = forward_publishes true k id p (written_again own) ∙ by (is_two p.qos) (publishes_again own)
   where
-    by : (b : Bool) → forward_of_own (sent_again own) ≡ map publishing (sent (items_of_own own))
-        → (if b then Forward.Publish id k ∷ forward_of_own (sent_again own) else forward_of_own (sent_again own)) ≡ map publishing (sent (if b then SenderItem.Sent k id ∷ items_of_own own else items_of_own own))
+    by : (b : Bool) → forward_of_own (written_again own) ≡ map publishing (sent (items_of_own own))
+        → (if b then Forward.Publish id k ∷ forward_of_own (written_again own) else forward_of_own (written_again own)) ≡ map publishing (sent (if b then SenderItem.Sent k id ∷ items_of_own own else items_of_own own))
     by true ih = ap (λ l. Forward.Publish id k ∷ l) ih
     by false ih = ih
 publishes_again (Own.Released k p id ∷ own) = publishes_again own ∙ ap (map publishing) (not_again p (SenderItem.Released k id) (items_of_own own) refl)
 publishes_again (Own.Done k p ∷ own) = publishes_again own ∙ ap (map publishing) (not_again p (SenderItem.Finished k) (items_of_own own) refl)
 
-pub forward_resent : (keeper : Keeper) → forward_of_own (resent keeper) ≡ sender_resends keeper.releases (items_of_own keeper.own) ++ forward_of_own (sent_first keeper.own)
+pub forward_resent : (keeper : Keeper) → forward_of_own (resent_written keeper) ≡ sender_resends keeper.releases (items_of_own keeper.own) ++ forward_of_own (written_first keeper.own)
 forward_resent keeper =
     let rels = map (λ id. plain (packets.Pubrel id)) keeper.releases in
-    forward_append (rels ++ sent_again keeper.own) (sent_first keeper.own)
-    ∙ ap (λ l. l ++ forward_of_own (sent_first keeper.own))
-    (forward_append rels (sent_again keeper.own) ∙ ap₂ (λ g h. g ++ h) (releases_again keeper.releases) (publishes_again keeper.own))
+    forward_append (rels ++ written_again keeper.own) (written_first keeper.own)
+    ∙ ap (λ l. l ++ forward_of_own (written_first keeper.own))
+    (forward_append rels (written_again keeper.own) ∙ ap₂ (λ g h. g ++ h) (releases_again keeper.releases) (publishes_again keeper.own))

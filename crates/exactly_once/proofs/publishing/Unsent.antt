@@ -8,7 +8,7 @@ use Rattle.client_base.proofs.of_lists.Identifiers.{has_join, other_id}
 use Rattle.client_base.proofs.of_lists.Tests.{or_none, or_left, or_right, none_or, eq_turn, eq_same}
 use Rattle.exactly_once.proofs.BusyIdentifiers.{busy_append}
 use Rattle.client_base.specs.Keeper.{Own, ids_of_own}
-use Rattle.client_base.specs.Written.{sent_all, sent_first}
+use Rattle.client_base.specs.Written.{sent_all, written_first}
 use Rattle.exactly_once.specs.Carried.{is_two}
 use Rattle.exactly_once.specs.Inside.Projections.{items_of_own, forward_of_own}
 use Rattle.exactly_once.proofs.publishing.Links.{link_by, Reaches, reaches_itself, reaches_then}
@@ -66,42 +66,42 @@ not_busy i (Own.Done k p ∷ own) h = let free = not_busy i own h in item_free (
 -- all start, in order
 pub starts_unsent : (own : List Own) (pre : List (SenderItem ℕ)) (k : Handshake ℕ) (cur : Bool) (f : List (Forward ℕ)) (b : List Backward) → k.items ≡ pre ++ items_of_own own → NoneWaits pre
     → IsApart (ids_of_own own) pre → IsDistinct (ids_of_own own) → k.transit ≡ link_by cur true f b
-    → Reaches k (pre ++ items_of_own (sent_all own)) (link_by cur true (f ++ forward_of_own (sent_first own)) b)
+    → Reaches k (pre ++ items_of_own (sent_all own)) (link_by cur true (f ++ forward_of_own (written_first own)) b)
 starts_unsent [] pre k cur f b e n a d l =
     subst (λ (items : List (SenderItem ℕ)). Reaches k items (link_by cur true (f ++ []) b)) e
     (reaches_itself k (link_by cur true (f ++ []) b) (l ∙ ap (λ g. link_by cur true g b) (sym (append-nil f))))
 starts_unsent (Own.Sent v p id ∷ own) pre k cur f b e n a d l =
     let two = is_two p.qos in
     let item = SenderItem.Sent v id in
-    past_item two item pre (items_of_own own) (items_of_own (sent_all own)) k (link_by cur true (f ++ forward_of_own (sent_first own)) b) e
+    past_item two item pre (items_of_own own) (items_of_own (sent_all own)) k (link_by cur true (f ++ forward_of_own (written_first own)) b) e
     (λ e'. starts_unsent own (fronted two item pre) k cur f b e' (none_fronted two item pre tt n) (apart_fronted two item pre id (ids_of_own own) refl d.0 a) d.1 l)
 starts_unsent (Own.Released v p id ∷ own) pre k cur f b e n a d l =
     let two = is_two p.qos in
     let item = SenderItem.Released v id in
-    past_item two item pre (items_of_own own) (items_of_own (sent_all own)) k (link_by cur true (f ++ forward_of_own (sent_first own)) b) e
+    past_item two item pre (items_of_own own) (items_of_own (sent_all own)) k (link_by cur true (f ++ forward_of_own (written_first own)) b) e
     (λ e'. starts_unsent own (fronted two item pre) k cur f b e' (none_fronted two item pre tt n) (apart_fronted two item pre id (ids_of_own own) refl d.0 a) d.1 l)
 starts_unsent (Own.Done v p ∷ own) pre k cur f b e n a d l =
     let two = is_two p.qos in
     let item = SenderItem.Finished v in
-    past_item two item pre (items_of_own own) (items_of_own (sent_all own)) k (link_by cur true (f ++ forward_of_own (sent_first own)) b) e
+    past_item two item pre (items_of_own own) (items_of_own (sent_all own)) k (link_by cur true (f ++ forward_of_own (written_first own)) b) e
     (λ e'. starts_unsent own (fronted two item pre) k cur f b e' (none_fronted two item pre tt n) (apart_over two item pre (ids_of_own own) refl a) d l)
 starts_unsent (Own.Unsent v p id ∷ own) pre k cur f b e n a d l =
-    subst (λ (g : List (Forward ℕ)). Reaches k (pre ++ items_of_own (sent_all (Own.Unsent v p id ∷ own))) (link_by cur true (f ++ g) b)) (sym (forward_publishes false v id p (sent_first own)))
+    subst (λ (g : List (Forward ℕ)). Reaches k (pre ++ items_of_own (sent_all (Own.Unsent v p id ∷ own))) (link_by cur true (f ++ g) b)) (sym (forward_publishes false v id p (written_first own)))
     (by (is_two p.qos) e
     (λ e' m. starts_unsent own pre k cur f b e' n (λ i h. a i (or_right (i == id) (has_id i (ids_of_own own)) h)) d.1 l)
     (λ j e' l'. starts_unsent own (pre ++ SenderItem.Sent v id ∷ []) j cur (f ++ Forward.Publish id v ∷ []) b e' (none_fronted true (SenderItem.Sent v id) pre tt n)
     (apart_fronted true (SenderItem.Sent v id) pre id (ids_of_own own) refl d.0 a) d.1 l'))
   where
     by : (two : Bool) → k.items ≡ pre ++ (if two then SenderItem.Waits v ∷ items_of_own own else items_of_own own)
-        → (k.items ≡ pre ++ items_of_own own → Unit {0} → Reaches k (pre ++ items_of_own (sent_all own)) (link_by cur true (f ++ forward_of_own (sent_first own)) b))
+        → (k.items ≡ pre ++ items_of_own own → Unit {0} → Reaches k (pre ++ items_of_own (sent_all own)) (link_by cur true (f ++ forward_of_own (written_first own)) b))
         → ((j : Handshake ℕ) → j.items ≡ (pre ++ SenderItem.Sent v id ∷ []) ++ items_of_own own → j.transit ≡ link_by cur true (f ++ Forward.Publish id v ∷ []) b
-        → Reaches j ((pre ++ SenderItem.Sent v id ∷ []) ++ items_of_own (sent_all own)) (link_by cur true ((f ++ Forward.Publish id v ∷ []) ++ forward_of_own (sent_first own)) b))
+        → Reaches j ((pre ++ SenderItem.Sent v id ∷ []) ++ items_of_own (sent_all own)) (link_by cur true ((f ++ Forward.Publish id v ∷ []) ++ forward_of_own (written_first own)) b))
         → Reaches k (pre ++ (if two then SenderItem.Sent v id ∷ items_of_own (sent_all own) else items_of_own (sent_all own)))
-        (link_by cur true (f ++ (if two then Forward.Publish id v ∷ forward_of_own (sent_first own) else forward_of_own (sent_first own))) b)
+        (link_by cur true (f ++ (if two then Forward.Publish id v ∷ forward_of_own (written_first own) else forward_of_own (written_first own))) b)
     by false e' g h = g e' tt
     by true e' g h =
-        let goal = link_by cur true ((f ++ Forward.Publish id v ∷ []) ++ forward_of_own (sent_first own)) b in
+        let goal = link_by cur true ((f ++ Forward.Publish id v ∷ []) ++ forward_of_own (written_first own)) b in
         let one = starts_one k pre (items_of_own own) v id cur f b e' n (a id (or_left (id == id) (has_id id (ids_of_own own)) (eq_same id))) (not_busy id own d.0) l in
         let all = reaches_then k ((pre ++ SenderItem.Sent v id ∷ []) ++ items_of_own own) ((pre ++ SenderItem.Sent v id ∷ []) ++ items_of_own (sent_all own)) (link_by cur true (f ++ Forward.Publish id v ∷ []) b) goal one h in
-        subst (λ (g' : List (Forward ℕ)). Reaches k (pre ++ SenderItem.Sent v id ∷ items_of_own (sent_all own)) (link_by cur true g' b)) (append_assoc f (Forward.Publish id v ∷ []) (forward_of_own (sent_first own)))
+        subst (λ (g' : List (Forward ℕ)). Reaches k (pre ++ SenderItem.Sent v id ∷ items_of_own (sent_all own)) (link_by cur true g' b)) (append_assoc f (Forward.Publish id v ∷ []) (forward_of_own (written_first own)))
         (subst (λ (items : List (SenderItem ℕ)). Reaches k items goal) (append_assoc pre (SenderItem.Sent v id ∷ []) (items_of_own (sent_all own))) all)

@@ -16,7 +16,7 @@ use Rattle.broker_base.specs.broker_spec.Times.{entries_of}
 use Rattle.broker_base.specs.broker_spec.declared.command.Command.{Command}
 use Rattle.broker_base.specs.broker_spec.declared.command.Command.TheVariants as commands
 use Rattle.client_base.specs.Keeper.{Keeper, ids_in_use}
-use Rattle.client_base.specs.Connected.{opens}
+use Rattle.client_base.specs.Connected.{opening_connect}
 use Rattle.exactly_once.specs.Sides.{ClientConnection}
 use Rattle.exactly_once.specs.Sends.{sends_to, put_to}
 use Rattle.exactly_once.specs.StoryCommands.{command_of}
@@ -78,9 +78,9 @@ begins_awaiting limits list c keeper κ others none before mark apart fresh name
     let past = past_of limits list in
     let u : IsUntouched limits past c κ = fresh.0 new in
     let told = told_so limits past c κ.name none u.unsent in
-    let next : slice_get κ.written κ.taken ≡ Some (opens c) = ap (λ (z : ClientConnection). slice_get z.written z.taken) u.is in
-    let command : command_of κ.name κ.taken (opens c).packet ≡ commands.Connect κ.name c false = ap (λ n. command_of κ.name n (opens c).packet) new in
-    let place : place_of limits past (command_of κ.name κ.taken (opens c).packet) ≡ accepted_at κ.name c =
+    let next : slice_get κ.written κ.taken ≡ Some (opening_connect c) = ap (λ (z : ClientConnection). slice_get z.written z.taken) u.is in
+    let command : command_of κ.name κ.taken (opening_connect c).packet ≡ commands.Connect κ.name c false = ap (λ n. command_of κ.name n (opening_connect c).packet) new in
+    let place : place_of limits past (command_of κ.name κ.taken (opening_connect c).packet) ≡ accepted_at κ.name c =
     ap (place_of limits past) command ∙ ap (λ m. let p : Place = record { command = commands.Connect κ.name c false; mark = m } in p) mark in
     record {
       newest = record κ { taken = suc κ.taken };
@@ -99,6 +99,6 @@ begins_awaiting limits list c keeper κ others none before mark apart fresh name
         head = tt;
         gone = all_gone others;
         told = λ earlier numbers. subst (λ (p : Place). StoryTrace limits c (with_connections (p ∷ past) (waiting c earlier [] keeper.is_open) (record κ { taken = suc κ.taken } ∷ kept_of (flags_of others) others))) place
-            (goes_on (opens_again limits list c earlier [] κ others keeper.is_open none numbers tt apart fresh names new) (takes 0 κ (opens c) refl next));
+            (goes_on (opens_again limits list c earlier [] κ others keeper.is_open none numbers tt apart fresh names new) (takes 0 κ (opening_connect c) refl next));
       };
     }

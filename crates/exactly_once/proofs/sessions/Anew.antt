@@ -11,7 +11,7 @@ use Rattle.broker_base.specs.broker_spec.Commands.{past_of}
 use Rattle.broker_base.specs.broker_spec.declared.command.Command.{Command}
 use Rattle.client_base.specs.Keeper.{Own, Keeper, ids_in_use, all_own}
 use Rattle.client_base.specs.Connected.{new_connection}
-use Rattle.client_base.specs.Handled.{handled}
+use Rattle.client_base.specs.Handled.{packet_handled}
 use Rattle.exactly_once.specs.Sides.{ClientConnection, Side}
 use Rattle.exactly_once.specs.Sends.{put_to}
 use Rattle.exactly_once.specs.StoryCommands.{packet_count, any_named}
@@ -88,6 +88,6 @@ session_lost = packets.Connack (connacks.Accepted false)
 
 -- what the client kept makes no difference from then on
 pub settles : (keeper : Keeper) (κ : ClientConnection) → keeper.is_online ≡ false → keeper.was_served ≡ true → keeper.requests ≡ [] → keeper.is_open ≡ true
-    → handled session_lost (let side : Side = record { keeper = keeper; connection = κ } in side)
-    ≡ handled session_lost (let side : Side = record { keeper = waiting keeper.client (all_own keeper) [] true; connection = κ } in side)
+    → packet_handled session_lost (let side : Side = record { keeper = keeper; connection = κ } in side)
+    ≡ packet_handled session_lost (let side : Side = record { keeper = waiting keeper.client (all_own keeper) [] true; connection = κ } in side)
 settles keeper κ offline served unasked opened = rw (offline, served, unasked, opened) refl

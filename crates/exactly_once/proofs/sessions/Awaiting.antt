@@ -8,9 +8,9 @@ use Rattle.broker_base.specs.broker_spec.Connection.{ConnectionName}
 use Rattle.broker_base.specs.broker_spec.Place.{Client, Place, Past, Limits}
 use Rattle.broker_base.specs.broker_spec.AnswersInOrder.{answers_at}
 use Rattle.broker_base.specs.broker_spec.Commands.{place_of}
-use Rattle.client_base.specs.Keeper.{Written, Keeper, ids_in_use, next_number, Own, all_own}
-use Rattle.client_base.specs.Handled.{handled, lost}
-use Rattle.client_base.specs.Written.{plain, writes_first, publishes}
+use Rattle.client_base.specs.Keeper.{Written, Keeper, ids_in_use, next_own_number, Own, all_own}
+use Rattle.client_base.specs.Handled.{packet_handled, lost}
+use Rattle.client_base.specs.Written.{plain, writes_first, written_publish}
 use Rattle.exactly_once.specs.Sides.{ClientConnection, Side}
 use Rattle.exactly_once.specs.Sends.{sends_to, put_to}
 use Rattle.exactly_once.specs.Story.{Story, StoryStep, with_side}
@@ -63,7 +63,7 @@ first_more limits place past x more e = ap (λ xs. xs ++ sends_to x (answers_at 
 placed : (limits : Limits) (c : Client) (flags : List Bool) (past : Past) (keeper : Keeper) (κ κ' : ClientConnection) (others later : List ClientConnection) (place : Place) → (a : Awaits limits c flags past keeper κ others)
     → κ'.name ≡ κ.name → κ'.confirmed ≡ κ.confirmed → κ'.handled ≡ κ.handled → AreGone flags (κ' ∷ later)
     → ((earlier : List Own) → AreNumbered 0 earlier → StoryTrace limits c (with_connections (place ∷ past) (waiting c earlier [] keeper.is_open) (kept_of flags (κ' ∷ later)))) → Awaits limits c flags (place ∷ past) keeper κ' later
-placed limits c flags past keeper κ κ' others later place a name confirmed handled gone told =
+placed limits c flags past keeper κ κ' others later place a name confirmed packet_handled gone told =
     record {
       client = a.client;
       offline = a.offline;
@@ -71,7 +71,7 @@ placed limits c flags past keeper κ κ' others later place a name confirmed han
       unasked = a.unasked;
       again = began_stays place past c κ'.name (ap (began_again past c) name ∙ a.again);
       unconfirmed = confirmed ∙ a.unconfirmed;
-      unhandled = handled ∙ a.unhandled;
+      unhandled = packet_handled ∙ a.unhandled;
       more = a.more ++ sends_to κ'.name (answers_at limits place past);
       first = first_more limits place past κ'.name a.more (ap (put_to limits past) name ∙ a.first);
       head = a.head;
@@ -123,19 +123,19 @@ first_is limits past κ more packet first unhandled next =
 -- what a packet does to a new client, it does to the client
 heard_same : (limits : Limits) (c : Client) (flags : List Bool) (past : Past) (keeper : Keeper) (κ : ClientConnection) (others : List ClientConnection) (a : Awaits limits c flags past keeper κ others) (packet : Packet) → keeper.is_open ≡ true
     → slice_get (put_to limits past κ.name) κ.handled ≡ Some packet
-    → handled packet (let side : Side = record { keeper = waiting c (all_own keeper) [] true; connection = κ } in side) ≡ handled packet (let side : Side = record { keeper = keeper; connection = κ } in side)
+    → packet_handled packet (let side : Side = record { keeper = waiting c (all_own keeper) [] true; connection = κ } in side) ≡ packet_handled packet (let side : Side = record { keeper = keeper; connection = κ } in side)
 heard_same limits c flags past keeper κ others a packet opened next =
-    ap (λ p. handled p (let side : Side = record { keeper = waiting c (all_own keeper) [] true; connection = κ } in side)) (sym is)
-    ∙ ap (λ d. handled session_lost (let side : Side = record { keeper = waiting d (all_own keeper) [] true; connection = κ } in side)) (sym a.client)
+    ap (λ p. packet_handled p (let side : Side = record { keeper = waiting c (all_own keeper) [] true; connection = κ } in side)) (sym is)
+    ∙ ap (λ d. packet_handled session_lost (let side : Side = record { keeper = waiting d (all_own keeper) [] true; connection = κ } in side)) (sym a.client)
     ∙ sym (settles keeper κ a.offline a.served a.unasked opened)
-    ∙ ap (λ p. handled p (let side : Side = record { keeper = keeper; connection = κ } in side)) is
+    ∙ ap (λ p. packet_handled p (let side : Side = record { keeper = keeper; connection = κ } in side)) is
   where
     is : session_lost ≡ packet
     is = first_is limits past κ a.more packet a.first a.unhandled next
 
 settled : (limits : Limits) (c : Client) (flags : List Bool) (past : Past) (keeper : Keeper) (κ : ClientConnection) (others : List ClientConnection) (a : Awaits limits c flags past keeper κ others) (packet : Packet) → AreNumbered 0 (all_own keeper) → keeper.is_open ≡ true
     → slice_get (put_to limits past κ.name) κ.handled ≡ Some packet
-    → HasBeside limits c flags (with_side (with_connections past keeper (κ ∷ others)) others (handled packet (let side : Side = record { keeper = keeper; connection = κ } in side)))
+    → HasBeside limits c flags (with_side (with_connections past keeper (κ ∷ others)) others (packet_handled packet (let side : Side = record { keeper = keeper; connection = κ } in side)))
 settled limits c flags past keeper κ others a packet numbers opened next = subst P (heard_same limits c flags past keeper κ others a packet opened next) heard
   where
     P : Side → Type 0
@@ -144,7 +144,7 @@ settled limits c flags past keeper κ others a packet numbers opened next = subs
     now : StoryTrace limits c (with_connections past (waiting c (all_own keeper) [] true) (kept_of flags (κ ∷ others)))
     now = subst (λ (b : Bool). StoryTrace limits c (with_connections past (waiting c (all_own keeper) [] b) (kept_of flags (κ ∷ others)))) opened (a.told (all_own keeper) numbers)
 
-    heard : P (handled packet (let side : Side = record { keeper = waiting c (all_own keeper) [] true; connection = κ } in side))
+    heard : P (packet_handled packet (let side : Side = record { keeper = waiting c (all_own keeper) [] true; connection = κ } in side))
     heard = goes_received limits c (with_connections past (waiting c (all_own keeper) [] true) (κ ∷ others)) flags κ others packet a.head a.gone now refl refl next
 
 -- ---- the events
@@ -180,7 +180,7 @@ pub record IsSettled (limits : Limits) (c : Client) (flags : List Bool) (s t : S
   pub beside : HasBeside limits c flags t
   pub moved : t.keeper.earlier ≡ all_own s.keeper
 
-moves : (keeper : Keeper) (κ : ClientConnection) → keeper.is_online ≡ false → keeper.was_served ≡ true → (handled session_lost (let side : Side = record { keeper = keeper; connection = κ } in side)).keeper.earlier ≡ all_own keeper
+moves : (keeper : Keeper) (κ : ClientConnection) → keeper.is_online ≡ false → keeper.was_served ≡ true → (packet_handled session_lost (let side : Side = record { keeper = keeper; connection = κ } in side)).keeper.earlier ≡ all_own keeper
 moves keeper κ offline served = rw (offline, served) refl
 
 -- a client that awaits that CONNACK continues awaiting it, or takes it in; as long as it is in step
@@ -207,7 +207,7 @@ awaiting_goes limits c flags s t apart b (receives κ others packet are opened n
     let a = subst (λ (z : ClientConnection). Awaits limits c flags s.past s.keeper z others) one (subst (λ (l : List ClientConnection). Awaits limits c flags s.past s.keeper b.newest l) rest b.awaits) in
     inr (record {
       beside = settled limits c flags s.past s.keeper κ others a packet (joined_numbers s.keeper.earlier s.keeper.own numbers.0 numbers.1) opened next;
-      moved = ap (λ p. (handled p (let side : Side = record { keeper = s.keeper; connection = κ } in side)).keeper.earlier) (sym (first_is limits s.past κ a.more packet a.first a.unhandled next))
+      moved = ap (λ p. (packet_handled p (let side : Side = record { keeper = s.keeper; connection = κ } in side)).keeper.earlier) (sym (first_is limits s.past κ a.more packet a.first a.unhandled next))
           ∙ moves s.keeper κ a.offline a.served;
     })
 awaiting_goes limits c flags s t apart b (opens_anew x fresh none uncounted) numbers step =
@@ -231,7 +231,7 @@ awaiting_goes limits c flags s t apart b (publishes_one p needs) numbers step =
     inl (record {
       newest = b.newest;
       others = b.others;
-      are = ap (λ (o : Bool). writes_first (if o then publishes false (next_number s.keeper) (least_free (ids_in_use s.keeper)) p ∷ [] else []) s.connections) b.awaits.offline
+      are = ap (λ (o : Bool). writes_first (if o then written_publish false (next_own_number s.keeper) (least_free (ids_in_use s.keeper)) p ∷ [] else []) s.connections) b.awaits.offline
           ∙ ap (writes_first []) b.are ∙ written_none b.newest b.others;
       awaits = kept_awaiting limits c flags s.past s.keeper t.keeper b.newest b.others b.awaits refl b.awaits.offline refl b.awaits.unasked b.awaits.told;
     })

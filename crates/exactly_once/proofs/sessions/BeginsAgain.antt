@@ -15,7 +15,7 @@ use Rattle.broker_base.specs.broker_spec.declared.command.Command.{Command}
 use Rattle.broker_base.specs.broker_spec.declared.command.Command.TheVariants as commands
 use Rattle.broker_base.proofs.ConnectionsOfSessions.{same_turned}
 use Rattle.client_base.specs.Keeper.{Keeper}
-use Rattle.client_base.specs.Connected.{opens}
+use Rattle.client_base.specs.Connected.{opening_connect}
 use Rattle.exactly_once.specs.Sides.{ClientConnection}
 use Rattle.exactly_once.specs.Story.{Story}
 use Rattle.exactly_once.specs.StoryCommands.{any_named, command_of}
@@ -47,13 +47,13 @@ begins_unserved : (limits : Limits) (list : List Command) (c : Client) (keeper :
     → StoryTrace limits c (with_connections (accepted_at κ.name c ∷ past_of limits list) keeper (record κ { taken = suc κ.taken } ∷ kept_of (flags_of others) others))
 begins_unserved limits list c keeper κ others none mark fresh names new u =
     let past = past_of limits list in
-    let next : slice_get κ.written κ.taken ≡ Some (opens c) = ap (λ (z : ClientConnection). slice_get z.written z.taken) (fresh.0 new).is in
-    let command : command_of κ.name κ.taken (opens c).packet ≡ commands.Connect κ.name c false = ap (λ n. command_of κ.name n (opens c).packet) new in
-    let place : place_of limits past (command_of κ.name κ.taken (opens c).packet) ≡ accepted_at κ.name c =
+    let next : slice_get κ.written κ.taken ≡ Some (opening_connect c) = ap (λ (z : ClientConnection). slice_get z.written z.taken) (fresh.0 new).is in
+    let command : command_of κ.name κ.taken (opening_connect c).packet ≡ commands.Connect κ.name c false = ap (λ n. command_of κ.name n (opening_connect c).packet) new in
+    let place : place_of limits past (command_of κ.name κ.taken (opening_connect c).packet) ≡ accepted_at κ.name c =
     ap (place_of limits past) command ∙ ap (λ m. let p : Place = record { command = commands.Connect κ.name c false; mark = m } in p) mark in
     subst (λ (k : Keeper). StoryTrace limits c (with_connections (accepted_at κ.name c ∷ past) k (record κ { taken = suc κ.taken } ∷ kept_of (flags_of others) others))) (sym u.is)
     (subst (λ (p : Place). StoryTrace limits c (with_connections (p ∷ past) (waiting c [] keeper.own keeper.is_open) (record κ { taken = suc κ.taken } ∷ kept_of (flags_of others) others))) place
-    (goes_on (opens_again limits list c [] keeper.own κ others keeper.is_open none tt u.unsent u.apart fresh names new) (takes 0 κ (opens c) refl next)))
+    (goes_on (opens_again limits list c [] keeper.own κ others keeper.is_open none tt u.unsent u.apart fresh names new) (takes 0 κ (opening_connect c) refl next)))
 
 -- the client is offline, since the newest connection is not confirmed
 offline : (b : Bool) (κ : ClientConnection) (keeper : Keeper) → keeper.is_online ≡ b → κ.confirmed ≡ false → (keeper.is_open ≡ true → κ.confirmed ≡ keeper.is_online) → (keeper.is_online ≡ true → keeper.is_open ≡ true)

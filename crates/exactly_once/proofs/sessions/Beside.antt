@@ -19,7 +19,7 @@ use Rattle.exactly_once.specs.StoryTrace.{StoryTrace}
 use Rattle.exactly_once.specs.StoryTrace.StoryTrace.{goes_on}
 use Rattle.exactly_once.specs.Story.StoryStep.{takes, others_take, receives, opens_anew, loses, disconnects, publishes_one, subscribes, unsubscribes}
 use Rattle.exactly_once.specs.Inside.Shape.{NamesApart}
-use Rattle.client_base.specs.Handled.{handled, lost}
+use Rattle.client_base.specs.Handled.{packet_handled, lost}
 use Rattle.exactly_once.specs.Sends.{put_to}
 
 -- ---- connections that are left out
@@ -162,7 +162,7 @@ goes_written limits c past keeper flags more connections h = subst (λ (l : List
 -- a packet is handled on the newest one
 pub goes_received : (limits : Limits) (c : Client) (s : Story) (flags : List Bool) (κ : ClientConnection) (others : List ClientConnection) (packet : Packet) → IsHeadKept flags → AreGone flags s.connections
     → StoryTrace limits c (beside flags s) → s.connections ≡ κ ∷ others → s.keeper.is_open ≡ true → slice_get (put_to limits s.past κ.name) κ.handled ≡ Some packet
-    → HasBeside limits c flags (with_side s others (handled packet (record { keeper = s.keeper; connection = κ })))
+    → HasBeside limits c flags (with_side s others (packet_handled packet (record { keeper = s.keeper; connection = κ })))
 goes_received limits c s [] κ others packet h gone told are opened next = record { head = tt; gone = tt; told = goes_on told (receives κ others packet are opened next) }
 goes_received limits c s (true ∷ flags) κ others packet h gone told are opened next =
     record {

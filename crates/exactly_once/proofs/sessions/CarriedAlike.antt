@@ -21,7 +21,7 @@ use Rattle.client_base.specs.Keeper.{Written}
 use Rattle.client_base.specs.Called.{written_for}
 use Rattle.client_base.specs.Connected.{new_connection}
 use Rattle.client_base.specs.Written.{plain, writes_first}
-use Rattle.client_base.specs.Handled.{handled}
+use Rattle.client_base.specs.Handled.{packet_handled}
 use Rattle.exactly_once.specs.Sides.{ClientConnection}
 use Rattle.exactly_once.specs.Story.{Story, StoryStep}
 use Rattle.exactly_once.specs.StoryCommands.{any_named, with_one_counted, packet_count}
@@ -133,7 +133,7 @@ kept_numbers limits flags s t head gone apart within (takes i κ w stands next) 
 kept_numbers limits flags s t head gone apart within (others_take command other none) = same_itself s.past (kept_of flags s.connections)
 kept_numbers limits flags s t head gone apart within (receives κ others packet are opened next) =
     let mine = subst (AreWithin s.past) are within in
-    let after = (handled packet (record { keeper = s.keeper; connection = κ })).connection in
+    let after = (packet_handled packet (record { keeper = s.keeper; connection = κ })).connection in
     let grown = handled_grows κ s.keeper packet in
     subst (λ (cs : List ClientConnection). SameNumbers (kept_of flags cs) (kept_of flags (after ∷ others)) s.past) (sym are) (kept_handled s.past flags κ after others grown.more head grown.name grown.written mine.0)
 kept_numbers limits flags s t head gone apart within (opens_anew x fresh none uncounted) = same_opened s.past (new_connection s.keeper.client x) (kept_of flags s.connections) uncounted

@@ -13,7 +13,7 @@ use Rattle.broker_base.specs.broker_spec.Commands.{place_of}
 use Rattle.broker_base.specs.broker_spec.declared.command.Command.{Command}
 use Rattle.broker_base.specs.broker_spec.declared.command.Command.TheVariants as commands
 use Rattle.client_base.specs.Keeper.{Written}
-use Rattle.client_base.specs.Connected.{opens}
+use Rattle.client_base.specs.Connected.{opening_connect}
 use Rattle.exactly_once.specs.Sides.{ClientConnection}
 use Rattle.exactly_once.specs.StoryCommands.{any_named, with_one_counted, command_of, packet_count, is_packet_of}
 use Rattle.broker_base.proofs.of_broker_spec.ConnectionNames.{same_itself}
@@ -63,8 +63,8 @@ own_command limits past c κ w untouched next = by κ.taken refl
     by : (n : ℕ) → κ.taken ≡ n → IsOwnCommand c κ w.packet (command_of κ.name κ.taken w.packet)
     by zero e =
         let u = untouched e in
-        let first : Some (opens c) ≡ Some w = sym (ap (λ (z : ClientConnection). slice_get z.written z.taken) u.is) ∙ next in
-        let same : opens c ≡ w = cc in
+        let first : Some (opening_connect c) ≡ Some w = sym (ap (λ (z : ClientConnection). slice_get z.written z.taken) u.is) ∙ next in
+        let same : opening_connect c ≡ w = cc in
         inl (e, ap (λ n. command_of κ.name n w.packet) e ∙ ap (λ (v : Written). command_of κ.name 0 v.packet) (sym same))
     by (suc n) e = inr (omega (arith, e), ap (λ m. command_of κ.name m w.packet) e)
 

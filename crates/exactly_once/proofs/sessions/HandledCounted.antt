@@ -9,8 +9,8 @@ use Rattle.client_base.specs.session_base.declared.publication.Publication.{Publ
 use Rattle.client_base.specs.session_base.Publication.{publication_of}
 use Rattle.client_base.specs.lists.Lists.{has_id}
 use Rattle.client_base.specs.Written.{plain, writing}
-use Rattle.client_base.specs.Handled.{handled, handled_online, handled_first}
-use Rattle.client_base.specs.Handshakes.{at_pubrec, is_sent_with, takes_in, releasing}
+use Rattle.client_base.specs.Handled.{packet_handled, handled_online, handled_first}
+use Rattle.client_base.specs.Handshakes.{own_at_pubrec, is_sent_with, takes_in, pubrec_answered}
 use Rattle.exactly_once.specs.Sides.{Side}
 use Rattle.exactly_once.proofs.subscribing.Given.{one_handled}
 
@@ -34,12 +34,12 @@ taking_counted n (deliveries.ExactlyOnce dup id) p side = by (has_id id side.kee
     by true = refl
     by false = refl
 
-releasing_counted : (n i : ℕ) (side : Side) → releasing i (counting n side) ≡ counting n (releasing i side)
+releasing_counted : (n i : ℕ) (side : Side) → pubrec_answered i (counting n side) ≡ counting n (pubrec_answered i side)
 releasing_counted n i side = by (is_sent_with i side.keeper.own) (has_id i side.keeper.releases)
   where
-    by : (b r : Bool) → (if b then writing (plain (packets.Pubrel i) ∷ []) (record (counting n side) { keeper = record side.keeper { own = map (at_pubrec i) side.keeper.own; releases = side.keeper.releases ++ i ∷ [] } })
+    by : (b r : Bool) → (if b then writing (plain (packets.Pubrel i) ∷ []) (record (counting n side) { keeper = record side.keeper { own = map (own_at_pubrec i) side.keeper.own; releases = side.keeper.releases ++ i ∷ [] } })
         else if r then writing (plain (packets.Pubrel i) ∷ []) (counting n side) else counting n side)
-        ≡ counting n (if b then writing (plain (packets.Pubrel i) ∷ []) (record side { keeper = record side.keeper { own = map (at_pubrec i) side.keeper.own; releases = side.keeper.releases ++ i ∷ [] } })
+        ≡ counting n (if b then writing (plain (packets.Pubrel i) ∷ []) (record side { keeper = record side.keeper { own = map (own_at_pubrec i) side.keeper.own; releases = side.keeper.releases ++ i ∷ [] } })
         else if r then writing (plain (packets.Pubrel i) ∷ []) side else side)
     by true r = refl
     by false true = refl
@@ -55,7 +55,7 @@ first_counted n (packets.Connack (connacks.Accepted present)) side = refl
 first_counted n (packets.Connack (connacks.Refused code)) side = refl
 first_counted n _ side = refl
 
-pub handled_counted : (n : ℕ) (packet : Packet) (side : Side) → handled packet (counting n side) ≡ counting n (handled packet side)
+pub handled_counted : (n : ℕ) (packet : Packet) (side : Side) → packet_handled packet (counting n side) ≡ counting n (packet_handled packet side)
 handled_counted n packet side = by side.keeper.is_online
   where
     by : (b : Bool) → (if b then handled_online packet (one_handled (counting n side)) else handled_first packet (one_handled (counting n side)))

@@ -11,7 +11,7 @@ use Rattle.client_base.specs.lists.Lists.{IsDistinct}
 use Rattle.broker_base.specs.broker_spec.Place.{Client}
 use Rattle.client_base.specs.Keeper.{Own, Keeper, ids_in_use}
 use Rattle.client_base.specs.Called.{adds_own}
-use Rattle.client_base.specs.Handled.{handled, handled_online, handled_first, lost}
+use Rattle.client_base.specs.Handled.{packet_handled, handled_online, handled_first, lost}
 use Rattle.exactly_once.specs.Sides.{Side}
 use Rattle.exactly_once.specs.StoryTrace.{AreUnsent, unserved}
 use Rattle.exactly_once.proofs.publishing.kept.KeepsCalls.{ids_next}
@@ -27,7 +27,7 @@ first_ends (packets.Connack (connacks.Accepted present)) side e = absurd (both_w
 first_ends (packets.Connack (connacks.Refused code)) side e = refl
 first_ends _ side e = refl
 
-pub unwelcome_ends : (packet : Packet) (side : Side) → side.keeper.is_online ≡ false → is_welcome packet ≡ false → handled packet side ≡ record (one_handled side) { keeper = lost side.keeper }
+pub unwelcome_ends : (packet : Packet) (side : Side) → side.keeper.is_online ≡ false → is_welcome packet ≡ false → packet_handled packet side ≡ record (one_handled side) { keeper = lost side.keeper }
 unwelcome_ends packet side off e =
     ap (λ b. if b then handled_online packet (one_handled side) else handled_first packet (one_handled side)) off ∙ first_ends packet (one_handled side) e
 
@@ -55,7 +55,7 @@ first_served (packets.Connack (connacks.Accepted present)) side e = refl
 first_served (packets.Connack (connacks.Refused code)) side e = e
 first_served _ side e = e
 
-stays_served : (packet : Packet) (side : Side) → side.keeper.was_served ≡ true → (handled packet side).keeper.was_served ≡ true
+stays_served : (packet : Packet) (side : Side) → side.keeper.was_served ≡ true → (packet_handled packet side).keeper.was_served ≡ true
 stays_served packet side e = by side.keeper.is_online
   where
     by : (b : Bool) → (if b then handled_online packet (one_handled side) else handled_first packet (one_handled side)).keeper.was_served ≡ true
@@ -74,23 +74,23 @@ pub unserved_opened : (c : Client) (keeper : Keeper) → (keeper.was_served ≡ 
 unserved_opened c keeper h e = let u = h e in record { is = ap (λ (k : Keeper). record (lost k) { is_open = true }) u.is; unsent = u.unsent; apart = u.apart }
 
 -- who is not served after a packet was not before, and the packet ended the connection
-pub unserved_ends : (c : Client) (packet : Packet) (side : Side) → (side.keeper.was_served ≡ false → IsUnserved c side.keeper) → (handled packet side).keeper.was_served ≡ false
-    → (side.keeper.was_served ≡ false) × (handled packet side ≡ record (one_handled side) { keeper = lost side.keeper })
+pub unserved_ends : (c : Client) (packet : Packet) (side : Side) → (side.keeper.was_served ≡ false → IsUnserved c side.keeper) → (packet_handled packet side).keeper.was_served ≡ false
+    → (side.keeper.was_served ≡ false) × (packet_handled packet side ≡ record (one_handled side) { keeper = lost side.keeper })
 unserved_ends c packet side h e = by side.keeper.was_served refl
   where
-    two : (b : Bool) → is_welcome packet ≡ b → IsUnserved c side.keeper → handled packet side ≡ record (one_handled side) { keeper = lost side.keeper }
+    two : (b : Bool) → is_welcome packet ≡ b → IsUnserved c side.keeper → packet_handled packet side ≡ record (one_handled side) { keeper = lost side.keeper }
     two true w u =
         let off : side.keeper.is_online ≡ false = ap (λ (k : Keeper). k.is_online) u.is in
-        absurd (both_ways (handled packet side).keeper.was_served e
+        absurd (both_ways (packet_handled packet side).keeper.was_served e
         (ap (λ b. (if b then handled_online packet (one_handled side) else handled_first packet (one_handled side)).keeper.was_served) off ∙ welcome_serves packet (one_handled side) w))
     two false w u = unwelcome_ends packet side (ap (λ (k : Keeper). k.is_online) u.is) w
 
-    by : (b : Bool) → side.keeper.was_served ≡ b → (side.keeper.was_served ≡ false) × (handled packet side ≡ record (one_handled side) { keeper = lost side.keeper })
-    by true f = absurd (both_ways (handled packet side).keeper.was_served e (stays_served packet side f))
+    by : (b : Bool) → side.keeper.was_served ≡ b → (side.keeper.was_served ≡ false) × (packet_handled packet side ≡ record (one_handled side) { keeper = lost side.keeper })
+    by true f = absurd (both_ways (packet_handled packet side).keeper.was_served e (stays_served packet side f))
     by false f = (f, two (is_welcome packet) refl (h f))
 
-pub unserved_handled : (c : Client) (packet : Packet) (side : Side) → (side.keeper.was_served ≡ false → IsUnserved c side.keeper) → (handled packet side).keeper.was_served ≡ false
-    → IsUnserved c (handled packet side).keeper
+pub unserved_handled : (c : Client) (packet : Packet) (side : Side) → (side.keeper.was_served ≡ false → IsUnserved c side.keeper) → (packet_handled packet side).keeper.was_served ≡ false
+    → IsUnserved c (packet_handled packet side).keeper
 unserved_handled c packet side h e =
     let ends = unserved_ends c packet side h e in
     subst (λ (z : Side). IsUnserved c z.keeper) (sym ends.1) (lost_unserved c side.keeper (h ends.0))

@@ -8,7 +8,7 @@ use Rattle.broker_base.specs.broker_spec.Commands.{place_of}
 use Rattle.client_base.specs.Keeper.{Written}
 use Rattle.client_base.specs.Called.{written_for}
 use Rattle.client_base.specs.Connected.{new_connection}
-use Rattle.client_base.specs.Handled.{handled}
+use Rattle.client_base.specs.Handled.{packet_handled}
 use Rattle.client_base.specs.Written.{plain, writes_first}
 use Rattle.exactly_once.specs.Sides.{ClientConnection, Side}
 use Rattle.exactly_once.specs.Story.{Story, StoryStep}
@@ -131,7 +131,7 @@ lasts_goes limits c flags s t life head l (others_take command other none) =
     (all_fresh place c s.connections (none_opened s.past c command place.mark mine)) life.connections.shut l)
 lasts_goes limits c flags s t life head l (receives κ others packet are opened next) =
     let side : Side = record { keeper = s.keeper; connection = κ } in
-    lasts_head limits c flags s.past κ (handled packet side).connection others (stays_handled packet side).name (subst (Lasts limits c flags s.past) are l)
+    lasts_head limits c flags s.past κ (packet_handled packet side).connection others (stays_handled packet side).name (subst (Lasts limits c flags s.past) are l)
 lasts_goes limits c flags s t life head l (opens_anew x fresh none uncounted) =
     lasts_opened limits c flags s.past (new_connection s.keeper.client x) s.connections head life.connections.shut (unopened s.past c x uncounted) refl l
 lasts_goes limits c flags s t life head l loses = l

@@ -14,7 +14,7 @@ use Rattle.exactly_once.specs.Sends.{put_to}
 use Rattle.exactly_once.specs.Story.{Story}
 use Rattle.exactly_once.specs.StoryCommands.{packet_count}
 use Rattle.exactly_once.specs.StoryTrace.{AreUnsent, unserved}
-use Rattle.client_base.specs.Connected.{opens}
+use Rattle.client_base.specs.Connected.{opening_connect}
 use Rattle.client_base.proofs.NumbersStay.{AreAllNumbered}
 use Rattle.exactly_once.specs.InStep.{has_begun, opened_in}
 use Rattle.exactly_once.specs.Inside.Shape.{NamesApart}
@@ -77,7 +77,7 @@ pub record HasKeeper (c : Client) (past : Past) (keeper : Keeper) (connections :
   pub client : keeper.client ≡ c
   pub held : IsHeld keeper connections
   pub unserved : keeper.was_served ≡ false → IsUnserved c keeper
-  pub silent : keeper.was_served ≡ false → Each (λ (κ : ClientConnection). κ.written ≡ opens c ∷ []) connections
+  pub silent : keeper.was_served ≡ false → Each (λ (κ : ClientConnection). κ.written ≡ opening_connect c ∷ []) connections
   pub numbers : AreAllNumbered keeper
   pub unasked : keeper.is_online ≡ false → keeper.requests ≡ []
   pub begun : keeper.was_served ≡ true → has_begun past c ≡ true

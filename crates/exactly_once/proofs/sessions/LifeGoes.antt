@@ -4,10 +4,10 @@ use Rattle.std.proofs.lemmas.Bool.{both_ways}
 use Rattle.client_base.specs.packet.declared.packet.Packet.TheVariants as packets
 use Rattle.client_base.specs.session_base.Identifiers.{least_free}
 use Rattle.broker_base.specs.broker_spec.Place.{Client, Limits}
-use Rattle.client_base.specs.Keeper.{Keeper, ids_in_use, next_number}
+use Rattle.client_base.specs.Keeper.{Keeper, ids_in_use, next_own_number}
 use Rattle.client_base.specs.Called.{adds_own, written_for}
-use Rattle.client_base.specs.Connected.{new_connection, opens}
-use Rattle.client_base.specs.Written.{plain, publishes}
+use Rattle.client_base.specs.Connected.{new_connection, opening_connect}
+use Rattle.client_base.specs.Written.{plain, written_publish}
 use Rattle.exactly_once.specs.Story.{Story, StoryStep}
 use Rattle.exactly_once.specs.StoryCommands.{names_client}
 use Rattle.exactly_once.specs.Story.StoryStep.{takes, others_take, receives, opens_anew, loses, disconnects, publishes_one, subscribes, unsubscribes}
@@ -43,7 +43,7 @@ life_goes limits c s t life (opens_anew x fresh none uncounted) =
         client = life.keeper.client;
         held = (λ e. refl, λ e. absurd (both_ways false refl e));
         unserved = unserved_opened c s.keeper life.keeper.unserved;
-        silent = λ e. (ap (λ d. opens d ∷ []) life.keeper.client, life.keeper.silent e);
+        silent = λ e. (ap (λ d. opening_connect d ∷ []) life.keeper.client, life.keeper.silent e);
         numbers = life.keeper.numbers;
         unasked = λ e. refl;
         begun = life.keeper.begun;
@@ -65,12 +65,12 @@ life_goes limits c s t life (publishes_one p needs) =
       list = life.list;
       past_is = life.past_is;
       session = life.session;
-      connections = connections_either limits s.past c s.keeper s.keeper.is_online (publishes false (next_number s.keeper) (least_free (ids_in_use s.keeper)) p ∷ []) s.connections refl life.keeper.held life.connections;
+      connections = connections_either limits s.past c s.keeper s.keeper.is_online (written_publish false (next_own_number s.keeper) (least_free (ids_in_use s.keeper)) p ∷ []) s.connections refl life.keeper.held life.connections;
       keeper = record {
         client = life.keeper.client;
         held = held_written s.keeper (adds_own p s.keeper) (written_for p s.keeper) s.connections refl refl life.keeper.held;
         unserved = unserved_publishes c s.keeper p needs life.keeper.unserved;
-        silent = silent_either c s.keeper s.keeper.is_online (publishes false (next_number s.keeper) (least_free (ids_in_use s.keeper)) p ∷ []) s.connections refl life.keeper.unserved life.keeper.silent;
+        silent = silent_either c s.keeper s.keeper.is_online (written_publish false (next_own_number s.keeper) (least_free (ids_in_use s.keeper)) p ∷ []) s.connections refl life.keeper.unserved life.keeper.silent;
         numbers = publishes_numbers p s.keeper life.keeper.numbers;
         unasked = life.keeper.unasked;
         begun = life.keeper.begun;

@@ -23,7 +23,7 @@ use Rattle.exactly_once.proofs.sessions.Anew.{IsUntouched}
 use Rattle.exactly_once.proofs.sessions.EachPlaced.{each_other, IsOwnCommand, own_command, own_untouched, own_shut, own_counted, counted_other}
 use Rattle.exactly_once.proofs.sessions.Placed.{untouched_other, shut_other}
 use Rattle.exactly_once.proofs.sessions.Life.{IsShutUnopened, IsHeld, HasConnections, HasKeeper, IsLife, IsCounted}
-use Rattle.client_base.specs.Connected.{opens}
+use Rattle.client_base.specs.Connected.{opening_connect}
 use Rattle.client_base.specs.lists.Lists.{Each}
 
 -- ---- the list
@@ -43,7 +43,7 @@ held_counted keeper i [] h = h
 held_counted keeper zero (κ ∷ connections) h = h
 held_counted keeper (suc i) (κ ∷ connections) h = h
 
-silent_counted : (c : Client) (i : ℕ) (connections : List ClientConnection) → Each (λ (κ : ClientConnection). κ.written ≡ opens c ∷ []) connections → Each (λ (κ : ClientConnection). κ.written ≡ opens c ∷ []) (with_one_counted i connections)
+silent_counted : (c : Client) (i : ℕ) (connections : List ClientConnection) → Each (λ (κ : ClientConnection). κ.written ≡ opening_connect c ∷ []) connections → Each (λ (κ : ClientConnection). κ.written ≡ opening_connect c ∷ []) (with_one_counted i connections)
 silent_counted c i [] h = tt
 silent_counted c zero (κ ∷ connections) h = (h.0, h.1)
 silent_counted c (suc i) (κ ∷ connections) h = (h.0, silent_counted c i connections h.1)

@@ -6,7 +6,7 @@ use Rattle.client_base.specs.packet.declared.packet.Packet.{Packet}
 use Rattle.broker_base.specs.broker_spec.Connection.{same_connection}
 use Rattle.broker_base.specs.broker_spec.Place.{Client, Past, Limits}
 use Rattle.client_base.specs.Keeper.{Keeper, Written}
-use Rattle.client_base.specs.Handled.{handled}
+use Rattle.client_base.specs.Handled.{packet_handled}
 use Rattle.exactly_once.specs.Sides.{ClientConnection, Side}
 use Rattle.exactly_once.specs.Sends.{put_to}
 use Rattle.exactly_once.specs.StoryCommands.{any_named, packet_count}
@@ -33,7 +33,7 @@ was_taken : (limits : Limits) (past : Past) (c : Client) (κ : ClientConnection)
 was_taken limits past c κ packet h next new = let e : slice_get [] κ.handled ≡ Some packet = sym (ap (λ (l : List Packet). slice_get l κ.handled) (h new).unsent) ∙ next in cc
 
 shut_handled : (limits : Limits) (past : Past) (c : Client) (keeper : Keeper) (κ : ClientConnection) (packet : Packet) → keeper.is_open ≡ true → (keeper.is_open ≡ true → κ.confirmed ≡ keeper.is_online)
-    → slice_get (put_to limits past κ.name) κ.handled ≡ Some packet → IsShutUnopened limits past c κ → IsShutUnopened limits past c (handled packet (let side : Side = record { keeper = keeper; connection = κ } in side)).connection
+    → slice_get (put_to limits past κ.name) κ.handled ≡ Some packet → IsShutUnopened limits past c κ → IsShutUnopened limits past c (packet_handled packet (let side : Side = record { keeper = keeper; connection = κ } in side)).connection
 shut_handled limits past c keeper κ packet opened held next h e =
     let side : Side = record { keeper = keeper; connection = κ } in
     let s = h (ap (opened_in past c) (sym (stays_handled packet side).name) ∙ e) in
@@ -42,7 +42,7 @@ shut_handled limits past c keeper κ packet opened held next h e =
     (record { unconfirmed = s.unconfirmed; nothing = s.nothing; unwelcome = s.unwelcome })
 
 begun_handled : (limits : Limits) (past : Past) (c : Client) (keeper : Keeper) (κ : ClientConnection) (packet : Packet) → slice_get (put_to limits past κ.name) κ.handled ≡ Some packet → IsShutUnopened limits past c κ
-    → (keeper.was_served ≡ true → has_begun past c ≡ true) → (handled packet (let side : Side = record { keeper = keeper; connection = κ } in side)).keeper.was_served ≡ true → has_begun past c ≡ true
+    → (keeper.was_served ≡ true → has_begun past c ≡ true) → (packet_handled packet (let side : Side = record { keeper = keeper; connection = κ } in side)).keeper.was_served ≡ true → has_begun past c ≡ true
 begun_handled limits past c keeper κ packet next h begun e = by (served_handled packet (record { keeper = keeper; connection = κ }) e)
   where
     two : (o : Option ℕ) → opened_in past c κ.name ≡ o → IsWelcome packet → has_begun past c ≡ true
@@ -54,7 +54,7 @@ begun_handled limits past c keeper κ packet next h begun e = by (served_handled
     by (inl f) = begun f
     by (inr w) = two (opened_in past c κ.name) refl w
 
-counted_handled : (past : Past) (keeper : Keeper) (κ : ClientConnection) (packet : Packet) → IsCounted past κ → IsCounted past (handled packet (let side : Side = record { keeper = keeper; connection = κ } in side)).connection
+counted_handled : (past : Past) (keeper : Keeper) (κ : ClientConnection) (packet : Packet) → IsCounted past κ → IsCounted past (packet_handled packet (let side : Side = record { keeper = keeper; connection = κ } in side)).connection
 counted_handled past keeper κ packet h =
     let grown = handled_grows κ keeper packet in
     record {
@@ -64,33 +64,33 @@ counted_handled past keeper κ packet h =
 
 pub life_received : (limits : Limits) (c : Client) (past : Past) (keeper : Keeper) (κ : ClientConnection) (others : List ClientConnection) (packet : Packet) → keeper.is_open ≡ true
     → slice_get (put_to limits past κ.name) κ.handled ≡ Some packet → HasConnections limits c past (κ ∷ others) → HasKeeper c past keeper (κ ∷ others) → (side : Side) → side ≡ record { keeper = keeper; connection = κ }
-    → HasConnections limits c past ((handled packet side).connection ∷ others) × HasKeeper c past (handled packet side).keeper ((handled packet side).connection ∷ others)
+    → HasConnections limits c past ((packet_handled packet side).connection ∷ others) × HasKeeper c past (packet_handled packet side).keeper ((packet_handled packet side).connection ∷ others)
 life_received limits c past keeper κ others packet opened next h k side is = subst P (sym is) (connections, client)
   where
     P : Side → Type 0
-    P side = HasConnections limits c past ((handled packet side).connection ∷ others) × HasKeeper c past (handled packet side).keeper ((handled packet side).connection ∷ others)
+    P side = HasConnections limits c past ((packet_handled packet side).connection ∷ others) × HasKeeper c past (packet_handled packet side).keeper ((packet_handled packet side).connection ∷ others)
 
     before : Side
     before = record { keeper = keeper; connection = κ }
 
-    st : Stays (one_handled before) (handled packet before)
+    st : Stays (one_handled before) (packet_handled packet before)
     st = stays_handled packet before
 
-    connections : HasConnections limits c past ((handled packet before).connection ∷ others)
+    connections : HasConnections limits c past ((packet_handled packet before).connection ∷ others)
     connections =
         record {
           names = (ap (λ x. any_named (same_connection x) others) st.name ∙ h.names.0, h.names.1);
           untouched = (λ new. absurd (was_taken limits past c κ packet h.untouched.0 next (sym st.taken ∙ new)), h.untouched.1);
           shut = (shut_handled limits past c keeper κ packet opened k.held.0 next h.shut.0, h.shut.1);
-          nobody = nobody_named past c (κ ∷ others) ((handled packet before).connection ∷ others) (λ test. ap (λ x. test x || any_named test others) st.name) h.nobody;
+          nobody = nobody_named past c (κ ∷ others) ((packet_handled packet before).connection ∷ others) (λ test. ap (λ x. test x || any_named test others) st.name) h.nobody;
           counted = (counted_handled past keeper κ packet h.counted.0, h.counted.1);
         }
 
-    client : HasKeeper c past (handled packet before).keeper ((handled packet before).connection ∷ others)
+    client : HasKeeper c past (packet_handled packet before).keeper ((packet_handled packet before).connection ∷ others)
     client =
         record {
           client = st.client ∙ k.client;
-          held = held_settled (handled packet before) others (settled_handled packet before opened (k.held.0 opened));
+          held = held_settled (packet_handled packet before) others (settled_handled packet before opened (k.held.0 opened));
           unserved = unserved_handled c packet before k.unserved;
           silent = λ e.
               let ends = unserved_ends c packet before k.unserved e in

@@ -12,7 +12,7 @@ use Rattle.exactly_once.proofs.publishing.kept.KeepsNobody.{nobody_named, writte
 use Rattle.exactly_once.proofs.sessions.Anew.{AreUntouched}
 use Rattle.exactly_once.proofs.sessions.KeepsKeeper.{unserved_lost}
 use Rattle.exactly_once.proofs.sessions.Life.{AreShutUnopened, IsHeld, HasConnections, HasKeeper, IsCounted, IsUnserved}
-use Rattle.client_base.specs.Connected.{opens}
+use Rattle.client_base.specs.Connected.{opening_connect}
 use Rattle.client_base.specs.lists.Lists.{Each}
 
 -- while it is online
@@ -75,7 +75,7 @@ held_lost keeper (κ ∷ connections) = (λ e. absurd (both_ways false refl e), 
 
 -- nothing, if it was never served
 abbrev pub AreSilent : Client → List ClientConnection → Type 0
-AreSilent c = Each (λ (κ : ClientConnection). κ.written ≡ opens c ∷ [])
+AreSilent c = Each (λ (κ : ClientConnection). κ.written ≡ opening_connect c ∷ [])
 
 pub silent_either : (c : Client) (keeper : Keeper) (b : Bool) (more : List Written) (connections : List ClientConnection) → keeper.is_online ≡ b → (keeper.was_served ≡ false → IsUnserved c keeper)
     → (keeper.was_served ≡ false → AreSilent c connections) → keeper.was_served ≡ false → AreSilent c (writes_first (if b then more else []) connections)

@@ -11,7 +11,7 @@ use Rattle.broker_base.specs.broker_spec.Commands.{place_of}
 use Rattle.client_base.specs.Keeper.{Written, Keeper}
 use Rattle.client_base.specs.Called.{written_for}
 use Rattle.client_base.specs.Connected.{new_connection}
-use Rattle.client_base.specs.Handled.{handled, lost}
+use Rattle.client_base.specs.Handled.{packet_handled, lost}
 use Rattle.client_base.specs.Written.{plain, writes_first}
 use Rattle.exactly_once.specs.Sides.{ClientConnection, Side}
 use Rattle.exactly_once.specs.Sends.{put_to}
@@ -53,19 +53,19 @@ with_written limits c s later more l f =
 
 -- it handles a packet there
 with_handled : (limits : Limits) (c : Client) (s : Story) (κ : ClientConnection) (others : List ClientConnection) (packet : Packet) → s.connections ≡ κ ∷ others → s.keeper.is_open ≡ true
-    → slice_get (put_to limits s.past κ.name) κ.handled ≡ Some packet → (l : Lingers limits c s) → Lingers limits c (with_side s others (handled packet (record { keeper = s.keeper; connection = κ })))
+    → slice_get (put_to limits s.past κ.name) κ.handled ≡ Some packet → (l : Lingers limits c s) → Lingers limits c (with_side s others (packet_handled packet (record { keeper = s.keeper; connection = κ })))
 with_handled limits c s κ others packet are opened next l =
-    subst (λ (z : ClientConnection). Lingers limits c (with_side s others (handled packet (side_of z)))) (sym one)
+    subst (λ (z : ClientConnection). Lingers limits c (with_side s others (packet_handled packet (side_of z)))) (sym one)
     (subst (λ (z : Side). Lingers limits c (with_side s others z)) (sym counted)
     (record {
       flags = l.flags;
       earlier = l.earlier;
-      newest = (handled packet before).connection;
+      newest = (packet_handled packet before).connection;
       count = l.count;
       others = l.others;
       before = l.before;
-      are = ap (λ rest. record (handled packet before).connection { taken = l.count } ∷ rest) rest;
-      frozen = frozen_goes limits c l.flags l.earlier s.keeper (handled packet before).keeper l.newest (handled packet before).connection l.before ((handled packet before).connection ∷ l.before) l.frozen
+      are = ap (λ rest. record (packet_handled packet before).connection { taken = l.count } ∷ rest) rest;
+      frozen = frozen_goes limits c l.flags l.earlier s.keeper (packet_handled packet before).keeper l.newest (packet_handled packet before).connection l.before ((packet_handled packet before).connection ∷ l.before) l.frozen
           (receives l.newest l.before packet refl opened here) refl refl;
       since = subst (λ x. IsSince limits c s.past l.earlier x l.count l.others l.before) (sym (stays_handled packet before).name) l.since;
     }))
@@ -85,7 +85,7 @@ with_handled limits c s κ others packet are opened next l =
     rest : others ≡ l.others
     rest = cc
 
-    counted : handled packet (side_of (record l.newest { taken = l.count })) ≡ counting l.count (handled packet before)
+    counted : packet_handled packet (side_of (record l.newest { taken = l.count })) ≡ counting l.count (packet_handled packet before)
     counted = handled_counted l.count packet before
 
     here : slice_get (put_to limits l.earlier l.newest.name) l.newest.handled ≡ Some packet

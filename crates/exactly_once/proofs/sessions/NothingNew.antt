@@ -9,7 +9,7 @@ use Rattle.broker_base.specs.broker_spec.Past.{session_of, begins}
 use Rattle.broker_base.specs.broker_spec.Received.{is_new}
 use Rattle.broker_base.specs.broker_spec.declared.command.Command.{Command}
 use Rattle.broker_base.specs.broker_spec.declared.command.Command.TheVariants as commands
-use Rattle.client_base.specs.Connected.{opens}
+use Rattle.client_base.specs.Connected.{opening_connect}
 use Rattle.exactly_once.specs.Sides.{ClientConnection}
 use Rattle.exactly_once.specs.StoryCommands.{any_named, packet_count, is_packet_of}
 use Rattle.exactly_once.specs.Carried.{carries, connection_named, written_number, number_at, more_by, new_numbers}
@@ -60,11 +60,11 @@ nothing_new_yet limits past c κ others fresh new =
 
 -- ---- only CONNECTs were written
 
-silent_number : (c : Client) (connections : List ClientConnection) → Each (λ (κ : ClientConnection). κ.written ≡ opens c ∷ []) connections → (x : ConnectionName) (j : ℕ) → number_at j (connection_named x connections) ≡ None
+silent_number : (c : Client) (connections : List ClientConnection) → Each (λ (κ : ClientConnection). κ.written ≡ opening_connect c ∷ []) connections → (x : ConnectionName) (j : ℕ) → number_at j (connection_named x connections) ≡ None
 silent_number c [] h x j = refl
 silent_number c (κ ∷ connections) h x j = by (same_connection x κ.name) (silent_number c connections h.1 x j)
   where
-    of : (j : ℕ) → written_number (slice_get (opens c ∷ []) j) ≡ None
+    of : (j : ℕ) → written_number (slice_get (opening_connect c ∷ []) j) ≡ None
     of zero = refl
     of (suc j) = refl
 
@@ -72,7 +72,7 @@ silent_number c (κ ∷ connections) h x j = by (same_connection x κ.name) (sil
     by true ih = ap (λ ws. written_number (slice_get ws j)) h.0 ∙ of j
     by false ih = ih
 
-silent_carries : (c : Client) (connections : List ClientConnection) → Each (λ (κ : ClientConnection). κ.written ≡ opens c ∷ []) connections → (command : Command) (past : Past) → carries connections command past ≡ None
+silent_carries : (c : Client) (connections : List ClientConnection) → Each (λ (κ : ClientConnection). κ.written ≡ opening_connect c ∷ []) connections → (command : Command) (past : Past) → carries connections command past ≡ None
 silent_carries c connections h (commands.Packet x (packets.Publish p)) past = silent_number c connections h x (packet_count x past)
 silent_carries c connections h (commands.Packet x _) past = refl
 silent_carries c connections h (commands.Connect x d clean) past = refl
@@ -80,7 +80,7 @@ silent_carries c connections h (commands.Lost x) past = refl
 silent_carries c connections h (commands.Start ballot) past = refl
 silent_carries c connections h (commands.Expel d) past = refl
 
-pub silent_nothing : (c : Client) (connections : List ClientConnection) → Each (λ (κ : ClientConnection). κ.written ≡ opens c ∷ []) connections → (past : Past) → new_numbers connections past ≡ []
+pub silent_nothing : (c : Client) (connections : List ClientConnection) → Each (λ (κ : ClientConnection). κ.written ≡ opening_connect c ∷ []) connections → (past : Past) → new_numbers connections past ≡ []
 silent_nothing c connections h [] = refl
 silent_nothing c connections h (place ∷ past) =
     ap₂ (λ xs o. xs ++ more_by (is_new place.command place.mark) o) (silent_nothing c connections h past) (silent_carries c connections h place.command past) ∙ none_more (is_new place.command place.mark)

@@ -5,7 +5,7 @@ use Rattle.client_base.specs.lists.Lists.{Each, IsPrefixOf}
 use Rattle.client_base.proofs.of_lists.OfEach.{each_append, each_then}
 use Rattle.broker_base.specs.broker_spec.Place.{Client, Past, Limits}
 use Rattle.broker_base.specs.broker_spec.NobodyLaws.{IsSteady}
-use Rattle.client_base.specs.Keeper.{Own, Keeper, all_own, next_number}
+use Rattle.client_base.specs.Keeper.{Own, Keeper, all_own, next_own_number}
 use Rattle.client_base.specs.OrderLaws.{AreNumbered}
 use Rattle.std.proofs.lemmas.List.{append-nil}
 use Rattle.exactly_once.specs.Sides.{ClientConnection}
@@ -29,7 +29,7 @@ use Rattle.exactly_once.proofs.sessions.LastingGoes.{Stands}
 -- prefix of what was published
 pub record RisesSoFar (c : Client) (past : Past) (keeper : Keeper) (connections : List ClientConnection) : Type 0 where
   pub rising : NumbersRise (new_numbers connections past)
-  pub below : Each (λ n. n < next_number keeper) (new_numbers connections past)
+  pub below : Each (λ n. n < next_own_number keeper) (new_numbers connections past)
   pub first : sessions_begun past c ≤ 1 → IsPrefixOf (new_numbers connections past) (own_qos2_numbers (all_own keeper))
 
 -- those of earlier sessions, each below this number, are before those of the story of this session
@@ -42,7 +42,7 @@ pub record HasOlds (c : Client) (flags : List Bool) (past : Past) (connections :
 
 pub data Numbered (limits : Limits) (c : Client) (flags : List Bool) (s : Story) : Type 0 where
   lasts : HasBeside limits c flags s → HasOlds c flags s.past s.connections (length s.keeper.earlier) → (sessions_begun s.past c ≤ 1 → s.keeper.earlier ≡ []) → Numbered limits c flags s
-  awaits : HasAwaiting limits c flags s → HasOlds c flags s.past s.connections (next_number s.keeper) → (sessions_begun s.past c ≤ 1 → ⊥) → Numbered limits c flags s
+  awaits : HasAwaiting limits c flags s → HasOlds c flags s.past s.connections (next_own_number s.keeper) → (sessions_begun s.past c ≤ 1 → ⊥) → Numbered limits c flags s
 
 pub stands_numbered : (limits : Limits) (c : Client) (flags : List Bool) (s : Story) → Numbered limits c flags s → Stands limits c flags s
 stands_numbered limits c flags s (lasts b o alone) = inr b
@@ -65,9 +65,9 @@ lasts_rises limits steady c flags s life b o alone =
     record {
       rising = subst NumbersRise (sym o.is)
           (rising_after bound o.olds news o.rising o.below (prefix_rises news (own_qos2_numbers own) front (published_rises bound own numbers)) (prefix_each (λ m. bound ≤ m) news (own_qos2_numbers own) front (published_from bound own numbers)));
-      below = subst (Each (λ n. n < next_number s.keeper)) (sym o.is)
-          (each_append (λ n. n < next_number s.keeper) o.olds news (each_then (λ n. n < bound) (λ n. n < next_number s.keeper) o.olds (λ n less. omega (arith, less)) o.below)
-          (prefix_each (λ n. n < next_number s.keeper) news (own_qos2_numbers own) front (published_below bound own numbers)));
+      below = subst (Each (λ n. n < next_own_number s.keeper)) (sym o.is)
+          (each_append (λ n. n < next_own_number s.keeper) o.olds news (each_then (λ n. n < bound) (λ n. n < next_own_number s.keeper) o.olds (λ n less. omega (arith, less)) o.below)
+          (prefix_each (λ n. n < next_own_number s.keeper) news (own_qos2_numbers own) front (published_below bound own numbers)));
       first = λ one.
           subst (λ (l : List ℕ). IsPrefixOf l (own_qos2_numbers (all_own s.keeper))) (sym (o.is ∙ ap (λ l. l ++ news) (o.alone one)))
           (subst (λ (earlier : List Own). IsPrefixOf news (own_qos2_numbers (earlier ++ own))) (sym (alone one)) front);
@@ -88,12 +88,12 @@ lasts_rises limits steady c flags s life b o alone =
     front : IsPrefixOf news (own_qos2_numbers own)
     front = in_order limits steady c s.past s.keeper (kept_of flags s.connections) b.told
 
-awaits_rises : (limits : Limits) → IsSteady limits → (c : Client) (flags : List Bool) (s : Story) → HasAwaiting limits c flags s → HasOlds c flags s.past s.connections (next_number s.keeper)
+awaits_rises : (limits : Limits) → IsSteady limits → (c : Client) (flags : List Bool) (s : Story) → HasAwaiting limits c flags s → HasOlds c flags s.past s.connections (next_own_number s.keeper)
     → (sessions_begun s.past c ≤ 1 → ⊥) → RisesSoFar c s.past s.keeper s.connections
 awaits_rises limits steady c flags s a o again =
     record {
       rising = subst NumbersRise (sym all) o.rising;
-      below = subst (Each (λ n. n < next_number s.keeper)) (sym all) o.below;
+      below = subst (Each (λ n. n < next_own_number s.keeper)) (sym all) o.below;
       first = λ one. absurd (again one);
     }
   where

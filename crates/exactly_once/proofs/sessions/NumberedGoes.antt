@@ -11,7 +11,7 @@ use Rattle.broker_base.specs.broker_spec.Past.{begins}
 use Rattle.broker_base.specs.broker_spec.NobodyLaws.{IsSteady}
 use Rattle.broker_base.specs.broker_spec.Received.{is_new}
 use Rattle.broker_base.specs.broker_spec.Commands.{place_of}
-use Rattle.client_base.specs.Keeper.{Keeper, next_number}
+use Rattle.client_base.specs.Keeper.{Keeper, next_own_number}
 use Rattle.broker_base.specs.broker_spec.declared.command.Command.{Command}
 use Rattle.std.specs.Prelude.{slice_get}
 use Rattle.exactly_once.proofs.keeping.StoryTrace.{told_stories_are_sound}
@@ -142,9 +142,9 @@ numbered_goes limits steady c flags s t life (awaits a o again) h step = by (awa
 
     by : HasAwaiting limits c (flags_after flags h) t ⊎ IsSettled limits c (flags_after flags h) s t → Numbered limits c (flags_after flags h) t
     by (inl later) =
-        awaits later (olds_goes limits c flags s t (next_number s.keeper) (next_number t.keeper) life sound (next_grows limits s t life.keeper.numbers h) h o) (λ one. again (one_before limits c s t h one))
+        awaits later (olds_goes limits c flags s t (next_own_number s.keeper) (next_own_number t.keeper) life sound (next_grows limits s t life.keeper.numbers h) h o) (λ one. again (one_before limits c s t h one))
     by (inr settled) =
         let moved = ap length settled.moved in
         let long = length-append s.keeper.earlier s.keeper.own in
-        lasts settled.beside (olds_goes limits c flags s t (next_number s.keeper) (length t.keeper.earlier) life sound (omega (arith, moved, long)) h o)
+        lasts settled.beside (olds_goes limits c flags s t (next_own_number s.keeper) (length t.keeper.earlier) life sound (omega (arith, moved, long)) h o)
         (λ one. absurd (again (one_before limits c s t h one)))

@@ -15,7 +15,7 @@ use Rattle.broker_base.specs.broker_spec.Commands.{place_of}
 use Rattle.broker_base.specs.broker_spec.declared.command.Command.{Command}
 use Rattle.broker_base.proofs.QuietPasts.{no_connection}
 use Rattle.client_base.specs.session_base.declared.publication.Publication.{Publication}
-use Rattle.client_base.specs.Keeper.{Written, all_own, next_number}
+use Rattle.client_base.specs.Keeper.{Written, all_own, next_own_number}
 use Rattle.exactly_once.specs.Sides.{ClientConnection}
 use Rattle.exactly_once.specs.Story.{Story, StoryStep}
 use Rattle.exactly_once.specs.StoryCommands.{command_of, with_one_counted}
@@ -79,8 +79,8 @@ rises_over limits c s t life later none h r =
     let grows = next_grows limits s t life.keeper.numbers h in
     record {
       rising = subst NumbersRise (sym same) r.rising;
-      below = subst (Each (λ n. n < next_number t.keeper)) (sym same)
-          (each_then (λ n. n < next_number s.keeper) (λ n. n < next_number t.keeper) (new_numbers s.connections s.past) (λ n less. omega (arith, less, grows)) r.below);
+      below = subst (Each (λ n. n < next_own_number t.keeper)) (sym same)
+          (each_then (λ n. n < next_own_number s.keeper) (λ n. n < next_own_number t.keeper) (new_numbers s.connections s.past) (λ n less. omega (arith, less, grows)) r.below);
       first = λ one.
           subst (λ (l : List ℕ). IsPrefixOf l (own_qos2_numbers (all_own t.keeper))) (sym same)
           (prefix_then (r.first (one_before limits c s t h one)) (published_grows limits s t life.keeper.numbers later.keeper.numbers h));
@@ -95,7 +95,7 @@ rises_placed limits c s command none r =
     ap (λ o. new_numbers s.connections s.past ++ more_by new o) none ∙ ap (λ l. new_numbers s.connections s.past ++ l) (none_more new) ∙ append-nil (new_numbers s.connections s.past) in
     record {
       rising = subst NumbersRise (sym same) r.rising;
-      below = subst (Each (λ n. n < next_number s.keeper)) (sym same) r.below;
+      below = subst (Each (λ n. n < next_own_number s.keeper)) (sym same) r.below;
       first = λ one. subst (λ (l : List ℕ). IsPrefixOf l (own_qos2_numbers (all_own s.keeper))) (sym same) (r.first (one_below (place_of limits s.past command) s.past c one));
     }
 

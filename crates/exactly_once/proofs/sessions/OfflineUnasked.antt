@@ -10,8 +10,8 @@ use Rattle.client_base.specs.session_base.Publication.{publication_of}
 use Rattle.client_base.specs.lists.Lists.{has_id}
 use Rattle.client_base.specs.Keeper.{Keeper}
 use Rattle.client_base.specs.Written.{plain, writing}
-use Rattle.client_base.specs.Handled.{handled, handled_online, handled_first}
-use Rattle.client_base.specs.Handshakes.{at_pubrec, is_sent_with, takes_in}
+use Rattle.client_base.specs.Handled.{packet_handled, handled_online, handled_first}
+use Rattle.client_base.specs.Handshakes.{own_at_pubrec, is_sent_with, takes_in}
 use Rattle.exactly_once.specs.Sides.{Side}
 use Rattle.exactly_once.proofs.subscribing.Given.{one_handled}
 
@@ -35,7 +35,7 @@ online_unasked (packets.Publish p) side on = by p.delivery
 online_unasked (packets.Pubrec i) side on = by (is_sent_with i side.keeper.own) (has_id i side.keeper.releases)
   where
     by : (b r : Bool) → IsUnasked (if b then writing (plain (packets.Pubrel i) ∷ [])
-        (record side { keeper = record side.keeper { own = map (at_pubrec i) side.keeper.own; releases = side.keeper.releases ++ i ∷ [] } })
+        (record side { keeper = record side.keeper { own = map (own_at_pubrec i) side.keeper.own; releases = side.keeper.releases ++ i ∷ [] } })
         else if r then writing (plain (packets.Pubrel i) ∷ []) side else side).keeper
     by true r e = absurd (both_ways side.keeper.is_online e on)
     by false true e = absurd (both_ways side.keeper.is_online e on)
@@ -53,7 +53,7 @@ first_unasked (packets.Connack (connacks.Accepted present)) side e = absurd (bot
 first_unasked (packets.Connack (connacks.Refused code)) side e = refl
 first_unasked _ side e = refl
 
-pub unasked_handled : (packet : Packet) (side : Side) → IsUnasked (handled packet side).keeper
+pub unasked_handled : (packet : Packet) (side : Side) → IsUnasked (packet_handled packet side).keeper
 unasked_handled packet side = by side.keeper.is_online refl
   where
     by : (b : Bool) → side.keeper.is_online ≡ b → IsUnasked (if b then handled_online packet (one_handled side) else handled_first packet (one_handled side)).keeper

@@ -13,7 +13,7 @@ use Rattle.broker_base.specs.broker_spec.declared.command.Command.TheVariants as
 use Rattle.client_base.specs.Keeper.{Written, Keeper}
 use Rattle.client_base.specs.Called.{written_for}
 use Rattle.client_base.specs.Connected.{new_connection}
-use Rattle.client_base.specs.Handled.{handled}
+use Rattle.client_base.specs.Handled.{packet_handled}
 use Rattle.client_base.specs.Written.{plain, writes_first}
 use Rattle.exactly_once.specs.Sides.{ClientConnection, Side}
 use Rattle.exactly_once.specs.Story.{Story, StoryStep}
@@ -136,7 +136,7 @@ parted_goes limits c s t life p (others_take command other none) step =
     (parts_placed limits c place s.past (length s.connections) s.connections (none_opened s.past c command place.mark mine) p))
 parted_goes limits c s t life p (receives κ others packet are opened next) step =
     let side : Side = record { keeper = s.keeper; connection = κ } in
-    inl (parts_head limits c s.past κ (handled packet side).connection others (stays_handled packet side).name (subst (Parts limits c s.past) are p))
+    inl (parts_head limits c s.past κ (packet_handled packet side).connection others (stays_handled packet side).name (subst (Parts limits c s.past) are p))
 parted_goes limits c s t life p (opens_anew x fresh none uncounted) step =
     let κ = new_connection s.keeper.client x in
     inl (record {

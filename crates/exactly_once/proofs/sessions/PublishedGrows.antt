@@ -11,11 +11,11 @@ use Rattle.client_base.specs.session_base.Publication.{publication_of}
 use Rattle.client_base.specs.lists.Lists.{IsPrefixOf, has_id}
 use Rattle.client_base.proofs.of_lists.Prefixes.{prefix_length}
 use Rattle.broker_base.specs.broker_spec.Place.{Limits}
-use Rattle.client_base.specs.Keeper.{Own, Keeper, all_own, next_number}
+use Rattle.client_base.specs.Keeper.{Own, Keeper, all_own, next_own_number}
 use Rattle.client_base.specs.OrderLaws.{AreNumbered}
 use Rattle.client_base.specs.Written.{plain, writing}
-use Rattle.client_base.specs.Handled.{discarded, handled, handled_online, handled_first}
-use Rattle.client_base.specs.Handshakes.{at_pubrec, is_sent_with, takes_in, releasing}
+use Rattle.client_base.specs.Handled.{discarded, packet_handled, handled_online, handled_first}
+use Rattle.client_base.specs.Handshakes.{own_at_pubrec, is_sent_with, takes_in, pubrec_answered}
 use Rattle.client_base.proofs.NumbersStay.{AreAllNumbered, joined_numbers}
 use Rattle.exactly_once.specs.Sides.{Side}
 use Rattle.exactly_once.specs.Story.{Story, StoryStep}
@@ -58,10 +58,10 @@ published_grows limits s t before after h =
           ∙ ap (λ l. l ++ twos (0 + length ps) p.rest) (sym (published_is 0 (all_own s.keeper) (all_numbered s.keeper before)));
     }
 
-long : (keeper : Keeper) → length (own_publications (all_own keeper)) ≡ next_number keeper
+long : (keeper : Keeper) → length (own_publications (all_own keeper)) ≡ next_own_number keeper
 long keeper = length-map (all_own keeper) own_publication ∙ length-append keeper.earlier keeper.own
 
-pub next_grows : (limits : Limits) (s t : Story) → AreAllNumbered s.keeper → StoryStep limits s t → next_number s.keeper ≤ next_number t.keeper
+pub next_grows : (limits : Limits) (s t : Story) → AreAllNumbered s.keeper → StoryStep limits s t → next_own_number s.keeper ≤ next_own_number t.keeper
 next_grows limits s t before h =
     let l = prefix_length (events_say limits s t before.1 h) in
     let a = long s.keeper in
@@ -82,11 +82,11 @@ taking_earlier (deliveries.ExactlyOnce dup id) p side = by (has_id id side.keepe
     by true = refl
     by false = refl
 
-releasing_earlier : (i : ℕ) (side : Side) → (releasing i side).keeper.earlier ≡ side.keeper.earlier
+releasing_earlier : (i : ℕ) (side : Side) → (pubrec_answered i side).keeper.earlier ≡ side.keeper.earlier
 releasing_earlier i side = by (is_sent_with i side.keeper.own) (has_id i side.keeper.releases)
   where
     by : (b r : Bool) → (if b then writing (plain (packets.Pubrel i) ∷ [])
-        (record side { keeper = record side.keeper { own = map (at_pubrec i) side.keeper.own; releases = side.keeper.releases ++ i ∷ [] } })
+        (record side { keeper = record side.keeper { own = map (own_at_pubrec i) side.keeper.own; releases = side.keeper.releases ++ i ∷ [] } })
         else if r then writing (plain (packets.Pubrel i) ∷ []) side else side).keeper.earlier ≡ side.keeper.earlier
     by true r = refl
     by false true = refl
@@ -111,7 +111,7 @@ first_earlier (packets.Connack (connacks.Accepted false)) side keeping = by side
 first_earlier (packets.Connack (connacks.Refused code)) side keeping = refl
 first_earlier _ side keeping = refl
 
-pub handled_earlier : (packet : Packet) (side : Side) → (side.keeper.is_online ≡ false → IsKeeping packet side.keeper) → (handled packet side).keeper.earlier ≡ side.keeper.earlier
+pub handled_earlier : (packet : Packet) (side : Side) → (side.keeper.is_online ≡ false → IsKeeping packet side.keeper) → (packet_handled packet side).keeper.earlier ≡ side.keeper.earlier
 handled_earlier packet side keeping = by side.keeper.is_online refl
   where
     by : (b : Bool) → side.keeper.is_online ≡ b → (if b then handled_online packet (one_handled side) else handled_first packet (one_handled side)).keeper.earlier ≡ side.keeper.earlier

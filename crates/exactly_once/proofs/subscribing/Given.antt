@@ -16,8 +16,8 @@ use Rattle.client_base.proofs.of_lists.OfEach.{each_then}
 use Rattle.exactly_once.specs.Sends.{sends_to, put_to}
 use Rattle.client_base.specs.Keeper.{Written}
 use Rattle.exactly_once.specs.Sides.{ClientConnection, Side}
-use Rattle.client_base.specs.Handled.{handled_online, handled_first, handled}
-use Rattle.client_base.specs.Handshakes.{releasing}
+use Rattle.client_base.specs.Handled.{handled_online, handled_first, packet_handled}
+use Rattle.client_base.specs.Handshakes.{pubrec_answered}
 use Rattle.client_base.specs.Handshakes.{takes_in}
 use Rattle.client_base.specs.Handshakes.{is_sent_with}
 use Rattle.exactly_once.specs.Story.{Story, StoryStep}
@@ -70,10 +70,10 @@ stays_taking (deliveries.ExactlyOnce dup id) p side = by (cases_Bool (has_id id 
     by (inr e) = rw e (record { client = refl; name = refl; taken = refl; handled = refl })
 
 -- a PUBREC
-stays_releasing : (id : ℕ) (side : Side) → Stays side (releasing id side)
+stays_releasing : (id : ℕ) (side : Side) → Stays side (pubrec_answered id side)
 stays_releasing id side = by (cases_Bool (is_sent_with id side.keeper.own)) (cases_Bool (has_id id side.keeper.releases))
   where
-    by : (is_sent_with id side.keeper.own ≡ true) ⊎ (is_sent_with id side.keeper.own ≡ false) → (has_id id side.keeper.releases ≡ true) ⊎ (has_id id side.keeper.releases ≡ false) → Stays side (releasing id side)
+    by : (is_sent_with id side.keeper.own ≡ true) ⊎ (is_sent_with id side.keeper.own ≡ false) → (has_id id side.keeper.releases ≡ true) ⊎ (has_id id side.keeper.releases ≡ false) → Stays side (pubrec_answered id side)
     by (inl e) f = rw e (record { client = refl; name = refl; taken = refl; handled = refl })
     by (inr e) (inl f) = rw (e, f) (record { client = refl; name = refl; taken = refl; handled = refl })
     by (inr e) (inr f) = rw (e, f) (record { client = refl; name = refl; taken = refl; handled = refl })
@@ -104,7 +104,7 @@ abbrev pub one_handled : Side → Side
 one_handled side = record side { connection = record side.connection { handled = suc side.connection.handled } }
 
 -- whatever comes
-pub stays_handled : (packet : Packet) (side : Side) → Stays (one_handled side) (handled packet side)
+pub stays_handled : (packet : Packet) (side : Side) → Stays (one_handled side) (packet_handled packet side)
 stays_handled packet side = by side.keeper.is_online
   where
     by : (b : Bool) → Stays (one_handled side) (if b then handled_online packet (one_handled side) else handled_first packet (one_handled side))
@@ -135,7 +135,7 @@ keeps_given limits s t shape h = by h (each_then (ConnectionInShape limits s.pas
         let side : Side = record { keeper = s.keeper; connection = κ } in
         let st = stays_handled packet side in
         let h = within (put_to limits s.past κ.name) κ.handled packet next in (
-          subst (λ (x : _). (handled packet side).connection.handled ≤ length (put_to limits s.past x)) (sym st.name) (subst (λ (n : ℕ). n ≤ length (put_to limits s.past κ.name)) (sym st.handled) h),
+          subst (λ (x : _). (packet_handled packet side).connection.handled ≤ length (put_to limits s.past x)) (sym st.name) (subst (λ (n : ℕ). n ≤ length (put_to limits s.past κ.name)) (sym st.handled) h),
           (subst (Each (IsGiven limits s.past)) e g).1,
         )
     by (opens_anew x fresh put count) g = (omega arith, g)

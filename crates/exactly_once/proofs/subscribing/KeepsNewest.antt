@@ -17,7 +17,7 @@ use Rattle.broker_base.proofs.QuietPasts.{no_connection}
 use Rattle.client_base.specs.Keeper.{Written}
 use Rattle.exactly_once.specs.Sides.{ClientConnection, Side}
 use Rattle.client_base.specs.Written.{plain}
-use Rattle.client_base.specs.Handled.{handled}
+use Rattle.client_base.specs.Handled.{packet_handled}
 use Rattle.exactly_once.specs.Story.{Story, StoryStep}
 use Rattle.exactly_once.specs.StoryCommands.{names_client, command_of, packet_count, with_one_counted}
 use Rattle.client_base.specs.Called.{written_for}
@@ -131,8 +131,8 @@ keeps_newest limits s t shape (others_take command other fresh) =
 keeps_newest limits s t shape (receives κ others packet e is_open next) =
     let side : Side = record { keeper = s.keeper; connection = κ } in
     let st = stays_handled packet side in
-    subst (λ (c : Client). NewestIsServed (current_connection s.past c) ((handled packet side).connection ∷ others)) (sym st.client)
-    (newest_first (current_connection s.past s.keeper.client) κ (handled packet side).connection others st.name st.taken (subst (NewestIsServed (current_connection s.past s.keeper.client)) e shape.newest_is_served))
+    subst (λ (c : Client). NewestIsServed (current_connection s.past c) ((packet_handled packet side).connection ∷ others)) (sym st.client)
+    (newest_first (current_connection s.past s.keeper.client) κ (packet_handled packet side).connection others st.name st.taken (subst (NewestIsServed (current_connection s.past s.keeper.client)) e shape.newest_is_served))
 keeps_newest limits s t shape (opens_anew x fresh put count) =
     newest_new (current_connection s.past s.keeper.client) (new_connection s.keeper.client x) s.connections refl
 keeps_newest limits s t shape loses = shape.newest_is_served

@@ -8,7 +8,7 @@ use Rattle.client_base.specs.lists.Lists.{Each}
 use Rattle.exactly_once.specs.Handshake.{Forward, Backward, Transit}
 use Rattle.client_base.specs.Keeper.{Written, Keeper}
 use Rattle.exactly_once.specs.Sides.{ClientConnection}
-use Rattle.client_base.specs.Connected.{opens}
+use Rattle.client_base.specs.Connected.{opening_connect}
 use Rattle.exactly_once.specs.Inside.Projections.{to_come, to_be_taken}
 use Rattle.exactly_once.specs.Inside.AsSubscriber.{forward_of, backward_of, held, if_taken, left_behind, transit_to}
 use Rattle.exactly_once.specs.Inside.Shape.{NewestIsServed}
@@ -20,7 +20,7 @@ Stands l b =
     (l ≡ Transit.Behind b) ⊎ (((f : List (Forward Publication)) × (l ≡ Transit.Joined f b)) ⊎ ((f : List (Forward Publication)) × (l ≡ Transit.Ahead f) × (b ≡ [])))
 
 -- nothing but a CONNECT is no answer
-only_connect : (c : Client) (n : ℕ) → backward_of (drop n (opens c ∷ [])) ≡ []
+only_connect : (c : Client) (n : ℕ) → backward_of (drop n (opening_connect c ∷ [])) ≡ []
 only_connect c zero = refl
 only_connect c (suc zero) = refl
 only_connect c (suc (suc n)) = refl
@@ -28,7 +28,7 @@ only_connect c (suc (suc n)) = refl
 -- an unconfirmed connection has no answers
 pub unconfirmed_none : (limits : Limits) (past : Past) (c : Client) (κ : ClientConnection) → ConnectionInShape limits past c κ → κ.confirmed ≡ false → backward_of (to_be_taken κ) ≡ []
 unconfirmed_none limits past c κ g e =
-    ap (λ ws. backward_of (drop κ.taken ws)) (g.written ∙ ap (λ (more : List Written). opens c ∷ more) (g.silent e)) ∙ only_connect c κ.taken
+    ap (λ ws. backward_of (drop κ.taken ws)) (g.written ∙ ap (λ (more : List Written). opening_connect c ∷ more) (g.silent e)) ∙ only_connect c κ.taken
 
 -- nothing comes if only unconfirmed connections have the name
 pub nothing_left : (limits : Limits) (past : Past) (c : Client) (x : ConnectionName) (connections : List ClientConnection) → Each (ConnectionInShape limits past c) connections

@@ -11,11 +11,11 @@ use Rattle.broker_base.specs.broker_spec.Past.{current_connection}
 use Rattle.client_base.specs.lists.Lists.{Each}
 use Rattle.exactly_once.specs.Handshake.{Backward, Transit}
 use Rattle.exactly_once.specs.HandshakeSteps.HandshakeRun.{stays}
-use Rattle.client_base.specs.Keeper.{Own, Written, Keeper, ids_in_use, next_number}
+use Rattle.client_base.specs.Keeper.{Own, Written, Keeper, ids_in_use, next_own_number}
 use Rattle.client_base.specs.declared.request.Request.{Request}
 use Rattle.client_base.specs.declared.request.Request.TheVariants as requests
 use Rattle.exactly_once.specs.Sides.{ClientConnection}
-use Rattle.client_base.specs.Written.{plain, publishes, writes}
+use Rattle.client_base.specs.Written.{plain, written_publish, writes}
 use Rattle.exactly_once.specs.Story.{Story}
 use Rattle.client_base.specs.Called.{adds_own, written_for}
 use Rattle.client_base.specs.Written.{writes_first}
@@ -61,7 +61,7 @@ writes_what limits s shape more e own requests =
 publish_none : (p : Publication) (keeper : Keeper) → backward_of (written_for p keeper) ≡ []
 publish_none p keeper = by keeper.is_online
   where
-    by : (b : Bool) → backward_of (if b then publishes false (next_number keeper) (least_free (ids_in_use keeper)) p ∷ [] else []) ≡ []
+    by : (b : Bool) → backward_of (if b then written_publish false (next_own_number keeper) (least_free (ids_in_use keeper)) p ∷ [] else []) ≡ []
     by true = refl
     by false = refl
 

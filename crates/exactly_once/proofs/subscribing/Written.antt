@@ -5,7 +5,7 @@ use Rattle.client_base.specs.packet.declared.packet.Packet.{Packet}
 use Rattle.client_base.specs.packet.declared.packet.Packet.TheVariants as packets
 use Rattle.exactly_once.specs.Handshake.{Backward}
 use Rattle.client_base.specs.Keeper.{Own, Written, Keeper}
-use Rattle.client_base.specs.Written.{plain, sent_again, sent_first, resent}
+use Rattle.client_base.specs.Written.{plain, written_again, written_first, resent_written}
 use Rattle.exactly_once.specs.Inside.AsSubscriber.{backward_of}
 
 -- one packet in front
@@ -54,7 +54,7 @@ no_pubrels [] = refl
 no_pubrels (id ∷ ids) = no_pubrels ids
 
 -- nor is what is sent again
-none_again : (own : List Own) → backward_of (sent_again own) ≡ []
+none_again : (own : List Own) → backward_of (written_again own) ≡ []
 none_again [] = refl
 none_again (Own.Unsent k p id ∷ own) = none_again own
 none_again (Own.Sent k p id ∷ own) = none_again own
@@ -62,7 +62,7 @@ none_again (Own.Released k p id ∷ own) = none_again own
 none_again (Own.Done k p ∷ own) = none_again own
 
 -- or for the first time
-none_first : (own : List Own) → backward_of (sent_first own) ≡ []
+none_first : (own : List Own) → backward_of (written_first own) ≡ []
 none_first [] = refl
 none_first (Own.Unsent k p id ∷ own) = none_first own
 none_first (Own.Sent k p id ∷ own) = none_first own
@@ -74,8 +74,8 @@ none_both : (ws more : List Written) → backward_of ws ≡ [] → backward_of m
 none_both ws more e f = backward_append ws more ∙ ap (λ l. l ++ backward_of more) e ∙ f
 
 -- what is written after a CONNACK has no answers
-pub none_resent : (keeper : Keeper) → backward_of (resent keeper) ≡ []
+pub none_resent : (keeper : Keeper) → backward_of (resent_written keeper) ≡ []
 none_resent keeper =
-    none_both (map (λ id. plain (packets.Pubrel id)) keeper.releases ++ sent_again keeper.own) (sent_first keeper.own)
-    (none_both (map (λ id. plain (packets.Pubrel id)) keeper.releases) (sent_again keeper.own) (no_pubrels keeper.releases) (none_again keeper.own))
+    none_both (map (λ id. plain (packets.Pubrel id)) keeper.releases ++ written_again keeper.own) (written_first keeper.own)
+    (none_both (map (λ id. plain (packets.Pubrel id)) keeper.releases) (written_again keeper.own) (no_pubrels keeper.releases) (none_again keeper.own))
     (none_first keeper.own)

@@ -9,7 +9,7 @@ use Rattle.exactly_once.specs.Sends.{put_to}
 use Rattle.client_base.specs.Keeper.{Written}
 use Rattle.exactly_once.specs.Sides.{ClientConnection}
 use Rattle.exactly_once.specs.StoryCommands.{packet_count}
-use Rattle.client_base.specs.Connected.{opens}
+use Rattle.client_base.specs.Connected.{opening_connect}
 use Rattle.exactly_once.specs.Inside.Projections.{backward_of_own}
 
 -- whether a packet is a CONNACK
@@ -44,7 +44,7 @@ is_two_unnumbered _ _ = false
 pub record ConnectionInShape (limits : Limits) (past : Past) (c : Client)
     (κ : ClientConnection) : Type 0 where
   pub more : List Written
-  pub written : κ.written ≡ opens c ∷ more
+  pub written : κ.written ≡ opening_connect c ∷ more
   pub one_connect : Each (λ w. is_connect w ≡ false) more
   pub silent : κ.confirmed ≡ false → more ≡ []
   pub counted : packet_count κ.name past ≡ κ.taken

@@ -13,9 +13,9 @@ use Rattle.client_base.specs.lists.Lists.{Each}
 use Rattle.exactly_once.specs.Items.{SenderItem}
 use Rattle.exactly_once.specs.Handshake.{Forward, Backward, Handshake}
 use Rattle.exactly_once.specs.HandshakeSteps.Advances.{adds}
-use Rattle.client_base.specs.Keeper.{Own, Keeper, ids_in_use, next_number}
+use Rattle.client_base.specs.Keeper.{Own, Keeper, ids_in_use, next_own_number}
 use Rattle.exactly_once.specs.Sides.{ClientConnection}
-use Rattle.client_base.specs.Written.{publishes}
+use Rattle.client_base.specs.Written.{written_publish}
 use Rattle.client_base.specs.Written.{writes_first}
 use Rattle.client_base.specs.Called.{adds_own, written_for}
 use Rattle.exactly_once.specs.Carried.{is_two}
@@ -69,7 +69,7 @@ writes_none [] = refl
 writes_none (κ ∷ others) = λ i. record κ { written = append-nil κ.written i } ∷ others
 
 -- what is written of it
-forward_one : (n id : ℕ) (p : Publication) → forward_of_own (publishes false n id p ∷ []) ≡ (if is_two p.qos then Forward.Publish id n ∷ [] else [])
+forward_one : (n id : ℕ) (p : Publication) → forward_of_own (written_publish false n id p ∷ []) ≡ (if is_two p.qos then Forward.Publish id n ∷ [] else [])
 forward_one n id p = forward_publishes false n id p []
 
 -- ---- the event
@@ -80,21 +80,21 @@ with_own o keeper = record keeper { own = keeper.own ++ o ∷ [] }
 
 online_one : (limits : Limits) (past : Past) (keeper : Keeper) (connections : List ClientConnection) (p : Publication) (o : Own) → OwnInShape keeper
     → Each (ConnectionInShape limits past keeper.client) connections → HeldInShape limits past keeper connections → keeper.is_online ≡ true
-    → items_of_own (o ∷ []) ≡ (if is_two p.qos then SenderItem.Sent (next_number keeper) (least_free (ids_in_use keeper)) ∷ [] else [])
+    → items_of_own (o ∷ []) ≡ (if is_two p.qos then SenderItem.Sent (next_own_number keeper) (least_free (ids_in_use keeper)) ∷ [] else [])
     → GoesTo (as_publisher limits (story_by past connections keeper))
-    (as_publisher limits (story_by past (writes_first (publishes false (next_number keeper) (least_free (ids_in_use keeper)) p ∷ []) connections) (with_own o keeper)))
+    (as_publisher limits (story_by past (writes_first (written_publish false (next_own_number keeper) (least_free (ids_in_use keeper)) p ∷ []) connections) (with_own o keeper)))
 online_one limits past keeper [] p o own each held on item =
     let h = as_publisher limits (story_by past [] keeper) in
     let id = least_free (ids_in_use keeper) in
-    let n = next_number keeper in
+    let n = next_own_number keeper in
     goes_of h (as_publisher limits (story_by past [] (with_own o keeper))) (h.items ++ (if is_two p.qos then SenderItem.Sent n id ∷ [] else [])) h.transit
     (runs_online h false (is_two p.qos) [] [] keeper n refl (own.online_sent on) refl)
     (ap (λ l. items_of_own keeper.own ++ l) (sym item) ∙ sym (items_more keeper.own (o ∷ []))) refl (λ j. refl) refl
 online_one limits past keeper (κ ∷ others) p o own each held on item =
     let h = as_publisher limits (story_by past (κ ∷ others) keeper) in
     let id = least_free (ids_in_use keeper) in
-    let n = next_number keeper in
-    let ws = publishes false n id p ∷ [] in
+    let n = next_own_number keeper in
+    let ws = written_publish false n id p ∷ [] in
     let holds = holds_of limits past keeper κ others each held in
     let cur = is_current (current_connection past keeper.client) κ.name in
     let f = forward_of_own (to_be_taken κ) in
@@ -107,11 +107,11 @@ online_one limits past keeper (κ ∷ others) p o own each held on item =
     (ap (λ l. items_of_own keeper.own ++ l) (sym item) ∙ sym (items_more keeper.own (o ∷ []))) (ap (λ l. f ++ l) (sym (forward_one n id p))) refl
 
 offline_one : (limits : Limits) (past : Past) (keeper : Keeper) (connections : List ClientConnection) (p : Publication) (o : Own)
-    → items_of_own (o ∷ []) ≡ (if is_two p.qos then SenderItem.Waits (next_number keeper) ∷ [] else [])
+    → items_of_own (o ∷ []) ≡ (if is_two p.qos then SenderItem.Waits (next_own_number keeper) ∷ [] else [])
     → GoesTo (as_publisher limits (story_by past connections keeper)) (as_publisher limits (story_by past (writes_first [] connections) (with_own o keeper)))
 offline_one limits past keeper connections p o item =
     let h = as_publisher limits (story_by past connections keeper) in
-    let n = next_number keeper in
+    let n = next_own_number keeper in
     subst (λ (later : List ClientConnection). GoesTo h (as_publisher limits (story_by past later (with_own o keeper)))) (sym (writes_none connections))
     (goes_of h (as_publisher limits (story_by past connections (with_own o keeper))) (h.items ++ (if is_two p.qos then SenderItem.Waits n ∷ [] else [])) h.transit (runs_offline h (is_two p.qos) n)
     (ap (λ l. items_of_own keeper.own ++ l) (sym item) ∙ sym (items_more keeper.own (o ∷ []))) refl (λ j. refl) refl)
@@ -125,14 +125,14 @@ publishes_it limits past keeper connections p own each held needs = by (cases_Bo
     id = least_free (ids_in_use keeper)
 
     n : ℕ
-    n = next_number keeper
+    n = next_own_number keeper
 
     h : Handshake ℕ
     h = as_publisher limits (story_by past connections keeper)
 
     after : Bool → Bool → Handshake ℕ
     after on answered =
-        as_publisher limits (story_by past (writes_first (if on then publishes false n id p ∷ [] else []) connections)
+        as_publisher limits (story_by past (writes_first (if on then written_publish false n id p ∷ [] else []) connections)
         (with_own (if answered then (if on then Own.Sent n p id else Own.Unsent n p id) else Own.Done n p) keeper))
 
     by : (keeper.is_online ≡ true) ⊎ (keeper.is_online ≡ false) → (is_answered p.qos ≡ true) ⊎ (is_answered p.qos ≡ false) → GoesTo h (after keeper.is_online (is_answered p.qos))

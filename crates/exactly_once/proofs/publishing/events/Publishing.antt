@@ -10,7 +10,7 @@ use Rattle.exactly_once.specs.Sends.{put_to}
 use Rattle.exactly_once.specs.Sides.{ClientConnection}
 use Rattle.client_base.specs.declared.request.Request.TheVariants as requests
 use Rattle.client_base.specs.Written.{plain}
-use Rattle.client_base.specs.Handled.{handled}
+use Rattle.client_base.specs.Handled.{packet_handled}
 use Rattle.exactly_once.specs.Story.{Story, with_side}
 use Rattle.exactly_once.specs.Story.StoryStep.{takes, others_take, receives, opens_anew, loses, disconnects, publishes_one, subscribes, unsubscribes}
 use Rattle.exactly_once.specs.Inside.Projections.{as_publisher, GoesTo}
@@ -27,10 +27,10 @@ use Rattle.exactly_once.proofs.publishing.events.Others.{others_take_it}
 receives_there : (limits : Limits) (s : Story) (connections others : List ClientConnection) (κ : ClientConnection) (packet : Packet) → connections ≡ κ ∷ others → HasShape limits (record s { connections = connections })
     → IsGood (as_publisher limits (record s { connections = connections })) → s.keeper.is_open ≡ true → slice_get (put_to limits s.past κ.name) κ.handled ≡ Some packet
     → GoesTo (as_publisher limits (record s { connections = connections }))
-    (as_publisher limits (with_side s others (handled packet (record { keeper = s.keeper; connection = κ }))))
+    (as_publisher limits (with_side s others (packet_handled packet (record { keeper = s.keeper; connection = κ }))))
 receives_there limits s connections others κ packet are shape good opened next =
     subst (λ (cs : List ClientConnection). GoesTo (as_publisher limits (record s { connections = cs }))
-    (as_publisher limits (with_side s others (handled packet (record { keeper = s.keeper; connection = κ }))))) (sym are)
+    (as_publisher limits (with_side s others (packet_handled packet (record { keeper = s.keeper; connection = κ }))))) (sym are)
     (receives_it limits s.past s.keeper κ others packet shape.own
     (subst (λ (cs : List ClientConnection). Each (ConnectionInShape limits s.past s.keeper.client) cs) are shape.connections)
     (subst (λ (cs : List ClientConnection). HeldInShape limits s.past s.keeper cs) are shape.held) opened next

@@ -13,7 +13,7 @@ use Rattle.exactly_once.specs.HandshakeInvariant.{IsGood}
 use Rattle.exactly_once.specs.Sends.{put_to}
 use Rattle.exactly_once.specs.Sides.{ClientConnection}
 use Rattle.client_base.specs.Keeper.{Keeper}
-use Rattle.client_base.specs.Handled.{lost, handled, handled_first, handled_online}
+use Rattle.client_base.specs.Handled.{lost, packet_handled, handled_first, handled_online}
 use Rattle.exactly_once.specs.Story.{with_side}
 use Rattle.exactly_once.specs.Inside.Projections.{last_confirmed, as_publisher, GoesTo}
 use Rattle.exactly_once.specs.Inside.Shape.{OwnInShape, HeldInShape}
@@ -57,7 +57,7 @@ pub receives_it : (limits : Limits) (past : Past) (keeper : Keeper) (κ : Client
     → Each (ConnectionInShape limits past keeper.client) (κ ∷ others) → HeldInShape limits past keeper (κ ∷ others) → keeper.is_open ≡ true
     → slice_get (put_to limits past κ.name) κ.handled ≡ Some packet → IsGood (as_publisher limits (story_by past (κ ∷ others) keeper))
     → GoesTo (as_publisher limits (story_by past (κ ∷ others) keeper))
-    (as_publisher limits (with_side (story_by past (κ ∷ others) keeper) others (handled packet (record { keeper = keeper; connection = κ }))))
+    (as_publisher limits (with_side (story_by past (κ ∷ others) keeper) others (packet_handled packet (record { keeper = keeper; connection = κ }))))
 receives_it limits past keeper κ others packet own each held opened next good = by (cases_Bool keeper.is_online)
   where
     h : Handshake ℕ

@@ -15,7 +15,7 @@ use Rattle.exactly_once.specs.Sends.{put_to}
 use Rattle.client_base.specs.Keeper.{Written, Keeper}
 use Rattle.exactly_once.specs.Sides.{ClientConnection}
 use Rattle.exactly_once.specs.StoryCommands.{with_one_counted, command_of}
-use Rattle.client_base.specs.Connected.{opens}
+use Rattle.client_base.specs.Connected.{opening_connect}
 use Rattle.exactly_once.specs.Inside.Projections.{last_confirmed, as_publisher, GoesTo}
 use Rattle.exactly_once.specs.Inside.Shape.{HasShape}
 use Rattle.exactly_once.specs.Inside.ConnectionShape.{ConnackFirst, ConnectionInShape}
@@ -131,8 +131,8 @@ pub takes_connect : (limits : Limits) (past : Past) (keeper : Keeper) (connectio
     (as_publisher limits (story_by (place_of limits past (command_of κ.name 0 w.packet) ∷ past) (with_one_counted i connections) keeper))
 takes_connect limits past keeper connections i κ w shape stands next none =
     let this = each_there (ConnectionInShape limits past keeper.client) i connections κ stands shape.connections in
-    let first : Some (opens keeper.client) ≡ Some w = sym (ap (λ ws. slice_get ws 0) this.written) ∙ next in
-    let same : opens keeper.client ≡ w = cc in
+    let first : Some (opening_connect keeper.client) ≡ Some w = sym (ap (λ ws. slice_get ws 0) this.written) ∙ next in
+    let same : opening_connect keeper.client ≡ w = cc in
     subst (λ (v : Written). GoesTo (as_publisher limits (story_by past connections keeper))
     (as_publisher limits (story_by (place_of limits past (command_of κ.name 0 v.packet) ∷ past) (with_one_counted i connections) keeper))) same
     (takes_opening limits past keeper connections i κ shape stands none)

@@ -16,7 +16,7 @@ use Rattle.exactly_once.specs.Handshake.{Forward}
 use Rattle.client_base.specs.Keeper.{Written, Keeper}
 use Rattle.exactly_once.specs.Sides.{ClientConnection}
 use Rattle.exactly_once.specs.StoryCommands.{with_one_counted}
-use Rattle.client_base.specs.Connected.{opens}
+use Rattle.client_base.specs.Connected.{opening_connect}
 use Rattle.exactly_once.specs.Inside.Projections.{forward_of_one, last_confirmed, as_publisher, GoesTo}
 use Rattle.exactly_once.specs.Inside.Shape.{HasShape, LastIsCurrent}
 use Rattle.exactly_once.specs.Inside.ConnectionShape.{ConnectionInShape, is_two_unnumbered}
@@ -93,7 +93,7 @@ confirmed_there limits past c κ n w shape next = by (cases_Bool κ.confirmed)
     by : (κ.confirmed ≡ true) ⊎ (κ.confirmed ≡ false) → κ.confirmed ≡ true
     by (inl e) = e
     by (inr e) =
-        let one : slice_get (opens c ∷ []) (suc n) ≡ Some w = sym (ap (λ ws. slice_get ws (suc n)) (shape.written ∙ ap (λ ws. opens c ∷ ws) (shape.silent e))) ∙ next in
+        let one : slice_get (opening_connect c ∷ []) (suc n) ≡ Some w = sym (ap (λ ws. slice_get ws (suc n)) (shape.written ∙ ap (λ ws. opening_connect c ∷ ws) (shape.silent e))) ∙ next in
         cc
 
 -- what is given of the current connection

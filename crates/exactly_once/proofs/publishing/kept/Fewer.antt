@@ -5,7 +5,7 @@ use Rattle.client_base.specs.session_base.Publication.{is_acknowledged}
 use Rattle.client_base.proofs.of_lists.Tests.{or_none, none_or}
 use Rattle.client_base.specs.Keeper.{Own, ids_of_own}
 use Rattle.client_base.specs.declared.request.Request.{Request}
-use Rattle.client_base.specs.Handshakes.{at_puback, at_pubrec, at_pubcomp}
+use Rattle.client_base.specs.Handshakes.{own_at_puback, own_at_pubrec, own_at_pubcomp}
 use Rattle.client_base.specs.State.{id_of_request}
 
 -- the first ones are among the second ones, in order
@@ -36,38 +36,38 @@ fewer_distinct xs ys (IsFewer.skips {x = x} {ys = qs} f) d = fewer_distinct xs q
 
 -- ---- what the answers leave
 
-pub fewer_puback : (i : ℕ) (own : List Own) → IsFewer (ids_of_own (map (at_puback i) own)) (ids_of_own own)
+pub fewer_puback : (i : ℕ) (own : List Own) → IsFewer (ids_of_own (map (own_at_puback i) own)) (ids_of_own own)
 fewer_puback i [] = IsFewer.none
 fewer_puback i (Own.Unsent k p id ∷ own) = IsFewer.keeps (fewer_puback i own)
 fewer_puback i (Own.Sent k p id ∷ own) = by ((i == id) && is_acknowledged p.qos) (fewer_puback i own)
   where
-    by : (b : Bool) → IsFewer (ids_of_own (map (at_puback i) own)) (ids_of_own own)
-        → IsFewer (ids_of_own ((if b then Own.Done k p else Own.Sent k p id) ∷ map (at_puback i) own)) (id ∷ ids_of_own own)
+    by : (b : Bool) → IsFewer (ids_of_own (map (own_at_puback i) own)) (ids_of_own own)
+        → IsFewer (ids_of_own ((if b then Own.Done k p else Own.Sent k p id) ∷ map (own_at_puback i) own)) (id ∷ ids_of_own own)
     by true ih = IsFewer.skips ih
     by false ih = IsFewer.keeps ih
 fewer_puback i (Own.Released k p id ∷ own) = IsFewer.keeps (fewer_puback i own)
 fewer_puback i (Own.Done k p ∷ own) = fewer_puback i own
 
-pub fewer_pubrec : (i : ℕ) (own : List Own) → IsFewer (ids_of_own (map (at_pubrec i) own)) (ids_of_own own)
+pub fewer_pubrec : (i : ℕ) (own : List Own) → IsFewer (ids_of_own (map (own_at_pubrec i) own)) (ids_of_own own)
 fewer_pubrec i [] = IsFewer.none
 fewer_pubrec i (Own.Unsent k p id ∷ own) = IsFewer.keeps (fewer_pubrec i own)
 fewer_pubrec i (Own.Sent k p id ∷ own) = by ((i == id) && not (is_acknowledged p.qos)) (fewer_pubrec i own)
   where
-    by : (b : Bool) → IsFewer (ids_of_own (map (at_pubrec i) own)) (ids_of_own own)
-        → IsFewer (ids_of_own ((if b then Own.Released k p id else Own.Sent k p id) ∷ map (at_pubrec i) own)) (id ∷ ids_of_own own)
+    by : (b : Bool) → IsFewer (ids_of_own (map (own_at_pubrec i) own)) (ids_of_own own)
+        → IsFewer (ids_of_own ((if b then Own.Released k p id else Own.Sent k p id) ∷ map (own_at_pubrec i) own)) (id ∷ ids_of_own own)
     by true ih = IsFewer.keeps ih
     by false ih = IsFewer.keeps ih
 fewer_pubrec i (Own.Released k p id ∷ own) = IsFewer.keeps (fewer_pubrec i own)
 fewer_pubrec i (Own.Done k p ∷ own) = fewer_pubrec i own
 
-pub fewer_pubcomp : (i : ℕ) (own : List Own) → IsFewer (ids_of_own (map (at_pubcomp i) own)) (ids_of_own own)
+pub fewer_pubcomp : (i : ℕ) (own : List Own) → IsFewer (ids_of_own (map (own_at_pubcomp i) own)) (ids_of_own own)
 fewer_pubcomp i [] = IsFewer.none
 fewer_pubcomp i (Own.Unsent k p id ∷ own) = IsFewer.keeps (fewer_pubcomp i own)
 fewer_pubcomp i (Own.Sent k p id ∷ own) = IsFewer.keeps (fewer_pubcomp i own)
 fewer_pubcomp i (Own.Released k p id ∷ own) = by (i == id) (fewer_pubcomp i own)
   where
-    by : (b : Bool) → IsFewer (ids_of_own (map (at_pubcomp i) own)) (ids_of_own own)
-        → IsFewer (ids_of_own ((if b then Own.Done k p else Own.Released k p id) ∷ map (at_pubcomp i) own)) (id ∷ ids_of_own own)
+    by : (b : Bool) → IsFewer (ids_of_own (map (own_at_pubcomp i) own)) (ids_of_own own)
+        → IsFewer (ids_of_own ((if b then Own.Done k p else Own.Released k p id) ∷ map (own_at_pubcomp i) own)) (id ∷ ids_of_own own)
     by true ih = IsFewer.skips ih
     by false ih = IsFewer.keeps ih
 fewer_pubcomp i (Own.Done k p ∷ own) = fewer_pubcomp i own

@@ -8,7 +8,7 @@ use Rattle.client_base.proofs.of_lists.Identifiers.{has_append, distinct_front, 
 use Rattle.exactly_once.proofs.BusyIdentifiers.{sent_not_released}
 use Rattle.client_base.specs.Keeper.{Own, Keeper, ids_of_own, ids_in_use}
 use Rattle.client_base.specs.State.{id_of_request}
-use Rattle.client_base.specs.Handshakes.{at_puback, at_pubrec, at_pubcomp}
+use Rattle.client_base.specs.Handshakes.{own_at_puback, own_at_pubrec, own_at_pubcomp}
 use Rattle.client_base.specs.session_base.Identifiers.{without_id}
 use Rattle.exactly_once.specs.Inside.Projections.{items_of_own}
 use Rattle.exactly_once.specs.Inside.Shape.{OwnInShape, none_unsent}
@@ -46,19 +46,19 @@ either_sent : (b : Bool) (x y : Own) → none_unsent (x ∷ []) ≡ true → non
 either_sent true x y e f = e
 either_sent false x y e f = f
 
-puback_sent : (i : ℕ) (o : Own) → none_unsent (o ∷ []) ≡ true → none_unsent (at_puback i o ∷ []) ≡ true
+puback_sent : (i : ℕ) (o : Own) → none_unsent (o ∷ []) ≡ true → none_unsent (own_at_puback i o ∷ []) ≡ true
 puback_sent i (Own.Sent k p id) e = either_sent ((i == id) && is_acknowledged p.qos) (Own.Done k p) (Own.Sent k p id) refl refl
 puback_sent i (Own.Unsent k p id) e = e
 puback_sent i (Own.Released k p id) e = e
 puback_sent i (Own.Done k p) e = e
 
-pubrec_sends : (i : ℕ) (o : Own) → none_unsent (o ∷ []) ≡ true → none_unsent (at_pubrec i o ∷ []) ≡ true
+pubrec_sends : (i : ℕ) (o : Own) → none_unsent (o ∷ []) ≡ true → none_unsent (own_at_pubrec i o ∷ []) ≡ true
 pubrec_sends i (Own.Sent k p id) e = either_sent ((i == id) && not (is_acknowledged p.qos)) (Own.Released k p id) (Own.Sent k p id) refl refl
 pubrec_sends i (Own.Unsent k p id) e = e
 pubrec_sends i (Own.Released k p id) e = e
 pubrec_sends i (Own.Done k p) e = e
 
-pubcomp_sent : (i : ℕ) (o : Own) → none_unsent (o ∷ []) ≡ true → none_unsent (at_pubcomp i o ∷ []) ≡ true
+pubcomp_sent : (i : ℕ) (o : Own) → none_unsent (o ∷ []) ≡ true → none_unsent (own_at_pubcomp i o ∷ []) ≡ true
 pubcomp_sent i (Own.Released k p id) e = either_sent (i == id) (Own.Done k p) (Own.Released k p id) refl refl
 pubcomp_sent i (Own.Unsent k p id) e = e
 pubcomp_sent i (Own.Sent k p id) e = e
@@ -70,37 +70,37 @@ fewer_own keeper own f s =
     fewer_distinct (ids_of_own own ++ map id_of_request keeper.requests) (ids_in_use keeper)
     (fewer_both (ids_of_own own) (ids_of_own keeper.own) (map id_of_request keeper.requests) (map id_of_request keeper.requests) f (fewer_itself (map id_of_request keeper.requests))) s.ids_apart
 
-pub puback_keeps : (keeper : Keeper) (i : ℕ) → OwnInShape keeper → OwnInShape (record keeper { own = map (at_puback i) keeper.own })
+pub puback_keeps : (keeper : Keeper) (i : ℕ) → OwnInShape keeper → OwnInShape (record keeper { own = map (own_at_puback i) keeper.own })
 puback_keeps keeper i s =
     record {
-      ids_apart = fewer_own keeper (map (at_puback i) keeper.own) (fewer_puback i keeper.own) s;
+      ids_apart = fewer_own keeper (map (own_at_puback i) keeper.own) (fewer_puback i keeper.own) s;
       numbered = numbered_puback i (length keeper.earlier) keeper.own s.numbered;
       releases_apart = s.releases_apart;
       releases_are = λ j. s.releases_are j ∙ ap (has_released j) (sym (items_acknowledged i keeper.own));
-      online_sent = λ on. unsent_by (at_puback i) keeper.own (puback_sent i) (s.online_sent on);
+      online_sent = λ on. unsent_by (own_at_puback i) keeper.own (puback_sent i) (s.online_sent on);
     }
 
-pub pubcomp_keeps : (keeper : Keeper) (i : ℕ) → OwnInShape keeper → OwnInShape (record keeper { own = map (at_pubcomp i) keeper.own; releases = without_id i keeper.releases })
+pub pubcomp_keeps : (keeper : Keeper) (i : ℕ) → OwnInShape keeper → OwnInShape (record keeper { own = map (own_at_pubcomp i) keeper.own; releases = without_id i keeper.releases })
 pubcomp_keeps keeper i s =
     record {
-      ids_apart = fewer_own keeper (map (at_pubcomp i) keeper.own) (fewer_pubcomp i keeper.own) s;
+      ids_apart = fewer_own keeper (map (own_at_pubcomp i) keeper.own) (fewer_pubcomp i keeper.own) s;
       numbered = numbered_pubcomp i (length keeper.earlier) keeper.own s.numbered;
       releases_apart = fewer_distinct (without_id i keeper.releases) keeper.releases (fewer_filtered (λ other. not (i == other)) keeper.releases) s.releases_apart;
       releases_are = λ j. has_without j i keeper.releases ∙ ap (λ b. not (j == i) && b) (s.releases_are j) ∙ sym (released_finished j i (items_of_own keeper.own))
           ∙ ap (has_released j) (sym (items_finished i keeper.own));
-      online_sent = λ on. unsent_by (at_pubcomp i) keeper.own (pubcomp_sent i) (s.online_sent on);
+      online_sent = λ on. unsent_by (own_at_pubcomp i) keeper.own (pubcomp_sent i) (s.online_sent on);
     }
 
 pub pubrec_keeps : (keeper : Keeper) (i : ℕ) → OwnInShape keeper → has_sent i (items_of_own keeper.own) ≡ true → IsDistinct (busy (items_of_own keeper.own))
-    → OwnInShape (record keeper { own = map (at_pubrec i) keeper.own; releases = keeper.releases ++ i ∷ [] })
+    → OwnInShape (record keeper { own = map (own_at_pubrec i) keeper.own; releases = keeper.releases ++ i ∷ [] })
 pubrec_keeps keeper i s has apart =
     let items = items_of_own keeper.own in
     let ids = distinct_front (ids_of_own keeper.own) (map id_of_request keeper.requests) (s.ids_apart) in
     record {
-      ids_apart = fewer_own keeper (map (at_pubrec i) keeper.own) (fewer_pubrec i keeper.own) s;
+      ids_apart = fewer_own keeper (map (own_at_pubrec i) keeper.own) (fewer_pubrec i keeper.own) s;
       numbered = numbered_pubrec i (length keeper.earlier) keeper.own s.numbered ids (inl has);
       releases_apart = (distinct_push keeper.releases i (s.releases_apart) (s.releases_are i ∙ sent_not_released i items apart has));
       releases_are = λ j. has_append j keeper.releases (i ∷ [])
           ∙ ap (λ b. b || ((j == i) || false)) (s.releases_are j) ∙ released_more j i items has ∙ ap (has_released j) (sym (items_released i keeper.own));
-      online_sent = λ on. unsent_by (at_pubrec i) keeper.own (pubrec_sends i) (s.online_sent on);
+      online_sent = λ on. unsent_by (own_at_pubrec i) keeper.own (pubrec_sends i) (s.online_sent on);
     }

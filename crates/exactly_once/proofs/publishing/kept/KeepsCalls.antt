@@ -14,12 +14,12 @@ use Rattle.exactly_once.specs.Items.{SenderItem, has_released}
 use Rattle.exactly_once.specs.HandshakeInvariant.{IsGood}
 use Rattle.client_base.proofs.of_lists.Identifiers.{has_split, distinct_insert, distinct_push}
 use Rattle.exactly_once.specs.Sends.{put_to}
-use Rattle.client_base.specs.Keeper.{Own, Keeper, ids_of_own, ids_in_use, next_number}
+use Rattle.client_base.specs.Keeper.{Own, Keeper, ids_of_own, ids_in_use, next_own_number}
 use Rattle.client_base.specs.declared.request.Request.{Request}
 use Rattle.client_base.specs.declared.request.Request.TheVariants as requests
 use Rattle.exactly_once.specs.Sides.{ClientConnection}
 use Rattle.client_base.specs.State.{id_of_request}
-use Rattle.client_base.specs.Handled.{handled}
+use Rattle.client_base.specs.Handled.{packet_handled}
 use Rattle.exactly_once.specs.Story.{Story, StoryStep}
 use Rattle.client_base.specs.Called.{adds_own}
 use Rattle.exactly_once.specs.Story.StoryStep.{takes, others_take, receives, opens_anew, loses, disconnects, publishes_one, subscribes, unsubscribes}
@@ -36,7 +36,7 @@ use Rattle.exactly_once.proofs.publishing.kept.KeepsPackets.{receives_keeps}
 -- a publication with the next number, whose identifiers are the free one or none, and that is not released
 pub record IsNext (keeper : Keeper) (o : Own) : Type 0 where
   pub ids : (ids_of_own (o ∷ []) ≡ least_free (ids_in_use keeper) ∷ []) ⊎ (ids_of_own (o ∷ []) ≡ [])
-  pub numbered : AreNumberedFrom (next_number keeper) (o ∷ [])
+  pub numbered : AreNumberedFrom (next_own_number keeper) (o ∷ [])
   pub unreleased : (j : ℕ) → has_released j (items_of_own (o ∷ [])) ≡ false
   pub online_sent : keeper.is_online ≡ true → none_unsent (o ∷ []) ≡ true
 
@@ -75,7 +75,7 @@ publishes_keeps keeper p s = by keeper.is_online refl (is_answered p.qos)
     id = least_free (ids_in_use keeper)
 
     n : ℕ
-    n = next_number keeper
+    n = next_own_number keeper
 
     same : n ≡ n
     same = refl
@@ -113,7 +113,7 @@ asks_keeps keeper r e s =
 
 receives_there : (limits : Limits) (s : Story) (connections others : List ClientConnection) (κ : ClientConnection) (packet : Packet) → connections ≡ κ ∷ others → HasShape limits (record s { connections = connections })
     → IsGood (as_publisher limits (record s { connections = connections })) → s.keeper.is_open ≡ true → slice_get (put_to limits s.past κ.name) κ.handled ≡ Some packet
-    → OwnInShape (handled packet (record { keeper = s.keeper; connection = κ })).keeper
+    → OwnInShape (packet_handled packet (record { keeper = s.keeper; connection = κ })).keeper
 receives_there limits s connections others κ packet are shape good opened next =
     receives_keeps limits s.past s.keeper κ others packet shape.own (subst (λ (cs : List ClientConnection). HeldInShape limits s.past s.keeper cs) are shape.held) opened next
     (subst (λ (cs : List ClientConnection). IsGood (as_publisher limits (record s { connections = cs }))) are good)

@@ -13,7 +13,7 @@ use Rattle.client_base.specs.lists.Lists.{Each}
 use Rattle.client_base.specs.Keeper.{Written}
 use Rattle.exactly_once.specs.Sides.{ClientConnection}
 use Rattle.client_base.specs.Written.{plain}
-use Rattle.client_base.specs.Handled.{handled}
+use Rattle.client_base.specs.Handled.{packet_handled}
 use Rattle.exactly_once.specs.Story.{Story, StoryStep}
 use Rattle.exactly_once.specs.StoryCommands.{is_packet_of, packet_count, with_one_counted, command_of, any_named}
 use Rattle.client_base.specs.Written.{writes_first}
@@ -95,7 +95,7 @@ events_keep_counts limits s t apart rows (takes i κ w stands next) =
 events_keep_counts limits s t apart rows (others_take command other none) = each_stays (place_of limits s.past command) s.past s.connections none rows
 events_keep_counts limits s t apart rows (receives κ others packet are opened next) =
     let mine = subst (Each (CountsOf s.past)) are rows in
-    (counts_grown s.past κ (handled packet (record { keeper = s.keeper; connection = κ })).connection (suc κ.handled) (handled_grows κ s.keeper packet) mine.0, mine.1)
+    (counts_grown s.past κ (packet_handled packet (record { keeper = s.keeper; connection = κ })).connection (suc κ.handled) (handled_grows κ s.keeper packet) mine.0, mine.1)
 events_keep_counts limits s t apart rows (opens_anew x fresh none uncounted) = (record { counted = uncounted; within = omega arith }, rows)
 events_keep_counts limits s t apart rows loses = rows
 events_keep_counts limits s t apart rows disconnects = by s.keeper.is_online

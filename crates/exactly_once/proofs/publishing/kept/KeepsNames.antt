@@ -17,7 +17,7 @@ use Rattle.client_base.specs.Written.{plain}
 use Rattle.exactly_once.specs.Story.{Story, StoryStep}
 use Rattle.exactly_once.specs.StoryCommands.{any_named, with_one_counted, command_of, names_client}
 use Rattle.client_base.specs.Called.{written_for}
-use Rattle.client_base.specs.Connected.{opens}
+use Rattle.client_base.specs.Connected.{opening_connect}
 use Rattle.client_base.specs.Written.{writes_first}
 use Rattle.exactly_once.specs.Story.StoryStep.{takes, others_take, receives, opens_anew, loses, disconnects, publishes_one, subscribes, unsubscribes}
 use Rattle.exactly_once.specs.Inside.Shape.{NamesApart, IsSoundStory}
@@ -88,8 +88,8 @@ kept_packet x n _ c mark opened e = cc
 kept_taken : (limits : Limits) (past : Past) (c : Client) (κ : ClientConnection) (w : Written) (n : ℕ) (mark : Mark) → ConnectionInShape limits past c κ → slice_get κ.written n ≡ Some w
     → OpensKept c (record { command = command_of κ.name n w.packet; mark = mark })
 kept_taken limits past c κ w zero mark shape next =
-    let first : Some (opens c) ≡ Some w = sym (ap (λ ws. slice_get ws 0) shape.written) ∙ next in
-    let same : opens c ≡ w = cc in
+    let first : Some (opening_connect c) ≡ Some w = sym (ap (λ ws. slice_get ws 0) shape.written) ∙ next in
+    let same : opening_connect c ≡ w = cc in
     subst (λ (v : Written). OpensKept c (record { command = command_of κ.name 0 v.packet; mark = mark })) same (kept_connect κ.name c c mark)
 kept_taken limits past c κ w (suc n) mark shape next = kept_packet κ.name n w.packet c mark
 

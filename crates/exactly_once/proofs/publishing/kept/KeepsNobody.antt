@@ -18,7 +18,7 @@ use Rattle.client_base.specs.Written.{plain}
 use Rattle.exactly_once.specs.Story.{Story, StoryStep}
 use Rattle.exactly_once.specs.StoryCommands.{any_named, is_packet_of, packet_count, with_one_counted, command_of}
 use Rattle.client_base.specs.Called.{written_for}
-use Rattle.client_base.specs.Connected.{opens, new_connection}
+use Rattle.client_base.specs.Connected.{opening_connect, new_connection}
 use Rattle.client_base.specs.Written.{writes_first}
 use Rattle.exactly_once.specs.Story.StoryStep.{takes, others_take, receives, opens_anew, loses, disconnects, publishes_one, subscribes, unsubscribes}
 use Rattle.exactly_once.specs.Inside.Shape.{IsSoundStory}
@@ -63,8 +63,8 @@ own_packet x n _ c connections mark d opened e named = cc
 own_taken : (limits : Limits) (past : Past) (c : Client) (connections : List ClientConnection) (κ : ClientConnection) (w : Written) (n : ℕ) (mark : Mark) → ConnectionInShape limits past c κ
     → slice_get κ.written n ≡ Some w → OpensOwn c connections (record { command = command_of κ.name n w.packet; mark = mark })
 own_taken limits past c connections κ w zero mark shape next =
-    let first : Some (opens c) ≡ Some w = sym (ap (λ ws. slice_get ws 0) shape.written) ∙ next in
-    let same : opens c ≡ w = cc in
+    let first : Some (opening_connect c) ≡ Some w = sym (ap (λ ws. slice_get ws 0) shape.written) ∙ next in
+    let same : opening_connect c ≡ w = cc in
     subst (λ (v : Written). OpensOwn c connections (record { command = command_of κ.name 0 v.packet; mark = mark })) same (own_connect κ.name c connections false mark)
 own_taken limits past c connections κ w (suc n) mark shape next = own_packet κ.name n w.packet c connections mark
 

@@ -19,8 +19,8 @@ use Rattle.exactly_once.specs.Sends.{put_to}
 use Rattle.exactly_once.specs.Sides.{ClientConnection}
 use Rattle.client_base.specs.Keeper.{Keeper}
 use Rattle.client_base.specs.Written.{plain, writing}
-use Rattle.client_base.specs.Handled.{not_subscribes, not_unsubscribes, handled, handled_online, handled_first}
-use Rattle.client_base.specs.Handshakes.{at_pubrec, is_sent_with, takes_in, releasing}
+use Rattle.client_base.specs.Handled.{not_subscribes, not_unsubscribes, packet_handled, handled_online, handled_first}
+use Rattle.client_base.specs.Handshakes.{own_at_pubrec, is_sent_with, takes_in, pubrec_answered}
 use Rattle.exactly_once.specs.Inside.Projections.{items_of_own, forward_of_own, backward_of_own, to_be_taken, is_current, as_publisher}
 use Rattle.exactly_once.specs.Inside.Shape.{OwnInShape, HeldInShape}
 use Rattle.exactly_once.proofs.publishing.Written.{dropped_next}
@@ -44,11 +44,11 @@ publish_keeps keeper κ (deliveries.ExactlyOnce dup id) p s = by (has_id id keep
     by false = received_keeps keeper (id ∷ keeper.received) s
 
 releasing_keeps : (keeper : Keeper) (κ : ClientConnection) (i : ℕ) → OwnInShape keeper → has_sent i (items_of_own keeper.own) ≡ true → IsDistinct (busy (items_of_own keeper.own))
-    → OwnInShape (releasing i (counted_side keeper κ)).keeper
+    → OwnInShape (pubrec_answered i (counted_side keeper κ)).keeper
 releasing_keeps keeper κ i s has apart = by (is_sent_with i keeper.own) (has_id i keeper.releases)
   where
     by : (b r : Bool) → OwnInShape (if b then writing (plain (packets.Pubrel i) ∷ [])
-        (counted_side (record keeper { own = map (at_pubrec i) keeper.own; releases = keeper.releases ++ i ∷ [] }) κ)
+        (counted_side (record keeper { own = map (own_at_pubrec i) keeper.own; releases = keeper.releases ++ i ∷ [] }) κ)
         else if r then writing (plain (packets.Pubrel i) ∷ []) (counted_side keeper κ) else counted_side keeper κ).keeper
     by true r = pubrec_keeps keeper i s has apart
     by false true = s
@@ -83,7 +83,7 @@ pubrec_due limits past keeper κ others i on conf next good =
 
 pub receives_keeps : (limits : Limits) (past : Past) (keeper : Keeper) (κ : ClientConnection) (others : List ClientConnection) (packet : Packet) → OwnInShape keeper → HeldInShape limits past keeper (κ ∷ others)
     → keeper.is_open ≡ true → slice_get (put_to limits past κ.name) κ.handled ≡ Some packet → IsGood (as_publisher limits (story_by past (κ ∷ others) keeper))
-    → OwnInShape (handled packet (record { keeper = keeper; connection = κ })).keeper
+    → OwnInShape (packet_handled packet (record { keeper = keeper; connection = κ })).keeper
 receives_keeps limits past keeper κ others packet s held opened next good = by (cases_Bool keeper.is_online)
   where
     after : Bool → Keeper

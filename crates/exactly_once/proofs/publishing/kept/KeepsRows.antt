@@ -11,10 +11,10 @@ use Rattle.broker_base.specs.broker_spec.AnswersInOrder.{answers_at}
 use Rattle.client_base.specs.lists.Lists.{Each}
 use Rattle.client_base.proofs.of_lists.OfEach.{each_append, each_then}
 use Rattle.exactly_once.specs.Sends.{sends_to, put_to}
-use Rattle.client_base.specs.Keeper.{Written, ids_in_use, next_number}
+use Rattle.client_base.specs.Keeper.{Written, ids_in_use, next_own_number}
 use Rattle.exactly_once.specs.Sides.{ClientConnection}
-use Rattle.client_base.specs.Written.{plain, publishes, writes}
-use Rattle.client_base.specs.Handled.{handled}
+use Rattle.client_base.specs.Written.{plain, written_publish, writes}
+use Rattle.client_base.specs.Handled.{packet_handled}
 use Rattle.client_base.specs.session_base.Identifiers.{least_free}
 use Rattle.exactly_once.specs.Story.{Story, StoryStep}
 use Rattle.exactly_once.specs.StoryCommands.{with_one_counted}
@@ -79,7 +79,7 @@ events_keep_rows limits s t rows (takes i κ w stands next) = rows_counted limit
 events_keep_rows limits s t rows (others_take command other none) = each_then (RowsOf limits s.past) (RowsOf limits t.past) s.connections (λ μ r. rows_placed limits _ s.past μ r) rows
 events_keep_rows limits s t rows (receives κ others packet are opened next) =
     let mine = subst (Each (RowsOf limits s.past)) are rows in (
-      rows_grown limits s.past κ (handled packet (record { keeper = s.keeper; connection = κ })).connection (suc κ.handled) (handled_grows κ s.keeper packet)
+      rows_grown limits s.past κ (packet_handled packet (record { keeper = s.keeper; connection = κ })).connection (suc κ.handled) (handled_grows κ s.keeper packet)
           (stands_within κ.handled (put_to limits s.past κ.name) packet next) mine.0,
       mine.1,
     )
@@ -92,7 +92,7 @@ events_keep_rows limits s t rows disconnects = by s.keeper.is_online
     by false = rows
 events_keep_rows limits s t rows (publishes_one p needs) = rows_written limits s.past s.connections (written_for p s.keeper) (by s.keeper.is_online) rows
   where
-    by : (b : Bool) → Each IsLater (if b then publishes false (next_number s.keeper) (least_free (ids_in_use s.keeper)) p ∷ [] else [])
+    by : (b : Bool) → Each IsLater (if b then written_publish false (next_own_number s.keeper) (least_free (ids_in_use s.keeper)) p ∷ [] else [])
     by true = ((refl, refl), tt)
     by false = tt
 events_keep_rows limits s t rows (subscribes p on id) = rows_written limits s.past s.connections (plain (packets.Subscribe p) ∷ []) ((refl, refl), tt) rows

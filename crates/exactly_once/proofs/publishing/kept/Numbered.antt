@@ -7,37 +7,37 @@ use Rattle.exactly_once.specs.Items.{SenderItem, busy, has_sent}
 use Rattle.client_base.proofs.of_lists.Tests.{or_none, or_second, eq_is}
 use Rattle.exactly_once.proofs.BusyIdentifiers.{sent_busy}
 use Rattle.client_base.specs.Keeper.{Own, ids_of_own}
-use Rattle.client_base.specs.Handshakes.{at_pubrec, at_puback, at_pubcomp}
+use Rattle.client_base.specs.Handshakes.{own_at_pubrec, own_at_puback, own_at_pubcomp}
 use Rattle.exactly_once.specs.Carried.{is_two}
 use Rattle.exactly_once.specs.Inside.Projections.{items_of_own}
 use Rattle.exactly_once.specs.Inside.Shape.{AreNumberedFrom}
 use Rattle.exactly_once.proofs.publishing.Unsent.{not_busy}
 
-pub numbered_puback : (i n : ℕ) (own : List Own) → AreNumberedFrom n own → AreNumberedFrom n (map (at_puback i) own)
+pub numbered_puback : (i n : ℕ) (own : List Own) → AreNumberedFrom n own → AreNumberedFrom n (map (own_at_puback i) own)
 numbered_puback i n [] h = tt
 numbered_puback i n (Own.Unsent k p id ∷ own) h = (h.0, numbered_puback i (suc n) own h.1)
 numbered_puback i n (Own.Sent k p id ∷ own) h = by ((i == id) && is_acknowledged p.qos) (numbered_puback i (suc n) own h.1)
   where
-    by : (b : Bool) → AreNumberedFrom (suc n) (map (at_puback i) own) → AreNumberedFrom n ((if b then Own.Done k p else Own.Sent k p id) ∷ map (at_puback i) own)
+    by : (b : Bool) → AreNumberedFrom (suc n) (map (own_at_puback i) own) → AreNumberedFrom n ((if b then Own.Done k p else Own.Sent k p id) ∷ map (own_at_puback i) own)
     by true ih = (h.0, ih)
     by false ih = (h.0, ih)
 numbered_puback i n (Own.Released k p id ∷ own) h = (h.0, h.1, numbered_puback i (suc n) own h.2)
 numbered_puback i n (Own.Done k p ∷ own) h = (h.0, numbered_puback i (suc n) own h.1)
 
-pub numbered_pubcomp : (i n : ℕ) (own : List Own) → AreNumberedFrom n own → AreNumberedFrom n (map (at_pubcomp i) own)
+pub numbered_pubcomp : (i n : ℕ) (own : List Own) → AreNumberedFrom n own → AreNumberedFrom n (map (own_at_pubcomp i) own)
 numbered_pubcomp i n [] h = tt
 numbered_pubcomp i n (Own.Unsent k p id ∷ own) h = (h.0, numbered_pubcomp i (suc n) own h.1)
 numbered_pubcomp i n (Own.Sent k p id ∷ own) h = (h.0, numbered_pubcomp i (suc n) own h.1)
 numbered_pubcomp i n (Own.Released k p id ∷ own) h = by (i == id) (numbered_pubcomp i (suc n) own h.2)
   where
-    by : (b : Bool) → AreNumberedFrom (suc n) (map (at_pubcomp i) own) → AreNumberedFrom n ((if b then Own.Done k p else Own.Released k p id) ∷ map (at_pubcomp i) own)
+    by : (b : Bool) → AreNumberedFrom (suc n) (map (own_at_pubcomp i) own) → AreNumberedFrom n ((if b then Own.Done k p else Own.Released k p id) ∷ map (own_at_pubcomp i) own)
     by true ih = (h.0, ih)
     by false ih = (h.0, h.1, ih)
 numbered_pubcomp i n (Own.Done k p ∷ own) h = (h.0, numbered_pubcomp i (suc n) own h.1)
 
 -- what is released is of QoS 2, since an item is sent with this identifier, and no other publication has it
 pub numbered_pubrec : (i n : ℕ) (own : List Own) → AreNumberedFrom n own → IsDistinct (ids_of_own own) → (has_sent i (items_of_own own) ≡ true) ⊎ (has_id i (ids_of_own own) ≡ false)
-    → AreNumberedFrom n (map (at_pubrec i) own)
+    → AreNumberedFrom n (map (own_at_pubrec i) own)
 numbered_pubrec i n [] h d s = tt
 numbered_pubrec i n (Own.Unsent k p id ∷ own) h d s = (h.0, numbered_pubrec i (suc n) own h.1 d.1 (there s))
   where
@@ -72,8 +72,8 @@ numbered_pubrec i n (Own.Sent k p id ∷ own) h d s = by (cases_Bool (i == id)) 
     clear e = subst (λ (j : ℕ). has_id j (ids_of_own own) ≡ false) (sym (eq_is i id e)) d.0
 
     -- sent or released, it keeps its number
-    numbered : (b : Bool) → (b ≡ true → is_two p.qos ≡ true) → AreNumberedFrom (suc n) (map (at_pubrec i) own)
-        → AreNumberedFrom n ((if b then Own.Released k p id else Own.Sent k p id) ∷ map (at_pubrec i) own)
+    numbered : (b : Bool) → (b ≡ true → is_two p.qos ≡ true) → AreNumberedFrom (suc n) (map (own_at_pubrec i) own)
+        → AreNumberedFrom n ((if b then Own.Released k p id else Own.Sent k p id) ∷ map (own_at_pubrec i) own)
     numbered true two rest = (h.0, two refl, rest)
     numbered false two rest = (h.0, rest)
 
@@ -83,8 +83,8 @@ numbered_pubrec i n (Own.Sent k p id ∷ own) h d s = by (cases_Bool (i == id)) 
 
     by : ((i == id) ≡ true) ⊎ ((i == id) ≡ false) → (is_two p.qos ≡ true) ⊎ (is_two p.qos ≡ false)
         → (has_sent i (items_of_own (Own.Sent k p id ∷ own)) ≡ true) ⊎ (has_id i (id ∷ ids_of_own own) ≡ false)
-        → ((has_sent i (items_of_own own) ≡ true) ⊎ (has_id i (ids_of_own own) ≡ false) → AreNumberedFrom (suc n) (map (at_pubrec i) own))
-        → AreNumberedFrom n ((if (i == id) && not (is_acknowledged p.qos) then Own.Released k p id else Own.Sent k p id) ∷ map (at_pubrec i) own)
+        → ((has_sent i (items_of_own own) ≡ true) ⊎ (has_id i (ids_of_own own) ≡ false) → AreNumberedFrom (suc n) (map (own_at_pubrec i) own))
+        → AreNumberedFrom n ((if (i == id) && not (is_acknowledged p.qos) then Own.Released k p id else Own.Sent k p id) ∷ map (own_at_pubrec i) own)
     by (inl e) (inl two) s ih = numbered ((i == id) && not (is_acknowledged p.qos)) (λ b. two) (ih (inr (clear e)))
     by (inl e) (inr one) (inl has) ih =
         let there : has_sent i (items_of_own own) ≡ true = sym (ap (λ b. has_sent i (if b then SenderItem.Sent k id ∷ items_of_own own else items_of_own own)) one) ∙ has in

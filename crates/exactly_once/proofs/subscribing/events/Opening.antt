@@ -14,7 +14,7 @@ use Rattle.exactly_once.specs.Sends.{sends_to, put_to}
 use Rattle.client_base.specs.Keeper.{Written, Keeper}
 use Rattle.exactly_once.specs.Sides.{ClientConnection}
 use Rattle.exactly_once.specs.StoryCommands.{any_named, with_one_counted}
-use Rattle.client_base.specs.Connected.{opens}
+use Rattle.client_base.specs.Connected.{opening_connect}
 use Rattle.exactly_once.specs.Inside.Projections.{to_come, is_current}
 use Rattle.exactly_once.specs.Inside.AsSubscriber.{forward_of, backward_of, left_behind}
 use Rattle.exactly_once.specs.Inside.Shape.{NamesApart}
@@ -58,10 +58,10 @@ fresh_or_stale keeper (first ∷ others) zero κ e t = by (cases_Bool keeper.is_
 
 -- a connection whose CONNECT is not taken: it is unconfirmed, and nothing came on it
 pub record IsNew (limits : Limits) (past : Past) (c : Client) (κ : ClientConnection) (w : Written) : Type 0 where
-  pub written : κ.written ≡ opens c ∷ []
+  pub written : κ.written ≡ opening_connect c ∷ []
   pub put : put_to limits past κ.name ≡ []
   pub unconfirmed : κ.confirmed ≡ false
-  pub first : w ≡ opens c
+  pub first : w ≡ opening_connect c
 
 -- by its shape
 pub is_new_one : (limits : Limits) (past : Past) (c : Client) (κ : ClientConnection) (w : Written) → ConnectionInShape limits past c κ → κ.taken ≡ 0 → slice_get κ.written κ.taken ≡ Some w → IsNew limits past c κ w
@@ -81,11 +81,11 @@ is_new_one limits past c κ w g t next = record { written = written; put = put; 
             let none : length (put_to limits past κ.name) ≡ 0 = ap (λ (ps : List Packet). length ps) put in
             absurd (omega (arith, some, few, none))
 
-    written : κ.written ≡ opens c ∷ []
-    written = g.written ∙ ap (λ (more : List Written). opens c ∷ more) (g.silent unconfirmed)
+    written : κ.written ≡ opening_connect c ∷ []
+    written = g.written ∙ ap (λ (more : List Written). opening_connect c ∷ more) (g.silent unconfirmed)
 
-    first : w ≡ opens c
-    first = let e : Some (opens c) ≡ Some w = ap₂ (λ (ws : List Written) (n : ℕ). slice_get ws n) (sym written) (sym t) ∙ next in let f : opens c ≡ w = cc in sym f
+    first : w ≡ opening_connect c
+    first = let e : Some (opening_connect c) ≡ Some w = ap₂ (λ (ws : List Written) (n : ℕ). slice_get ws n) (sym written) (sym t) ∙ next in let f : opening_connect c ≡ w = cc in sym f
 
 -- what comes on it is what the place sends
 pub new_comes : (limits : Limits) (place : Place) (past : Past) (c : Client) (κ : ClientConnection) (w : Written) → ConnectionInShape limits past c κ → IsNew limits past c κ w

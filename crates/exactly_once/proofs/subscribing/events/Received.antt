@@ -12,9 +12,9 @@ use Rattle.broker_base.specs.broker_spec.Past.{current_connection}
 use Rattle.exactly_once.specs.Sends.{put_to}
 use Rattle.exactly_once.specs.Sides.{ClientConnection, Side}
 use Rattle.client_base.specs.Keeper.{Keeper}
-use Rattle.client_base.specs.Written.{plain, writing, resent, sent_all}
-use Rattle.client_base.specs.Handled.{not_subscribes, not_unsubscribes, discarded, confirmed, lost, handled_online, handled_first, handled}
-use Rattle.client_base.specs.Handshakes.{at_puback, at_pubrec, at_pubcomp, is_sent_with, releasing}
+use Rattle.client_base.specs.Written.{plain, writing, resent_written, sent_all}
+use Rattle.client_base.specs.Handled.{not_subscribes, not_unsubscribes, discarded, confirmed, lost, handled_online, handled_first, packet_handled}
+use Rattle.client_base.specs.Handshakes.{own_at_puback, own_at_pubrec, own_at_pubcomp, is_sent_with, pubrec_answered}
 use Rattle.client_base.specs.session_base.Identifiers.{without_id}
 use Rattle.exactly_once.specs.Story.{Story, with_side}
 use Rattle.exactly_once.specs.Acceptance.{accepted_on}
@@ -41,17 +41,17 @@ next_lost limits s κ others shape e =
 
 -- a PUBREC, by what the client has of it
 next_pubrec : (limits : Limits) (s : Story) (κ : ClientConnection) (others : List ClientConnection) (id : ℕ) → IsNext limits s κ others (packets.Pubrec id)
-    → GoesTo (as_subscriber limits s) (as_subscriber limits (with_side s others (releasing id (counted s.keeper κ))))
+    → GoesTo (as_subscriber limits s) (as_subscriber limits (with_side s others (pubrec_answered id (counted s.keeper κ))))
 next_pubrec limits s κ others id i = by (is_sent_with id s.keeper.own) (has_id id s.keeper.releases)
   where
     by : (sent released : Bool)
         → GoesTo (as_subscriber limits s)
         (as_subscriber limits (with_side s others
         (if sent
-        then writing (plain (packets.Pubrel id) ∷ []) (counted (record s.keeper { own = map (at_pubrec id) s.keeper.own; releases = s.keeper.releases ++ id ∷ [] }) κ)
+        then writing (plain (packets.Pubrel id) ∷ []) (counted (record s.keeper { own = map (own_at_pubrec id) s.keeper.own; releases = s.keeper.releases ++ id ∷ [] }) κ)
         else if released then writing (plain (packets.Pubrel id) ∷ []) (counted s.keeper κ) else counted s.keeper κ)))
     by true released =
-        next_other limits s κ others (packets.Pubrec id) i (map (at_pubrec id) s.keeper.own) (s.keeper.releases ++ id ∷ []) s.keeper.requests (plain (packets.Pubrel id) ∷ []) (λ f. refl) refl
+        next_other limits s κ others (packets.Pubrec id) i (map (own_at_pubrec id) s.keeper.own) (s.keeper.releases ++ id ∷ []) s.keeper.requests (plain (packets.Pubrel id) ∷ []) (λ f. refl) refl
     by false true = next_other limits s κ others (packets.Pubrec id) i s.keeper.own s.keeper.releases s.keeper.requests (plain (packets.Pubrel id) ∷ []) (λ f. refl) refl
     by false false = next_quiet limits s κ others (packets.Pubrec id) i s.keeper.own s.keeper.releases s.keeper.requests (λ f. refl)
 
@@ -59,10 +59,10 @@ next_pubrec limits s κ others id i = by (is_sent_with id s.keeper.own) (has_id 
 next_online : (limits : Limits) (s : Story) (κ : ClientConnection) (others : List ClientConnection) (packet : Packet) → HasShape limits s → IsNext limits s κ others packet
     → GoesTo (as_subscriber limits s) (as_subscriber limits (with_side s others (handled_online packet (counted s.keeper κ))))
 next_online limits s κ others (packets.Publish p) shape i = next_publish limits s κ others p i
-next_online limits s κ others (packets.Puback id) shape i = next_quiet limits s κ others (packets.Puback id) i (map (at_puback id) s.keeper.own) s.keeper.releases s.keeper.requests (λ f. refl)
+next_online limits s κ others (packets.Puback id) shape i = next_quiet limits s κ others (packets.Puback id) i (map (own_at_puback id) s.keeper.own) s.keeper.releases s.keeper.requests (λ f. refl)
 next_online limits s κ others (packets.Pubrec id) shape i = next_pubrec limits s κ others id i
 next_online limits s κ others (packets.Pubcomp id) shape i =
-    next_quiet limits s κ others (packets.Pubcomp id) i (map (at_pubcomp id) s.keeper.own) (without_id id s.keeper.releases) s.keeper.requests (λ f. refl)
+    next_quiet limits s κ others (packets.Pubcomp id) i (map (own_at_pubcomp id) s.keeper.own) (without_id id s.keeper.releases) s.keeper.requests (λ f. refl)
 next_online limits s κ others (packets.Pubrel id) shape i = next_pubrel limits s κ others id i
 next_online limits s κ others (packets.Suback p) shape i =
     next_quiet limits s κ others (packets.Suback p) i s.keeper.own s.keeper.releases (filter (not_subscribes p.id) s.keeper.requests) (λ f. refl)
@@ -81,13 +81,13 @@ next_confirmed limits s κ others present i e = by (not present && s.keeper.was_
     side kept =
         record {
           keeper = record kept { own = sent_all kept.own; is_online = true; was_served = true };
-          connection = record κ { handled = suc κ.handled; written = κ.written ++ resent kept; confirmed = true };
+          connection = record κ { handled = suc κ.handled; written = κ.written ++ resent_written kept; confirmed = true };
         }
 
     by : (b : Bool) → b ≡ false → GoesTo (as_subscriber limits s) (as_subscriber limits (with_side s others (side (if b then discarded s.keeper else s.keeper))))
     by true e = absurd (both_ways true e refl)
     by false e =
-        handles_other limits s κ others i.n (packets.Connack (connacks.Accepted present)) (side s.keeper) (resent s.keeper) i.shape i.first i.is_open i.taken i.next (λ f. refl) (none_resent s.keeper)
+        handles_other limits s κ others i.n (packets.Connack (connacks.Accepted present)) (side s.keeper) (resent_written s.keeper) i.shape i.first i.is_open i.taken i.next (λ f. refl) (none_resent s.keeper)
         (record { client = refl; name = refl; taken = refl; handled = refl; written = refl; accepted_is = sym (append-nil κ.accepted); received_is = λ id. refl; stays_open = i.is_open })
 
 -- it holds for the one that is there
@@ -122,7 +122,7 @@ first_taken (suc m) put n packet g e = (m, refl)
 -- the client receives a packet
 pub goes_received : (limits : Limits) (s : Story) → HasShape limits s → (κ : ClientConnection) (others : List ClientConnection) (packet : Packet) → s.connections ≡ κ ∷ others → s.keeper.is_open ≡ true
     → slice_get (put_to limits s.past κ.name) κ.handled ≡ Some packet
-    → GoesTo (as_subscriber limits s) (as_subscriber limits (with_side s others (handled packet (record { keeper = s.keeper; connection = κ }))))
+    → GoesTo (as_subscriber limits s) (as_subscriber limits (with_side s others (packet_handled packet (record { keeper = s.keeper; connection = κ }))))
 goes_received limits s shape κ others packet e on next =
     by s.keeper.is_online (λ h. next_online limits s κ others packet shape here) (λ h. next_first limits s κ others packet shape here h)
   where
