@@ -4,11 +4,11 @@ use Rattle.packet.specs.declared.packet.Packet.{Packet}
 use Rattle.client_base.specs.declared.error.ClientError.{ClientError}
 use Rattle.client_base.specs.declared.error.ClientError.TheVariants as errors
 use Rattle.client.specs.Core.{Core}
-use Rattle.client.specs.Reading.{ReadsPacket, outcome_of}
+use Rattle.client.specs.Reading.{ReadsPacket, outcome_of_packet}
 use Rattle.client.specs.Inside.Handling.{Tries, ReadsOne}
 
 pub handling_fails : (old mid new : Core) (packet : Packet) (error : ClientError) → ReadsPacket old packet mid
-    → Tries (outcome_of packet mid) mid (Err error) new → ReadsOne old (Err error) new
+    → Tries (outcome_of_packet packet mid) mid (Err error) new → ReadsOne old (Err error) new
 handling_fails old mid new packet errors.Memory r t =
     (ap (λ (c : Core). c.state) t ∙ r.1, ap (λ (c : Core). c.out) t ∙ r.2)
 handling_fails old mid new packet errors.SessionLost r t = (packet, mid, r, t.0, t.1)

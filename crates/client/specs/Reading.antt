@@ -14,8 +14,8 @@ use Rattle.client_base.specs.Calls.{client_receives}
 use Rattle.client.specs.Core.{Core, IsDone, gone}
 
 -- what the server's packet does to a client
-abbrev pub outcome_of : Packet → Core → ClientOutcome
-outcome_of packet core = client_receives packet core.state.stage core.state
+abbrev pub outcome_of_packet : Packet → Core → ClientOutcome
+outcome_of_packet packet core = client_receives packet core.state.stage core.state
 
 -- the first whole packet that is not yet read, and the client without it
 abbrev pub ReadsPacket : Core → Packet → Core → Type 0
@@ -28,8 +28,8 @@ pub data Handles (start : Core) : Core → Type 0 where
   none : Handles start start
   -- one more packet, which is not refused
   more : {s t u : Core} (packet : Packet) → Handles start s → ReadsPacket s packet t
-      → (outcome_of packet t).refusal ≡ None
-      → IsDone (outcome_of packet t) t u → Handles start u
+      → (outcome_of_packet packet t).refusal ≡ None
+      → IsDone (outcome_of_packet packet t) t u → Handles start u
 
 -- A fault of the stream: a CONNECT that is refused with a code is a packet that only a client
 -- sends.
@@ -43,7 +43,7 @@ StopsFor cause core =
     ((fault : DecodeFault) × (rest : Stream) × Takes core.unread (Err (cuts.Decode fault)) rest
     × (cause ≡ cause_of fault))
     ⊎ ((packet : Packet) × (next : Core) × ReadsPacket core packet next
-    × ((outcome_of packet next).refusal ≡ Some cause))
+    × ((outcome_of_packet packet next).refusal ≡ Some cause))
 
 -- How the call ends. The connection survives a lost session, and what comes after its CONNACK is
 -- not read; otherwise the connection is lost, and what was handled before remains.
@@ -52,8 +52,8 @@ EndsWith core (Ok done) new = Takes core.unread (Ok None) core.unread × (new �
 EndsWith core (Err errors.Memory) new = new ≡ gone core
 EndsWith core (Err errors.SessionLost) new =
     (packet : Packet) × (next : Core) × ReadsPacket core packet next
-    × ((outcome_of packet next).refusal ≡ Some errors.SessionLost)
-    × IsDone (outcome_of packet next) next new
+    × ((outcome_of_packet packet next).refusal ≡ Some errors.SessionLost)
+    × IsDone (outcome_of_packet packet next) next new
 EndsWith core (Err cause) new = StopsFor cause core × (new ≡ gone core)
 
 -- the piece is appended to what is not yet read

@@ -6,7 +6,7 @@ ghost use Rattle.packet.specs.declared.delivery.Delivery.TheVariants as deliveri
 ghost use Rattle.client_base.specs.Answered.{on_publish, on_puback, on_pubrec, on_pubcomp};
 ghost use Rattle.client_base.specs.Answered.{on_pubrel, answered, accepted_of};
 ghost use Rattle.client_base.specs.Answered.{is_subscribe, is_unsubscribe};
-ghost use Rattle.client.specs.Inside.Handling.{Tries, changed};
+ghost use Rattle.client.specs.Inside.Handling.{Tries, quiet_outcome};
 
 use crate::client_core::ClientCore;
 use crate::identifiers::{
@@ -94,7 +94,7 @@ impl ClientCore {
 
     /// Handles PUBACK, which ends a publication at QoS 1.
     pub(crate) fn on_puback(&mut self, id: PacketId)
-        ensures { self.new ≡ changed (on_puback id self.old.state) self.old }
+        ensures { self.new ≡ quiet_outcome (on_puback id self.old.state) self.old }
     {
         end_acknowledged(&mut self.sent, id);
     }
@@ -117,21 +117,21 @@ impl ClientCore {
 
     /// Handles PUBCOMP, which ends a released publication.
     pub(crate) fn on_pubcomp(&mut self, id: PacketId)
-        ensures { self.new ≡ changed (on_pubcomp id self.old.state) self.old }
+        ensures { self.new ≡ quiet_outcome (on_pubcomp id self.old.state) self.old }
     {
         forget(&mut self.released, id);
     }
 
     /// Handles SUBACK, which answers a SUBSCRIBE.
     pub(crate) fn on_suback(&mut self, id: PacketId)
-        ensures { self.new ≡ changed (answered (is_subscribe id) self.old.state) self.old }
+        ensures { self.new ≡ quiet_outcome (answered (is_subscribe id) self.old.state) self.old }
     {
         end_subscribes(&mut self.requests, id);
     }
 
     /// Handles UNSUBACK, which answers an UNSUBSCRIBE.
     pub(crate) fn on_unsuback(&mut self, id: PacketId)
-        ensures { self.new ≡ changed (answered (is_unsubscribe id) self.old.state) self.old }
+        ensures { self.new ≡ quiet_outcome (answered (is_unsubscribe id) self.old.state) self.old }
     {
         end_unsubscribes(&mut self.requests, id);
     }

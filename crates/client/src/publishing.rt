@@ -10,7 +10,7 @@ ghost use Rattle.client_base.specs.Publishing.{is_over_limit};
 ghost use Rattle.client_base.specs.Steps.{Call, keeper_step};
 ghost use Rattle.client.specs.Core.{AnswersCall, publication_with};
 ghost use Rattle.client.specs.Inside.Ids.{PublicationId};
-ghost use Rattle.client.specs.Inside.Handling.{keeping, sending};
+ghost use Rattle.client.specs.Inside.Handling.{kept_publication, sent_publication};
 
 use crate::client_core::ClientCore;
 use crate::writing::{publish_again, write, write_publish};
@@ -80,7 +80,7 @@ impl ClientCore {
 
     // Keeps a publication, and sends it if the client is online.
     fn keep(&mut self, kept: UnacknowledgedPublication) -> Result<(), ClientError>
-        ensures { AnswersCall (keeping kept self.old.state) self.old result self.new }
+        ensures { AnswersCall (kept_publication kept self.old.state) self.old result self.new }
     {
         if is_too_large(&kept)? {
             return Err(ClientError::TooLarge);
@@ -94,7 +94,7 @@ impl ClientCore {
 
     // Sends a publication, and keeps it as sent.
     fn send(&mut self, kept: UnacknowledgedPublication) -> Result<(), ClientError>
-        ensures { AnswersCall (sending kept self.old.state) self.old result self.new }
+        ensures { AnswersCall (sent_publication kept self.old.state) self.old result self.new }
     {
         self.sent.reserve(1)?;
         write_publish(&kept, false, &mut self.out)?;

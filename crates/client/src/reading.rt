@@ -2,7 +2,7 @@
 
 ghost use Rattle.std.specs.Prelude.{◌≡◌, ◌<◌, length, true, Ok};
 ghost use Rattle.client_base.specs.Calls.{on_first, on_later};
-ghost use Rattle.client.specs.Reading.{outcome_of, cause_of, OnBytes};
+ghost use Rattle.client.specs.Reading.{outcome_of_packet, cause_of, OnBytes};
 ghost use Rattle.client.specs.Inside.Handling.{Tries, ReadsOne, FeedsAndReads, TakesNext, Feeds, HandlesPackets};
 ghost use Rattle.client.specs.Inside.Handling.{cut_cause, is_fatal};
 
@@ -89,7 +89,7 @@ impl ClientCore {
 
     // Handles a packet from the server.
     fn handle(&mut self, packet: Packet) -> Result<(), ClientError>
-        ensures { Tries (outcome_of packet self.old) self.old result self.new }
+        ensures { Tries (outcome_of_packet packet self.old) self.old result self.new }
     {
         match self.stage {
             Stage::Closed => Err(ClientError::NotActive),

@@ -1,7 +1,7 @@
 -- A client that handles a CONNACK 0 with session present is online then.
 use Rattle.std.proofs.Common.{◌≡◌, ◌⊎◌, inl, inr, ℕ, true, List, [], ◌++◌, Option, Some, None, Result, Ok, Err, refl, sym, ap, ◌∙◌, subst}
 use Rattle.client.specs.Core.{Core, nothing_read}
-use Rattle.client.specs.Reading.{EndsWith, Handles, OnBytes, ReadsPacket, StopsFor, fed, outcome_of}
+use Rattle.client.specs.Reading.{EndsWith, Handles, OnBytes, ReadsPacket, StopsFor, fed, outcome_of_packet}
 use Rattle.client.specs.Reading.Handles.{none, more}
 use Rattle.client.specs.client_base.Answered.{ClientOutcome}
 use Rattle.client.specs.client_base.Calls.{client_receives}
@@ -64,10 +64,10 @@ module _ (piece : List ℕ) (old : Core) (whole : verdict piece ≡ Ok (connack,
   reads_it packet next reads =
       let z = same_packet (verdict (fed piece old).unread.bytes) packet connack next.unread.bytes [] reads.0.1 stands in (z.0, z.1, reads.1)
 
-  turn_is : (packet : Packet) (next : Core) → ReadsPacket (fed piece old) packet next → outcome_of packet next ≡ client_receives connack stages.Opened old.state
+  turn_is : (packet : Packet) (next : Core) → ReadsPacket (fed piece old) packet next → outcome_of_packet packet next ≡ client_receives connack stages.Opened old.state
   turn_is packet next reads =
       let z = reads_it packet next reads in
-      ap (λ (p : Packet). outcome_of p next) z.0 ∙ ap (λ (s : ClientState). client_receives connack s.stage s) z.2 ∙ ap (λ (s : Stage). client_receives connack s old.state) opened
+      ap (λ (p : Packet). outcome_of_packet p next) z.0 ∙ ap (λ (s : ClientState). client_receives connack s.stage s) z.2 ∙ ap (λ (s : Stage). client_receives connack s old.state) opened
 
   nothing_more : (core : Core) → core.unread.bytes ≡ [] → verdict core.unread.bytes ≡ Err stops.More
   nothing_more core e = ap verdict e ∙ nothing_whole
@@ -95,7 +95,7 @@ module _ (piece : List ℕ) (old : Core) (whole : verdict piece ≡ Ok (connack,
       by (faults.Malformed kind) f = ok_not_err (verdict (fed piece old).unread.bytes) (connack, []) (stops.Malformed kind) stands f.1
       by (faults.Refused code) f = ok_not_err (verdict (fed piece old).unread.bytes) (connack, []) (stops.Refused code) stands f
   none_stops cause (inr (packet, next, reads, refused)) =
-      refuses (outcome_of packet next).refusal cause refused (ap (λ (u : ClientOutcome). u.refusal) (turn_is packet next reads))
+      refuses (outcome_of_packet packet next).refusal cause refused (ap (λ (u : ClientOutcome). u.refusal) (turn_is packet next reads))
     where
       refuses : (o : Option ClientError) (e : ClientError) → o ≡ Some e → o ≡ None → ⊥
       refuses o e f g = cc

@@ -14,7 +14,7 @@ use Rattle.client.specs.client_base.Keeper as keepers
 use Rattle.client.proofs.of_client_base.FollowsHandled.{handled_follows}
 use Rattle.client.proofs.of_client_base.FollowsPackets.{Same}
 use Rattle.client.specs.Core.{AppendsAll, Core, IsDone}
-use Rattle.client.specs.Reading.{Handles, ReadsPacket, outcome_of}
+use Rattle.client.specs.Reading.{Handles, ReadsPacket, outcome_of_packet}
 use Rattle.byte_world.specs.node_moves.Puts.{spelled}
 use Rattle.byte_world.specs.exactly_once.Sides.{ClientConnection, Side}
 use Rattle.byte_world.specs.World.{ClientPipes, Pipe, newly_written}
@@ -66,14 +66,14 @@ taken_fits : (old left : Stream) (packet : Packet) → Takes old (Ok (Some packe
 taken_fits old left packet (a, b, (front, spells, is, e), c) = is
 
 pub one_goes : (before : List ℕ) (core next after : Core) (m : ClientPipes) (others : List ClientConnection) (p₀ : Pipe) (further : List Pipe) (packet : Packet) →
-    is_open core.state.stage ≡ true → IsInMidst before core m others p₀ further → ReadsPacket core packet next → IsDone (outcome_of packet next) next after →
+    is_open core.state.stage ≡ true → IsInMidst before core m others p₀ further → ReadsPacket core packet next → IsDone (outcome_of_packet packet next) next after →
     GoesOn before after m others p₀ further
 one_goes before core next after m others p₀ further packet up s reads done =
     let κ = s.connection in
     let p = s.pipe in
     let side : Side = record { keeper = m.keeper; connection = κ } in
     let later : Side = packet_handled packet side in
-    let outcome : ClientOutcome = outcome_of packet next in
+    let outcome : ClientOutcome = outcome_of_packet packet next in
     let stands : history.KeeperStandsFor m.keeper next.state = subst (history.KeeperStandsFor m.keeper) (sym reads.1) s.keeper in
     let opened : is_open next.state.stage ≡ true = ap (λ (state : ClientState). is_open state.stage) reads.1 ∙ up in
     let whole : AllSpelled outcome =

@@ -14,7 +14,7 @@ use Rattle.client_base.specs.Answered.{ClientOutcome, going_on}
 use Rattle.client_base.specs.Calls.{refused_call}
 use Rattle.client_base.specs.Publishing.{is_over_limit}
 use Rattle.client.specs.Core.{Core, IsDone}
-use Rattle.client.specs.Reading.{ReadsPacket, outcome_of, StopsFor, Handles, cause_of, fed}
+use Rattle.client.specs.Reading.{ReadsPacket, outcome_of_packet, StopsFor, Handles, cause_of, fed}
 
 -- the whole outcome comes about; one that ends the connection changes nothing here
 abbrev pub Tries : ClientOutcome → Core → Result (Unit {0}) ClientError → Core → Type 0
@@ -29,18 +29,18 @@ abbrev pub ReadsOne : Core → Result Bool ClientError → Core → Type 0
 ReadsOne old (Ok false) new = Takes old.unread (Ok None) old.unread × (new ≡ old)
 ReadsOne old (Ok true) new =
     (packet : Packet) × (next : Core) × ReadsPacket old packet next
-    × ((outcome_of packet next).refusal ≡ None)
-    × IsDone (outcome_of packet next) next new
+    × ((outcome_of_packet packet next).refusal ≡ None)
+    × IsDone (outcome_of_packet packet next) next new
 ReadsOne old (Err errors.Memory) new = (new.state ≡ old.state) × (new.out ≡ old.out)
 ReadsOne old (Err errors.SessionLost) new =
     (packet : Packet) × (next : Core) × ReadsPacket old packet next
-    × ((outcome_of packet next).refusal ≡ Some errors.SessionLost)
-    × IsDone (outcome_of packet next) next new
+    × ((outcome_of_packet packet next).refusal ≡ Some errors.SessionLost)
+    × IsDone (outcome_of_packet packet next) next new
 ReadsOne old (Err cause) new = StopsFor cause old × (new.state ≡ old.state) × (new.out ≡ old.out)
 
 -- an outcome that writes nothing
-abbrev pub changed : ClientOutcome → Core → Core
-changed outcome core = record core { state = outcome.state }
+abbrev pub quiet_outcome : ClientOutcome → Core → Core
+quiet_outcome outcome core = record core { state = outcome.state }
 
 -- the client with this state
 abbrev pub with_state : ClientState → Core → Core
@@ -66,8 +66,8 @@ StopsAt core (Ok done) new = Takes core.unread (Ok None) core.unread × (new ≡
 StopsAt core (Err errors.Memory) new = (new.state ≡ core.state) × (new.out ≡ core.out)
 StopsAt core (Err errors.SessionLost) new =
     (packet : Packet) × (next : Core) × ReadsPacket core packet next
-    × ((outcome_of packet next).refusal ≡ Some errors.SessionLost)
-    × IsDone (outcome_of packet next) next new
+    × ((outcome_of_packet packet next).refusal ≡ Some errors.SessionLost)
+    × IsDone (outcome_of_packet packet next) next new
 StopsAt core (Err cause) new = StopsFor cause core × (new.state ≡ core.state) × (new.out ≡ core.out)
 
 -- whole packets are handled, and then it ends
@@ -100,13 +100,13 @@ TakesNext old (Err cause) new =
     × (new.state ≡ old.state) × (new.out ≡ old.out)
 
 -- a publication is sent, and kept as sent
-abbrev pub sending : UnacknowledgedPublication → ClientState → ClientOutcome
-sending kept state =
+abbrev pub sent_publication : UnacknowledgedPublication → ClientState → ClientOutcome
+sent_publication kept state =
     going_on (record state { sent = state.sent ++ kept ∷ [] }) (publish_kept false kept ∷ [])
 
 -- a publication that is not too large is kept, and sent at once if the client is online
-abbrev pub keeping : UnacknowledgedPublication → ClientState → ClientOutcome
-keeping kept state =
+abbrev pub kept_publication : UnacknowledgedPublication → ClientState → ClientOutcome
+kept_publication kept state =
     if is_over_limit (publish_kept false kept) then refused_call errors.TooLarge state else
-    if is_online state.stage then sending kept state
+    if is_online state.stage then sent_publication kept state
     else going_on (record state { unsent = state.unsent ++ kept ∷ [] }) []
