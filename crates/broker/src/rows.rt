@@ -3,7 +3,7 @@
 ghost use Rattle.std.specs.Prelude.{◌≡◌, false, true, [], ◌∷◌, ◌++◌, IfOk, OnOk};
 ghost use Rattle.packet_base.specs.Outcome.{Reads};
 ghost use Rattle.packet_base.specs.Reading.{number_at};
-ghost use Rattle.session_base.specs.Counted.{counted_at, items_after, last_of, AddsItem};
+ghost use Rattle.session_base.specs.Counted.{counted_items_at, items_after, last_of, AddsItem};
 ghost use Rattle.broker_spec.specs.Connection.{ConnectionName as SpecName};
 ghost use Rattle.broker_tables.specs.broker_rows.Owners.{owned_by};
 ghost use Rattle.broker_form.specs.Form.{row_at};
@@ -31,10 +31,10 @@ pub(crate) struct Rows {
 impl Rows {
     /// Reads as many sessions as their count says: the clients rise, and no connection is used
     /// twice. Other bytes stop the reading.
-    #[tactic(auto, unfolding(session_base::specs::Counted::counted_at))]
+    #[tactic(auto, unfolding(session_base::specs::Counted::counted_items_at))]
     pub(crate) fn read(alloc: Global, window: Window, reader: &mut Reader) -> Result<Rows, Stop>
         ensures exact { Reads (λ rows. rows.sessions.entries) result reader.new
-            (counted_at number_at row_follows (row_at window) MAX_SESSIONS reader.old) }
+            (counted_items_at number_at row_follows (row_at window) MAX_SESSIONS reader.old) }
         ensures owned { IfOk result AreOwned }
     {
         let count = reader.number()?;

@@ -6,7 +6,7 @@ ghost use Rattle.std.specs.Cmp.Lexicographic.{slice_cmp};
 ghost use Rattle.std.specs.Ordering.{nat_cmp};
 ghost use Rattle.packet_base.specs.Outcome.{Gives, Reads};
 ghost use Rattle.packet_base.specs.Reading.{number_at};
-ghost use Rattle.session_base.specs.Counted.{counted_at, items_after, last_of, AddsItem};
+ghost use Rattle.session_base.specs.Counted.{counted_items_at, items_after, last_of, AddsItem};
 ghost use Rattle.broker_tables.specs.subs_base.Content.{no_subscriptions};
 ghost use Rattle.broker_tables.specs.subs_base.ListIndex.{content_of};
 ghost use Rattle.broker_form.specs.Form.{broker_at, retained_at};
@@ -66,10 +66,10 @@ fn read_broker(alloc: Global, bytes: &[u8]) -> Result<(Window, Rows, RetainedSto
 // ---- what is retained
 
 // Reads as many topics as their count says, in rising order.
-#[tactic(auto, unfolding(session_base::specs::Counted::counted_at))]
+#[tactic(auto, unfolding(session_base::specs::Counted::counted_items_at))]
 fn read_retained(alloc: Global, reader: &mut Reader) -> Result<RetainedStore, Stop>
     ensures { Reads (λ x. x) result reader.new
-        (counted_at number_at topic_follows retained_at MAX_TOPICS reader.old) }
+        (counted_items_at number_at topic_follows retained_at MAX_TOPICS reader.old) }
 {
     let count = reader.number()?;
     check_form(usize::from(count) <= MAX_TOPICS)?;

@@ -10,7 +10,7 @@ use Rattle.packet.specs.declared.publish.Publish.{Publish}
 use Rattle.packet.specs.declared.delivery.Delivery.{Delivery}
 use Rattle.packet.specs.declared.delivery.Delivery.TheVariants as deliveries
 use Rattle.session_base.specs.declared.publication.Publication.{Publication}
-use Rattle.session_base.specs.Publication.{publish_of, publication_of}
+use Rattle.session_base.specs.Publication.{publish_for, publication_of}
 use Rattle.packet_base.specs.QoS.{lower_qos}
 use Rattle.session_base.specs.InRange.{CanBeSent}
 
@@ -74,20 +74,20 @@ lower_asked r qualities.ExactlyOnce qualities.ExactlyOnce topic payload h = h
 
 -- with any identifier
 spelled_at : (dup : Bool) (id : ℕ) (r : Bool) (qos : QoS) (topic payload : List ℕ) → IsId id → CanBeSent (made r qos topic payload) →
-    IsPacket (packets.Publish (publish_of dup id (made r qos topic payload)))
+    IsPacket (packets.Publish (publish_for dup id (made r qos topic payload)))
 spelled_at dup id r qualities.AtMostOnce topic payload i h = h
 spelled_at dup id r qualities.AtLeastOnce topic payload i h = ((h.0.0, i), tt, same_length id 1 topic payload h.2)
 spelled_at dup id r qualities.ExactlyOnce topic payload i h = ((h.0.0, i), tt, same_length id 1 topic payload h.2)
 
-pub spelled : (dup : Bool) (id : ℕ) (p : Publication) → IsId id → CanBeSent p → IsPacket (packets.Publish (publish_of dup id p))
+pub spelled : (dup : Bool) (id : ℕ) (p : Publication) → IsId id → CanBeSent p → IsPacket (packets.Publish (publish_for dup id p))
 spelled dup id p i h = spelled_at dup id p.retain p.qos p.topic p.payload i h
 
 -- at QoS 0 there is no identifier
-pub spelled_once : (p : Publication) → p.qos ≡ qualities.AtMostOnce → CanBeSent p → IsPacket (packets.Publish (publish_of false 0 p))
+pub spelled_once : (p : Publication) → p.qos ≡ qualities.AtMostOnce → CanBeSent p → IsPacket (packets.Publish (publish_for false 0 p))
 spelled_once p e h = by p.qos e h
   where
     by : (q : QoS) → q ≡ qualities.AtMostOnce → CanBeSent (made p.retain q p.topic p.payload) →
-        IsPacket (packets.Publish (publish_of false 0 (made p.retain q p.topic p.payload)))
+        IsPacket (packets.Publish (publish_for false 0 (made p.retain q p.topic p.payload)))
     by qualities.AtMostOnce e h = h
     by qualities.AtLeastOnce e h = absurd (cc)
     by qualities.ExactlyOnce e h = absurd (cc)

@@ -13,7 +13,7 @@ use Rattle.session_base.specs.Copies.{copies_left, copies_waiting}
 use Rattle.session_base.proofs.IdentifiersStayApart.{pubrec_length}
 use Rattle.broker_spec.proofs.LeastFree.{least-in-reach}
 use Rattle.broker_spec.specs.Entries.{queued}
-use Rattle.session_base.specs.InRange.{CanBeSent, IsWaiting, IsInFlight, IsQueue}
+use Rattle.session_base.specs.InRange.{CanBeSent, MayWait, IsInFlight, IsQueue}
 use Rattle.broker_form.proofs.Publications.{made}
 
 -- ---- lists
@@ -52,15 +52,15 @@ free_is_id fs p h =
     (omega (arith, low), omega (arith, high, same, h))
 
 -- a publication that starts
-pub started_in_range : (fs : List Flight) (p : Publication) → suc (length fs) < 2 ^ 16 → IsWaiting p → IsInFlight (started_flight fs p)
+pub started_in_range : (fs : List Flight) (p : Publication) → suc (length fs) < 2 ^ 16 → MayWait p → IsInFlight (started_flight fs p)
 started_in_range fs p h k = by p.qos k
   where
-    by : (q : QoS) → IsWaiting (made p.retain q p.topic p.payload) → IsInFlight ((started_flight fs p).0, awaited (made p.retain q p.topic p.payload))
+    by : (q : QoS) → MayWait (made p.retain q p.topic p.payload) → IsInFlight ((started_flight fs p).0, awaited (made p.retain q p.topic p.payload))
     by qualities.AtMostOnce k = absurd (cc)
     by qualities.AtLeastOnce k = (free_is_id fs p h, refl, k.1)
     by qualities.ExactlyOnce k = (free_is_id fs p h, refl, k.1)
 
-filled_in_range : (w n : ℕ) (fs : List Flight) (ps : List Publication) → n < 2 ^ 16 → AllByRecursion IsInFlight fs → AllByRecursion IsWaiting ps →
+filled_in_range : (w n : ℕ) (fs : List Flight) (ps : List Publication) → n < 2 ^ 16 → AllByRecursion IsInFlight fs → AllByRecursion MayWait ps →
     length fs + length ps ≤ n → IsQueue n (fill w fs ps)
 filled_in_range w n fs [] m h k few = record { in_flight = h; waiting = tt; few = few }
 filled_in_range w n fs (p ∷ ps) m h k few =
@@ -109,10 +109,10 @@ pubrec_in_range n id q i apart h = record {
 
 -- ---- copies
 
-pub enqueued_in_range : (n : ℕ) (p : Publication) (q : Queue) → IsWaiting p → IsQueue n q → IsQueue (suc n) (enqueue p q)
+pub enqueued_in_range : (n : ℕ) (p : Publication) (q : Queue) → MayWait p → IsQueue n q → IsQueue (suc n) (enqueue p q)
 enqueued_in_range n p q k h = record {
   in_flight = h.in_flight;
-  waiting = all_append IsWaiting q.waiting (p ∷ []) h.waiting (k, tt);
+  waiting = all_append MayWait q.waiting (p ∷ []) h.waiting (k, tt);
   few = (let e : length (q.waiting ++ p ∷ []) ≡ length q.waiting + 1 = length-append q.waiting (p ∷ []) in let g = h.few in omega (arith, e, g));
 }
 
@@ -134,14 +134,14 @@ pub waiting_in_range : (n : ℕ) (copies : List Publication) (q : Queue) → All
     IsQueue (n + length (queued copies)) (copies_waiting copies q)
 waiting_in_range n copies q k h = record {
   in_flight = h.in_flight;
-  waiting = all_append IsWaiting q.waiting (queued copies) h.waiting (all_queued copies k);
+  waiting = all_append MayWait q.waiting (queued copies) h.waiting (all_queued copies k);
   few = (let e = length-append q.waiting (queued copies) in let g = h.few in omega (arith, e, g));
 }
   where
-    all_queued : (copies : List Publication) → AllByRecursion CanBeSent copies → AllByRecursion IsWaiting (queued copies)
+    all_queued : (copies : List Publication) → AllByRecursion CanBeSent copies → AllByRecursion MayWait (queued copies)
     all_queued [] k = tt
     all_queued (p ∷ copies) k =
-        elim (is_answered p.qos) as (λ (b : Bool). is_answered p.qos ≡ b → AllByRecursion IsWaiting (if b then p ∷ queued copies else queued copies)) [
+        elim (is_answered p.qos) as (λ (b : Bool). is_answered p.qos ≡ b → AllByRecursion MayWait (if b then p ∷ queued copies else queued copies)) [
           | true ↦ λ e. ((e, k.0), all_queued copies k.1)
           | false ↦ λ e. all_queued copies k.1
         ] refl

@@ -10,11 +10,11 @@ use Rattle.packet_base.specs.declared.qos.QoS.{QoS}
 use Rattle.packet_base.specs.declared.qos.QoS.TheVariants as qualities
 use Rattle.session_base.specs.declared.publication.Publication.{Publication}
 use Rattle.session_base.specs.declared.awaits.Awaits.TheVariants as waits_for
-use Rattle.session_base.specs.Publication.{publish_of, is_answered}
+use Rattle.session_base.specs.Publication.{publish_for, is_answered}
 use Rattle.session_base.specs.Queue.{Flight, Queue, started_flight, awaits_pubcomp, enqueue, filled}
 use Rattle.session_base.specs.Sending.{fill_sends, resend, pubrec_sends, copies_sent}
 use Rattle.broker_spec.specs.Entries.{queued}
-use Rattle.session_base.specs.InRange.{CanBeSent, IsWaiting, IsInFlight, IsQueue}
+use Rattle.session_base.specs.InRange.{CanBeSent, MayWait, IsInFlight, IsQueue}
 use Rattle.broker_form.proofs.Publications.{spelled, spelled_once}
 use Rattle.broker_form.proofs.Queues.{all_append, free_is_id, started_in_range, fill_in_range, enqueued_in_range}
 
@@ -22,7 +22,7 @@ abbrev pub AllPackets : List Packet → Type 0
 AllPackets = AllByRecursion IsPacket
 
 -- what starts is sent
-pub fills_are_packets : (w n : ℕ) (fs : List Flight) (ps : List Publication) → n < 2 ^ 16 → AllByRecursion IsInFlight fs → AllByRecursion IsWaiting ps →
+pub fills_are_packets : (w n : ℕ) (fs : List Flight) (ps : List Publication) → n < 2 ^ 16 → AllByRecursion IsInFlight fs → AllByRecursion MayWait ps →
     length fs + length ps ≤ n → AllPackets (fill_sends w fs ps)
 fills_are_packets w n fs [] m h k few = tt
 fills_are_packets w n fs (p ∷ ps) m h k few =
@@ -32,7 +32,7 @@ fills_are_packets w n fs (p ∷ ps) m h k few =
     (let f : length (fs ++ started_flight fs p ∷ []) ≡ length fs + 1 = length-append fs (started_flight fs p ∷ []) in omega (arith, f, few)))
   where
     by : (b : Bool) → AllPackets (fill_sends w (fs ++ started_flight fs p ∷ []) ps) →
-        AllPackets (if b then packets.Publish (publish_of false (started_flight fs p).0 p) ∷ fill_sends w (fs ++ started_flight fs p ∷ []) ps else [])
+        AllPackets (if b then packets.Publish (publish_for false (started_flight fs p).0 p) ∷ fill_sends w (fs ++ started_flight fs p ∷ []) ps else [])
     by true more = (spelled false (started_flight fs p).0 p (free_is_id fs p (omega (arith, few, m))) k.0.1, more)
     by false more = tt
 
@@ -63,7 +63,7 @@ copies_are_packets w n [] q m k h = tt
 copies_are_packets w n (p ∷ copies) q m k h =
     elim (is_answered p.qos) as (λ (b : Bool). is_answered p.qos ≡ b → n + length (if b then p ∷ queued copies else queued copies) < 2 ^ 16 →
     AllPackets (if b then fill_sends w q.in_flight (enqueue p q).waiting ++ copies_sent w copies (filled w (enqueue p q))
-    else packets.Publish (publish_of false 0 p) ∷ copies_sent w copies q)) [
+    else packets.Publish (publish_for false 0 p) ∷ copies_sent w copies q)) [
       | true ↦ λ e m.
           let one = enqueued_in_range n p q (e, k.0) h in
           all_append IsPacket (fill_sends w q.in_flight (enqueue p q).waiting) (copies_sent w copies (filled w (enqueue p q)))

@@ -12,7 +12,7 @@ use Rattle.packet_base.proofs.Steps.{then_if, seq_if, check_if}
 use Rattle.packet_base.proofs.FieldsFound.{Splits, Splits-then, Splits-all, byte_found, front_found, text_found, topic_found, ended_found}
 use Rattle.packet_base.specs.ClientId.{is_client}
 use Rattle.broker_spec.specs.retained.declared.retained_publication.RetainedPublication.{RetainedPublication}
-use Rattle.session_base.specs.Counted.{counted, counted_at}
+use Rattle.session_base.specs.Counted.{counted_bytes, counted_items_at}
 use Rattle.session_base.specs.Form.{long_number, long_number_at, flag_at, qos_at, state_bytes}
 use Rattle.session_base.specs.SessionForm.{state_at}
 use Rattle.session_base.proofs.Found.{weaker}
@@ -130,15 +130,15 @@ IsContent window given state = (state.window ≡ window) × (given ≡ content_b
 
 content_spelled : (window : ℕ) (given : List ℕ) → AreBytes given → IfOk (content_at window given) (IsContent window given)
 content_spelled window given fits =
-    then_if (counted_at number_at row_follows (row_at window) 4096 given) _ (λ x. Splits given (counted number row_bytes x.0) x.1) (IsContent window given)
+    then_if (counted_items_at number_at row_follows (row_at window) 4096 given) _ (λ x. Splits given (counted_bytes number row_bytes x.0) x.1) (IsContent window given)
     (counted_spelled number number_at row_follows row_bytes (row_at window) 4096 number_spelled (row_spelled window) given fits) (λ sessions a.
-    then_if (counted_at number_at topic_follows retained_at 16384 sessions.1) _ (λ x. Splits sessions.1 (counted number retained_bytes x.0) x.1) (IsContent window given)
+    then_if (counted_items_at number_at topic_follows retained_at 16384 sessions.1) _ (λ x. Splits sessions.1 (counted_bytes number retained_bytes x.0) x.1) (IsContent window given)
     (counted_spelled number number_at topic_follows retained_bytes retained_at 16384 number_spelled topic_spelled sessions.1 a.left) (λ retained b.
     seq_if (ended retained.1) _ (retained.1 ≡ []) (IsContent window given) (ended_found retained.1) (λ e.
-    let both = Splits-then given (counted number row_bytes sessions.0) sessions.1 (counted number retained_bytes retained.0) retained.1 a b in
-    let whole : Splits given (counted number row_bytes sessions.0 ++ counted number retained_bytes retained.0) [] =
-    subst (λ (rest : List ℕ). Splits given (counted number row_bytes sessions.0 ++ counted number retained_bytes retained.0) rest) e both in
-    (refl, Splits-all given (counted number row_bytes sessions.0 ++ counted number retained_bytes retained.0) whole))))
+    let both = Splits-then given (counted_bytes number row_bytes sessions.0) sessions.1 (counted_bytes number retained_bytes retained.0) retained.1 a b in
+    let whole : Splits given (counted_bytes number row_bytes sessions.0 ++ counted_bytes number retained_bytes retained.0) [] =
+    subst (λ (rest : List ℕ). Splits given (counted_bytes number row_bytes sessions.0 ++ counted_bytes number retained_bytes retained.0) rest) e both in
+    (refl, Splits-all given (counted_bytes number row_bytes sessions.0 ++ counted_bytes number retained_bytes retained.0) whole))))
 
 -- the bytes are those to which the broker is frozen
 abbrev IsFrozen : List ℕ → State → Type 0

@@ -15,7 +15,7 @@ use Rattle.packet_base.specs.ClientId.{is_client}
 use Rattle.packet.specs.Spelling.{max_body}
 use Rattle.broker_spec.specs.retained.declared.retained_publication.RetainedPublication.{RetainedPublication}
 use Rattle.broker_spec.specs.retained.Retained.{RetainedTopics}
-use Rattle.session_base.specs.Counted.{counted, counted_at}
+use Rattle.session_base.specs.Counted.{counted_bytes, counted_items_at}
 use Rattle.session_base.specs.Form.{flag_at, qos_at, long_number_at, body_length}
 use Rattle.session_base.specs.SessionForm.{state_at}
 use Rattle.session_base.specs.FormLaws.{HasForm, FitsIn}
@@ -61,13 +61,13 @@ content_again state window h e =
     let few = h.0.few_sessions in let topics = h.0.few_topics in
     let wide : state.window ≤ 64 = no_more state.window h.1 in
     let fits : AllInWindow window state.sessions = subst (λ w. AllInWindow w state.sessions) e h.2 in
-    let retained : counted_at number_at topic_follows retained_at 16384 (counted number retained_bytes state.retained) ≡ Ok (state.retained, []) =
-    ap (λ (z : List ℕ). counted_at number_at topic_follows retained_at 16384 z) (sym (append-nil (counted number retained_bytes state.retained)))
+    let retained : counted_items_at number_at topic_follows retained_at 16384 (counted_bytes number retained_bytes state.retained) ≡ Ok (state.retained, []) =
+    ap (λ (z : List ℕ). counted_items_at number_at topic_follows retained_at 16384 z) (sym (append-nil (counted_bytes number retained_bytes state.retained)))
     ∙ counted_again number number_at topic_follows retained_bytes retained_at 16384 state.retained []
     (λ n small rest. number_again n rest (omega (arith, small))) topics (topics_again state.retained h.0.retained)
     (topics_follow [] state.retained (rows_after state.retained h.0.rising)) in
     rw (
-      counted_again number number_at row_follows row_bytes (row_at window) 4096 state.sessions (counted number retained_bytes state.retained)
+      counted_again number number_at row_follows row_bytes (row_at window) 4096 state.sessions (counted_bytes number retained_bytes state.retained)
           (λ n small rest. number_again n rest (omega (arith, small))) few (rows_again window (omega (arith, wide, e)) state.sessions h.0.sound.sessions h.0.sessions fits)
           (sessions_follow state.sessions h.0.sound.by_client h.0.sound.apart),
       retained,
@@ -221,9 +221,9 @@ a_head bytes fits =
 content_found : (window : ℕ) → IsWindowSize window → (bytes : List ℕ) → AreBytes bytes → IfOk (content_at window bytes) IsUsualState
 content_found window size bytes fits =
     let wide = no_more window size in
-    then_if (counted_at number_at row_follows (row_at window) 4096 bytes) _ (λ x. AreRead row_follows (IsRow window) 4096 x.0 × AreBytes x.1) IsUsualState
+    then_if (counted_items_at number_at row_follows (row_at window) 4096 bytes) _ (λ x. AreRead row_follows (IsRow window) 4096 x.0 × AreBytes x.1) IsUsualState
     (counted_found number_at row_follows (row_at window) (IsRow window) 4096 a_number (a_row window (omega (arith, wide))) bytes fits) (λ sessions b.
-    then_if (counted_at number_at topic_follows retained_at 16384 sessions.1) _ (λ x. AreRead topic_follows IsRetained 16384 x.0 × AreBytes x.1) IsUsualState
+    then_if (counted_items_at number_at topic_follows retained_at 16384 sessions.1) _ (λ x. AreRead topic_follows IsRetained 16384 x.0 × AreBytes x.1) IsUsualState
     (counted_found number_at topic_follows retained_at IsRetained 16384 a_number a_topic_row sessions.1 b.1) (λ retained c.
     seq_if (ended retained.1) _ (retained.1 ≡ []) IsUsualState (ended_found retained.1) (λ e.
     let rows = sessions_are sessions.0 b.0.follow in (

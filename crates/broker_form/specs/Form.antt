@@ -9,7 +9,7 @@ use Rattle.packet_base.specs.ClientId.{is_client}
 use Rattle.packet.specs.Spelling.{max_body}
 use Rattle.broker_spec.specs.retained.declared.retained_publication.RetainedPublication.{RetainedPublication}
 use Rattle.broker_spec.specs.retained.Retained.{max_topics}
-use Rattle.session_base.specs.Counted.{check_form, counted_at}
+use Rattle.session_base.specs.Counted.{check_form, counted_items_at}
 use Rattle.session_base.specs.Form.{long_number_at, flag_at, qos_at, body_length}
 use Rattle.session_base.specs.SessionForm.{state_at}
 use Rattle.broker_spec.specs.Connection.{ConnectionName, is_connection_name}
@@ -97,8 +97,8 @@ head_at bytes = do
 -- at most `max_sessions` sessions and `max_topics` topics, and nothing after them
 abbrev pub content_at : ℕ → List ℕ → Result State Stop
 content_at window bytes = do
-  sessions ← counted_at number_at row_follows (row_at window) max_sessions bytes
-  retained ← counted_at number_at topic_follows retained_at max_topics sessions.1
+  sessions ← counted_items_at number_at row_follows (row_at window) max_sessions bytes
+  retained ← counted_items_at number_at topic_follows retained_at max_topics sessions.1
   ended retained.1
   Ok (record { window = window; sessions = sessions.0; retained = retained.0 })
 

@@ -5,7 +5,7 @@ use Rattle.std.specs.Int.{w64, to_be_bytes}
 use Rattle.packet_base.specs.Spelling.{number, text, bit}
 use Rattle.packet_base.specs.QoS.{qos_number}
 use Rattle.broker_spec.specs.retained.declared.retained_publication.RetainedPublication.{RetainedPublication}
-use Rattle.session_base.specs.Counted.{counted}
+use Rattle.session_base.specs.Counted.{counted_bytes}
 use Rattle.session_base.specs.Form.{long_number, state_bytes}
 use Rattle.broker_spec.specs.Connection.{ConnectionName}
 use Rattle.broker_spec.specs.Place.{Client}
@@ -34,7 +34,8 @@ retained_bytes row =
 -- the sessions by the bytes of their clients, the retained publications by topic
 abbrev pub content_bytes : State → List ℕ
 content_bytes state =
-    counted number row_bytes state.sessions ++ counted number retained_bytes state.retained
+    counted_bytes number row_bytes state.sessions
+    ++ counted_bytes number retained_bytes state.retained
 
 -- form 2: its number, the window in one byte, and the content
 abbrev pub frozen : State → List ℕ

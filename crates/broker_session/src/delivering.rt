@@ -2,7 +2,7 @@
 
 ghost use Rattle.std.specs.Prelude.{◌≡◌, ◌≤◌, ◌++◌, [], ◌∷◌, true, false, Some, OnOk, IfOk};
 ghost use Rattle.packet.specs.declared.packet.Packet.TheVariants as packets;
-ghost use Rattle.session_base.specs.Publication.{publish_of, publication_of, is_answered};
+ghost use Rattle.session_base.specs.Publication.{publish_for, publication_of, is_answered};
 ghost use Rattle.session.specs.packet.packet_base.declared.qos.QoS.TheVariants as qualities;
 ghost use Rattle.session_base.specs.Queue.{room};
 ghost use Rattle.session_base.specs.Copies.{copies_left};
@@ -74,7 +74,7 @@ pub(crate) fn put_copy(
 // Returns the PUBLISH of a copy at QoS 0, which no packet answers (MQTT 4.3.1).
 fn unanswered_publish(copy: Publication) -> Packet
     requires { copy.qos ≡ qualities.AtMostOnce }
-    ensures { result ≡ packets.Publish (publish_of false 0 copy) }
+    ensures { result ≡ packets.Publish (publish_for false 0 copy) }
 {
     Packet::Publish(Publish {
         topic: copy.topic,

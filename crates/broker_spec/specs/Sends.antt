@@ -6,7 +6,7 @@ use Rattle.broker_spec.specs.Connection.{ConnectionName}
 use Rattle.broker_spec.specs.Place.{Client, Place, Past, Limits}
 use Rattle.broker_spec.specs.Past.{current_connection}
 use Rattle.session_base.specs.declared.publication.Publication.{Publication}
-use Rattle.session_base.specs.Publication.{publish_of, is_answered}
+use Rattle.session_base.specs.Publication.{publish_for, is_answered}
 use Rattle.broker_spec.specs.Entries.{Entry, copies_at}
 use Rattle.broker_spec.specs.Readings.{made_at, released_below}
 use Rattle.broker_spec.specs.Times.{entries_of}
@@ -15,7 +15,7 @@ use Rattle.broker_spec.specs.declared.command.Output.TheVariants.{Send}
 
 -- a PUBLISH to the client
 abbrev pub publish_output : ConnectionName → Bool → ℕ → Publication → Output
-publish_output x dup id p = Send x (packets.Publish (publish_of dup id p))
+publish_output x dup id p = Send x (packets.Publish (publish_for dup id p))
 
 -- an entry that starts at place n is sent for the first time, with DUP 0 (MQTT 3.3.1.1)
 abbrev pub first_output : ConnectionName → ℕ → Entry → List Output

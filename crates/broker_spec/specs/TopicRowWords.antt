@@ -5,7 +5,7 @@ use Rattle.packet.specs.declared.delivery.Delivery.{Delivery}
 use Rattle.packet.specs.declared.subscribe.Subscription.{Subscription}
 use Rattle.packet.specs.declared.packet.Packet.{Packet}
 use Rattle.packet.specs.declared.packet.Packet.TheVariants as packets
-use Rattle.session_base.specs.Publication.{delivery_at}
+use Rattle.session_base.specs.Publication.{delivery_with}
 use Rattle.broker_spec.specs.declared.command.Command.{Command}
 use Rattle.broker_spec.specs.RowWords.{gets}
 
@@ -26,4 +26,4 @@ subscribe_row id filters = packets.Subscribe (record { id = id; filters = filter
 -- a sends x on each of these topics at this QoS on connection 2, with RETAIN 1 and the identifier 1
 abbrev pub publish_row : QoS → List (List ℕ) → List Command
 publish_row qos =
-    map (λ topic. gets 2 (publish_on topic (delivery_at qos false 1) true (codes "x")))
+    map (λ topic. gets 2 (publish_on topic (delivery_with qos false 1) true (codes "x")))

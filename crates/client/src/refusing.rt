@@ -3,7 +3,7 @@
 ghost use Rattle.std.specs.Prelude.{ℕ, ◌≡◌, ◌+◌, false, if◌then◌else◌, length, min};
 ghost use Rattle.std.specs.Option.{is_some};
 ghost use Rattle.packet.specs.declared.packet.Packet.TheVariants as packets;
-ghost use Rattle.session_base.specs.Publication.{is_answered, publish_of};
+ghost use Rattle.session_base.specs.Publication.{is_answered, publish_for};
 ghost use Rattle.client_base.specs.Publishing.{is_over_limit, publish_refusal};
 ghost use Rattle.client_base.specs.Steps.{request_refusal};
 
@@ -35,7 +35,7 @@ impl ClientCore {
 // Says whether the PUBLISH that carries a publication is over the size limit.
 fn is_long(publication: &Publication) -> bool
     ensures { (id : ℕ) → result
-        ≡ is_over_limit (packets.Publish (publish_of false id publication.now)) }
+        ≡ is_over_limit (packets.Publish (publish_for false id publication.now)) }
 {
     body_len(publication) > MAX_BODY
 }

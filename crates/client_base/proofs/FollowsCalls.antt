@@ -4,7 +4,7 @@ use Rattle.std.proofs.lemmas.Bool.{both_ways}
 use Rattle.session_base.specs.lists.Lists.{has_id}
 use Rattle.packet.specs.declared.packet.Packet.TheVariants as packets
 use Rattle.session_base.specs.declared.publication.Publication.{Publication}
-use Rattle.session_base.specs.Publication.{publish_of}
+use Rattle.session_base.specs.Publication.{publish_for}
 use Rattle.client_base.specs.declared.unacknowledged_publication.UnacknowledgedPublication.{UnacknowledgedPublication}
 use Rattle.client_base.specs.State.{ClientState}
 use Rattle.client_base.specs.Answered.{ClientOutcome}
@@ -57,7 +57,7 @@ publish_outcome p id state answered online =
     if online
     then record {
       state = if answered then record state { sent = state.sent ++ kept_of p id ∷ [] } else state;
-      writes = packets.Publish (publish_of false id p) ∷ [];
+      writes = packets.Publish (publish_for false id p) ∷ [];
       refusal = None;
     }
     else record { state = record state { unsent = state.unsent ++ kept_of p id ∷ [] }; writes = []; refusal = None }

@@ -5,7 +5,7 @@ use Rattle.packet.specs.declared.packet.Packet.{Packet}
 use Rattle.packet.specs.declared.packet.Packet.TheVariants as packets
 use Rattle.packet.specs.Spelling.{body, max_body}
 use Rattle.session_base.specs.declared.publication.Publication.{Publication}
-use Rattle.session_base.specs.Publication.{publish_of, is_answered}
+use Rattle.session_base.specs.Publication.{publish_for, is_answered}
 use Rattle.session_base.specs.Identifiers.{least_free}
 use Rattle.client_base.specs.declared.error.ClientError.{ClientError}
 use Rattle.client_base.specs.declared.error.ClientError.TheVariants as errors
@@ -27,7 +27,7 @@ max_kept = 64
 
 -- the PUBLISH of a publication, with the next identifier
 abbrev pub publish_packet : Publication → ClientState → Packet
-publish_packet p state = packets.Publish (publish_of false (next_id state) p)
+publish_packet p state = packets.Publish (publish_for false (next_id state) p)
 
 -- whether the packet is too large to be spelled
 abbrev pub is_over_limit : Packet → Bool

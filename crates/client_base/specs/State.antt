@@ -2,7 +2,7 @@
 use Rattle.std.specs.Prelude.{ℕ, ◌+◌, Bool, true, false, List, [], ◌++◌, length, map}
 use Rattle.packet.specs.declared.packet.Packet.{Packet}
 use Rattle.packet.specs.declared.packet.Packet.TheVariants as packets
-use Rattle.session_base.specs.Publication.{publish_of}
+use Rattle.session_base.specs.Publication.{publish_for}
 use Rattle.client_base.specs.declared.accepted.Accepted.{Accepted}
 use Rattle.client_base.specs.declared.unacknowledged_publication.UnacknowledgedPublication.{UnacknowledgedPublication}
 use Rattle.client_base.specs.declared.request.Request.{Request}
@@ -85,7 +85,7 @@ used_ids state = publication_ids state ++ request_ids state
 
 -- the PUBLISH of a kept publication, with this DUP
 abbrev pub publish_kept : Bool → UnacknowledgedPublication → Packet
-publish_kept dup kept = packets.Publish (publish_of dup kept.id kept.publication)
+publish_kept dup kept = packets.Publish (publish_for dup kept.id kept.publication)
 
 -- after a CONNACK 0: PUBREL for what is released, PUBLISH with DUP 1 for what was sent, then what
 -- was not

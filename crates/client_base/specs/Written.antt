@@ -4,7 +4,7 @@ use Rattle.std.specs.Prelude.{ℕ, Bool, true, false, List, [], ◌∷◌, ◌++
 use Rattle.packet.specs.declared.packet.Packet.{Packet}
 use Rattle.packet.specs.declared.packet.Packet.TheVariants as packets
 use Rattle.session_base.specs.declared.publication.Publication.{Publication}
-use Rattle.session_base.specs.Publication.{publish_of}
+use Rattle.session_base.specs.Publication.{publish_for}
 use Rattle.client_base.specs.Keeper.{Own, Written, ClientConnection, Keeper, Side}
 
 -- a packet that carries no publication of the client's own
@@ -14,7 +14,7 @@ plain packet = record { packet = packet; number = None }
 -- the PUBLISH of a publication, by its number and identifier
 abbrev pub written_publish : Bool → ℕ → ℕ → Publication → Written
 written_publish dup number id p =
-    record { packet = packets.Publish (publish_of dup id p); number = Some number }
+    record { packet = packets.Publish (publish_for dup id p); number = Some number }
 
 -- PUBLISH with DUP 1 for each that was sent and is not acknowledged
 abbrev pub written_again : List Own → List Written

@@ -6,7 +6,7 @@ use Rattle.std.specs.Prelude.{flat_map}
 use Rattle.client_base.specs.packet.declared.packet.Packet.{Packet}
 use Rattle.client_base.specs.packet.declared.packet.Packet.TheVariants as packets
 use Rattle.client_base.specs.session_base.declared.publication.Publication.{Publication}
-use Rattle.client_base.specs.session_base.Publication.{is_answered, publish_of}
+use Rattle.client_base.specs.session_base.Publication.{is_answered, publish_for}
 use Rattle.broker_base.specs.broker_spec.Connection.{ConnectionName, same_connection}
 use Rattle.broker_base.specs.broker_spec.Place.{Client, Mark, Place, Past, Limits, only_if}
 use Rattle.broker_base.specs.broker_spec.Past.{is_leaving, ends_any, newest_session, current_connection, session_of, in_session}
@@ -97,7 +97,7 @@ none_two x xs ys e f = ap backward_of_own (sends_append x xs ys) ∙ joined (sen
 one_copy : (x y : ConnectionName) (dup : Bool) (id : ℕ) (p : Publication) (more : List Output) → backward_of_own (sends_to x more) ≡ [] → backward_of_own (sends_to x (publish_output y dup id p ∷ more)) ≡ []
 one_copy x y dup id p more e = by (same_connection x y)
   where
-    by : (b : Bool) → backward_of_own (if b then packets.Publish (publish_of dup id p) ∷ sends_to x more else sends_to x more) ≡ []
+    by : (b : Bool) → backward_of_own (if b then packets.Publish (publish_for dup id p) ∷ sends_to x more else sends_to x more) ≡ []
     by true = e
     by false = e
 

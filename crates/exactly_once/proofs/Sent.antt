@@ -5,7 +5,7 @@ use Rattle.client_base.specs.packet.packet_base.declared.qos.QoS.TheVariants as 
 use Rattle.client_base.specs.packet.declared.packet.Packet.{Packet}
 use Rattle.client_base.specs.packet.declared.packet.Packet.TheVariants as packets
 use Rattle.client_base.specs.session_base.declared.publication.Publication.{Publication}
-use Rattle.client_base.specs.session_base.Publication.{publish_of}
+use Rattle.client_base.specs.session_base.Publication.{publish_for}
 use Rattle.client_base.specs.session_base.Identifiers.{least_free}
 use Rattle.broker_base.specs.broker_spec.Connection.{ConnectionName}
 use Rattle.broker_base.specs.broker_spec.Entries.{Entry}
@@ -27,18 +27,18 @@ NoneStartedAt n [] = Unit {0}
 
 -- a PUBLISH of QoS 2 is of the handshake, with its publication as it was
 forward_fields : (dup : Bool) (id : ℕ) (retain : Bool) (q : QoS) (topic payload : List ℕ) (rest : List Packet)
-    → forward_of (packets.Publish (publish_of dup id (record { retain = retain; qos = q; topic = topic; payload = payload })) ∷ rest)
+    → forward_of (packets.Publish (publish_for dup id (record { retain = retain; qos = q; topic = topic; payload = payload })) ∷ rest)
     ≡ (if is_two q then Forward.Publish id (record { retain = retain; qos = q; topic = topic; payload = payload }) ∷ forward_of rest else forward_of rest)
 forward_fields dup id retain qualities.AtMostOnce topic payload rest = refl
 forward_fields dup id retain qualities.AtLeastOnce topic payload rest = refl
 forward_fields dup id retain qualities.ExactlyOnce topic payload rest = refl
 
 pub forward_publish : (dup : Bool) (id : ℕ) (p : Publication) (rest : List Packet)
-    → forward_of (packets.Publish (publish_of dup id p) ∷ rest) ≡ (if is_two p.qos then Forward.Publish id p ∷ forward_of rest else forward_of rest)
+    → forward_of (packets.Publish (publish_for dup id p) ∷ rest) ≡ (if is_two p.qos then Forward.Publish id p ∷ forward_of rest else forward_of rest)
 forward_publish dup id p rest = forward_fields dup id p.retain p.qos p.topic p.payload rest
 
-pub sends_publish : (x : ConnectionName) (dup : Bool) (id : ℕ) (p : Publication) (more : List Output) → sends_to x (publish_output x dup id p ∷ more) ≡ packets.Publish (publish_of dup id p) ∷ sends_to x more
-sends_publish x dup id p more = ap (λ b. if b then packets.Publish (publish_of dup id p) ∷ sends_to x more else sends_to x more) (same_name_self x)
+pub sends_publish : (x : ConnectionName) (dup : Bool) (id : ℕ) (p : Publication) (more : List Output) → sends_to x (publish_output x dup id p ∷ more) ≡ packets.Publish (publish_for dup id p) ∷ sends_to x more
+sends_publish x dup id p more = ap (λ b. if b then packets.Publish (publish_for dup id p) ∷ sends_to x more else sends_to x more) (same_name_self x)
 
 same_place : (n : ℕ) → (n == n) ≡ true
 same_place n = grind arith

@@ -5,7 +5,7 @@ use Rattle.client_base.specs.packet.packet_base.declared.qos.QoS.TheVariants as 
 use Rattle.client_base.specs.packet.declared.subscribe.Subscribe.{Subscribe}
 use Rattle.client_base.specs.packet.declared.packet.Packet.TheVariants as packets
 use Rattle.client_base.specs.session_base.declared.publication.Publication.{Publication}
-use Rattle.client_base.specs.session_base.Publication.{publish_of}
+use Rattle.client_base.specs.session_base.Publication.{publish_for}
 use Rattle.broker_base.specs.broker_spec.Connection.{ConnectionName}
 use Rattle.broker_base.specs.broker_spec.Place.{Client}
 use Rattle.broker_base.specs.broker_spec.declared.command.Command.{Command}
@@ -39,10 +39,10 @@ commands_there =
     commands.Packet second_name (packets.Pubcomp 1)
     ∷ commands.Packet second_name (packets.Pubrel 1)
     ∷ commands.Packet second_name (packets.Pubrec 1)
-    ∷ commands.Packet second_name (packets.Publish (publish_of true 1 news))
+    ∷ commands.Packet second_name (packets.Publish (publish_for true 1 news))
     ∷ commands.Connect second_name writer false
     ∷ commands.Start 2
-    ∷ commands.Packet first_name (packets.Publish (publish_of false 1 news))
+    ∷ commands.Packet first_name (packets.Publish (publish_for false 1 news))
     ∷ commands.Packet first_name (packets.Subscribe asks_for_news)
     ∷ commands.Connect first_name writer false
     ∷ []

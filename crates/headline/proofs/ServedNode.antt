@@ -18,7 +18,7 @@ use Rattle.byte_world.specs.packet.Verdict.{verdict}
 use Rattle.byte_world.specs.packet_base.Lists.{items_of}
 use Rattle.byte_world.specs.packet_base.Reading.{id_at, length_at, number_at, text_at}
 use Rattle.byte_world.specs.packet_base.TopicFields.{filter_at, topic_at}
-use Rattle.byte_world.specs.session_base.Publication.{publish_of}
+use Rattle.byte_world.specs.session_base.Publication.{publish_for}
 use Rattle.byte_world.specs.ballot_base.Serving.{added, commit, commit_at, proposed}
 use Rattle.byte_world.specs.machine.Machine.{replay}
 use Rattle.byte_world.specs.broker_spec.declared.command.Command.{Command}
@@ -69,7 +69,7 @@ abbrev pub suback : Packet
 suback = packets.Suback (record { id = 1; codes = codes.Granted qualities.ExactlyOnce ∷ [] })
 
 abbrev pub publish : Packet
-publish = packets.Publish (publish_of false 1 news)
+publish = packets.Publish (publish_for false 1 news)
 
 abbrev pub list_connected : List Command
 list_connected = commands.Connect first_name writer false ∷ []

@@ -8,7 +8,7 @@ use Rattle.byte_world.specs.broker_spec.declared.command.Command.{Command}
 use Rattle.byte_world.specs.broker_spec.declared.command.Command.TheVariants as commands
 use Rattle.byte_world.specs.client_base.Keeper.{Own}
 use Rattle.byte_world.specs.session_base.declared.publication.Publication.{Publication}
-use Rattle.byte_world.specs.session_base.Publication.{publish_of}
+use Rattle.byte_world.specs.session_base.Publication.{publish_for}
 use Rattle.byte_world.specs.exactly_once.Acceptance.{accepted_on}
 use Rattle.byte_world.specs.exactly_once.Rows.{asks_for_news, first_name, news, writer}
 use Rattle.byte_world.specs.world_base.Core.{CoreState}
@@ -42,7 +42,7 @@ abbrev pub list_done : List Command
 list_done =
     commands.Connect first_name writer false
     ∷ said (packets.Subscribe asks_for_news)
-    ∷ said (packets.Publish (publish_of false 1 news))
+    ∷ said (packets.Publish (publish_for false 1 news))
     ∷ said (packets.Pubrel 1)
     ∷ said (packets.Pubrec 1)
     ∷ said (packets.Pubcomp 1)

@@ -4,7 +4,7 @@ use Rattle.std.proofs.Common.{◌≡◌, ◌<◌, ◌≤◌, ℕ, true, false, L
 use Rattle.exactly_once.specs.packet.declared.connack.Connack.TheVariants as connacks
 use Rattle.exactly_once.specs.packet.declared.suback.SubackCode.TheVariants as codes
 use Rattle.exactly_once.specs.packet.declared.packet.Packet.TheVariants as packets
-use Rattle.exactly_once.specs.session_base.Publication.{publish_of}
+use Rattle.exactly_once.specs.session_base.Publication.{publish_for}
 use Rattle.exactly_once.specs.packet.packet_base.declared.qos.QoS.TheVariants as qualities
 use Rattle.exactly_once.specs.broker_spec.Past.{current_connection, session_of}
 use Rattle.exactly_once.specs.broker_spec.Owner.{named}
@@ -71,7 +71,7 @@ abbrev lost_world : World
 lost_world =
     record {
       agreed = commands.Connect first_name writer false ∷ commands.Packet first_name (packets.Subscribe asks_for_news)
-          ∷ commands.Packet first_name (packets.Publish (publish_of false 1 news)) ∷ commands.Start 2 ∷ [];
+          ∷ commands.Packet first_name (packets.Publish (publish_for false 1 news)) ∷ commands.Start 2 ∷ [];
       clients = (let c : ClientEnds = record { keeper = lost_one; connections = first_one ∷ []; ends = first_end ∷ [] } in c) ∷ [];
     }
 
@@ -115,7 +115,7 @@ second_end =
     record {
       read = 2;
       seen = 6;
-      put = packets.Connack (connacks.Accepted true) ∷ packets.Publish (publish_of true 1 news) ∷ packets.Pubrec 1 ∷ [];
+      put = packets.Connack (connacks.Accepted true) ∷ packets.Publish (publish_for true 1 news) ∷ packets.Pubrec 1 ∷ [];
       is_open = true;
     }
 
@@ -123,10 +123,10 @@ abbrev list_again : List Command
 list_again =
     commands.Connect first_name writer false
     ∷ commands.Packet first_name (packets.Subscribe asks_for_news)
-    ∷ commands.Packet first_name (packets.Publish (publish_of false 1 news))
+    ∷ commands.Packet first_name (packets.Publish (publish_for false 1 news))
     ∷ commands.Start 2
     ∷ commands.Connect second_name writer false
-    ∷ commands.Packet second_name (packets.Publish (publish_of true 1 news))
+    ∷ commands.Packet second_name (packets.Publish (publish_for true 1 news))
     ∷ []
 
 abbrev again_world : World

@@ -5,7 +5,7 @@ use Rattle.std.proofs.lemmas.List.{length-append, length-take, take-append-le, t
 use Rattle.packet.specs.declared.packet.Packet.{Packet}
 use Rattle.packet.specs.declared.packet.Packet.TheVariants as packets
 use Rattle.session_base.specs.declared.publication.Publication.{Publication}
-use Rattle.session_base.specs.Publication.{publish_of}
+use Rattle.session_base.specs.Publication.{publish_for}
 use Rattle.session_base.specs.Queue.{Flight, fill, started_flight}
 use Rattle.session_base.specs.Sending.{fill_sends}
 use Rattle.session.specs.Inside.{started_with, sends_with}
@@ -88,10 +88,10 @@ none_after (p ∷ ps) (suc n) e = none_after ps n (omega (arith, e))
 pub always_sends : (w : ℕ) (fs : List Flight) (p : Publication) (ps : List Publication) (out before : List Packet) →
     length fs < w → out ++ fill_sends w fs (p ∷ ps) ≡ before ++ [] → before ≡ take (length before) out → ⊥
 always_sends w fs p ps out before e known front =
-    let sent : fill_sends w fs (p ∷ ps) ≡ packets.Publish (publish_of false (started_flight fs p).0 p) ∷ fill_sends w (fs ++ started_flight fs p ∷ []) ps =
+    let sent : fill_sends w fs (p ∷ ps) ≡ packets.Publish (publish_for false (started_flight fs p).0 p) ∷ fill_sends w (fs ++ started_flight fs p ∷ []) ps =
     rw (open_window (length fs) w e) refl in
     let all = ap length (sym (ap (λ (z : List Packet). out ++ z) sent) ∙ known) in
-    let more = length-append out (packets.Publish (publish_of false (started_flight fs p).0 p) ∷ fill_sends w (fs ++ started_flight fs p ∷ []) ps) in
+    let more = length-append out (packets.Publish (publish_for false (started_flight fs p).0 p) ∷ fill_sends w (fs ++ started_flight fs p ∷ []) ps) in
     let none = length-append before [] in
     let long = ap length front in let cut = length-take (length before) out in
     absurd (omega (arith, all, more, none, long, cut))

@@ -7,7 +7,7 @@ use Rattle.std.specs.List.{AllByRecursion, last_or}
 use Rattle.std.specs.List.Sorted.{IsStrictlySortedBy}
 use Rattle.session_base.specs.Identifiers.{with_id}
 use Rattle.session_base.specs.Counted.{last_of}
-use Rattle.session_base.specs.Form.{is_over, is_above}
+use Rattle.session_base.specs.Form.{is_above_last, is_above}
 
 pub last_is : {A : Type 0} (xs : List A) (x : A) (o : Option A) → last_or o (x ∷ xs) ≡ slice_get (x ∷ xs) (length (x ∷ xs) - 1)
 last_is [] x o = refl
@@ -38,7 +38,7 @@ comes_last id ids rising e = by ids (above_all id ids rising e)
 
 pub above_last : (ids : List ℕ) (last id : ℕ) → slice_get ids (length ids - 1) ≡ Some last → is_above ids id ≡ nat_lt last id
 above_last [] last id e = absurd (cc)
-above_last (first ∷ ids) last id e = ap (λ (o : Option ℕ). is_over o id) (last_is ids first None ∙ e)
+above_last (first ∷ ids) last id e = ap (λ (o : Option ℕ). is_above_last o id) (last_is ids first None ∙ e)
 
 -- the last of a list that is not empty is at its index
 pub last_at : {A : Type 0} (xs : List A) (last : A) → slice_get xs (length xs - 1) ≡ Some last → last_of xs ≡ Some last

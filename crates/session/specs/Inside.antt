@@ -6,7 +6,7 @@ use Rattle.packet.specs.declared.packet.Packet.{Packet}
 use Rattle.packet.specs.declared.packet.Packet.TheVariants as packets
 use Rattle.session_base.specs.declared.publication.Publication.{Publication}
 use Rattle.session_base.specs.declared.awaits.Awaits.TheVariants as waits_for
-use Rattle.session_base.specs.Publication.{publish_of}
+use Rattle.session_base.specs.Publication.{publish_for}
 use Rattle.packet_base.specs.QoS.{greater_qos}
 use Rattle.session_base.specs.Queue.{Flight, Queue, started_flight}
 use Rattle.session_base.specs.Form.{IsWritable}
@@ -20,7 +20,7 @@ started_with flights [] = record { in_flight = flights; waiting = [] }
 -- the first publication that waits is sent
 abbrev pub sends_with : List Flight → List Publication → List Packet
 sends_with flights (p ∷ waiting) =
-    packets.Publish (publish_of false (started_flight flights p).0 p) ∷ []
+    packets.Publish (publish_for false (started_flight flights p).0 p) ∷ []
 sends_with flights [] = []
 
 -- the entry with this identifier waits for PUBREC

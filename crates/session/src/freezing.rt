@@ -3,7 +3,7 @@
 ghost use Rattle.std.specs.Prelude.{◌≡◌, ◌≤◌, ◌++◌, length, OnOk};
 ghost use Rattle.std.specs.List.{flat_map, AllByRecursion};
 ghost use Rattle.packet_base.specs.Spelling.{number};
-ghost use Rattle.session_base.specs.Counted.{counted};
+ghost use Rattle.session_base.specs.Counted.{counted_bytes};
 ghost use Rattle.session_base.specs.Form.{one_byte, granted_filter_bytes, flight_bytes, publication_bytes};
 ghost use Rattle.session_base.specs.Form.{state_bytes, HasLength, IsWritable};
 ghost use Rattle.session_base.specs.FormLaws.{HasForm};
@@ -39,7 +39,8 @@ impl Subscriptions {
     pub(crate) fn write(&self, bytes: &mut Vec<u8>) -> Result<(), AllocError>
         requires { length self.now ≤ MAX_SUBSCRIPTIONS }
         ensures { OnOk result
-            (bytes.new.items ≡ bytes.old.items ++ counted one_byte granted_filter_bytes self.now) }
+            (bytes.new.items ≡ bytes.old.items
+            ++ counted_bytes one_byte granted_filter_bytes self.now) }
     {
         bytes.push(self.filters.len() as u8)?;
         self.write_each(bytes)
@@ -62,7 +63,7 @@ impl Received {
     pub(crate) fn write(&self, bytes: &mut Vec<u8>) -> Result<(), AllocError>
         requires { length self.now ≤ max_id }
         ensures { OnOk result
-            (bytes.new.items ≡ bytes.old.items ++ counted number number self.now) }
+            (bytes.new.items ≡ bytes.old.items ++ counted_bytes number number self.now) }
     {
         write_number(self.ids.len() as u16, bytes)?;
         self.write_each(bytes)
@@ -89,8 +90,8 @@ impl SessionQueue {
         ensures { OnOk result
             (bytes.new.items
             ≡ bytes.old.items
-            ++ (counted number flight_bytes self.now.in_flight
-            ++ counted number publication_bytes self.now.waiting)) }
+            ++ (counted_bytes number flight_bytes self.now.in_flight
+            ++ counted_bytes number publication_bytes self.now.waiting)) }
     {
         write_number(self.in_flight.len() as u16, bytes)?;
         self.write_flights(bytes)?;

@@ -2,7 +2,7 @@
 
 ghost use Rattle.std.specs.Prelude.{◌≡◌, false, [], ◌∷◌, ◌++◌, IfOk, OnOk, OnErr};
 ghost use Rattle.packet.specs.declared.packet.Packet.TheVariants as packets;
-ghost use Rattle.session_base.specs.Publication.{publish_of};
+ghost use Rattle.session_base.specs.Publication.{publish_for};
 ghost use Rattle.session_base.specs.Queue.{is_puback, is_pubrec, is_pubcomp, awaited};
 ghost use Rattle.session_base.specs.Sending.{sent_anew};
 
@@ -43,7 +43,8 @@ pub(crate) fn awaits_of(publication: Publication) -> Awaits
 
 // Returns the PUBLISH that carries a publication.
 fn publish_packet(publication: &Publication, dup: bool, id: PacketId) -> Result<Packet, AllocError>
-    ensures { IfOk result (λ packet. packet ≡ packets.Publish (publish_of dup id publication.now)) }
+    ensures { IfOk result (λ packet. packet
+        ≡ packets.Publish (publish_for dup id publication.now)) }
 {
     Ok(Packet::Publish(Publish {
         topic: publication.topic.clone()?,
@@ -60,7 +61,7 @@ pub(crate) fn send_publish(
     out: &mut Vec<Packet>,
 ) -> Result<(), AllocError>
     ensures ok { OnOk result (out.new.items
-        ≡ out.old.items ++ packets.Publish (publish_of false id publication.now) ∷ []) }
+        ≡ out.old.items ++ packets.Publish (publish_for false id publication.now) ∷ []) }
     ensures err { OnErr result (out.new.items ≡ out.old.items) }
 {
     let packet = publish_packet(publication, false, id)?;

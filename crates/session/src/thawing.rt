@@ -5,7 +5,7 @@ ghost use Rattle.std.specs.List.Sorted.{IsStrictlySortedBy};
 ghost use Rattle.std.specs.Ordering.{nat_cmp};
 ghost use Rattle.packet_base.specs.Outcome.{Gives, Reads};
 ghost use Rattle.packet_base.specs.Reading.{byte_at, number_at, id_at};
-ghost use Rattle.session_base.specs.Counted.{counted_at, items_after, last_of, AddsItem};
+ghost use Rattle.session_base.specs.Counted.{counted_items_at, items_after, last_of, AddsItem};
 ghost use Rattle.session_base.specs.Form.{is_new_filter, granted_filter_at, is_above, may_follow, flight_at};
 ghost use Rattle.session_base.specs.Form.{anything, was_released, waiting_at};
 ghost use Rattle.session_base.specs.SessionForm.{state_at};
@@ -31,10 +31,11 @@ use topics::Filter;
 
 impl Subscriptions {
     /// Reads as many filters as their count says, none of them twice.
-    #[tactic(auto, unfolding(session_base::specs::Counted::counted_at))]
+    #[tactic(auto, unfolding(session_base::specs::Counted::counted_items_at))]
     pub(crate) fn read(alloc: Global, reader: &mut Reader) -> Result<Subscriptions, Stop>
         ensures { Reads (λ x. x) result reader.new
-            (counted_at byte_at is_new_filter granted_filter_at MAX_SUBSCRIPTIONS reader.old) }
+            (counted_items_at byte_at is_new_filter granted_filter_at MAX_SUBSCRIPTIONS
+            reader.old) }
     {
         let count = reader.byte()?;
         check_form(usize::from(count) <= MAX_SUBSCRIPTIONS)?;
@@ -68,10 +69,10 @@ fn read_filters(alloc: Global, count: u8, reader: &mut Reader) -> Result<Subscri
 
 impl Received {
     /// Reads as many identifiers as their count says, in rising order.
-    #[tactic(auto, unfolding(session_base::specs::Counted::counted_at))]
+    #[tactic(auto, unfolding(session_base::specs::Counted::counted_items_at))]
     pub(crate) fn read(alloc: Global, reader: &mut Reader) -> Result<Received, Stop>
         ensures { Reads (λ x. x) result reader.new
-            (counted_at number_at is_above id_at max_id reader.old) }
+            (counted_items_at number_at is_above id_at max_id reader.old) }
     {
         let count = reader.number()?;
         read_ids(alloc, count, reader)
@@ -146,7 +147,7 @@ fn read_in_flight(
     reader: &mut Reader,
 ) -> Result<IndexMap<PacketId, Awaits>, Stop>
     ensures exact { Reads (λ x. x.entries) result reader.new
-        (counted_at number_at may_follow flight_at window reader.old) }
+        (counted_items_at number_at may_follow flight_at window reader.old) }
     ensures first { IfOk result (λ x. IsReleasedFirst x.entries) }
     ensures few { IfOk result (λ x. length x.entries ≤ window) }
 {
@@ -154,14 +155,14 @@ fn read_in_flight(
 }
 
 // Reads what is in flight after its count, which the window bounds.
-#[tactic(auto, unfolding(session_base::specs::Counted::counted_at))]
+#[tactic(auto, unfolding(session_base::specs::Counted::counted_items_at))]
 fn read_counted_flights(
     alloc: Global,
     window: usize,
     reader: &mut Reader,
 ) -> Result<IndexMap<PacketId, Awaits>, Stop>
     ensures { Reads (λ x. x.entries) result reader.new
-        (counted_at number_at may_follow flight_at window reader.old) }
+        (counted_items_at number_at may_follow flight_at window reader.old) }
 {
     let count = reader.number()?;
     check_form(usize::from(count) <= window)?;
@@ -226,14 +227,14 @@ fn last_is_released(in_flight: &IndexMap<PacketId, Awaits>) -> bool
 }
 
 // Reads as many publications that wait as their count says, and no more than these.
-#[tactic(auto, unfolding(session_base::specs::Counted::counted_at))]
+#[tactic(auto, unfolding(session_base::specs::Counted::counted_items_at))]
 fn read_all_waiting(
     alloc: Global,
     most: usize,
     reader: &mut Reader,
 ) -> Result<VecDeque<Publication>, Stop>
     ensures { Reads (λ x. x.items) result reader.new
-        (counted_at number_at anything waiting_at most reader.old) }
+        (counted_items_at number_at anything waiting_at most reader.old) }
 {
     let count = reader.number()?;
     check_form(usize::from(count) <= most)?;

@@ -5,7 +5,7 @@ use Rattle.std.specs.Prelude.{flat_map}
 use Rattle.std.specs.List.{AllByRecursion}
 use Rattle.std.proofs.lemmas.Bool.{le-leb}
 use Rattle.packet_base.specs.Lists.{ItemAt}
-use Rattle.session_base.specs.Counted.{counted, counted_at, items_after}
+use Rattle.session_base.specs.Counted.{counted_bytes, counted_items_at, items_after}
 
 -- each of these may be where it is
 abbrev pub AllFollow : {A : Type 0} → (List A → A → Bool) → List A → List A → Type 0
@@ -33,8 +33,8 @@ items_again follows bytes item front (one ∷ more) rest again follow =
 pub counted_again : {A : Type 0} (count : ℕ → List ℕ) (count_at : ItemAt ℕ) (follows : List A → A → Bool) (bytes : A → List ℕ) (item : ItemAt A) (most : ℕ)
     (items : List A) (rest : List ℕ) → ((n : ℕ) → n ≤ most → IsReadAgain count count_at n) → length items ≤ most →
     AllByRecursion (IsReadAgain bytes item) items → AllFollow follows [] items →
-    counted_at count_at follows item most (counted count bytes items ++ rest) ≡ Ok (items, rest)
-unfolding counted_at
+    counted_items_at count_at follows item most (counted_bytes count bytes items ++ rest) ≡ Ok (items, rest)
+unfolding counted_items_at
 counted_again count count_at follows bytes item most items rest numbered few again follow =
-    ap (λ (z : List ℕ). counted_at count_at follows item most z) (append_assoc (count (length items)) (flat_map bytes items) rest)
+    ap (λ (z : List ℕ). counted_items_at count_at follows item most z) (append_assoc (count (length items)) (flat_map bytes items) rest)
     ∙ rw (numbered (length items) few (flat_map bytes items ++ rest), le-leb _ _ few, items_again follows bytes item [] items rest again follow) refl

@@ -15,7 +15,7 @@ use Rattle.session_base.specs.declared.awaits.Awaits.TheVariants as waits_for
 use Rattle.session_base.specs.Publication.{is_answered, is_acknowledged}
 use Rattle.session_base.specs.Subscriptions.{GrantedFilter}
 use Rattle.session_base.specs.Queue.{Flight}
-use Rattle.session_base.specs.InRange.{CanBeSent, IsWaiting, IsInFlight, IsGrantedFilter}
+use Rattle.session_base.specs.InRange.{CanBeSent, MayWait, IsInFlight, IsGrantedFilter}
 use Rattle.session_base.specs.Form.{long_number, one_byte, publication_bytes, granted_filter_bytes, awaits_bytes, flight_bytes, flag_at, long_number_at, qos_at, body_length, publication_at, granted_filter_at, waiting_at, sent_at, awaits_at, flight_at}
 use Rattle.session_base.proofs.Counted.{IsReadAgain}
 
@@ -73,7 +73,7 @@ publication_again p h rest =
       le-leb _ _ size,
     ) refl
 
-pub waiting_again : (p : Publication) → IsWaiting p → IsReadAgain publication_bytes waiting_at p
+pub waiting_again : (p : Publication) → MayWait p → IsReadAgain publication_bytes waiting_at p
 unfolding waiting_at
 waiting_again p h rest = rw (publication_again p h.1 rest, h.0) refl
 
@@ -87,7 +87,7 @@ held_again held h rest =
 
 -- ---- entries
 
-waits : (p : Publication) → (q : QoS) → p.qos ≡ q → is_answered q ≡ true → CanBeSent p → IsWaiting p
+waits : (p : Publication) → (q : QoS) → p.qos ≡ q → is_answered q ≡ true → CanBeSent p → MayWait p
 waits p q e a h = (ap is_answered e ∙ a, h)
 
 awaits_again : (id : ℕ) (awaits : Awaits) (rest : List ℕ) → IsInFlight (id, awaits) → awaits_at (awaits_bytes awaits ++ rest) ≡ Ok (awaits, rest)

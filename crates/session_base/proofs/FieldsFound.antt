@@ -20,7 +20,7 @@ use Rattle.session_base.specs.declared.awaits.Awaits.TheVariants as waits_for
 use Rattle.session_base.specs.Publication.{is_answered, is_acknowledged}
 use Rattle.session_base.specs.Subscriptions.{GrantedFilter}
 use Rattle.session_base.specs.Queue.{Flight}
-use Rattle.session_base.specs.InRange.{CanBeSent, IsWaiting, IsInFlight, IsGrantedFilter}
+use Rattle.session_base.specs.InRange.{CanBeSent, MayWait, IsInFlight, IsGrantedFilter}
 use Rattle.session_base.specs.Form.{flag_at, qos_at, long_number_at, body_length, sized, publication_at, granted_filter_at, waiting_at, sent_at, awaits_at, flight_at}
 use Rattle.session_base.proofs.Found.{IsFound, weaker}
 
@@ -99,10 +99,10 @@ a_publication bytes fits =
     then_if (front_at len.0 len.1) _ (λ x. Unit {0} × AreBytes x.1) Q (a_front len.0 len.1 d.1) (λ payload e.
     then_if (sized (record { retain = retain.0; qos = qos.0; topic = topic.0; payload = payload.0 })) _ CanBeSent Q (sized_found _ c.1) (λ p f. (f, e.1)))))))
 
-pub a_waiting_one : IsFound waiting_at IsWaiting
+pub a_waiting_one : IsFound waiting_at MayWait
 unfolding waiting_at
 a_waiting_one bytes fits =
-    let Q : Publication × List ℕ → Type 0 = λ x. IsWaiting x.0 × AreBytes x.1 in
+    let Q : Publication × List ℕ → Type 0 = λ x. MayWait x.0 × AreBytes x.1 in
     then_if (publication_at bytes) _ (λ x. CanBeSent x.0 × AreBytes x.1) Q (a_publication bytes fits) (λ p h.
     check_if (is_answered p.0.qos) _ _ Q (λ test. ((test, h.0), h.1)))
 
@@ -135,11 +135,11 @@ a_sent_one : (acknowledged : Bool) → IsFound (sent_at acknowledged) Awaiting
 unfolding sent_at
 a_sent_one true bytes fits =
     let Q : Awaits × List ℕ → Type 0 = λ x. Awaiting x.0 × AreBytes x.1 in
-    then_if (waiting_at bytes) _ (λ x. IsWaiting x.0 × AreBytes x.1) Q (a_waiting_one bytes fits) (λ p h.
+    then_if (waiting_at bytes) _ (λ x. MayWait x.0 × AreBytes x.1) Q (a_waiting_one bytes fits) (λ p h.
     check_if (is_acknowledged p.0.qos) _ _ Q (λ test. ((λ id i. (i, of_qos_1 p.0.qos test h.0.0, h.0.1)), h.1)))
 a_sent_one false bytes fits =
     let Q : Awaits × List ℕ → Type 0 = λ x. Awaiting x.0 × AreBytes x.1 in
-    then_if (waiting_at bytes) _ (λ x. IsWaiting x.0 × AreBytes x.1) Q (a_waiting_one bytes fits) (λ p h.
+    then_if (waiting_at bytes) _ (λ x. MayWait x.0 × AreBytes x.1) Q (a_waiting_one bytes fits) (λ p h.
     check_if (not (is_acknowledged p.0.qos)) _ _ Q (λ test. ((λ id i. (i, of_qos_2 p.0.qos test h.0.0, h.0.1)), h.1)))
 
 an_awaiting_one : IsFound awaits_at Awaiting

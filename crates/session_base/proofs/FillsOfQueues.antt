@@ -4,11 +4,11 @@ use Rattle.std.proofs.lemmas.List.{append_assoc, length-append}
 use Rattle.packet.specs.declared.packet.Packet.TheVariants as packets
 use Rattle.session_base.specs.declared.publication.Publication.{Publication}
 use Rattle.session_base.specs.declared.awaits.Awaits.TheVariants as waits_for
-use Rattle.session_base.specs.Publication.{is_acknowledged, publish_of}
+use Rattle.session_base.specs.Publication.{is_acknowledged, publish_for}
 use Rattle.session_base.specs.Identifiers.{least_free}
 use Rattle.session_base.specs.Queue.{Flight, ids_of, started_flight, fill}
 use Rattle.session_base.specs.Sending.{fill_sends}
-use Rattle.session_base.specs.Laws.{publications_of, first_sent, FillIsDone, FillStaysWithin, FillKeepsOrder, FillSendsWhatStarts, FillsJoin}
+use Rattle.session_base.specs.Laws.{publications_in_flight, first_sent, FillIsDone, FillStaysWithin, FillKeepsOrder, FillSendsWhatStarts, FillsJoin}
 
 -- ---- the window
 
@@ -39,13 +39,13 @@ fill_within w fs (p ∷ ps) h =
 
 -- ---- order
 
-publications_append : (fs gs : List Flight) → publications_of (fs ++ gs) ≡ publications_of fs ++ publications_of gs
+publications_append : (fs gs : List Flight) → publications_in_flight (fs ++ gs) ≡ publications_in_flight fs ++ publications_in_flight gs
 publications_append [] gs = refl
 publications_append ((id, waits_for.Puback p) ∷ fs) gs = ap (λ ps. p ∷ ps) (publications_append fs gs)
 publications_append ((id, waits_for.Pubrec p) ∷ fs) gs = ap (λ ps. p ∷ ps) (publications_append fs gs)
 publications_append ((id, waits_for.Pubcomp) ∷ fs) gs = publications_append fs gs
 
-one_publication : (b : Bool) (id : ℕ) (p : Publication) → publications_of ((id, (if b then waits_for.Puback p else waits_for.Pubrec p)) ∷ []) ≡ p ∷ []
+one_publication : (b : Bool) (id : ℕ) (p : Publication) → publications_in_flight ((id, (if b then waits_for.Puback p else waits_for.Pubrec p)) ∷ []) ≡ p ∷ []
 one_publication true id p = refl
 one_publication false id p = refl
 
@@ -70,13 +70,13 @@ fill_order w fs [] = (own_front fs, refl)
 fill_order w fs (p ∷ ps) =
     elim (nat_lt (length fs) w) as (λ (b : Bool).
     (take (length fs) (if b then fill w (fs ++ started_flight fs p ∷ []) ps else record { in_flight = fs; waiting = p ∷ ps }).in_flight ≡ fs)
-    × (publications_of (if b then fill w (fs ++ started_flight fs p ∷ []) ps else record { in_flight = fs; waiting = p ∷ ps }).in_flight
-    ++ (if b then fill w (fs ++ started_flight fs p ∷ []) ps else record { in_flight = fs; waiting = p ∷ ps }).waiting ≡ publications_of fs ++ p ∷ ps)) [
+    × (publications_in_flight (if b then fill w (fs ++ started_flight fs p ∷ []) ps else record { in_flight = fs; waiting = p ∷ ps }).in_flight
+    ++ (if b then fill w (fs ++ started_flight fs p ∷ []) ps else record { in_flight = fs; waiting = p ∷ ps }).waiting ≡ publications_in_flight fs ++ p ∷ ps)) [
       | true ↦ (
         front_still fs (started_flight fs p) (fill w (fs ++ started_flight fs p ∷ []) ps).in_flight (fill_order w (fs ++ started_flight fs p ∷ []) ps).0,
         (fill_order w (fs ++ started_flight fs p ∷ []) ps).1
-            ∙ ap (λ qs. qs ++ ps) (publications_append fs (started_flight fs p ∷ []) ∙ ap (λ qs. publications_of fs ++ qs) (one_publication (is_acknowledged p.qos) (least_free (ids_of fs)) p))
-            ∙ append_assoc (publications_of fs) (p ∷ []) ps,
+            ∙ ap (λ qs. qs ++ ps) (publications_append fs (started_flight fs p ∷ []) ∙ ap (λ qs. publications_in_flight fs ++ qs) (one_publication (is_acknowledged p.qos) (least_free (ids_of fs)) p))
+            ∙ append_assoc (publications_in_flight fs) (p ∷ []) ps,
       )
       | false ↦ (own_front fs, refl)
     ]
@@ -87,7 +87,7 @@ all_dropped : {A : Type 0} (xs : List A) → drop (length xs) xs ≡ []
 all_dropped [] = refl
 all_dropped (x ∷ xs) = all_dropped xs
 
-sent_first_by : (b : Bool) (id : ℕ) (p : Publication) → first_sent id (if b then waits_for.Puback p else waits_for.Pubrec p) ≡ packets.Publish (publish_of false id p)
+sent_first_by : (b : Bool) (id : ℕ) (p : Publication) → first_sent id (if b then waits_for.Puback p else waits_for.Pubrec p) ≡ packets.Publish (publish_for false id p)
 sent_first_by true id p = refl
 sent_first_by false id p = refl
 
@@ -107,7 +107,7 @@ pub fill_sends_starts : FillSendsWhatStarts
 fill_sends_starts w fs [] = sym (ap (map (λ (flight : Flight). first_sent flight.0 flight.1)) (all_dropped fs))
 fill_sends_starts w fs (p ∷ ps) =
     elim (nat_lt (length fs) w) as (λ (b : Bool).
-    (if b then packets.Publish (publish_of false (least_free (ids_of fs)) p) ∷ fill_sends w (fs ++ started_flight fs p ∷ []) ps else [])
+    (if b then packets.Publish (publish_for false (least_free (ids_of fs)) p) ∷ fill_sends w (fs ++ started_flight fs p ∷ []) ps else [])
     ≡ map (λ (flight : Flight). first_sent flight.0 flight.1) (drop (length fs) (if b then fill w (fs ++ started_flight fs p ∷ []) ps else record { in_flight = fs; waiting = p ∷ ps }).in_flight)) [
       | true ↦ ap₂ (λ packet rest. packet ∷ rest) (sym (sent_first_by (is_acknowledged p.qos) (least_free (ids_of fs)) p)) (fill_sends_starts w (fs ++ started_flight fs p ∷ []) ps)
           ∙ sym (ap (map (λ (flight : Flight). first_sent flight.0 flight.1))
@@ -128,12 +128,12 @@ fills_join w fs (p ∷ ps) more = by (nat_lt (length fs) w) refl (fills_join w (
         (fill w (if b then fill w (fs ++ started_flight fs p ∷ []) ps else record { in_flight = fs; waiting = p ∷ ps }).in_flight
         ((if b then fill w (fs ++ started_flight fs p ∷ []) ps else record { in_flight = fs; waiting = p ∷ ps }).waiting ++ more)
         ≡ (if b then fill w (fs ++ started_flight fs p ∷ []) (ps ++ more) else record { in_flight = fs; waiting = p ∷ ps ++ more }))
-        × ((if b then packets.Publish (publish_of false (least_free (ids_of fs)) p) ∷ fill_sends w (fs ++ started_flight fs p ∷ []) ps else [])
+        × ((if b then packets.Publish (publish_for false (least_free (ids_of fs)) p) ∷ fill_sends w (fs ++ started_flight fs p ∷ []) ps else [])
         ++ fill_sends w (if b then fill w (fs ++ started_flight fs p ∷ []) ps else record { in_flight = fs; waiting = p ∷ ps }).in_flight
         ((if b then fill w (fs ++ started_flight fs p ∷ []) ps else record { in_flight = fs; waiting = p ∷ ps }).waiting ++ more)
-        ≡ (if b then packets.Publish (publish_of false (least_free (ids_of fs)) p) ∷ fill_sends w (fs ++ started_flight fs p ∷ []) (ps ++ more) else []))
-    by true e k = (k.0, ap (λ rest. packets.Publish (publish_of false (least_free (ids_of fs)) p) ∷ rest) k.1)
+        ≡ (if b then packets.Publish (publish_for false (least_free (ids_of fs)) p) ∷ fill_sends w (fs ++ started_flight fs p ∷ []) (ps ++ more) else []))
+    by true e k = (k.0, ap (λ rest. packets.Publish (publish_for false (least_free (ids_of fs)) p) ∷ rest) k.1)
     by false e k = (
       ap (λ b. if b then fill w (fs ++ started_flight fs p ∷ []) (ps ++ more) else record { in_flight = fs; waiting = p ∷ ps ++ more }) e,
-      ap (λ b. if b then packets.Publish (publish_of false (least_free (ids_of fs)) p) ∷ fill_sends w (fs ++ started_flight fs p ∷ []) (ps ++ more) else []) e,
+      ap (λ b. if b then packets.Publish (publish_for false (least_free (ids_of fs)) p) ∷ fill_sends w (fs ++ started_flight fs p ∷ []) (ps ++ more) else []) e,
     )

@@ -10,7 +10,7 @@ use Rattle.packet_base.specs.Lists.{ItemAt}
 use Rattle.packet_base.proofs.Steps.{then_if, check_if}
 use Rattle.session_base.specs.OrderLaws.{IsReleasedFirst}
 use Rattle.session_base.specs.Queue.{Flight}
-use Rattle.session_base.specs.Counted.{counted_at, items_after}
+use Rattle.session_base.specs.Counted.{counted_items_at, items_after}
 use Rattle.session_base.specs.Form.{may_follow, flight_at}
 use Rattle.session_base.proofs.Counted.{AllFollow}
 use Rattle.session_base.proofs.Found.{weaker}
@@ -39,8 +39,8 @@ items_follow {A} follows item (suc more) front bytes =
     (λ x k. record { items = one.0 ∷ k.items; many_are = ap suc k.many_are; joined = k.joined ∙ append_assoc front (one.0 ∷ []) k.items; follow = (test, k.follow) })))
 
 counted_follow : {A : Type 0} (count : ItemAt ℕ) (follows : List A → A → Bool) (item : ItemAt A) (most : ℕ) (bytes : List ℕ) →
-    IfOk (counted_at count follows item most bytes) (λ x. AllFollow follows [] x.0)
-unfolding counted_at
+    IfOk (counted_items_at count follows item most bytes) (λ x. AllFollow follows [] x.0)
+unfolding counted_items_at
 counted_follow {A} count follows item most bytes =
     let Q : List A × List ℕ → Type 0 = λ x. AllFollow follows [] x.0 in
     then_if (count bytes) _ (λ x. Unit {0}) Q (any (count bytes)) (λ many u.
@@ -49,8 +49,8 @@ counted_follow {A} count follows item most bytes =
     (λ x k. subst (AllFollow follows []) (sym k.joined) k.follow)))
 
 counted_few : {A : Type 0} (count : ItemAt ℕ) (follows : List A → A → Bool) (item : ItemAt A) (most : ℕ) (bytes : List ℕ) →
-    IfOk (counted_at count follows item most bytes) (λ x. length x.0 ≤ most)
-unfolding counted_at
+    IfOk (counted_items_at count follows item most bytes) (λ x. length x.0 ≤ most)
+unfolding counted_items_at
 counted_few {A} count follows item most bytes =
     let Q : List A × List ℕ → Type 0 = λ x. length x.0 ≤ most in
     then_if (count bytes) _ (λ x. Unit {0}) Q (any (count bytes)) (λ many u.
@@ -59,7 +59,7 @@ counted_few {A} count follows item most bytes =
     (λ x k. let n = k.many_are in let all = ap length k.joined in let bound : many.0 ≤ most = leb-true _ _ test in omega (arith, n, all, bound))))
 
 abbrev flights_at : ℕ → List ℕ → Result (List Flight × List ℕ) Stop
-flights_at window bytes = counted_at number_at may_follow flight_at window bytes
+flights_at window bytes = counted_items_at number_at may_follow flight_at window bytes
 
 -- so of a call that read them
 pub read_first : {X : Type 0} (view : X → List Flight) (result : Result X Stop) (window : ℕ) (rest bytes : List ℕ) → Reads view result rest (flights_at window bytes) →

@@ -14,7 +14,7 @@ use Rattle.session_base.specs.OrderLaws.{NoneReleased, IsReleasedFirst}
 use Rattle.session_base.specs.Queue.{Flight, ids_of, is_released}
 use Rattle.session_base.proofs.FiltersApart.{turned}
 use Rattle.session_base.specs.Counted.{last_of}
-use Rattle.session_base.specs.Form.{is_new_filter, is_over, is_above, was_released, may_follow, anything}
+use Rattle.session_base.specs.Form.{is_new_filter, is_above_last, is_above, was_released, may_follow, anything}
 use Rattle.session_base.proofs.Counted.{AllFollow}
 
 -- one put last is the last
@@ -68,7 +68,7 @@ rising_from front (id ∷ ids) first h = (first, rising_from (front ++ id ∷ []
   where
     next : (ids : List ℕ) → AllByRecursion (λ other. nat_cmp id other ≡ Less) ids → MayBegin (front ++ id ∷ []) ids
     next [] h = tt
-    next (other ∷ ids) h = ap (λ (o : Option ℕ). is_over o other) (last_is None front id) ∙ less id other h.0
+    next (other ∷ ids) h = ap (λ (o : Option ℕ). is_above_last o other) (last_is None front id) ∙ less id other h.0
 
 pub received_follow : (ids : List ℕ) → IsStrictlySortedBy nat_cmp ids → AllFollow is_above [] ids
 received_follow [] h = tt

@@ -15,7 +15,7 @@ use Rattle.session_base.specs.OrderLaws.{NoneReleased, IsReleasedFirst}
 use Rattle.session_base.specs.Queue.{Flight, ids_of, is_released}
 use Rattle.session_base.proofs.FiltersApart.{turned}
 use Rattle.session_base.specs.Counted.{last_of}
-use Rattle.session_base.specs.Form.{is_new_filter, is_over, is_above, was_released, may_follow}
+use Rattle.session_base.specs.Form.{is_new_filter, is_above_last, is_above, was_released, may_follow}
 use Rattle.session_base.proofs.Counted.{AllFollow}
 use Rattle.session_base.proofs.Follows.{last_is, id_turned}
 
@@ -63,7 +63,7 @@ more_than i j e = grind (arith, e)
 all_above : (last : ℕ) (front ids : List ℕ) → last_of front ≡ Some last → AllFollow is_above front ids → AllByRecursion (λ id. nat_cmp last id ≡ Less) ids
 all_above last front [] e h = tt
 all_above last front (id ∷ ids) e h =
-    let here = more_than last id (ap (λ (o : Option ℕ). is_over o id) (sym e) ∙ h.0) in
+    let here = more_than last id (ap (λ (o : Option ℕ). is_above_last o id) (sym e) ∙ h.0) in
     (here, further ids (all_above id (front ++ id ∷ []) ids (last_is None front id) h.1) here)
   where
     further : (ids : List ℕ) → AllByRecursion (λ other. nat_cmp id other ≡ Less) ids → nat_cmp last id ≡ Less → AllByRecursion (λ other. nat_cmp last other ≡ Less) ids

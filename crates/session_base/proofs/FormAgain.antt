@@ -9,8 +9,8 @@ use Rattle.std.proofs.lemmas.Map.Views.{length-le_from_below}
 use Rattle.packet_base.specs.Spelling.{IsId, number}
 use Rattle.packet_base.specs.Reading.{byte_at, number_at, id_at}
 use Rattle.packet_base.proofs.FieldsAgain.{number_again, id_again}
-use Rattle.session_base.specs.InRange.{IsGrantedFilter, IsInFlight, IsWaiting}
-use Rattle.session_base.specs.Counted.{counted}
+use Rattle.session_base.specs.InRange.{IsGrantedFilter, IsInFlight, MayWait}
+use Rattle.session_base.specs.Counted.{counted_bytes}
 use Rattle.session_base.specs.Form.{one_byte, granted_filter_bytes, flight_bytes, publication_bytes, granted_filter_at, flight_at, waiting_at, is_new_filter, is_above, may_follow, anything}
 use Rattle.session_base.specs.SessionForm.{state_at}
 use Rattle.session_base.specs.FormLaws.{FrozenIsRead}
@@ -43,10 +43,10 @@ pub frozen_is_read : FrozenIsRead
 unfolding state_at
 frozen_is_read window small s rest h fits =
     let few = h.queue.few in
-    let a = counted one_byte granted_filter_bytes s.subscriptions in
-    let b = counted number number s.received in
-    let c = counted number flight_bytes s.queue.in_flight in
-    let d = counted number publication_bytes s.queue.waiting in
+    let a = counted_bytes one_byte granted_filter_bytes s.subscriptions in
+    let b = counted_bytes number number s.received in
+    let c = counted_bytes number flight_bytes s.queue.in_flight in
+    let d = counted_bytes number publication_bytes s.queue.waiting in
     ap (λ (z : List ℕ). state_at window z) (regrouped a b c d rest)
     ∙ rw (
       counted_again one_byte byte_at is_new_filter granted_filter_bytes granted_filter_at 64 s.subscriptions (b ++ (c ++ (d ++ rest)))
@@ -61,5 +61,5 @@ frozen_is_read window small s rest h fits =
           (flights_follow s.queue.in_flight h.distinct h.released_first),
       counted_again number number_at anything publication_bytes waiting_at (4096 - length s.queue.in_flight) s.queue.waiting rest
           (λ n small rest. number_again n rest (omega (arith, small))) (omega (arith, few))
-          (each IsWaiting (IsReadAgain publication_bytes waiting_at) waiting_again s.queue.waiting h.queue.waiting) (waiting_follow s.queue.waiting),
+          (each MayWait (IsReadAgain publication_bytes waiting_at) waiting_again s.queue.waiting h.queue.waiting) (waiting_follow s.queue.waiting),
     ) refl

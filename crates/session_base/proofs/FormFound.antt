@@ -4,8 +4,8 @@ use Rattle.packet_base.specs.Spelling.{IsId}
 use Rattle.packet_base.specs.Reading.{AreBytes, byte_at, number_at, id_at}
 use Rattle.packet_base.proofs.Steps.{then_if}
 use Rattle.session_base.specs.Session.{SessionState}
-use Rattle.session_base.specs.InRange.{IsGrantedFilter, IsInFlight, IsWaiting}
-use Rattle.session_base.specs.Counted.{counted_at}
+use Rattle.session_base.specs.InRange.{IsGrantedFilter, IsInFlight, MayWait}
+use Rattle.session_base.specs.Counted.{counted_items_at}
 use Rattle.session_base.specs.Form.{granted_filter_at, flight_at, waiting_at, is_new_filter, is_above, may_follow, anything}
 use Rattle.session_base.specs.SessionForm.{state_at}
 use Rattle.session_base.specs.FormLaws.{HasForm, FitsIn, ReadHasForm}
@@ -17,15 +17,15 @@ pub read_has_form : ReadHasForm
 unfolding state_at
 read_has_form window small bytes fits =
     let Q : SessionState × List ℕ → Type 0 = λ x. HasForm x.0 × FitsIn window x.0 × AreBytes x.1 in
-    then_if (counted_at byte_at is_new_filter granted_filter_at 64 bytes) _ (λ x. AreRead is_new_filter IsGrantedFilter 64 x.0 × AreBytes x.1) Q
+    then_if (counted_items_at byte_at is_new_filter granted_filter_at 64 bytes) _ (λ x. AreRead is_new_filter IsGrantedFilter 64 x.0 × AreBytes x.1) Q
     (counted_found byte_at is_new_filter granted_filter_at IsGrantedFilter 64 a_byte a_held_one bytes fits) (λ filters a.
-    then_if (counted_at number_at is_above id_at 65535 filters.1) _ (λ x. AreRead is_above IsId 65535 x.0 × AreBytes x.1) Q
+    then_if (counted_items_at number_at is_above id_at 65535 filters.1) _ (λ x. AreRead is_above IsId 65535 x.0 × AreBytes x.1) Q
     (counted_found number_at is_above id_at IsId 65535 a_number an_id filters.1 a.1) (λ ids b.
-    then_if (counted_at number_at may_follow flight_at window ids.1) _ (λ x. AreRead may_follow IsInFlight window x.0 × AreBytes x.1) Q
+    then_if (counted_items_at number_at may_follow flight_at window ids.1) _ (λ x. AreRead may_follow IsInFlight window x.0 × AreBytes x.1) Q
     (counted_found number_at may_follow flight_at IsInFlight window a_number a_flight ids.1 b.1) (λ flights c.
-    then_if (counted_at number_at anything waiting_at (4096 - length flights.0) flights.1) _
-    (λ x. AreRead anything IsWaiting (4096 - length flights.0) x.0 × AreBytes x.1) Q
-    (counted_found number_at anything waiting_at IsWaiting (4096 - length flights.0) a_number a_waiting_one flights.1 c.1) (λ waiting d. (
+    then_if (counted_items_at number_at anything waiting_at (4096 - length flights.0) flights.1) _
+    (λ x. AreRead anything MayWait (4096 - length flights.0) x.0 × AreBytes x.1) Q
+    (counted_found number_at anything waiting_at MayWait (4096 - length flights.0) a_number a_waiting_one flights.1 c.1) (λ waiting d. (
       record {
         filters_apart = filters_are_apart filters.0 a.0.follow;
         filters = a.0.each;

@@ -7,7 +7,7 @@ use Rattle.packet_base.specs.Reading.{AreBytes}
 use Rattle.packet_base.specs.declared.stop.Stop.{Stop}
 use Rattle.packet_base.specs.Lists.{ItemAt}
 use Rattle.packet_base.proofs.Steps.{then_if, check_if}
-use Rattle.session_base.specs.Counted.{counted_at, items_after}
+use Rattle.session_base.specs.Counted.{counted_items_at, items_after}
 use Rattle.session_base.proofs.Counted.{AllFollow}
 
 -- an item that is read meets it
@@ -56,8 +56,8 @@ pub record AreRead {A : Type 0} (follows : List A → A → Bool) (P : A → Typ
   pub each : AllByRecursion P items
 
 pub counted_found : {A : Type 0} (count : ItemAt ℕ) (follows : List A → A → Bool) (item : ItemAt A) (P : A → Type 0) (most : ℕ) →
-    IsFound count (λ n. Unit {0}) → IsFound item P → IsFound (counted_at count follows item most) (AreRead follows P most)
-unfolding counted_at
+    IsFound count (λ n. Unit {0}) → IsFound item P → IsFound (counted_items_at count follows item most) (AreRead follows P most)
+unfolding counted_items_at
 counted_found {A} count follows item P most counts found bytes fits =
     let Q : List A × List ℕ → Type 0 = λ x. AreRead follows P most x.0 × AreBytes x.1 in
     then_if (count bytes) _ (λ x. Unit {0} × AreBytes x.1) Q (counts bytes fits) (λ many h.

@@ -19,7 +19,7 @@ use Rattle.session_base.specs.declared.awaits.Awaits.{Awaits}
 use Rattle.session_base.specs.declared.awaits.Awaits.TheVariants as waits_for
 use Rattle.session_base.specs.Publication.{is_answered, is_acknowledged}
 use Rattle.session_base.specs.Session.{SessionState}
-use Rattle.session_base.specs.Counted.{counted, counted_at, items_after}
+use Rattle.session_base.specs.Counted.{counted_bytes, counted_items_at, items_after}
 use Rattle.session_base.specs.Form.{long_number, one_byte, publication_bytes, granted_filter_bytes, awaits_bytes, flight_bytes, state_bytes, flag_at, long_number_at, qos_at, body_length, sized, publication_at, granted_filter_at, waiting_at, sent_at, awaits_at, flight_at, is_new_filter, is_above, may_follow, anything}
 use Rattle.session_base.specs.SessionForm.{state_at}
 use Rattle.session_base.specs.FormLaws.{ReadIsFrozen}
@@ -183,18 +183,18 @@ items_spelled {A} follows bytes item each (suc more) front given fits =
     })))
 
 pub counted_spelled : {A : Type 0} (count : ℕ → List ℕ) (count_at : ItemAt ℕ) (follows : List A → A → Bool) (bytes : A → List ℕ) (item : ItemAt A) (most : ℕ) →
-    IsSpelled count count_at → IsSpelled bytes item → IsSpelled (counted count bytes) (counted_at count_at follows item most)
-unfolding counted_at
+    IsSpelled count count_at → IsSpelled bytes item → IsSpelled (counted_bytes count bytes) (counted_items_at count_at follows item most)
+unfolding counted_items_at
 counted_spelled {A} count count_at follows bytes item most counts each given fits =
-    let Q : List A × List ℕ → Type 0 = λ x. Splits given (counted count bytes x.0) x.1 in
+    let Q : List A × List ℕ → Type 0 = λ x. Splits given (counted_bytes count bytes x.0) x.1 in
     then_if (count_at given) _ (λ x. Splits given (count x.0) x.1) Q (counts given fits) (λ many h.
     check_if (nat_le many.0 most) _ _ Q (λ test.
     weaker (items_after follows item many.0 [] many.1) (λ x. AreWritten bytes many.0 [] x.0 many.1 x.1) Q
     (items_spelled follows bytes item each many.0 [] many.1 h.left)
     (λ x k.
     let whole = Splits-then given (count many.0) many.1 (flat_map bytes k.items) x.1 h k.spelled in
-    let counted_so : Splits given (counted count bytes k.items) x.1 = subst (λ (n : ℕ). Splits given (count n ++ flat_map bytes k.items) x.1) (sym k.many_are) whole in
-    subst (λ (zs : List A). Splits given (counted count bytes zs) x.1) (sym k.joined) counted_so)))
+    let counted_so : Splits given (counted_bytes count bytes k.items) x.1 = subst (λ (n : ℕ). Splits given (count n ++ flat_map bytes k.items) x.1) (sym k.many_are) whole in
+    subst (λ (zs : List A). Splits given (counted_bytes count bytes zs) x.1) (sym k.joined) counted_so)))
 
 -- ---- a session
 
@@ -202,19 +202,19 @@ pub state_spelled : (window : ℕ) → IsSpelled state_bytes (state_at window)
 unfolding state_at
 state_spelled window given fits =
     let Q : SessionState × List ℕ → Type 0 = λ x. Splits given (state_bytes x.0) x.1 in
-    then_if (counted_at byte_at is_new_filter granted_filter_at 64 given) _ (λ x. Splits given (counted one_byte granted_filter_bytes x.0) x.1) Q
+    then_if (counted_items_at byte_at is_new_filter granted_filter_at 64 given) _ (λ x. Splits given (counted_bytes one_byte granted_filter_bytes x.0) x.1) Q
     (counted_spelled one_byte byte_at is_new_filter granted_filter_bytes granted_filter_at 64 byte_spelled held_spelled given fits) (λ filters a.
-    then_if (counted_at number_at is_above id_at 65535 filters.1) _ (λ x. Splits filters.1 (counted number number x.0) x.1) Q
+    then_if (counted_items_at number_at is_above id_at 65535 filters.1) _ (λ x. Splits filters.1 (counted_bytes number number x.0) x.1) Q
     (counted_spelled number number_at is_above number id_at 65535 number_spelled id_spelled filters.1 a.left) (λ ids b.
-    then_if (counted_at number_at may_follow flight_at window ids.1) _ (λ x. Splits ids.1 (counted number flight_bytes x.0) x.1) Q
+    then_if (counted_items_at number_at may_follow flight_at window ids.1) _ (λ x. Splits ids.1 (counted_bytes number flight_bytes x.0) x.1) Q
     (counted_spelled number number_at may_follow flight_bytes flight_at window number_spelled flight_spelled ids.1 b.left) (λ flights c.
-    then_if (counted_at number_at anything waiting_at (4096 - length flights.0) flights.1) _ (λ x. Splits flights.1 (counted number publication_bytes x.0) x.1) Q
+    then_if (counted_items_at number_at anything waiting_at (4096 - length flights.0) flights.1) _ (λ x. Splits flights.1 (counted_bytes number publication_bytes x.0) x.1) Q
     (counted_spelled number number_at anything publication_bytes waiting_at (4096 - length flights.0) number_spelled waiting_spelled flights.1 c.left) (λ waiting d.
-    let queue = Splits-then ids.1 (counted number flight_bytes flights.0) flights.1 (counted number publication_bytes waiting.0) waiting.1 c d in
-    let rest = Splits-then filters.1 (counted number number ids.0) ids.1
-    (counted number flight_bytes flights.0 ++ counted number publication_bytes waiting.0) waiting.1 b queue in
-    Splits-then given (counted one_byte granted_filter_bytes filters.0) filters.1
-    (counted number number ids.0 ++ (counted number flight_bytes flights.0 ++ counted number publication_bytes waiting.0)) waiting.1 a rest))))
+    let queue = Splits-then ids.1 (counted_bytes number flight_bytes flights.0) flights.1 (counted_bytes number publication_bytes waiting.0) waiting.1 c d in
+    let rest = Splits-then filters.1 (counted_bytes number number ids.0) ids.1
+    (counted_bytes number flight_bytes flights.0 ++ counted_bytes number publication_bytes waiting.0) waiting.1 b queue in
+    Splits-then given (counted_bytes one_byte granted_filter_bytes filters.0) filters.1
+    (counted_bytes number number ids.0 ++ (counted_bytes number flight_bytes flights.0 ++ counted_bytes number publication_bytes waiting.0)) waiting.1 a rest))))
 
 pub read_is_frozen : ReadIsFrozen
 read_is_frozen window bytes fits = weaker (state_at window bytes) _ _ (state_spelled window bytes fits) (λ x h. h.parts)

@@ -5,7 +5,7 @@ use Rattle.session_base.specs.declared.publication.Publication.{Publication}
 use Rattle.session_base.specs.declared.awaits.Awaits.TheVariants as waits_for
 use Rattle.session_base.specs.Queue.{Flight}
 use Rattle.session_base.specs.Session.{SessionState}
-use Rattle.session_base.specs.InRange.{CanBeSent, IsWaiting, IsInFlight}
+use Rattle.session_base.specs.InRange.{CanBeSent, MayWait, IsInFlight}
 use Rattle.session_base.specs.Form.{HasLength, IsWritable}
 use Rattle.session_base.specs.FormLaws.{HasForm}
 use Rattle.session_base.proofs.Fields.{size_of}
@@ -26,4 +26,4 @@ pub flights_are_writable : (s : SessionState) → HasForm s → AllByRecursion (
 flights_are_writable s h = each IsInFlight (λ flight. IsWritable flight.1) is_writable s.queue.in_flight h.queue.in_flight
 
 pub waiting_have_lengths : (s : SessionState) → HasForm s → AllByRecursion HasLength s.queue.waiting
-waiting_have_lengths s h = each IsWaiting HasLength (λ p k. has_length p k.1) s.queue.waiting h.queue.waiting
+waiting_have_lengths s h = each MayWait HasLength (λ p k. has_length p k.1) s.queue.waiting h.queue.waiting

@@ -26,16 +26,17 @@ items_after follows item (suc more) front bytes =
     >> items_after follows item more (front ++ one.0 ∷ []) one.1)
 
 -- the count, no more than `most`, and the items
-unfoldable pub counted_at : {A : Type 0} → ItemAt ℕ → (List A → A → Bool) → ItemAt A → ℕ → List ℕ →
+unfoldable pub counted_items_at : {A : Type 0} → ItemAt ℕ → (List A → A → Bool) → ItemAt A → ℕ →
+    List ℕ →
     Result (List A × List ℕ) Stop
-counted_at count follows item most bytes = do
+counted_items_at count follows item most bytes = do
   many ← count bytes
   check_form (nat_le many.0 most)
   items_after follows item many.0 [] many.1
 
 -- items as they are written: their count, then one after another
-abbrev pub counted : {A : Type 0} → (ℕ → List ℕ) → (A → List ℕ) → List A → List ℕ
-counted count bytes items = count (length items) ++ flat_map bytes items
+abbrev pub counted_bytes : {A : Type 0} → (ℕ → List ℕ) → (A → List ℕ) → List A → List ℕ
+counted_bytes count bytes items = count (length items) ++ flat_map bytes items
 
 -- what adding an item to those that were read does: it comes last if it may, and all else stops the
 -- reading; memory may run out

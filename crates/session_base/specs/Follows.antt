@@ -11,13 +11,13 @@ abbrev pub is_new_filter : List GrantedFilter → GrantedFilter → Bool
 is_new_filter front granted = not (is_subscribed granted.0 front)
 
 -- an identifier above the last one, if there is one
-abbrev pub is_over : Option ℕ → ℕ → Bool
-is_over (Some last) id = nat_lt last id
-is_over None id = true
+abbrev pub is_above_last : Option ℕ → ℕ → Bool
+is_above_last (Some last) id = nat_lt last id
+is_above_last None id = true
 
 -- an identifier above all of those read before
 abbrev pub is_above : List ℕ → ℕ → Bool
-is_above front id = is_over (last_of front) id
+is_above front id = is_above_last (last_of front) id
 
 -- the last entry, if there is one, is released
 abbrev pub was_released : Option Flight → Bool

@@ -18,7 +18,7 @@ use Rattle.session_base.specs.Queue.{Flight}
 use Rattle.session_base.specs.Counted.{check_form}
 pub use Rattle.session_base.specs.Writing.{long_number, one_byte, publication_bytes, granted_filter_bytes}
 pub use Rattle.session_base.specs.Writing.{awaits_bytes, flight_bytes, state_bytes, HasLength, IsWritable}
-pub use Rattle.session_base.specs.Follows.{is_new_filter, is_over, is_above, was_released}
+pub use Rattle.session_base.specs.Follows.{is_new_filter, is_above_last, is_above, was_released}
 pub use Rattle.session_base.specs.Follows.{may_follow, anything}
 
 -- a byte that is 0 or 1

@@ -21,8 +21,8 @@ exactly_once =
     record { retain = false; qos = qualities.ExactlyOnce; topic = codes "t/1"; payload = codes "y" }
 
 -- what waits: a retained copy at QoS 1, and a publication without a payload
-abbrev pub retained_copy : Publication
-retained_copy =
+abbrev pub retained_in_row : Publication
+retained_in_row =
     record { retain = true; qos = qualities.AtLeastOnce; topic = codes "t/2"; payload = codes "z" }
 
 -- a publication without a payload
@@ -36,7 +36,7 @@ full_queue = record {
   in_flight =
       (3, waits_for.Pubcomp) ∷ (1, waits_for.Puback at_least_once)
       ∷ (2, waits_for.Pubrec exactly_once) ∷ [];
-  waiting = retained_copy ∷ without_payload ∷ [];
+  waiting = retained_in_row ∷ without_payload ∷ [];
 }
 
 -- a session with something in each part

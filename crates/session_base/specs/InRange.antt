@@ -9,17 +9,17 @@ use Rattle.packet.specs.declared.packet.Packet.TheVariants as packets
 use Rattle.packet_base.specs.declared.qos.QoS.TheVariants as qualities
 use Rattle.session_base.specs.declared.publication.Publication.{Publication}
 use Rattle.session_base.specs.declared.awaits.Awaits.TheVariants as waits_for
-use Rattle.session_base.specs.Publication.{publish_of, is_answered}
+use Rattle.session_base.specs.Publication.{publish_for, is_answered}
 use Rattle.session_base.specs.Subscriptions.{GrantedFilter}
 use Rattle.session_base.specs.Queue.{Flight, Queue}
 
 -- a publication whose PUBLISH can be spelled: a topic name, and a packet within the limit
 abbrev pub CanBeSent : Publication → Type 0
-CanBeSent p = IsPacket (packets.Publish (publish_of false 1 p))
+CanBeSent p = IsPacket (packets.Publish (publish_for false 1 p))
 
 -- a publication that waits: it is to be answered
-abbrev pub IsWaiting : Publication → Type 0
-IsWaiting p = IsTrue (is_answered p.qos) × CanBeSent p
+abbrev pub MayWait : Publication → Type 0
+MayWait p = IsTrue (is_answered p.qos) × CanBeSent p
 
 -- an entry in flight: PUBACK answers QoS 1, PUBREC answers QoS 2 (MQTT 4.3)
 abbrev pub IsInFlight : Flight → Type 0
@@ -34,5 +34,5 @@ IsGrantedFilter granted = IsTrue (is_filter granted.0)
 -- a queue of no more entries than the limit, each in its range
 pub record IsQueue (limit : ℕ) (queue : Queue) : Type 0 where
   pub in_flight : AllByRecursion IsInFlight queue.in_flight
-  pub waiting : AllByRecursion IsWaiting queue.waiting
+  pub waiting : AllByRecursion MayWait queue.waiting
   pub few : length queue.in_flight + length queue.waiting ≤ limit

@@ -6,7 +6,7 @@ use Rattle.packet.specs.declared.packet.Packet.TheVariants as packets
 use Rattle.session_base.specs.declared.publication.Publication.{Publication}
 use Rattle.session_base.specs.declared.awaits.Awaits.{Awaits}
 use Rattle.session_base.specs.declared.awaits.Awaits.TheVariants as waits_for
-use Rattle.session_base.specs.Publication.{publish_of, is_answered}
+use Rattle.session_base.specs.Publication.{publish_for, is_answered}
 use Rattle.lists.specs.Lists.{has_id, IsDistinct}
 use Rattle.session_base.specs.Identifiers.{least_free}
 use Rattle.session_base.specs.Queue.{Flight, ids_of, fill}
@@ -14,16 +14,16 @@ use Rattle.session_base.specs.Copies.{copies_left}
 use Rattle.session_base.specs.Sending.{fill_sends}
 
 -- the publications in flight: a released entry has none left
-abbrev pub publications_of : List Flight → List Publication
-publications_of ((id, waits_for.Puback p) ∷ flights) = p ∷ publications_of flights
-publications_of ((id, waits_for.Pubrec p) ∷ flights) = p ∷ publications_of flights
-publications_of ((id, waits_for.Pubcomp) ∷ flights) = publications_of flights
-publications_of [] = []
+abbrev pub publications_in_flight : List Flight → List Publication
+publications_in_flight ((id, waits_for.Puback p) ∷ flights) = p ∷ publications_in_flight flights
+publications_in_flight ((id, waits_for.Pubrec p) ∷ flights) = p ∷ publications_in_flight flights
+publications_in_flight ((id, waits_for.Pubcomp) ∷ flights) = publications_in_flight flights
+publications_in_flight [] = []
 
 -- an entry that starts is sent with DUP 0
 abbrev pub first_sent : ℕ → Awaits → Packet
-first_sent id (waits_for.Puback p) = packets.Publish (publish_of false id p)
-first_sent id (waits_for.Pubrec p) = packets.Publish (publish_of false id p)
+first_sent id (waits_for.Puback p) = packets.Publish (publish_for false id p)
+first_sent id (waits_for.Pubrec p) = packets.Publish (publish_for false id p)
 first_sent id waits_for.Pubcomp = packets.Pubrel id
 
 -- ---- identifiers
@@ -63,9 +63,9 @@ abbrev pub FillKeepsOrder : Type 0
 FillKeepsOrder =
     (window : ℕ) → (flights : List Flight) → (waiting : List Publication) →
     (take (length flights) (fill window flights waiting).in_flight ≡ flights)
-    × (publications_of (fill window flights waiting).in_flight
+    × (publications_in_flight (fill window flights waiting).in_flight
     ++ (fill window flights waiting).waiting
-    ≡ publications_of flights ++ waiting)
+    ≡ publications_in_flight flights ++ waiting)
 
 -- a fill sends what came into flight, with DUP 0, and nothing else
 abbrev pub FillSendsWhatStarts : Type 0

@@ -5,7 +5,7 @@ use Rattle.packet.specs.declared.packet.Packet.TheVariants as packets
 use Rattle.packet_base.specs.declared.qos.QoS.TheVariants as qualities
 use Rattle.session_base.specs.declared.publication.Publication.{Publication}
 use Rattle.session_base.specs.declared.awaits.Awaits.TheVariants as waits_for
-use Rattle.session_base.specs.Publication.{publish_of}
+use Rattle.session_base.specs.Publication.{publish_for}
 use Rattle.lists.specs.Lists.{IsDistinct}
 use Rattle.session_base.specs.Queue.{Flight, ids_of, awaited, is_released, awaits_puback}
 use Rattle.session_base.specs.Queue.{awaits_pubrec, awaits_pubcomp, on_puback, on_pubrec}
@@ -71,9 +71,9 @@ ResendsInOrder =
     ((flights others : List Flight) → resend (flights ++ others) ≡ resend flights ++ resend others)
     × ((id : ℕ) → resend ((id, waits_for.Pubcomp) ∷ []) ≡ packets.Pubrel id ∷ [])
     × ((id : ℕ) → (p : Publication)
-    → resend ((id, waits_for.Puback p) ∷ []) ≡ packets.Publish (publish_of true id p) ∷ [])
+    → resend ((id, waits_for.Puback p) ∷ []) ≡ packets.Publish (publish_for true id p) ∷ [])
     × ((id : ℕ) → (p : Publication)
-    → resend ((id, waits_for.Pubrec p) ∷ []) ≡ packets.Publish (publish_of true id p) ∷ [])
+    → resend ((id, waits_for.Pubrec p) ∷ []) ≡ packets.Publish (publish_for true id p) ∷ [])
 
 -- An entry of QoS 1 that was sent is finished by its PUBACK, and a PUBREC is nothing to it. One of
 -- QoS 2 is released by its PUBREC and finished by the PUBCOMP after it, and a PUBACK is nothing to

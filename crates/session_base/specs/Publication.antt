@@ -19,17 +19,17 @@ publication_of p =
     }
 
 -- how a publication is delivered at this QoS, with DUP and identifier if the QoS has them
-abbrev pub delivery_at : QoS → Bool → ℕ → Delivery
-delivery_at qualities.AtMostOnce dup id = deliveries.AtMostOnce
-delivery_at qualities.AtLeastOnce dup id = deliveries.AtLeastOnce dup id
-delivery_at qualities.ExactlyOnce dup id = deliveries.ExactlyOnce dup id
+abbrev pub delivery_with : QoS → Bool → ℕ → Delivery
+delivery_with qualities.AtMostOnce dup id = deliveries.AtMostOnce
+delivery_with qualities.AtLeastOnce dup id = deliveries.AtLeastOnce dup id
+delivery_with qualities.ExactlyOnce dup id = deliveries.ExactlyOnce dup id
 
 -- the PUBLISH that carries it
-abbrev pub publish_of : Bool → ℕ → Publication → Publish
-publish_of dup id p =
+abbrev pub publish_for : Bool → ℕ → Publication → Publish
+publish_for dup id p =
     record {
       topic = p.topic;
-      delivery = delivery_at p.qos dup id;
+      delivery = delivery_with p.qos dup id;
       retain = p.retain;
       payload = p.payload;
     }

@@ -6,7 +6,7 @@ use Rattle.packet.specs.declared.packet.Packet.TheVariants as packets
 use Rattle.session_base.specs.declared.publication.Publication.{Publication}
 use Rattle.session_base.specs.declared.awaits.Awaits.{Awaits}
 use Rattle.session_base.specs.declared.awaits.Awaits.TheVariants as waits_for
-use Rattle.session_base.specs.Publication.{publish_of, is_answered}
+use Rattle.session_base.specs.Publication.{publish_for, is_answered}
 use Rattle.session_base.specs.Queue.{Flight, Queue, started_flight, awaits_pubcomp, enqueue, filled}
 use Rattle.std.specs.List.{list_any}
 
@@ -14,7 +14,7 @@ use Rattle.std.specs.List.{list_any}
 abbrev pub fill_sends : ℕ → List Flight → List Publication → List Packet
 fill_sends window in_flight (p ∷ waiting) =
     if nat_lt (length in_flight) window
-    then packets.Publish (publish_of false (started_flight in_flight p).0 p)
+    then packets.Publish (publish_for false (started_flight in_flight p).0 p)
     ∷ fill_sends window (in_flight ++ started_flight in_flight p ∷ []) waiting
     else []
 fill_sends window in_flight [] = []
@@ -22,8 +22,8 @@ fill_sends window in_flight [] = []
 -- what a client that comes back is sent of an entry: PUBREL for a released one, else PUBLISH with
 -- DUP 1 (MQTT 4.4)
 abbrev pub sent_anew : ℕ → Awaits → Packet
-sent_anew id (waits_for.Puback p) = packets.Publish (publish_of true id p)
-sent_anew id (waits_for.Pubrec p) = packets.Publish (publish_of true id p)
+sent_anew id (waits_for.Puback p) = packets.Publish (publish_for true id p)
+sent_anew id (waits_for.Pubrec p) = packets.Publish (publish_for true id p)
 sent_anew id waits_for.Pubcomp = packets.Pubrel id
 
 -- what a client that comes back is sent of all that is in flight, in order
@@ -43,5 +43,5 @@ copies_sent window (p ∷ copies) queue =
     if is_answered p.qos
     then fill_sends window queue.in_flight (enqueue p queue).waiting
     ++ copies_sent window copies (filled window (enqueue p queue))
-    else packets.Publish (publish_of false 0 p) ∷ copies_sent window copies queue
+    else packets.Publish (publish_for false 0 p) ∷ copies_sent window copies queue
 copies_sent window [] queue = []

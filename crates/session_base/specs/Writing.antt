@@ -10,7 +10,7 @@ use Rattle.session_base.specs.declared.awaits.Awaits.TheVariants as waits_for
 use Rattle.session_base.specs.Subscriptions.{GrantedFilter}
 use Rattle.session_base.specs.Queue.{Flight}
 use Rattle.session_base.specs.Session.{SessionState}
-use Rattle.session_base.specs.Counted.{counted}
+use Rattle.session_base.specs.Counted.{counted_bytes}
 
 -- a number of four bytes
 abbrev pub long_number : ℕ → List ℕ
@@ -44,10 +44,10 @@ flight_bytes flight = number flight.0 ++ awaits_bytes flight.1
 -- waits
 abbrev pub state_bytes : SessionState → List ℕ
 state_bytes s =
-    counted one_byte granted_filter_bytes s.subscriptions
-    ++ (counted number number s.received
-    ++ (counted number flight_bytes s.queue.in_flight
-    ++ counted number publication_bytes s.queue.waiting))
+    counted_bytes one_byte granted_filter_bytes s.subscriptions
+    ++ (counted_bytes number number s.received
+    ++ (counted_bytes number flight_bytes s.queue.in_flight
+    ++ counted_bytes number publication_bytes s.queue.waiting))
 
 -- ---- what can be written
 

@@ -1,7 +1,7 @@
 // A publication: what a PUBLISH carries, without how it is delivered (MQTT 3.3).
 
 ghost use Rattle.std.specs.Prelude.{◌≡◌};
-ghost use Rattle.session_base.specs.Publication.{delivery_at};
+ghost use Rattle.session_base.specs.Publication.{delivery_with};
 
 use packet::{Delivery, PacketId, Payload, QoS};
 use topics::TopicName;
@@ -21,7 +21,7 @@ pub struct Publication {
 
 /// Returns how a PUBLISH at this QoS is delivered.
 pub fn delivery(qos: QoS, dup: bool, id: PacketId) -> Delivery
-    ensures { result ≡ delivery_at qos dup id }
+    ensures { result ≡ delivery_with qos dup id }
 {
     match qos {
         QoS::AtMostOnce => Delivery::AtMostOnce,

@@ -15,7 +15,7 @@ use Rattle.packet.specs.declared.packet.Packet.TheVariants as packets
 use Rattle.client.specs.packet.packet_base.declared.qos.QoS.{QoS}
 use Rattle.client.specs.packet.packet_base.declared.qos.QoS.TheVariants as qualities
 use Rattle.client.specs.session_base.declared.publication.Publication.{Publication}
-use Rattle.client.specs.session_base.Publication.{delivery_at, is_answered}
+use Rattle.client.specs.session_base.Publication.{delivery_with, is_answered}
 use Rattle.client.proofs.of_session_base.IdentifiersOfFills.{least_free_is}
 use Rattle.client.proofs.of_lists.OfEach.{each_append}
 use Rattle.client.specs.client_base.declared.error.ClientError.{ClientError}
@@ -63,7 +63,7 @@ unsubscribe_is id filter one good = ((one, all_one (λ f. IsTrue (is_filter f)) 
         let e : length (filter ++ []) ≡ length filter + 0 = length-append filter [] in
         let goal : suc (suc (suc (suc (length (filter ++ []))))) ≤ max_body = omega (arith, e, few) in goal
 
-delivery_fits : (qos : QoS) (id : ℕ) → (is_answered qos ≡ true → IsId id) → FitsDelivery (delivery_at qos false id)
+delivery_fits : (qos : QoS) (id : ℕ) → (is_answered qos ≡ true → IsId id) → FitsDelivery (delivery_with qos false id)
 delivery_fits qualities.AtMostOnce id named = tt
 delivery_fits qualities.AtLeastOnce id named = named refl
 delivery_fits qualities.ExactlyOnce id named = named refl
@@ -80,7 +80,7 @@ publish_is p state good taken =
 
 -- what was published at QoS 1 and 2 is kept
 kept_fits : (p : Publication) (id : ℕ) (state : ClientState) (answered online : Bool) →
-    IsPacket (packets.Publish (record { topic = p.topic; delivery = delivery_at p.qos false id; retain = p.retain; payload = p.payload })) →
+    IsPacket (packets.Publish (record { topic = p.topic; delivery = delivery_with p.qos false id; retain = p.retain; payload = p.payload })) →
     CanGoOut state → AllSpelled (publish_outcome p id state answered online)
 kept_fits p id state true true one fits =
     record {

@@ -5,7 +5,7 @@ use Rattle.std.specs.Prelude.{take, drop}
 use Rattle.std.proofs.lemmas.List.{length-map}
 use Rattle.session_base.specs.packet.declared.packet.Packet.TheVariants as packets
 use Rattle.session_base.specs.declared.publication.Publication.{Publication}
-use Rattle.session_base.specs.Publication.{publish_of, is_answered}
+use Rattle.session_base.specs.Publication.{publish_for, is_answered}
 use Rattle.session_base.specs.Identifiers.{least_free}
 use Rattle.session_base.specs.Queue.{Flight, ids_of, started_flight, fill}
 use Rattle.session_base.specs.Sending.{fill_sends, copies_sent}
@@ -28,7 +28,7 @@ fill_full w fs (p ∷ ps) h = ap (λ b. if b then fill w (fs ++ started_flight f
 
 pub sends_full : (w : ℕ) (fs : List Flight) (ps : List Publication) → w ≤ length fs → fill_sends w fs ps ≡ []
 sends_full w fs [] h = refl
-sends_full w fs (p ∷ ps) h = ap (λ b. if b then packets.Publish (publish_of false (least_free (ids_of fs)) p) ∷ fill_sends w (fs ++ started_flight fs p ∷ []) ps else []) (full (length fs) w h)
+sends_full w fs (p ∷ ps) h = ap (λ b. if b then packets.Publish (publish_for false (least_free (ids_of fs)) p) ∷ fill_sends w (fs ++ started_flight fs p ∷ []) ps else []) (full (length fs) w h)
   where
     full : (k w : ℕ) → w ≤ k → nat_lt k w ≡ false
     full k w h = grind arith
@@ -64,8 +64,8 @@ queued_no p ps e = rw e refl
 
 -- if the window is open, the copy starts
 sent_now : (x : ConnectionName) (w n : ℕ) (fs : List Flight) (p : Publication) → length fs < w →
-    fill_sends w fs ([] ++ p ∷ []) ≡ packets.Publish (publish_of false (least_free (ids_of fs)) p) ∷ []
-sent_now x w n fs p h = ap (λ b. if b then packets.Publish (publish_of false (least_free (ids_of fs)) p) ∷ [] else []) (is_open (length fs) w h)
+    fill_sends w fs ([] ++ p ∷ []) ≡ packets.Publish (publish_for false (least_free (ids_of fs)) p) ∷ []
+sent_now x w n fs p h = ap (λ b. if b then packets.Publish (publish_for false (least_free (ids_of fs)) p) ∷ [] else []) (is_open (length fs) w h)
   where
     is_open : (k w : ℕ) → k < w → nat_lt k w ≡ true
     is_open k w h = grind arith
@@ -135,6 +135,6 @@ handed_is x w n ids fs ms (p ∷ copies) same quiet =
         (copy_outputs x n copies (start_all w n (least_free ids ∷ ids) (map (Entry.Waits n) (queued copies))) ≡ map (Send x) (copies_sent w copies (record { in_flight = fs ++ started_flight fs p ∷ []; waiting = [] }))) →
         (if b then all_started x n (take 1 (start_all w n ids (map (Entry.Waits n) (if b then p ∷ queued copies else queued copies)))) ++ copy_outputs x n copies (drop 1 (start_all w n ids (map (Entry.Waits n) (if b then p ∷ queued copies else queued copies))))
         else publish_output x false 0 p ∷ copy_outputs x n copies (start_all w n ids (map (Entry.Waits n) (if b then p ∷ queued copies else queued copies))))
-        ≡ map (Send x) (if b then fill_sends w fs (ms ++ p ∷ []) ++ copies_sent w copies (fill w fs (ms ++ p ∷ [])) else packets.Publish (publish_of false 0 p) ∷ copies_sent w copies (record { in_flight = fs; waiting = ms }))
+        ≡ map (Send x) (if b then fill_sends w fs (ms ++ p ∷ []) ++ copies_sent w copies (fill w fs (ms ++ p ∷ [])) else packets.Publish (publish_for false 0 p) ∷ copies_sent w copies (record { in_flight = fs; waiting = ms }))
     by true e shut_rest open_rest = one (nat_lt (length ids) w) refl shut_rest open_rest
     by false e shut_rest open_rest = ap (λ answers. publish_output x false 0 p ∷ answers) (shut_rest ms quiet)

@@ -6,7 +6,7 @@ use Rattle.std.proofs.lemmas.List.{map-append, length-map}
 use Rattle.session_base.specs.packet.declared.packet.Packet.TheVariants as packets
 use Rattle.session_base.specs.declared.publication.Publication.{Publication}
 use Rattle.session_base.specs.declared.awaits.Awaits.TheVariants as waits_for
-use Rattle.session_base.specs.Publication.{is_acknowledged, publish_of}
+use Rattle.session_base.specs.Publication.{is_acknowledged, publish_for}
 use Rattle.session_base.specs.Identifiers.{least_free}
 use Rattle.session_base.specs.Queue.{Flight, ids_of, started_flight}
 use Rattle.session_base.specs.Sending.{fill_sends, sent_anew, resend}
@@ -44,12 +44,12 @@ pub waits_started : (x : ConnectionName) (w n : ℕ) (ids : List ℕ) (fs : List
 waits_started x w n ids fs [] h same = refl
 waits_started x w n ids fs (Entry.Waits made p ∷ es) h same =
     by (nat_lt (length ids) w) (waits_started x w n (least_free ids ∷ ids) (fs ++ started_flight fs p ∷ []) es h (same_next fs ids p same))
-    ∙ ap (λ k. map (Send x) (if nat_lt k w then packets.Publish (publish_of false (least_free (ids_of fs)) p) ∷ fill_sends w (fs ++ started_flight fs p ∷ []) (waiting_of es) else []))
+    ∙ ap (λ k. map (Send x) (if nat_lt k w then packets.Publish (publish_for false (least_free (ids_of fs)) p) ∷ fill_sends w (fs ++ started_flight fs p ∷ []) (waiting_of es) else []))
     (sym (same_length (ids_of fs) ids same) ∙ length-map fs (λ (flight : Flight). flight.0))
   where
     by : (b : Bool) → all_started x n (start_all w n (least_free ids ∷ ids) es) ≡ map (Send x) (fill_sends w (fs ++ started_flight fs p ∷ []) (waiting_of es)) →
         all_started x n (if b then Entry.Started made p (least_free ids) n ∷ start_all w n (least_free ids ∷ ids) es else Entry.Waits made p ∷ es)
-        ≡ map (Send x) (if b then packets.Publish (publish_of false (least_free (ids_of fs)) p) ∷ fill_sends w (fs ++ started_flight fs p ∷ []) (waiting_of es) else [])
+        ≡ map (Send x) (if b then packets.Publish (publish_for false (least_free (ids_of fs)) p) ∷ fill_sends w (fs ++ started_flight fs p ∷ []) (waiting_of es) else [])
     by true e = rw (this_place n) (ap₂ (λ id answers. publish_output x false id p ∷ answers) (sym (same_least (ids_of fs) ids same)) e)
     by false e = none_started x n es h
 waits_started x w n ids fs (Entry.Started made p id start ∷ es) h same = absurd h
@@ -80,7 +80,7 @@ again_started x w n ids (Entry.Started made p id start ∷ es) = ap (λ answers.
 again_started x w n ids (Entry.Released made p id start release ∷ es) = again_started x w n (id ∷ ids) es
 again_started x w n ids (Entry.Finished made p id start release finish ∷ es) = again_started x w n ids es
 
-anew_by : (b : Bool) (id : ℕ) (p : Publication) → sent_anew id (if b then waits_for.Puback p else waits_for.Pubrec p) ≡ packets.Publish (publish_of true id p)
+anew_by : (b : Bool) (id : ℕ) (p : Publication) → sent_anew id (if b then waits_for.Puback p else waits_for.Pubrec p) ≡ packets.Publish (publish_for true id p)
 anew_by true id p = refl
 anew_by false id p = refl
 

@@ -6,7 +6,7 @@ use Rattle.std.proofs.lemmas.Bool.Decides.{nat_tests}
 use Rattle.packet.specs.declared.packet.Packet.{Packet}
 use Rattle.packet.specs.declared.packet.Packet.TheVariants as packets
 use Rattle.broker_spec.specs.session_base.declared.publication.Publication.{Publication}
-use Rattle.broker_spec.specs.session_base.Publication.{is_answered, publish_of}
+use Rattle.broker_spec.specs.session_base.Publication.{is_answered, publish_for}
 use Rattle.broker_spec.specs.session_base.Queue.{Flight, Queue, started_flight, enqueue, fill, filled, room}
 use Rattle.broker_spec.specs.session_base.Copies.{copies_left}
 use Rattle.broker_spec.specs.session_base.Sending.{fill_sends, copies_sent}
@@ -37,7 +37,7 @@ sent_joins w (p ∷ copies) more queue = by (is_answered p.qos) (sent_joins w co
     starts = fill_sends w queue.in_flight (enqueue p queue).waiting
 
     at_once : Packet
-    at_once = packets.Publish (publish_of false 0 p)
+    at_once = packets.Publish (publish_for false 0 p)
 
     by : (b : Bool) →
         copies_sent w (copies ++ more) (filled w (enqueue p queue))

@@ -4,7 +4,7 @@ use Rattle.std.specs.Prelude.{slice_get}
 use Rattle.std.proofs.lemmas.List.{map-append, length-map, length-append}
 use Rattle.client_base.specs.packet.declared.packet.Packet.TheVariants as packets
 use Rattle.client_base.specs.session_base.declared.publication.Publication.{Publication}
-use Rattle.client_base.specs.session_base.Publication.{is_answered, publication_of, publish_of}
+use Rattle.client_base.specs.session_base.Publication.{is_answered, publication_of, publish_for}
 use Rattle.client_base.specs.session_base.Identifiers.{least_free}
 use Rattle.broker_base.specs.broker_spec.Place.{Limits}
 use Rattle.client_base.specs.lists.Lists.{Each, IsPrefixOf}
@@ -85,7 +85,7 @@ published_of keeper p = by keeper.is_online
     id : ℕ
     id = least_free (ids_in_use keeper)
 
-    there' : slice_get (own_publications (all_own (adds_own p keeper))) (next_own_number keeper) ≡ Some (publication_of (publish_of false (least_free (ids_in_use keeper)) p))
+    there' : slice_get (own_publications (all_own (adds_own p keeper))) (next_own_number keeper) ≡ Some (publication_of (publish_for false (least_free (ids_in_use keeper)) p))
     there' =
         ap (λ ps. slice_get ps (next_own_number keeper)) (said_more keeper p)
         ∙ ap (λ n. slice_get (own_publications (all_own keeper) ++ p ∷ []) n) (sym (length-map (all_own keeper) own_publication ∙ length-append keeper.earlier keeper.own))

@@ -7,7 +7,7 @@ use Rattle.client_base.specs.packet.Delivery.{delivery_qos}
 use Rattle.client_base.specs.packet.declared.packet.Packet.{Packet}
 use Rattle.client_base.specs.packet.declared.packet.Packet.TheVariants as packets
 use Rattle.client_base.specs.session_base.declared.publication.Publication.{Publication}
-use Rattle.client_base.specs.session_base.Publication.{publication_of, publish_of, delivery_at, is_acknowledged}
+use Rattle.client_base.specs.session_base.Publication.{publication_of, publish_for, delivery_with, is_acknowledged}
 use Rattle.client_base.specs.lists.Lists.{Each, IsPrefixOf}
 use Rattle.client_base.proofs.of_lists.Prefixes.{prefix_get}
 use Rattle.client_base.proofs.of_lists.OfEach.{each_append}
@@ -44,10 +44,10 @@ plain_of ps (packets.Publish p) = tt
 plain_of ps _ = tt
 
 -- what is carried is what was published
-pub carried_is : (dup : Bool) (id : ℕ) (p : Publication) → publication_of (publish_of dup id p) ≡ p
+pub carried_is : (dup : Bool) (id : ℕ) (p : Publication) → publication_of (publish_for dup id p) ≡ p
 carried_is dup id p = λ i. record { retain = p.retain; qos = level p.qos i; topic = p.topic; payload = p.payload }
   where
-    level : (q : QoS) → delivery_qos (delivery_at q dup id) ≡ q
+    level : (q : QoS) → delivery_qos (delivery_with q dup id) ≡ q
     level qualities.AtMostOnce = refl
     level qualities.AtLeastOnce = refl
     level qualities.ExactlyOnce = refl
@@ -106,7 +106,7 @@ behind ps n q qs stand j r e =
     subst (λ (m : ℕ). slice_get ps m ≡ Some r) same (stand (suc j) r e)
 
 first_of : (ps : List Publication) (n k : ℕ) (p : Publication) (qs : List Publication) (dup : Bool) (id : ℕ) → k ≡ n → StandFrom ps n (p ∷ qs)
-    → slice_get ps k ≡ Some (publication_of (publish_of dup id p))
+    → slice_get ps k ≡ Some (publication_of (publish_for dup id p))
 first_of ps n k p qs dup id e stand =
     let same : n + 0 ≡ k = omega (arith, e) in
     subst (λ (m : ℕ). slice_get ps m ≡ Some p) same (stand 0 p refl) ∙ ap (λ q. Some q) (sym (carried_is dup id p))

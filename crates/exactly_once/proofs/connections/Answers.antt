@@ -6,7 +6,7 @@ use Rattle.client_base.specs.packet.declared.delivery.Delivery.TheVariants as de
 use Rattle.client_base.specs.packet.declared.packet.Packet.{Packet}
 use Rattle.client_base.specs.packet.declared.packet.Packet.TheVariants as packets
 use Rattle.client_base.specs.session_base.declared.publication.Publication.{Publication}
-use Rattle.client_base.specs.session_base.Publication.{publish_of, is_answered}
+use Rattle.client_base.specs.session_base.Publication.{publish_for, is_answered}
 use Rattle.client_base.specs.lists.Lists.{has_id, Each}
 use Rattle.broker_base.specs.broker_spec.Connection.{ConnectionName, same_connection}
 use Rattle.broker_base.specs.broker_spec.Place.{Client, Place, Past, Limits}
@@ -52,7 +52,7 @@ first_right : (P : Output → Type 0) (x : ConnectionName) (n : ℕ) → MayBeSe
 first_right P x n may (Entry.Started made p id start) = by (start == n)
   where
     by : (b : Bool) → Each P (if b then publish_output x false id p ∷ [] else [])
-    by true = (may (packets.Publish (publish_of false id p)) refl, tt)
+    by true = (may (packets.Publish (publish_for false id p)) refl, tt)
     by false = tt
 first_right P x n may (Entry.Waits made p) = tt
 first_right P x n may (Entry.Released made p id start release) = tt
@@ -68,7 +68,7 @@ again_right P x n may (Entry.Started made p id start) = by (start == n)
   where
     by : (b : Bool) → Each P (if b then [] else publish_output x true id p ∷ [])
     by true = tt
-    by false = (may (packets.Publish (publish_of true id p)) refl, tt)
+    by false = (may (packets.Publish (publish_for true id p)) refl, tt)
 again_right P x n may (Entry.Waits made p) = tt
 again_right P x n may (Entry.Released made p id start release) = tt
 again_right P x n may (Entry.Finished made p id start release finish) = tt
@@ -92,7 +92,7 @@ handed_right P x n may (p ∷ copies) es = by (is_answered p.qos) (λ l. handed_
   where
     by : (b : Bool) → ((l : List Entry) → Each P (copy_outputs x n copies l)) → Each P (if b then all_started x n (take 1 es) ++ copy_outputs x n copies (drop 1 es) else publish_output x false 0 p ∷ copy_outputs x n copies es)
     by true more = each_append P (all_started x n (take 1 es)) (copy_outputs x n copies (drop 1 es)) (started_right P x n may (take 1 es)) (more (drop 1 es))
-    by false more = (may (packets.Publish (publish_of false 0 p)) refl, more es)
+    by false more = (may (packets.Publish (publish_for false 0 p)) refl, more es)
 
 -- a client's copies go to its connection
 pub deliveries_right : (P : Output → Type 0) (limits : Limits) (place : Place) (past : Past) → ((d : Client) (x : ConnectionName) → current_connection past d ≡ Some x → MayBeSent P x) → (d : Client)

@@ -3,7 +3,7 @@ use Rattle.std.proofs.Common.{◌≡◌, ℕ, Bool, true, false, ◌==◌, not, 
 use Rattle.std.specs.Prelude.{flat_map}
 use Rattle.client_base.specs.packet.declared.packet.Packet.{Packet}
 use Rattle.client_base.specs.packet.declared.packet.Packet.TheVariants as packets
-use Rattle.client_base.specs.session_base.Publication.{publish_of}
+use Rattle.client_base.specs.session_base.Publication.{publish_for}
 use Rattle.broker_base.specs.broker_spec.Connection.{ConnectionName, same_connection}
 use Rattle.broker_base.specs.broker_spec.Place.{Client, Mark, Place, Past, Limits}
 use Rattle.broker_base.specs.broker_spec.Past.{current_connection, begins}
@@ -50,7 +50,7 @@ again_none y x n (Entry.Started made p id start) = by (start == n)
   where
     by : (b : Bool) → NoneSent y (if b then [] else publish_output x true id p ∷ [])
     by true = refl
-    by false = none_one y x (packets.Publish (publish_of true id p)) refl
+    by false = none_one y x (packets.Publish (publish_for true id p)) refl
 again_none y x n (Entry.Waits made p) = refl
 again_none y x n (Entry.Released made p id start release) = refl
 again_none y x n (Entry.Finished made p id start release finish) = refl

@@ -3,7 +3,7 @@ use Rattle.std.proofs.Common.{◌≡◌, ℕ, Bool, if◌then◌else◌, List, �
 use Rattle.client_base.specs.packet.packet_base.declared.qos.QoS.{QoS}
 use Rattle.client_base.specs.packet.packet_base.declared.qos.QoS.TheVariants as qualities
 use Rattle.client_base.specs.session_base.declared.publication.Publication.{Publication}
-use Rattle.client_base.specs.session_base.Publication.{delivery_at}
+use Rattle.client_base.specs.session_base.Publication.{delivery_with}
 use Rattle.exactly_once.specs.Handshake.{Forward}
 use Rattle.client_base.specs.Keeper.{Written}
 use Rattle.client_base.specs.Written.{written_publish}
@@ -14,7 +14,7 @@ pub forward_publishes : (dup : Bool) (k id : ℕ) (p : Publication) (ws : List W
     → forward_of_own (written_publish dup k id p ∷ ws) ≡ (if is_two p.qos then Forward.Publish id k ∷ forward_of_own ws else forward_of_own ws)
 forward_publishes dup k id p ws = by p.qos
   where
-    by : (q : QoS) → carried_by (delivery_at q dup id) (Some k) (forward_of_own ws) ≡ (if is_two q then Forward.Publish id k ∷ forward_of_own ws else forward_of_own ws)
+    by : (q : QoS) → carried_by (delivery_with q dup id) (Some k) (forward_of_own ws) ≡ (if is_two q then Forward.Publish id k ∷ forward_of_own ws else forward_of_own ws)
     by qualities.AtMostOnce = refl
     by qualities.AtLeastOnce = refl
     by qualities.ExactlyOnce = refl

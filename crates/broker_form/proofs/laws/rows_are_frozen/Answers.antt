@@ -1,11 +1,11 @@
 use Rattle.std.proofs.Common.{refl}
 use Rattle.packet_base.specs.Reading.{number_at}
-use Rattle.session_base.specs.Counted.{counted_at, items_after}
+use Rattle.session_base.specs.Counted.{counted_items_at, items_after}
 use Rattle.broker_form.specs.Form.{size_at, head_at, broker_at}
 use Rattle.broker_form.proofs.laws.rows_are_frozen.Goals as goal
 
 pub returns-clause-before : goal.returns-clause-before
-unfolding broker_at head_at counted_at items_after number_at
+unfolding broker_at head_at counted_items_at items_after number_at
 returns-clause-before c = (refl, refl, refl)
 
 pub returns-clause-one_before : goal.returns-clause-one_before
