@@ -12,14 +12,14 @@ use Rattle.packet_base.proofs.FieldsFound.{ended_found}
 use Rattle.packet.specs.declared.packet.Packet.{Packet}
 use Rattle.packet.specs.declared.packet.Packet.TheVariants as packets
 use Rattle.packet.specs.declared.publish.Publish.{Publish}
-use Rattle.packet.specs.Connect.{connect, connect_of, FitsConnect}
-use Rattle.packet.specs.Connack.{connack, connack_of}
+use Rattle.packet.specs.Connect.{connect_body, connect_of, FitsConnect}
+use Rattle.packet.specs.Connack.{connack_body, connack_of}
 use Rattle.packet.specs.Delivery.{delivery_flags}
 use Rattle.packet.specs.Publish.{publish_of}
 use Rattle.packet.specs.IdAlone.{id_alone_of}
-use Rattle.packet.specs.Subscribe.{subscribe, subscribe_of, FitsSubscribe}
-use Rattle.packet.specs.Suback.{suback, suback_of, FitsSuback}
-use Rattle.packet.specs.Unsubscribe.{unsubscribe, unsubscribe_of, FitsUnsubscribe}
+use Rattle.packet.specs.Subscribe.{subscribe_body, subscribe_of, FitsSubscribe}
+use Rattle.packet.specs.Suback.{suback_body, suback_of, FitsSuback}
+use Rattle.packet.specs.Unsubscribe.{unsubscribe_body, unsubscribe_of, FitsUnsubscribe}
 use Rattle.packet.specs.Spelling.{header, body, Fits, IsListed}
 use Rattle.packet.specs.Verdict.{body_of}
 use Rattle.packet.proofs.ConnectReads.{connect_found, connect_again}
@@ -42,10 +42,10 @@ header_said flags retain p is =
 
 pub body_found : (h : Header) (bytes : List ℕ) → AreBytes bytes → IfOk (body_of h bytes) (IsBody h bytes)
 body_found headers.Connect bytes fits =
-    then_if (connect_of bytes) _ (λ c. (bytes ≡ connect c) × FitsConnect c) (IsBody headers.Connect bytes) (connect_found bytes fits)
+    then_if (connect_of bytes) _ (λ c. (bytes ≡ connect_body c) × FitsConnect c) (IsBody headers.Connect bytes) (connect_found bytes fits)
     (λ c x. record { said = refl; spelled = x.0; fits = x.1; listed = tt })
 body_found headers.Connack bytes fits =
-    then_if (connack_of bytes) _ (λ c. bytes ≡ connack c) (IsBody headers.Connack bytes) (connack_found bytes fits)
+    then_if (connack_of bytes) _ (λ c. bytes ≡ connack_body c) (IsBody headers.Connack bytes) (connack_found bytes fits)
     (λ c x. record { said = refl; spelled = x; fits = tt; listed = tt })
 body_found (headers.Publish flags retain) bytes fits =
     then_if (publish_of flags retain bytes) _ (IsPublish flags retain bytes) (IsBody (headers.Publish flags retain) bytes) (publish_found flags retain bytes fits)
@@ -63,13 +63,13 @@ body_found headers.Pubcomp bytes fits =
     then_if (id_alone_of bytes) _ (λ id. (bytes ≡ number id) × IsId id) (IsBody headers.Pubcomp bytes) (id_alone_found bytes fits)
     (λ id x. record { said = refl; spelled = x.0; fits = x.1; listed = tt })
 body_found headers.Subscribe bytes fits =
-    then_if (subscribe_of bytes) _ (λ s. (bytes ≡ subscribe s) × FitsSubscribe s × (0 < length s.filters)) (IsBody headers.Subscribe bytes) (subscribe_found bytes fits)
+    then_if (subscribe_of bytes) _ (λ s. (bytes ≡ subscribe_body s) × FitsSubscribe s × (0 < length s.filters)) (IsBody headers.Subscribe bytes) (subscribe_found bytes fits)
     (λ s x. record { said = refl; spelled = x.0; fits = x.1; listed = x.2 })
 body_found headers.Suback bytes fits =
-    then_if (suback_of bytes) _ (λ s. (bytes ≡ suback s) × FitsSuback s × (0 < length s.codes)) (IsBody headers.Suback bytes) (suback_found bytes fits)
+    then_if (suback_of bytes) _ (λ s. (bytes ≡ suback_body s) × FitsSuback s × (0 < length s.codes)) (IsBody headers.Suback bytes) (suback_found bytes fits)
     (λ s x. record { said = refl; spelled = x.0; fits = x.1; listed = x.2 })
 body_found headers.Unsubscribe bytes fits =
-    then_if (unsubscribe_of bytes) _ (λ u. (bytes ≡ unsubscribe u) × FitsUnsubscribe u × (0 < length u.filters)) (IsBody headers.Unsubscribe bytes) (unsubscribe_found bytes fits)
+    then_if (unsubscribe_of bytes) _ (λ u. (bytes ≡ unsubscribe_body u) × FitsUnsubscribe u × (0 < length u.filters)) (IsBody headers.Unsubscribe bytes) (unsubscribe_found bytes fits)
     (λ u x. record { said = refl; spelled = x.0; fits = x.1; listed = x.2 })
 body_found headers.Unsuback bytes fits =
     then_if (id_alone_of bytes) _ (λ id. (bytes ≡ number id) × IsId id) (IsBody headers.Unsuback bytes) (id_alone_found bytes fits)

@@ -14,7 +14,7 @@ use Rattle.packet_base.proofs.FieldsAgain.{number_again, text_again}
 use Rattle.packet_base.proofs.Clients.{client_checked, client_parts, client_short}
 use Rattle.packet_base.specs.ClientId.{has_client_length, is_client}
 use Rattle.packet.specs.declared.connect.Connect.{Connect}
-use Rattle.packet.specs.Connect.{protocol, clean_of, connect, connect_of, FitsConnect}
+use Rattle.packet.specs.Connect.{protocol, clean_of, connect_body, connect_of, FitsConnect}
 
 -- connect flags below 4 whose lowest bit is not set
 clean_flags : (flags : ℕ) → flags % 2 ≡ 0 → flags < 4 → flags ≡ 2 * bit (eqb flags 2)
@@ -48,10 +48,10 @@ whole body rest l2 l3 client level flags keep_alive clean a b c d is_level is_fl
     let two : level ∷ flags ∷ [] ≡ 4 ∷ 2 * bit clean ∷ [] = ap (λ (x : ℕ). x ∷ flags ∷ []) is_level ∙ ap (λ (x : ℕ). 4 ∷ x ∷ []) is_flags in
     abcd.parts ∙ append-nil _ ∙ ap front two
 
-pub connect_found : (body : List ℕ) → AreBytes body → IfOk (connect_of body) (λ c. (body ≡ connect c) × FitsConnect c)
+pub connect_found : (body : List ℕ) → AreBytes body → IfOk (connect_of body) (λ c. (body ≡ connect_body c) × FitsConnect c)
 unfolding connect_of
 connect_found body fits =
-    let Q : Connect → Type 0 = λ c. (body ≡ connect c) × FitsConnect c in
+    let Q : Connect → Type 0 = λ c. (body ≡ connect_body c) × FitsConnect c in
     check_if (starts_with nat_eq body protocol) _ _ Q (λ named.
     let a = protocol_found body fits named in
     then_if (byte_at (drop 6 body)) _ (λ x. Splits (drop 6 body) (x.0 ∷ []) x.1 × (x.0 < 256)) Q (byte_found (drop 6 body) a.left) (λ level h1.
@@ -72,7 +72,7 @@ regrouped : (clean : Bool) (keep_alive : ℕ) (client : List ℕ) → protocol +
 regrouped clean keep_alive client = ap (λ (x : List ℕ). protocol ++ (4 ∷ 2 * bit clean ∷ (number keep_alive ++ x))) (sym (append-nil (text client)))
 
 again_at : (clean : Bool) (keep_alive : ℕ) (client : List ℕ) → keep_alive < 2 ^ 16 → is_client client ≡ true
-    → connect_of (connect (record { client = client; clean = clean; keep_alive = keep_alive })) ≡ Ok (record { client = client; clean = clean; keep_alive = keep_alive })
+    → connect_of (connect_body (record { client = client; clean = clean; keep_alive = keep_alive })) ≡ Ok (record { client = client; clean = clean; keep_alive = keep_alive })
 unfolding connect_of
 again_at true keep_alive client small good =
     let parts = client_parts client good in
@@ -81,5 +81,5 @@ again_at false keep_alive client small good =
     let parts = client_parts client good in
     ap connect_of (regrouped false keep_alive client) ∙ rw (number_again keep_alive (text client ++ []) small, text_again client [] (client_short client good) parts.0, parts.1) refl
 
-pub connect_again : (c : Connect) → FitsConnect c → connect_of (connect c) ≡ Ok c
+pub connect_again : (c : Connect) → FitsConnect c → connect_of (connect_body c) ≡ Ok c
 connect_again c fits = again_at c.clean c.keep_alive c.client fits.0 fits.1

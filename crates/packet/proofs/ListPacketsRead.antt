@@ -22,9 +22,9 @@ use Rattle.packet.specs.declared.suback.SubackCode.TheVariants as return_codes
 use Rattle.packet.specs.declared.suback.Suback.{Suback}
 use Rattle.packet.specs.declared.unsubscribe.Unsubscribe.{Unsubscribe}
 use Rattle.packet_base.specs.QoS.{qos_number, qos_of}
-use Rattle.packet.specs.Subscribe.{subscription, subscribe, FitsSubscription, FitsSubscribe, subscription_at, subscribe_of}
-use Rattle.packet.specs.Suback.{granted_number, granted, suback, FitsSuback, granted_of, granted_at, suback_of}
-use Rattle.packet.specs.Unsubscribe.{unsubscribe, FitsUnsubscribe, unsubscribe_of}
+use Rattle.packet.specs.Subscribe.{subscription, subscribe_body, FitsSubscription, FitsSubscribe, subscription_at, subscribe_of}
+use Rattle.packet.specs.Suback.{granted_number, granted, suback_body, FitsSuback, granted_of, granted_at, suback_of}
+use Rattle.packet.specs.Unsubscribe.{unsubscribe_body, FitsUnsubscribe, unsubscribe_of}
 use Rattle.packet_base.proofs.QoSReads.{qos_found, qos_again}
 
 -- ---- items
@@ -87,16 +87,16 @@ codes = record { found = granted_found; again = granted_again; some = λ code. o
 id_then : (body rest items : List ℕ) (id : ℕ) → Splits body (number id) rest → rest ≡ items → body ≡ number id ++ items
 id_then body rest items id h is = h.parts ∙ ap (λ (x : List ℕ). number id ++ x) is
 
-pub subscribe_found : (body : List ℕ) → AreBytes body → IfOk (subscribe_of body) (λ s. (body ≡ subscribe s) × FitsSubscribe s × (0 < length s.filters))
+pub subscribe_found : (body : List ℕ) → AreBytes body → IfOk (subscribe_of body) (λ s. (body ≡ subscribe_body s) × FitsSubscribe s × (0 < length s.filters))
 unfolding subscribe_of
 subscribe_found body fits =
-    let Q : Subscribe → Type 0 = λ s. (body ≡ subscribe s) × FitsSubscribe s × (0 < length s.filters) in
+    let Q : Subscribe → Type 0 = λ s. (body ≡ subscribe_body s) × FitsSubscribe s × (0 < length s.filters) in
     then_if (id_at body) _ (λ x. Splits body (number x.0) x.1 × (x.0 < 2 ^ 16) × (0 < x.0)) Q (id_found body fits) (λ id h.
     then_if (list_of subscription_at id.1) _ (λ xs. (id.1 ≡ flat_map subscription xs) × All FitsSubscription xs × (0 < length xs)) Q
     (list_found subscription_at subscription FitsSubscription subscriptions id.1 h.0.left) (λ xs k.
     (id_then body id.1 (flat_map subscription xs) id.0 h.0 k.0, ((h.2, h.1), k.1), k.2)))
 
-pub subscribe_again : (s : Subscribe) → FitsSubscribe s → 0 < length s.filters → subscribe_of (subscribe s) ≡ Ok s
+pub subscribe_again : (s : Subscribe) → FitsSubscribe s → 0 < length s.filters → subscribe_of (subscribe_body s) ≡ Ok s
 unfolding subscribe_of
 subscribe_again s fits some =
     rw (
@@ -104,16 +104,16 @@ subscribe_again s fits some =
       list_again subscription_at subscription FitsSubscription subscriptions s.filters fits.1 some,
     ) refl
 
-pub unsubscribe_found : (body : List ℕ) → AreBytes body → IfOk (unsubscribe_of body) (λ u. (body ≡ unsubscribe u) × FitsUnsubscribe u × (0 < length u.filters))
+pub unsubscribe_found : (body : List ℕ) → AreBytes body → IfOk (unsubscribe_of body) (λ u. (body ≡ unsubscribe_body u) × FitsUnsubscribe u × (0 < length u.filters))
 unfolding unsubscribe_of
 unsubscribe_found body fits =
-    let Q : Unsubscribe → Type 0 = λ u. (body ≡ unsubscribe u) × FitsUnsubscribe u × (0 < length u.filters) in
+    let Q : Unsubscribe → Type 0 = λ u. (body ≡ unsubscribe_body u) × FitsUnsubscribe u × (0 < length u.filters) in
     then_if (id_at body) _ (λ x. Splits body (number x.0) x.1 × (x.0 < 2 ^ 16) × (0 < x.0)) Q (id_found body fits) (λ id h.
     then_if (list_of filter_at id.1) _ (λ xs. (id.1 ≡ flat_map text xs) × All (λ filter. IsTrue (is_filter filter)) xs × (0 < length xs)) Q
     (list_found filter_at text (λ filter. IsTrue (is_filter filter)) names id.1 h.0.left) (λ xs k.
     (id_then body id.1 (flat_map text xs) id.0 h.0 k.0, ((h.2, h.1), k.1), k.2)))
 
-pub unsubscribe_again : (u : Unsubscribe) → FitsUnsubscribe u → 0 < length u.filters → unsubscribe_of (unsubscribe u) ≡ Ok u
+pub unsubscribe_again : (u : Unsubscribe) → FitsUnsubscribe u → 0 < length u.filters → unsubscribe_of (unsubscribe_body u) ≡ Ok u
 unfolding unsubscribe_of
 unsubscribe_again u fits some =
     rw (
@@ -121,16 +121,16 @@ unsubscribe_again u fits some =
       list_again filter_at text (λ filter. IsTrue (is_filter filter)) names u.filters fits.1 some,
     ) refl
 
-pub suback_found : (body : List ℕ) → AreBytes body → IfOk (suback_of body) (λ s. (body ≡ suback s) × FitsSuback s × (0 < length s.codes))
+pub suback_found : (body : List ℕ) → AreBytes body → IfOk (suback_of body) (λ s. (body ≡ suback_body s) × FitsSuback s × (0 < length s.codes))
 unfolding suback_of
 suback_found body fits =
-    let Q : Suback → Type 0 = λ s. (body ≡ suback s) × FitsSuback s × (0 < length s.codes) in
+    let Q : Suback → Type 0 = λ s. (body ≡ suback_body s) × FitsSuback s × (0 < length s.codes) in
     then_if (id_at body) _ (λ x. Splits body (number x.0) x.1 × (x.0 < 2 ^ 16) × (0 < x.0)) Q (id_found body fits) (λ id h.
     then_if (list_of granted_at id.1) _ (λ xs. (id.1 ≡ flat_map granted xs) × All (λ _. Unit {0}) xs × (0 < length xs)) Q
     (list_found granted_at granted (λ _. Unit {0}) codes id.1 h.0.left) (λ xs k.
     (id_then body id.1 (flat_map granted xs) id.0 h.0 k.0, (h.2, h.1), k.2)))
 
-pub suback_again : (s : Suback) → FitsSuback s → 0 < length s.codes → suback_of (suback s) ≡ Ok s
+pub suback_again : (s : Suback) → FitsSuback s → 0 < length s.codes → suback_of (suback_body s) ≡ Ok s
 unfolding suback_of
 suback_again s fits some =
     rw (

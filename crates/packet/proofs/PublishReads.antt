@@ -14,7 +14,7 @@ use Rattle.packet.specs.declared.delivery.Delivery.{Delivery}
 use Rattle.packet.specs.declared.delivery.Delivery.TheVariants as deliveries
 use Rattle.packet.specs.declared.publish.Publish.{Publish}
 use Rattle.packet.specs.Delivery.{delivery_flags, delivery_id, FitsDelivery, delivery_at}
-use Rattle.packet.specs.Publish.{publish, FitsPublish, publish_of}
+use Rattle.packet.specs.Publish.{publish_body, FitsPublish, publish_of}
 
 -- the delivery that these flags and these bytes give
 record IsDelivery (f : DeliveryFlags) (bytes : List ℕ) (d : Delivery) (rest : List ℕ) : Type 0 where
@@ -42,7 +42,7 @@ delivery_again (deliveries.ExactlyOnce dup id) rest fits = rw (id_again id rest 
 
 -- the PUBLISH that these flags and this body give
 pub record IsPublish (f : DeliveryFlags) (retain : Bool) (body : List ℕ) (p : Publish) : Type 0 where
-  pub spelled : body ≡ publish p
+  pub spelled : body ≡ publish_body p
   pub flags_said : delivery_flags p.delivery ≡ f
   pub retain_said : p.retain ≡ retain
   pub fits : FitsPublish p
@@ -60,9 +60,9 @@ publish_found f retain body fits =
       fits = (h.1, k.fits);
     }))
 
-pub publish_again : (p : Publish) → FitsPublish p → publish_of (delivery_flags p.delivery) p.retain (publish p) ≡ Ok p
+pub publish_again : (p : Publish) → FitsPublish p → publish_of (delivery_flags p.delivery) p.retain (publish_body p) ≡ Ok p
 unfolding publish_of
 publish_again p fits =
-    let regrouped : publish p ≡ text p.topic ++ (delivery_id p.delivery ++ p.payload) = append_assoc (text p.topic) (delivery_id p.delivery) p.payload in
+    let regrouped : publish_body p ≡ text p.topic ++ (delivery_id p.delivery ++ p.payload) = append_assoc (text p.topic) (delivery_id p.delivery) p.payload in
     ap (publish_of (delivery_flags p.delivery) p.retain) regrouped
     ∙ rw (topic_again p.topic (delivery_id p.delivery ++ p.payload) fits.0, delivery_again p.delivery p.payload fits.1) refl

@@ -10,9 +10,9 @@ use Rattle.packet.specs.declared.connack.Connack.{Connack}
 use Rattle.packet.specs.declared.connack.Connack.TheVariants as connacks
 
 -- session present, which goes only with code 0, and the code (MQTT 3.2.2)
-abbrev pub connack : Connack → List ℕ
-connack (connacks.Accepted present) = bit present ∷ 0 ∷ []
-connack (connacks.Refused code) = 0 ∷ code_number code ∷ []
+abbrev pub connack_body : Connack → List ℕ
+connack_body (connacks.Accepted present) = bit present ∷ 0 ∷ []
+connack_body (connacks.Refused code) = 0 ∷ code_number code ∷ []
 
 -- what a code says if no session is present (MQTT 3.2.2.3, table 3.1)
 abbrev pub coded : ℕ → Result Connack Stop
@@ -36,6 +36,6 @@ unfoldable pub connack_of : List ℕ → Result Connack Stop
 connack_of body = do
   present ← byte_at body
   code ← byte_at present.1
-  connack ← answer_of present.0 code.0
+  connack_body ← answer_of present.0 code.0
   ended code.1
-  Ok connack
+  Ok connack_body

@@ -16,8 +16,8 @@ abbrev pub protocol : List ℕ
 protocol = text (codes "MQTT")
 
 -- name, level 4, connect flags, keep alive, client
-abbrev pub connect : Connect → List ℕ
-connect c = protocol ++ (4 ∷ 2 * bit c.clean ∷ []) ++ number c.keep_alive ++ text c.client
+abbrev pub connect_body : Connect → List ℕ
+connect_body c = protocol ++ (4 ∷ 2 * bit c.clean ∷ []) ++ number c.keep_alive ++ text c.client
 
 -- each field is in its range
 abbrev pub FitsConnect : Connect → Type 0

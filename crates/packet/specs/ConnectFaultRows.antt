@@ -3,11 +3,11 @@ use Rattle.std.specs.Prelude.{List, [], ◌∷◌}
 use Rattle.topics.specs.declared.malformed.MalformedKind.TheVariants as kinds
 use Rattle.packet_base.specs.declared.refusal_code.RefusalCode.TheVariants as refusals
 use Rattle.packet_base.specs.declared.stop.Stop.TheVariants as stops
-use Rattle.packet.specs.FaultRows.{Row}
+use Rattle.packet.specs.FaultRows.{FaultRow}
 
 -- the name, that level and flags are present, the level, the flags, keep alive, identifier, what is
 -- left over, the identifier's length (MQTT 3.1)
-abbrev pub connect_rows : List Row
+abbrev pub connect_rows : List FaultRow
 connect_rows = (
   0x10 ∷ 0x07 ∷ 0x00 ∷ 0x04 ∷ 0x4D ∷ 0x51 ∷ 0x54 ∷ 0x58 ∷ 0x05 ∷ [],
   stops.Malformed kinds.Protocol,

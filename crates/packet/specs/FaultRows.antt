@@ -7,15 +7,15 @@ use Rattle.packet_base.specs.declared.stop.Stop.TheVariants as stops
 use Rattle.packet.specs.Verdict.{verdict}
 
 -- bytes, and the fault that counts for them
-abbrev pub Row : Type 0
-Row = List ℕ × Stop
+abbrev pub FaultRow : Type 0
+FaultRow = List ℕ × Stop
 
 -- each of these faults counts
-abbrev pub AllCount : List Row → Type 0
+abbrev pub AllCount : List FaultRow → Type 0
 AllCount rows = AllByRecursion (λ row. verdict row.0 ≡ Err row.1) rows
 
 -- the first byte comes before the length (MQTT 2.2)
-abbrev pub first_byte_rows : List Row
+abbrev pub first_byte_rows : List FaultRow
 first_byte_rows =
     (0x00 ∷ 0x80 ∷ 0x00 ∷ [], stops.Malformed kinds.PacketType)
     ∷ (0xF0 ∷ 0x80 ∷ 0x00 ∷ [], stops.Malformed kinds.PacketType)
@@ -27,7 +27,7 @@ first_byte_rows =
 
 -- the length comes before the limit, the limit before what is missing, and that before the fields
 -- (MQTT 2.2.3)
-abbrev pub length_rows : List Row
+abbrev pub length_rows : List FaultRow
 length_rows =
     (0x30 ∷ 0xFF ∷ 0xFF ∷ 0xFF ∷ 0xFF ∷ [], stops.Malformed kinds.Length)
     ∷ (0x30 ∷ 0x80 ∷ 0x80 ∷ 0x80 ∷ 0x00 ∷ [], stops.Malformed kinds.Length)
@@ -38,7 +38,7 @@ length_rows =
     ∷ []
 
 -- a topic that does not fit, its bytes, its text, its levels, the identifier (MQTT 3.3)
-abbrev pub publish_rows : List Row
+abbrev pub publish_rows : List FaultRow
 publish_rows =
     (0x30 ∷ 0x03 ∷ 0x00 ∷ 0x05 ∷ 0x00 ∷ [], stops.Malformed kinds.Shape)
     ∷ (0x30 ∷ 0x04 ∷ 0x00 ∷ 0x02 ∷ 0x00 ∷ 0x23 ∷ [], stops.Malformed kinds.Text)
@@ -60,7 +60,7 @@ publish_rows =
     ∷ []
 
 -- an identifier comes before what is left over, and before a list (MQTT 2.3.1)
-abbrev pub id_rows : List Row
+abbrev pub id_rows : List FaultRow
 id_rows =
     (0x40 ∷ 0x01 ∷ 0x00 ∷ [], stops.Malformed kinds.Shape)
     ∷ (0x40 ∷ 0x03 ∷ 0x00 ∷ 0x00 ∷ 0x00 ∷ [], stops.Malformed kinds.Identifier)
@@ -70,7 +70,7 @@ id_rows =
     ∷ []
 
 -- an empty list; the items one by one, a filter before its QoS (MQTT 3.8.3, 3.9.3, 3.10.3)
-abbrev pub list_rows : List Row
+abbrev pub list_rows : List FaultRow
 list_rows =
     (0x82 ∷ 0x02 ∷ 0x00 ∷ 0x01 ∷ [], stops.Malformed kinds.Shape)
     ∷ (0x90 ∷ 0x02 ∷ 0x00 ∷ 0x01 ∷ [], stops.Malformed kinds.Shape)

@@ -10,8 +10,8 @@ use Rattle.packet.specs.declared.publish.Publish.{Publish}
 use Rattle.packet.specs.Delivery.{delivery_id, FitsDelivery, delivery_at}
 
 -- topic, identifier if the QoS has one, payload
-abbrev pub publish : Publish → List ℕ
-publish p = text p.topic ++ delivery_id p.delivery ++ p.payload
+abbrev pub publish_body : Publish → List ℕ
+publish_body p = text p.topic ++ delivery_id p.delivery ++ p.payload
 
 -- each field is in its range
 abbrev pub FitsPublish : Publish → Type 0

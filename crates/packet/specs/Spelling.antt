@@ -6,13 +6,13 @@ use Rattle.packet_base.specs.Header.{first_byte}
 use Rattle.packet_base.specs.Spelling.{IsLength, IsId, number, remaining_length, length_bytes}
 use Rattle.packet.specs.declared.packet.Packet.{Packet}
 use Rattle.packet.specs.declared.packet.Packet.TheVariants as packets
-use Rattle.packet.specs.Connect.{connect, FitsConnect}
-use Rattle.packet.specs.Connack.{connack}
+use Rattle.packet.specs.Connect.{connect_body, FitsConnect}
+use Rattle.packet.specs.Connack.{connack_body}
 use Rattle.packet.specs.Delivery.{delivery_flags}
-use Rattle.packet.specs.Publish.{publish, FitsPublish}
-use Rattle.packet.specs.Subscribe.{subscribe, FitsSubscribe}
-use Rattle.packet.specs.Suback.{suback, FitsSuback}
-use Rattle.packet.specs.Unsubscribe.{unsubscribe, FitsUnsubscribe}
+use Rattle.packet.specs.Publish.{publish_body, FitsPublish}
+use Rattle.packet.specs.Subscribe.{subscribe_body, FitsSubscribe}
+use Rattle.packet.specs.Suback.{suback_body, FitsSuback}
+use Rattle.packet.specs.Unsubscribe.{unsubscribe_body, FitsUnsubscribe}
 
 -- what the first byte of a packet says (MQTT 2.2)
 abbrev pub header : Packet → Header
@@ -33,16 +33,16 @@ header packets.Disconnect = headers.Disconnect
 
 -- what comes after the Remaining Length: variable header and payload (MQTT 3)
 abbrev pub body : Packet → List ℕ
-body (packets.Connect c) = connect c
-body (packets.Connack c) = connack c
-body (packets.Publish p) = publish p
+body (packets.Connect c) = connect_body c
+body (packets.Connack c) = connack_body c
+body (packets.Publish p) = publish_body p
 body (packets.Puback id) = number id
 body (packets.Pubrec id) = number id
 body (packets.Pubrel id) = number id
 body (packets.Pubcomp id) = number id
-body (packets.Subscribe s) = subscribe s
-body (packets.Suback s) = suback s
-body (packets.Unsubscribe u) = unsubscribe u
+body (packets.Subscribe s) = subscribe_body s
+body (packets.Suback s) = suback_body s
+body (packets.Unsubscribe u) = unsubscribe_body u
 body (packets.Unsuback id) = number id
 body packets.Pingreq = []
 body packets.Pingresp = []

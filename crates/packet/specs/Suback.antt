@@ -20,8 +20,8 @@ abbrev pub granted : SubackCode → List ℕ
 granted code = granted_number code ∷ []
 
 -- identifier, answers
-abbrev pub suback : Suback → List ℕ
-suback s = number s.id ++ flat_map granted s.codes
+abbrev pub suback_body : Suback → List ℕ
+suback_body s = number s.id ++ flat_map granted s.codes
 
 -- each field is in its range
 abbrev pub FitsSuback : Suback → Type 0

@@ -16,8 +16,8 @@ abbrev pub subscription : Subscription → List ℕ
 subscription s = text s.filter ++ qos_number s.qos ∷ []
 
 -- identifier, filters
-abbrev pub subscribe : Subscribe → List ℕ
-subscribe s = number s.id ++ flat_map subscription s.filters
+abbrev pub subscribe_body : Subscribe → List ℕ
+subscribe_body s = number s.id ++ flat_map subscription s.filters
 
 -- each field is in its range
 abbrev pub FitsSubscription : Subscription → Type 0

@@ -10,8 +10,8 @@ use Rattle.packet_base.specs.Lists.{list_of}
 use Rattle.packet.specs.declared.unsubscribe.Unsubscribe.{Unsubscribe}
 
 -- identifier, filters
-abbrev pub unsubscribe : Unsubscribe → List ℕ
-unsubscribe u = number u.id ++ flat_map text u.filters
+abbrev pub unsubscribe_body : Unsubscribe → List ℕ
+unsubscribe_body u = number u.id ++ flat_map text u.filters
 
 -- each field is in its range
 abbrev pub FitsUnsubscribe : Unsubscribe → Type 0

@@ -2,7 +2,7 @@
 
 ghost use Rattle.std.specs.Prelude.{◌≡◌, ◌+◌, ◌≤◌, ◌++◌, length, min, vec_len, vec_capacity};
 ghost use Rattle.packet_base.specs.Outcome.{Gives, TakesNoMemory};
-ghost use Rattle.packet.specs.Connack.{connack, connack_of, answer_of};
+ghost use Rattle.packet.specs.Connack.{connack_body, connack_of, answer_of};
 
 use packet_base::{Reader, RefusalCode, Stop, put_byte};
 use topics::MalformedKind;
@@ -32,15 +32,15 @@ impl Connack {
 
     /// Returns how many bytes the body has.
     pub(crate) fn body_len(self) -> usize
-        ensures { result ≡ min (length (connack self)) usize.MAX }
+        ensures { result ≡ min (length (connack_body self)) usize.MAX }
     {
         2
     }
 
     /// Writes the body.
     pub(crate) fn put(self, out: &mut Vec<u8>)
-        requires { vec_len out.old + length (connack self) ≤ vec_capacity out.old }
-        ensures { out.new.items ≡ out.old.items ++ connack self }
+        requires { vec_len out.old + length (connack_body self) ≤ vec_capacity out.old }
+        ensures { out.new.items ≡ out.old.items ++ connack_body self }
     {
         match self {
             Connack::Accepted(present) => {

@@ -3,7 +3,7 @@
 ghost use Rattle.std.specs.Prelude.{◌≡◌, ◌+◌, ◌≤◌, ◌++◌, length, min, vec_len, vec_capacity};
 ghost use Rattle.std.specs.Prelude.{IfOk, IsOk};
 ghost use Rattle.packet_base.specs.Outcome.{Gives, IsOutOfMemory, TakesNoMemory};
-ghost use Rattle.packet.specs.Connect.{clean_of, connect, connect_of, FitsConnect};
+ghost use Rattle.packet.specs.Connect.{clean_of, connect_body, connect_of, FitsConnect};
 
 use packet_base::{
     ClientId, Reader, RefusalCode, Stop, has_client_length, put_byte, put_bytes, put_number,
@@ -65,15 +65,15 @@ impl Connect {
 
     /// Returns how many bytes the body has.
     pub(crate) fn body_len(&self) -> usize
-        ensures { result ≡ min (length (connect self.now)) usize.MAX }
+        ensures { result ≡ min (length (connect_body self.now)) usize.MAX }
     {
         12 + self.client.as_str().len()
     }
 
     /// Writes the body.
     pub(crate) fn put(&self, out: &mut Vec<u8>)
-        requires { vec_len out.old + length (connect self.now) ≤ vec_capacity out.old }
-        ensures { out.new.items ≡ out.old.items ++ connect self.now }
+        requires { vec_len out.old + length (connect_body self.now) ≤ vec_capacity out.old }
+        ensures { out.new.items ≡ out.old.items ++ connect_body self.now }
     {
         put_bytes(out, &PROTOCOL);
         put_byte(out, LEVEL);

@@ -13,7 +13,7 @@ ghost use Rattle.std.specs.Prelude.{
 };
 ghost use Rattle.packet_base.specs.Outcome.{Gives, IsOutOfMemory};
 ghost use Rattle.packet_base.specs.TopicFields.{topic_at};
-ghost use Rattle.packet.specs.Publish.{publish, publish_of, FitsPublish};
+ghost use Rattle.packet.specs.Publish.{publish_body, publish_of, FitsPublish};
 
 use crate::delivery::Delivery;
 use packet_base::{DeliveryFlags, Payload, Reader, Stop, put_bytes, put_text};
@@ -60,7 +60,7 @@ impl Publish {
 
     /// Returns how many bytes the body has.
     pub(crate) fn body_len(&self) -> usize
-        ensures { result ≡ min (length (publish self.now)) usize.MAX }
+        ensures { result ≡ min (length (publish_body self.now)) usize.MAX }
     {
         let names = 2 + self.topic.as_str().len() + self.delivery.id_len();
         names.saturating_add(self.payload.as_slice().len())
@@ -68,8 +68,8 @@ impl Publish {
 
     /// Writes the body.
     pub(crate) fn put(&self, out: &mut Vec<u8>)
-        requires { vec_len out.old + length (publish self.now) ≤ vec_capacity out.old }
-        ensures { out.new.items ≡ out.old.items ++ publish self.now }
+        requires { vec_len out.old + length (publish_body self.now) ≤ vec_capacity out.old }
+        ensures { out.new.items ≡ out.old.items ++ publish_body self.now }
     {
         put_text(out, self.topic.as_str());
         self.delivery.put_id(out);

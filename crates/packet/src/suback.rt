@@ -18,7 +18,7 @@ ghost use Rattle.packet.specs.Suback.{
   granted,
   granted_of,
   granted_at,
-  suback,
+  suback_body,
   suback_of,
   FitsSuback,
 };
@@ -105,15 +105,15 @@ impl Suback {
 
     /// Returns how many bytes the body has.
     pub(crate) fn body_len(&self) -> usize
-        ensures { result ≡ min (length (suback self.now)) usize.MAX }
+        ensures { result ≡ min (length (suback_body self.now)) usize.MAX }
     {
         self.codes.len_after(2)
     }
 
     /// Writes the body.
     pub(crate) fn put(&self, out: &mut Vec<u8>)
-        requires { vec_len out.old + length (suback self.now) ≤ vec_capacity out.old }
-        ensures { out.new.items ≡ out.old.items ++ suback self.now }
+        requires { vec_len out.old + length (suback_body self.now) ≤ vec_capacity out.old }
+        ensures { out.new.items ≡ out.old.items ++ suback_body self.now }
     {
         put_number(out, self.id.number());
         self.codes.put(out);

@@ -16,7 +16,7 @@ ghost use Rattle.packet_base.specs.Lists.{begins_list};
 ghost use Rattle.packet.specs.Subscribe.{
   subscription,
   subscription_at,
-  subscribe,
+  subscribe_body,
   subscribe_of,
   FitsSubscribe,
 };
@@ -102,15 +102,15 @@ impl Subscribe {
 
     /// Returns how many bytes the body has.
     pub(crate) fn body_len(&self) -> usize
-        ensures { result ≡ min (length (subscribe self.now)) usize.MAX }
+        ensures { result ≡ min (length (subscribe_body self.now)) usize.MAX }
     {
         self.filters.len_after(2)
     }
 
     /// Writes the body.
     pub(crate) fn put(&self, out: &mut Vec<u8>)
-        requires { vec_len out.old + length (subscribe self.now) ≤ vec_capacity out.old }
-        ensures { out.new.items ≡ out.old.items ++ subscribe self.now }
+        requires { vec_len out.old + length (subscribe_body self.now) ≤ vec_capacity out.old }
+        ensures { out.new.items ≡ out.old.items ++ subscribe_body self.now }
     {
         put_number(out, self.id.number());
         self.filters.put(out);

@@ -13,7 +13,7 @@ ghost use Rattle.std.specs.Prelude.{
 };
 ghost use Rattle.packet_base.specs.Outcome.{Gives, IsOutOfMemory};
 ghost use Rattle.packet_base.specs.Lists.{begins_list};
-ghost use Rattle.packet.specs.Unsubscribe.{unsubscribe, unsubscribe_of, FitsUnsubscribe};
+ghost use Rattle.packet.specs.Unsubscribe.{unsubscribe_body, unsubscribe_of, FitsUnsubscribe};
 
 use packet_base::{PacketId, PacketList, Reader, Stop, put_number};
 use std::alloc::Global;
@@ -43,15 +43,15 @@ impl Unsubscribe {
 
     /// Returns how many bytes the body has.
     pub(crate) fn body_len(&self) -> usize
-        ensures { result ≡ min (length (unsubscribe self.now)) usize.MAX }
+        ensures { result ≡ min (length (unsubscribe_body self.now)) usize.MAX }
     {
         self.filters.len_after(2)
     }
 
     /// Writes the body.
     pub(crate) fn put(&self, out: &mut Vec<u8>)
-        requires { vec_len out.old + length (unsubscribe self.now) ≤ vec_capacity out.old }
-        ensures { out.new.items ≡ out.old.items ++ unsubscribe self.now }
+        requires { vec_len out.old + length (unsubscribe_body self.now) ≤ vec_capacity out.old }
+        ensures { out.new.items ≡ out.old.items ++ unsubscribe_body self.now }
     {
         put_number(out, self.id.number());
         self.filters.put(out);
