@@ -7,7 +7,7 @@ use Rattle.std.proofs.lemmas.List.{length-map}
 use Rattle.std.proofs.lemmas.Option.{none-some}
 use Rattle.std.proofs.Common.{sym}
 use Rattle.master.specs.lists.Lists.{has_id}
-use Rattle.post.specs.Numbers.{numbers_of}
+use Rattle.post.specs.Numbers.{peer_numbers}
 use Rattle.post.specs.declared.peer.Peer.{Peer}
 
 -- what is known if there is none
@@ -19,7 +19,7 @@ not_same : (number other : ℕ) → other ≢ number → (number == other) ≡ f
 not_same number other apart = grind (arith, apart)
 
 pub none_among : (number : ℕ) (peers : List Peer) → AllWithin (λ peer. peer.number ≢ number) peers 0 (length peers)
-    → has_id number (numbers_of peers) ≡ false
+    → has_id number (peer_numbers peers) ≡ false
 none_among number [] apart = refl
 none_among number (peer ∷ peers) apart =
     grind (
@@ -29,13 +29,13 @@ none_among number (peer ∷ peers) apart =
     )
 
 one_among : (number : ℕ) (peers : List Peer) (at : ℕ) (found : Peer) → at < length peers
-    → HoldsAt (λ peer. peer ≡ found) peers at → found.number ≡ number → has_id number (numbers_of peers) ≡ true
+    → HoldsAt (λ peer. peer ≡ found) peers at → found.number ≡ number → has_id number (peer_numbers peers) ≡ true
 one_among number [] at found below is names = absurd (omega (arith, below))
 one_among number (peer ∷ peers) zero found below is names =
-    or_left (number == peer.number) (has_id number (numbers_of peers))
+    or_left (number == peer.number) (has_id number (peer_numbers peers))
     (eq-eqb number peer.number (sym (ap (λ (one : Peer). one.number) (is peer) ∙ names)))
 one_among number (peer ∷ peers) (suc at) found below is names =
-    or_right (number == peer.number) (has_id number (numbers_of peers))
+    or_right (number == peer.number) (has_id number (peer_numbers peers))
     (one_among number peers at found (omega (arith, below)) (λ other. is other) names)
 
 -- a node is found exactly if one has the number
@@ -44,13 +44,13 @@ pub found_among : {A : Type 0} (peer_of : A → Peer) (number : ℕ) (peers : Li
     (λ one. ((peer_of one).number ≡ number) × (at : ℕ) × (at < length peers)
     × HoldsAt (λ peer. peer ≡ peer_of one) peers at
     × AllWithin (λ peer. peer.number ≢ number) peers 0 at)
-    → is_some found ≡ has_id number (numbers_of peers)
+    → is_some found ≡ has_id number (peer_numbers peers)
 found_among peer_of number peers None known = sym (none_among number peers known)
 found_among peer_of number peers (Some one) known =
     sym (one_among number peers known.1 (peer_of one) known.2 known.3 known.0)
 
 -- as many nodes as numbers
-pub several : (count : ℕ) (peers : List Peer) (numbers : List ℕ) → count ≡ length peers → numbers_of peers ≡ numbers
+pub several : (count : ℕ) (peers : List Peer) (numbers : List ℕ) → count ≡ length peers → peer_numbers peers ≡ numbers
     → nat_lt 1 count ≡ nat_lt 1 (length numbers)
 several count peers numbers counts names =
     ap (nat_lt 1) (counts ∙ (sym (length-map peers (λ (peer : Peer). peer.number)) ∙ ap length names))

@@ -5,8 +5,8 @@ use Rattle.master.specs.lists.Lists.{has_id}
 use Rattle.post.specs.declared.peer.Peer.{Peer}
 
 -- the number of each node, in the order of the table
-abbrev pub numbers_of : List Peer → List ℕ
-numbers_of = map (λ (peer : Peer). peer.number)
+abbrev pub peer_numbers : List Peer → List ℕ
+peer_numbers = map (λ (peer : Peer). peer.number)
 
 -- whether one of the nodes with these numbers has this one
 abbrev pub is_node : List ℕ → ℕ → Bool

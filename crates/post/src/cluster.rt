@@ -5,7 +5,7 @@ ghost use Rattle.master.specs.ballot_base.LawfulConfig.{is_lawful};
 ghost use Rattle.master.specs.lists.Lists.{has_id};
 ghost use Rattle.outbox.specs.Given.{IsMaster};
 ghost use Rattle.outbox.specs.Mastering.{MayGet};
-ghost use Rattle.post.specs.Numbers.{are_nodes, is_node, numbers_of};
+ghost use Rattle.post.specs.Numbers.{are_nodes, is_node, peer_numbers};
 
 use crate::addressed_message::AddressedMessage;
 use crate::choosing::{Shown, primary_of};
@@ -42,11 +42,11 @@ pub struct Cluster {
 
 impl Model for Cluster {
     ghost use Rattle.std.specs.Prelude.{ℕ, List};
-    ghost use Rattle.post.specs.Numbers.{numbers_of};
+    ghost use Rattle.post.specs.Numbers.{peer_numbers};
 
     ghost Value = { List ℕ };
 
-    ghost view = { λ cluster. numbers_of cluster.nodes.items };
+    ghost view = { λ cluster. peer_numbers cluster.nodes.items };
 }
 
 impl Cluster {
@@ -282,7 +282,7 @@ fn had_its_time<R: Clock>(rt: &R, start: Instant) -> bool {
 
 // Returns a peer for each number.
 fn peers_of(alloc: Global, numbers: &[u8]) -> Result<Vec<Peer>, Memory>
-    ensures { IfOk result (λ nodes. numbers_of nodes.items ≡ numbers.now) }
+    ensures { IfOk result (λ nodes. peer_numbers nodes.items ≡ numbers.now) }
 {
     let mut nodes = Vec::with_capacity(alloc, numbers.len())?;
     for number in numbers {
