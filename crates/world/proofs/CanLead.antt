@@ -26,8 +26,8 @@ use Rattle.headline.proofs.of_snapshots.Views.{get_whole}
 use Rattle.escaping_client.specs.lists.Lists.{In}
 use Rattle.escaping_client.specs.lists.Lists.In.{here, there}
 use Rattle.world_base.specs.Core.{CountedCore, rules}
-use Rattle.world_nodes.specs.Asking.{log_in, log_of}
-use Rattle.world_nodes.specs.Running.{is_running, is_up, node_of}
+use Rattle.world_nodes.specs.Asking.{whole_log_in, whole_log_of}
+use Rattle.world_nodes.specs.Running.{is_running, is_up, numbered_node}
 use Rattle.world_nodes.specs.Nodes.{NodesState, NodesStandFor}
 use Rattle.world.specs.Escaping.{CanEscape, configuration_of, held_in}
 use Rattle.world.specs.World.{WorldState}
@@ -84,13 +84,13 @@ module _ (config : Config) (g : Group) (past : List (Moment State Command Output
   source : RunsHere w.nodes.nodes can.source
   source = runs_here w.nodes.nodes can.source (first_passes (is_running w.nodes.nodes) w.nodes.master.members can.index can.source can.first can.asked)
 
-  node_is : node_of w.nodes.nodes can.source ≡ Some source.node
-  node_is = ap (node_of w.nodes.nodes) (source.number ∙ (let e : source.at + 1 ≡ suc source.at = omega arith in e)) ∙ source.stands
+  node_is : numbered_node w.nodes.nodes can.source ≡ Some source.node
+  node_is = ap (numbered_node w.nodes.nodes) (source.number ∙ (let e : source.at + 1 ≡ suc source.at = omega arith in e)) ∙ source.stands
 
-  log_is : whole_log g.archive source.node.core.replica.state.log ≡ log_of w.nodes can.source
-  log_is = ap (λ (l : List Command). whole_log l source.node.core.replica.state.log) s.archive ∙ sym (ap (log_in w.nodes.archive) node_is)
+  log_is : whole_log g.archive source.node.core.replica.state.log ≡ whole_log_of w.nodes can.source
+  log_is = ap (λ (l : List Command). whole_log l source.node.core.replica.state.log) s.archive ∙ sym (ap (whole_log_in w.nodes.archive) node_is)
 
-  pub long : length (log_of w.nodes can.source) + 2 ≤ max_places
+  pub long : length (whole_log_of w.nodes can.source) + 2 ≤ max_places
   long =
       let q = past_stands rules config a past came in
       let within = (q.kept.nodes source.at (replica_of source.node.core) (replica_at a w.nodes seen source.at source.node source.stands)).0.within in
@@ -100,7 +100,7 @@ module _ (config : Config) (g : Group) (past : List (Moment State Command Output
       let room = can.room in
       omega (arith, whole_is, same, held, room)
 
-  pub can_be_led : CanBeLed (whole_moment a) (configuration_of members) can.index can.source (log_of w.nodes can.source)
+  pub can_be_led : CanBeLed (whole_moment a) (configuration_of members) can.index can.source (whole_log_of w.nodes can.source)
   can_be_led =
       record {
         granted = ap (λ (m : MasterState). refusal m (configuration_of members)) s.master ∙ can.granted;

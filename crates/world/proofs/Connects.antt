@@ -16,7 +16,7 @@ use Rattle.headline.specs.byte_world.World.{ClientPipes, Pipe, World, is_used, l
 use Rattle.headline.specs.byte_world.ClientSteps.{after_connecting}
 use Rattle.headline.specs.byte_world.Steps.WorldStep.{connects}
 use Rattle.world_nodes.specs.ExactSteps.{NodeDoesCall}
-use Rattle.world_nodes.specs.Running.{node_of}
+use Rattle.world_nodes.specs.Running.{numbered_node}
 use Rattle.world_nodes.specs.Nodes.{NodesState, NodesStandFor}
 use Rattle.world_pipes.specs.declared.way.Way.{Way}
 use Rattle.world_pipes.specs.Following.{ConnectingFollows}
@@ -89,13 +89,13 @@ connects_goes i node old new housed one nodes config cs m trail s = by node refl
     has = one.reaches.hears.known
 
     by : (k : ℕ) → node ≡ k → ModelStepsTo [] m new
-    by zero is = absurd (none-some has.core (sym (ap (node_of one.between.nodes) is) ∙ has.stands))
+    by zero is = absurd (none-some has.core (sym (ap (numbered_node one.between.nodes) is) ∙ has.stands))
     by (suc n) is =
         let low : node - 1 ≡ n = omega (arith, is) in
         let c = client_at old.clients m.clients i one.client s.clients one.found in
         let acts = subst (λ (k : ℕ). NodeDoesCall k (takes (Opened port 0)) old.nodes one.between) low one.reaches.hears.acts in
         let d = acts m.group s.nodes in
-        let found : slice_get one.between.nodes n ≡ Some has.core = sym (ap (node_of one.between.nodes) is) ∙ has.stands in
+        let found : slice_get one.between.nodes n ≡ Some has.core = sym (ap (numbered_node one.between.nodes) is) ∙ has.stands in
         let stands = ap (λ (l : List CoreState). slice_get l n) d.stands.nodes ∙ get_mapped (λ (z : CountedCore). z.core) one.between.nodes n has.core found in
         let end = is_there (listed_at port has.core.core) has.known in
         let follows = subst (λ (k : ℕ). ConnectingFollows k port one.client.piped (Ok tt) one.piped) low one.reaches.follows c.c end.0.name c.stands in

@@ -1,6 +1,6 @@
 -- Gathered.antt: connections are asked one after another, from the newest to the oldest.
 use Rattle.std.proofs.Common.{◌≡◌, inl, inr, ◌<◌, ◌-◌, ℕ, zero, suc, Bool, true, false, List, ◌++◌, Some, length, set, slice_get, refl, sym, ap, ◌∙◌, subst, arith}
-use Rattle.world_nodes.specs.Running.{node_of}
+use Rattle.world_nodes.specs.Running.{numbered_node}
 use Rattle.world_nodes.specs.Steps.{nodes_with_loss}
 use Rattle.world_clients.specs.declared.connection_slot.ConnectionSlot.{ConnectionSlot}
 use Rattle.world.specs.Found.{slot_numbered, port_of, with_piped}
@@ -20,10 +20,10 @@ pub is_gathered : (number : ℕ) (place : ConnectionSlot) (is_open : Bool) (old 
     → new ≡ marked number place is_open mid → IsGathered number old new
 is_gathered number place is_open old mid new at positive h is =
     let down : WorldState = record (with_piped place.client h.client
-    (with_down place.at h.way (h.way.down ++ put_out (port_of number) (node_of old.nodes.nodes place.node)) h.client.piped) old) { nodes = h.between } in
+    (with_down place.at h.way (h.way.down ++ put_out (port_of number) (numbered_node old.nodes.nodes place.node)) h.client.piped) old) { nodes = h.between } in
     record {
       c = record { slot = place; numbered = numbered_at number old.connections (Some place) positive at; client = h.client; owned = h.owned; way = h.way; stands = h.stands };
-      node = node_of old.nodes.nodes place.node;
+      node = numbered_node old.nodes.nodes place.node;
       is_node = refl;
       between = h.between;
       gives = h.gives;

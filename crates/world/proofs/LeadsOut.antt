@@ -21,7 +21,7 @@ use Rattle.escaping_client.specs.lists.Lists.{IsPrefixOf}
 use Rattle.packet.specs.declared.packet.Packet.TheVariants as packets
 use Rattle.world_base.specs.Core.{rules}
 use Rattle.world_nodes.specs.Agreed.{AgreeOn}
-use Rattle.world_nodes.specs.Asking.{log_of}
+use Rattle.world_nodes.specs.Asking.{whole_log_of}
 use Rattle.world_nodes.specs.Nodes.{NodesState}
 use Rattle.world_pipes.specs.StandsFor.{CanGoOut}
 use Rattle.world_events.specs.declared.event.Event.{Event}
@@ -69,7 +69,7 @@ module _ (name : Client) (w : WorldState) (housed : SlotsAreValid (leads_of w.cl
   ballot = g.master.given + 1
 
   abbrev list : List Command
-  list = log_of w.nodes can.source
+  list = whole_log_of w.nodes can.source
 
   abbrev log : List Command
   log = begun list ballot

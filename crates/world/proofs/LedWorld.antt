@@ -20,7 +20,7 @@ use Rattle.escaping_nodes.proofs.NodesFollow.{deliveries_are_followed}
 use Rattle.headline.specs.node_group.Group.{Group, moment_of}
 use Rattle.headline.specs.snapshots.Moments.{Moment, Moments}
 use Rattle.world_base.specs.Core.{rules}
-use Rattle.world_nodes.specs.Asking.{log_of}
+use Rattle.world_nodes.specs.Asking.{whole_log_of}
 use Rattle.world_nodes.specs.ExactSteps.{after_giving}
 use Rattle.world_nodes.specs.Nodes.{NodesState, NodesStandFor}
 use Rattle.world_nodes.proofs.MasterActs.{gives_exactly}
@@ -70,8 +70,8 @@ module _ (config : Config) (g : Group) (past : List (Moment State Command Output
   abbrev numbers : List ℕ
   numbers = way_out (length w.nodes.sent) (length w.nodes.master.members) can.index (length conf.members - 1)
 
-  way : LeadsOut rules config (moment_of g ∷ past) (moment_of g) conf can.index (log_of w.nodes can.source)
-  way = way_of config (moment_of g) past came conf can.index can.source (log_of w.nodes can.source) (can_be_led config g past came w s members name can)
+  way : LeadsOut rules config (moment_of g ∷ past) (moment_of g) conf can.index (whole_log_of w.nodes can.source)
+  way = way_of config (moment_of g) past came conf can.index can.source (whole_log_of w.nodes can.source) (can_be_led config g past came w s members name can)
 
   seen : IsSeen (moment_of g) w.nodes
   seen = seen_as g w.nodes s
@@ -80,7 +80,7 @@ module _ (config : Config) (g : Group) (past : List (Moment State Command Output
   same = ap (λ (l : List (ℕ × Message Command)). way_out (length l) (length g.master.members) can.index (length conf.members - 1)) s.sent
       ∙ ap (λ (m : MasterState). way_out (length w.nodes.sent) (length m.members) can.index (length conf.members - 1)) s.master
 
-  pub led_to : EventsHappen (group_events w members can.index ++ more) w new → WorldLosesNothing w new → LedTo config g past members can.index (log_of w.nodes can.source) more w new
+  pub led_to : EventsHappen (group_events w members can.index ++ more) w new → WorldLosesNothing w new → LedTo config g past members can.index (whole_log_of w.nodes can.source) more w new
   led_to run none =
       let f = first_done (events.Assign conf) (map events.Deliver numbers ++ more) w new run none (λ cannot. cannot can.granted) in
       let given : WorldState = with_nodes (after_giving conf w.nodes) w in

@@ -5,7 +5,7 @@ use Rattle.std.proofs.lemmas.Bool.{eq-eqb, lt-ltb, le-leb, ne_eqb}
 use Rattle.headline.specs.broker_spec.Connection.{ConnectionName, is_connection_name}
 use Rattle.world_base.specs.Core.{CountedCore}
 use Rattle.world_base.specs.Step.{accepted}
-use Rattle.world_nodes.specs.Running.{node_of}
+use Rattle.world_nodes.specs.Running.{numbered_node}
 use Rattle.world_events.specs.declared.event.Event.TheVariants as events
 use Rattle.world.specs.Opening.{OpensUnless, has_no_name_left}
 use Rattle.world.specs.Happening.{EventHappens}
@@ -23,7 +23,7 @@ spent core last =
     ap (λ (k : ℕ). not (is_connection_name (record { ballot = joined; count = k + 1 }))) count
     ∙ ap not (both_but (nat_lt 0 joined && nat_le joined (2 ^ 32)))
 
-pub opens_past : (name : List ℕ) (node : ℕ) (core : CountedCore) (old new : WorldState) → node_of old.nodes.nodes node ≡ Some core
+pub opens_past : (name : List ℕ) (node : ℕ) (core : CountedCore) (old new : WorldState) → numbered_node old.nodes.nodes node ≡ Some core
     → core.core.last_name ≡ record { ballot = core.core.replica.state.joined; count = 2 ^ 40 } → old.nodes.losses < 2 ^ 64 - 1
     → EventHappens (events.Open name node) old (Ok tt) new → new ≡ old
 opens_past name node core old new there last low (inl exactly) =

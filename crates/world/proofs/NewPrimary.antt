@@ -30,7 +30,7 @@ use Rattle.headline.proofs.of_byte_world.NodesHoused.{nodes_are_orderly}
 use Rattle.escaping_client.specs.lists.Lists.{In}
 use Rattle.escaping_client.specs.lists.Lists.In.{here}
 use Rattle.world_base.specs.Core.{CoreState, CountedCore, rules}
-use Rattle.world_nodes.specs.Asking.{log_of}
+use Rattle.world_nodes.specs.Asking.{whole_log_of}
 use Rattle.world_nodes.specs.Nodes.{cores_of}
 use Rattle.world_nodes.specs.Running.{is_running}
 use Rattle.world_events.specs.declared.event.Event.{Event}
@@ -74,13 +74,13 @@ module _ (first : ℕ) (os : List ℕ) (lawful : is_lawful (first ∷ os) first 
 module _ (config : Config) {nodes : ℕ} {cs : List Client} (m : World) (trail : Reached nodes config cs m) (w : WorldState) (s : WorldStandsFor m w)
     (past : List (Moment State Command Output)) (came : Moments rules config (moment_of m.group ∷ past)) (first : ℕ) (os : List ℕ) (name : Client)
     (can : CanEscape (first ∷ os) name w) (more : List Event) (new : WorldState)
-    (l : LedTo config m.group past (first ∷ os) can.index (log_of w.nodes can.source) more w new)
+    (l : LedTo config m.group past (first ∷ os) can.index (whole_log_of w.nodes can.source) more w new)
     (lawful : is_lawful (first ∷ os) first ≡ true) (given : w.nodes.master.given < max_ballot) where
   abbrev ballot : ℕ
   ballot = m.group.master.given + 1
 
   abbrev log : List Command
-  log = begun (log_of w.nodes can.source) ballot
+  log = begun (whole_log_of w.nodes can.source) ballot
 
   abbrev b : Moment State Command Output
   b = l.way.last

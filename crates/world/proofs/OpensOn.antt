@@ -14,7 +14,7 @@ use Rattle.headline.proofs.of_node_group.Placed.{get_mapped}
 use Rattle.headline.specs.byte_world.World.{World}
 use Rattle.headline.specs.byte_world.Steps.WorldStep.{is_taken_back}
 use Rattle.world_nodes.specs.ExactSteps.{NodeDoesCall}
-use Rattle.world_nodes.specs.Running.{node_of}
+use Rattle.world_nodes.specs.Running.{numbered_node}
 use Rattle.world_nodes.specs.Nodes.{NodesState}
 use Rattle.world_nodes.specs.Steps.{NodesLoseNothing}
 use Rattle.world_pipes.specs.Following.{FollowsAll}
@@ -85,12 +85,12 @@ turned old new node port housed beyond (inr hears) nodes config cs m trail s = b
     has = hears.known
 
     by : (k : ℕ) → node ≡ k → ModelStepsTo [] m (with_nodes new old)
-    by zero is = absurd (none-some has.core (sym (ap (node_of new.nodes) is) ∙ has.stands))
+    by zero is = absurd (none-some has.core (sym (ap (numbered_node new.nodes) is) ∙ has.stands))
     by (suc n) is =
         let low : node - 1 ≡ n = omega (arith, is) in
         let does = subst (λ (k : ℕ). NodeDoesCall k (takes (Opened port 0)) old.nodes new) low hears.acts in
         let d = does m.group s.nodes in
-        let found : slice_get new.nodes n ≡ Some has.core = sym (ap (node_of new.nodes) is) ∙ has.stands in
+        let found : slice_get new.nodes n ≡ Some has.core = sym (ap (numbered_node new.nodes) is) ∙ has.stands in
         let stands = ap (λ (l : List CoreState). slice_get l n) d.stands.nodes ∙ get_mapped (λ (c : CountedCore). c.core) new.nodes n has.core found in
         record {
           after = (let w : World = record m { group = d.does.after } in w);
@@ -133,13 +133,13 @@ record IsOpened (name : List ℕ) (node : ℕ) (old new : WorldState) : Type 0 w
   exact : NodesLoseNothing old.nodes new.nodes → OpensOne true name node old new
 
 -- if its node has a name left
-roomy : (whole : Bool) (name : List ℕ) (node : ℕ) (old new : WorldState) → has_no_name_left (node_of old.nodes.nodes node) ≡ false → OpensOne whole name node old new
-    → OpensUnless (has_no_name_left (node_of old.nodes.nodes node)) whole name node old new
+roomy : (whole : Bool) (name : List ℕ) (node : ℕ) (old new : WorldState) → has_no_name_left (numbered_node old.nodes.nodes node) ≡ false → OpensOne whole name node old new
+    → OpensUnless (has_no_name_left (numbered_node old.nodes.nodes node)) whole name node old new
 roomy whole name node old new left one = subst (λ (full : Bool). OpensUnless full whole name node old new) (sym left) one
 
 -- and if it has none
-spent : (whole : Bool) (name : List ℕ) (node : ℕ) (old new : WorldState) → has_no_name_left (node_of old.nodes.nodes node) ≡ true → new ≡ old
-    → OpensUnless (has_no_name_left (node_of old.nodes.nodes node)) whole name node old new
+spent : (whole : Bool) (name : List ℕ) (node : ℕ) (old new : WorldState) → has_no_name_left (numbered_node old.nodes.nodes node) ≡ true → new ≡ old
+    → OpensUnless (has_no_name_left (numbered_node old.nodes.nodes node)) whole name node old new
 spent whole name node old new none same = subst (λ (full : Bool). OpensUnless full whole name node old new) (sym none) same
 
 opens_one : (name : List ℕ) (at node : ℕ) (old new : WorldState) → position (is_named name) old.clients ≡ Some at → OpensAt at node old new → IsOpened name node old new
@@ -154,11 +154,11 @@ opens_one name at node old new first o =
     }
 
 pub open_meets : (name : List ℕ) (at node : ℕ) (old new : WorldState) (client : WorldClient) → position (is_named name) old.clients ≡ Some at → slice_get old.clients at ≡ Some client
-    → is_holding client.piped ≡ false → is_serving (node_of old.nodes.nodes node) ≡ true → has_no_name_left (node_of old.nodes.nodes node) ≡ false → BeginsConnection at node old new
+    → is_holding client.piped ≡ false → is_serving (numbered_node old.nodes.nodes node) ≡ true → has_no_name_left (numbered_node old.nodes.nodes node) ≡ false → BeginsConnection at node old new
     → EventIsDone (events.Open name node) old new ⊎ HappensLosing (events.Open name node) old new
 open_meets name at node old new client first stands free serving left begins = by begins
   where
-    can : (CannotOpen (core_named name old.clients) ⊎ (is_serving (node_of old.nodes.nodes node) ≡ false)) → ⊥
+    can : (CannotOpen (core_named name old.clients) ⊎ (is_serving (numbered_node old.nodes.nodes node) ≡ false)) → ⊥
     can (inl taken) = both_ways _ free (subst CannotOpen (core_found name old.clients at client first stands) taken)
     can (inr idle) = both_ways _ idle serving
 
@@ -189,12 +189,12 @@ open_meets name at node old new client first stands free serving left begins = b
 
 -- a node that has no name left closes the connection at once
 pub full_meets : (name : List ℕ) (at node : ℕ) (old : WorldState) (client : WorldClient) → position (is_named name) old.clients ≡ Some at → slice_get old.clients at ≡ Some client
-    → is_holding client.piped ≡ false → is_serving (node_of old.nodes.nodes node) ≡ true → has_no_name_left (node_of old.nodes.nodes node) ≡ true
+    → is_holding client.piped ≡ false → is_serving (numbered_node old.nodes.nodes node) ≡ true → has_no_name_left (numbered_node old.nodes.nodes node) ≡ true
     → EventIsDone (events.Open name node) old old
 full_meets name at node old client first stands free serving none =
     record { can = can; does = inl refl; exact = λ whole. spent true name node old old none refl; uncounted = refl }
   where
-    can : (CannotOpen (core_named name old.clients) ⊎ (is_serving (node_of old.nodes.nodes node) ≡ false)) → ⊥
+    can : (CannotOpen (core_named name old.clients) ⊎ (is_serving (numbered_node old.nodes.nodes node) ≡ false)) → ⊥
     can (inl taken) = both_ways _ free (subst CannotOpen (core_found name old.clients at client first stands) taken)
     can (inr idle) = both_ways _ idle serving
 

@@ -25,7 +25,7 @@ use Rattle.world_base.specs.Core.{CountedCore}
 use Rattle.world_base.specs.declared.item.Item.{Item}
 use Rattle.world_base.specs.declared.item.Item.TheVariants.{Opened}
 use Rattle.world_nodes.specs.ExactSteps.{after_node_call}
-use Rattle.world_nodes.specs.Running.{node_of}
+use Rattle.world_nodes.specs.Running.{numbered_node}
 use Rattle.world_nodes.specs.Nodes.{NodesState}
 use Rattle.world_nodes.proofs.Acts.{acts}
 use Rattle.world_pipes.specs.declared.way.Way.{Way}
@@ -75,17 +75,17 @@ pub record HasOpened (name : List ℕ) (state : ClientState) (a : Moment State C
 module _ (name : List ℕ) (before : Core) (a : Moment State Command Output) (ballot place : ℕ) (node : CountedCore) (os : List ℕ) (log : List Command) (old : WorldState)
     (there : core_named name old.clients ≡ Some before) (can : CanOpen a old.nodes ballot place node os log (port_of (next_number old)))
     (housed : SlotsAreValid (leads_of old.clients) old.connections) where
-  serving : is_serving (node_of old.nodes.nodes (suc place)) ≡ true
+  serving : is_serving (numbered_node old.nodes.nodes (suc place)) ≡ true
   serving =
       ap is_serving can.stands
       ∙ ap (λ (b : Bool). b && not node.core.replica.state.stopped) (ap is_active can.serves.leads.role)
       ∙ ap not can.serves.leads.runs
 
-  pub can_open_there : is_open before.state.stage ≡ false → CannotOpen (core_named name old.clients) ⊎ (is_serving (node_of old.nodes.nodes (suc place)) ≡ false) → ⊥
+  pub can_open_there : is_open before.state.stage ≡ false → CannotOpen (core_named name old.clients) ⊎ (is_serving (numbered_node old.nodes.nodes (suc place)) ≡ false) → ⊥
   can_open_there closed (inl taken) = both_ways (is_open before.state.stage) closed (subst CannotOpen there taken)
-  can_open_there closed (inr shut) = both_ways (is_serving (node_of old.nodes.nodes (suc place))) shut serving
+  can_open_there closed (inr shut) = both_ways (is_serving (numbered_node old.nodes.nodes (suc place))) shut serving
 
-  has_name : has_no_name_left (node_of old.nodes.nodes (suc place)) ≡ false
+  has_name : has_no_name_left (numbered_node old.nodes.nodes (suc place)) ≡ false
   has_name =
       let joined = can.serves.leads.joined in let high = can.most in let low = can.low in
       ap has_no_name_left can.stands ∙ first_is_left node (omega (arith, joined, high)) (omega (arith, joined, low))

@@ -11,7 +11,7 @@ use Rattle.headline.proofs.of_node_group.Placed.{get_mapped}
 use Rattle.world_base.specs.Core.{CountedCore}
 use Rattle.world_base.specs.Handing.{bytes_of, listed_at}
 use Rattle.world_base.specs.declared.Port.{Port}
-use Rattle.world_nodes.specs.Running.{node_of}
+use Rattle.world_nodes.specs.Running.{numbered_node}
 use Rattle.world_nodes.specs.Nodes.{NodesState}
 use Rattle.world_nodes.proofs.Exactly.{at_place, gives_acts}
 use Rattle.world_pipes.specs.declared.way.Way.{Way}
@@ -84,7 +84,7 @@ record Hands (o : Option CountedCore) (node : ℕ) (port : Port) (before : List 
   goes : NodesGo old between
   may : MayHandDown node port old before between (before ++ put_out port o)
 
-handed : (o : Option CountedCore) (node : ℕ) (port : Port) (before : List ℕ) (old between : NodesState) → o ≡ node_of old.nodes node → HandsOverBytes o node port old between →
+handed : (o : Option CountedCore) (node : ℕ) (port : Port) (before : List ℕ) (old between : NodesState) → o ≡ numbered_node old.nodes node → HandsOverBytes o node port old between →
     Hands o node port before old between
 handed None node port before old between is same =
     record {

@@ -20,7 +20,7 @@ use Rattle.world_base.specs.declared.item.Item.TheVariants.{Peer}
 use Rattle.world_base.specs.Handing.{bytes_of}
 use Rattle.world_base.specs.Step.{node_step}
 use Rattle.world_nodes.specs.ExactSteps.{ComesToNobody, after_node_call}
-use Rattle.world_nodes.specs.Running.{node_of, running}
+use Rattle.world_nodes.specs.Running.{numbered_node, running}
 use Rattle.world_nodes.specs.Nodes.{NodesState}
 use Rattle.world_events.specs.declared.event.Event.{Event}
 use Rattle.world_events.specs.declared.event.Event.TheVariants as events
@@ -77,8 +77,8 @@ module _ (name : List ℕ) (i at number place : ℕ) (core : Core) (up : List �
   put_first old goes same =
       record {
         up = up;
-        down = put_out (port_of number) (node_of w.nodes.nodes (suc place));
-        is_open = is_told_open (port_of number) (node_of w.nodes.nodes (suc place));
+        down = put_out (port_of number) (numbered_node w.nodes.nodes (suc place));
+        is_open = is_told_open (port_of number) (numbered_node w.nodes.nodes (suc place));
         newest = own_gathered i at number (suc place) core up positive [] w after (let e : 0 < suc place = omega arith in e) gathers housed s;
         begins = subst (λ (l : List ℕ). IsPrefixOf (spelling session_present) l)
             (sym (ap (λ (o : Option CountedCore). put_out (port_of number) o) stands ∙ ap bytes_of puts.listed)) puts.first;

@@ -14,7 +14,7 @@ use Rattle.world_base.specs.declared.item.Item.{Item}
 use Rattle.world_base.specs.declared.item.Item.TheVariants.{Peer}
 use Rattle.world_base.proofs.Calmly.{step_waits}
 use Rattle.world_nodes.specs.ExactSteps.{MessageArrives, HeardByMaster, TakesExactly}
-use Rattle.world_nodes.specs.Running.{node_of, running, unless_stopped}
+use Rattle.world_nodes.specs.Running.{numbered_node, running, unless_stopped}
 use Rattle.world_nodes.specs.Nodes.{NodesState}
 use Rattle.world_nodes.specs.Quiet.{ComesUnheeded, IsUnheeded, RestsAt}
 use Rattle.world_events.specs.declared.event.Event.{Event}
@@ -37,7 +37,7 @@ there_of (Some c) core runs = by c.core.replica.state.stopped runs
     by true is = absurd (none-some core is)
     by false is = is
 
-runs_there : (nodes : List CountedCore) (node : ℕ) (core : CountedCore) → running nodes node ≡ Some core → node_of nodes node ≡ Some core
+runs_there : (nodes : List CountedCore) (node : ℕ) (core : CountedCore) → running nodes node ≡ Some core → numbered_node nodes node ≡ Some core
 runs_there nodes zero core runs = absurd (none-some core runs)
 runs_there nodes (suc at) core runs = there_of (slice_get nodes at) core runs
 
@@ -56,7 +56,7 @@ taken_quiet node item old between quiet took =
     let there = runs_there old.nodes node took.core took.runs in
     let waits = subst (λ (c : CountedCore). WaitsNothing c.core → WaitsNothing (node_step item c.core).core) same (step_waits item rests.core.core rests.takes rests.none_failed) (quiet.1 took.core there) in (
       λ core found.
-          let is : core ≡ later = node_set old.nodes node took.core later core there (subst (λ (n : NodesState). node_of n.nodes node ≡ Some core) took.is found) in
+          let is : core ≡ later = node_set old.nodes node took.core later core there (subst (λ (n : NodesState). numbered_node n.nodes node ≡ Some core) took.is found) in
           subst (λ (c : CountedCore). WaitsNothing c.core) (sym is) waits,
       ap (λ (n : NodesState). n.losses) took.is,
     )

@@ -9,7 +9,7 @@ use Rattle.escaping_client.specs.client.Core.{Core}
 use Rattle.headline.proofs.of_packet_world.Lists.{same_or_other}
 use Rattle.world_base.specs.Core.{CountedCore}
 use Rattle.world_base.specs.declared.Port.{Port}
-use Rattle.world_nodes.specs.Running.{node_of}
+use Rattle.world_nodes.specs.Running.{numbered_node}
 use Rattle.world_pipes.specs.declared.way.Way.{Way}
 use Rattle.world_clients.specs.declared.connection_slot.ConnectionSlot.{ConnectionSlot}
 use Rattle.world_clients.specs.declared.world_client.WorldClient.{WorldClient}
@@ -42,7 +42,7 @@ newest_place i at node is_open = record { client = i; at = at; node = node; is_o
 -- ---- it is asked itself
 
 module _ (i at number node : ℕ) (core : Core) (up down : List ℕ) (is_open : Bool) (old new : WorldState) (s : IsNewest i at number node core up down is_open old) where
-  pub gathered_itself : 0 < number → (a : IsGathered number old new) → IsNewest i at number node core up (down ++ put_out (port_of number) (node_of old.nodes.nodes node)) (is_told_open (port_of number) (node_of old.nodes.nodes node)) new
+  pub gathered_itself : 0 < number → (a : IsGathered number old new) → IsNewest i at number node core up (down ++ put_out (port_of number) (numbered_node old.nodes.nodes node)) (is_told_open (port_of number) (numbered_node old.nodes.nodes node)) new
   gathered_itself positive a =
       record {
         client = later;
@@ -77,8 +77,8 @@ module _ (i at number node : ℕ) (core : Core) (up down : List ℕ) (is_open : 
       at_is : a.c.slot.at ≡ at
       at_is = ap (λ (p : ConnectionSlot). p.at) place_is
 
-      node_is : a.node ≡ node_of old.nodes.nodes node
-      node_is = a.is_node ∙ ap (λ (p : ConnectionSlot). node_of old.nodes.nodes p.node) place_is
+      node_is : a.node ≡ numbered_node old.nodes.nodes node
+      node_is = a.is_node ∙ ap (λ (p : ConnectionSlot). numbered_node old.nodes.nodes p.node) place_is
 
       owned : slice_get old.clients i ≡ Some a.c.client
       owned = ap (slice_get old.clients) (sym client_is) ∙ a.c.owned
@@ -216,7 +216,7 @@ module _ (i at number node : ℕ) (core : Core) (up : List ℕ) (positive : 0 < 
   -- all of its own
   pub own_gathered : (down : List ℕ) (old new : WorldState) → 0 < node → Gathers true node old new → SlotsAreValid (leads_of old.clients) old.connections →
       IsNewest i at number node core up down true old →
-      IsNewest i at number node core up (down ++ put_out (port_of number) (node_of old.nodes.nodes node)) (is_told_open (port_of number) (node_of old.nodes.nodes node)) new
+      IsNewest i at number node core up (down ++ put_out (port_of number) (numbered_node old.nodes.nodes node)) (is_told_open (port_of number) (numbered_node old.nodes.nodes node)) new
   own_gathered down old new some g housed s = by number refl (among node some g)
     where
       among : (to : ℕ) → 0 < to → Gathers true to old new → GathersAmong true number to old new
@@ -224,13 +224,13 @@ module _ (i at number node : ℕ) (core : Core) (up : List ℕ) (positive : 0 < 
       among (suc to) low h = subst (λ (k : ℕ). GathersAmong true k (suc to) old new) s.last h
 
       by : (k : ℕ) → k ≡ number → GathersAmong true k node old new →
-          IsNewest i at number node core up (down ++ put_out (port_of number) (node_of old.nodes.nodes node)) (is_told_open (port_of number) (node_of old.nodes.nodes node)) new
+          IsNewest i at number node core up (down ++ put_out (port_of number) (numbered_node old.nodes.nodes node)) (is_told_open (port_of number) (numbered_node old.nodes.nodes node)) new
       by zero e h = absurd (omega (arith, e, positive))
       by (suc k) e h =
           let up_there : is_open_at node (slot_numbered (suc k) old.connections) ≡ true =
           ap (λ (j : ℕ). is_open_at node (slot_numbered j old.connections)) e
           ∙ asks node true true down old s (ap (λ (b : Bool). b && true) (eq-eqb node node refl)) in
           let a : IsGathered number old h.0 = subst (λ (j : ℕ). IsGathered j old h.0) e (subst (λ (b : Bool). GatheredWhere true b (suc k) old h.0) up_there h.1) in
-          older_asked k node (down ++ put_out (port_of number) (node_of old.nodes.nodes node)) (is_told_open (port_of number) (node_of old.nodes.nodes node)) h.0 new h.2 (omega (arith, e))
+          older_asked k node (down ++ put_out (port_of number) (numbered_node old.nodes.nodes node)) (is_told_open (port_of number) (numbered_node old.nodes.nodes node)) h.0 new h.2 (omega (arith, e))
           (where_passes (is_open_at node (slot_numbered (suc k) old.connections)) (suc k) old h.0 h.1 housed (omega arith)).housed
           (gathered_itself i at number node core up down true old h.0 s positive a)

@@ -29,7 +29,7 @@ use Rattle.headline.specs.node_connections.Connections.{is_open_named, is_closed
 use Rattle.world_base.specs.Core.{CountedCore, rules}
 use Rattle.world_base.specs.Handing.{answer_of, bytes_of}
 use Rattle.world_nodes.specs.ExactSteps.{after_answer, after_node_call}
-use Rattle.world_nodes.specs.Running.{node_of}
+use Rattle.world_nodes.specs.Running.{numbered_node}
 use Rattle.world_nodes.specs.Nodes.{NodesState}
 use Rattle.world_events.specs.declared.event.Event.TheVariants as events
 use Rattle.world.specs.Found.{port_of}
@@ -88,7 +88,7 @@ pub own_waits : (i at number place : ℕ) (core : Core) (up : List ℕ) (x : Con
     SlotsAreValid (leads_of old.clients) old.connections → IsNewest i at number (suc place) core up [] true old → IsNewest i at number (suc place) core up [] true new
 own_waits i at number place core up x old new node positive there w g housed s =
     subst (λ (l : List ℕ). IsNewest i at number (suc place) core up l true new) (ap (put_out (port_of number)) there ∙ nothing_out (port_of number) x node w)
-    (subst (λ (b : Bool). IsNewest i at number (suc place) core up (put_out (port_of number) (node_of old.nodes.nodes (suc place))) b new)
+    (subst (λ (b : Bool). IsNewest i at number (suc place) core up (put_out (port_of number) (numbered_node old.nodes.nodes (suc place))) b new)
     (ap (is_told_open (port_of number)) there ∙ told_open (port_of number) x node w)
     (own_gathered i at number (suc place) core up positive [] old new (omega arith) g housed s))
 

@@ -17,8 +17,8 @@ use Rattle.ways_out.specs.Deliveries.{asked_and_answered, way_out}
 use Rattle.escaping_nodes.proofs.WelcomedKept.{welcomed_are_kept}
 use Rattle.ways_out.specs.Lengths.{WaysAreShort}
 use Rattle.world_base.specs.Core.{CountedCore}
-use Rattle.world_nodes.specs.Asking.{log_in, log_of, welcomes_back}
-use Rattle.world_nodes.specs.Running.{is_running, node_of}
+use Rattle.world_nodes.specs.Asking.{whole_log_in, whole_log_of, welcomes_back}
+use Rattle.world_nodes.specs.Running.{is_running, numbered_node}
 use Rattle.world_nodes.specs.Nodes.{NodesState}
 use Rattle.world_events.specs.declared.event.Event.{Event}
 use Rattle.world_events.specs.declared.event.Event.TheVariants as events
@@ -79,7 +79,7 @@ some_members m config granted =
 abbrev pub can_escape : (members : List ℕ) (name : Client) (w : WorldState) → refusal w.nodes.master (configuration_of members) ≡ None →
     list_all (is_running w.nodes.nodes) members ≡ true → (place source : ℕ) → IsFetchedFrom w place source → (at : ℕ) (found : WorldClient) →
     position (is_named name) w.clients ≡ Some at → slice_get w.clients at ≡ Some found →
-    session_of (past_of usual_limits (log_of w.nodes source)) found.piped.core.state.client ≡ Some false → CanEscape members name w
+    session_of (past_of usual_limits (whole_log_of w.nodes source)) found.piped.core.state.client ≡ Some false → CanEscape members name w
 can_escape members name w granted live place source fetched at found first stands session =
     record {
       granted = granted;
@@ -106,34 +106,34 @@ configured (x ∷ xs) config same first =
 
 -- ---- the session of a client after a log
 
-kept_in : (n : NodesState) (node : ℕ) (client : Client) (has : Bool) → has ≡ welcomes_back client (log_of n node) →
-    (has ≡ true → session_of (past_of usual_limits (log_of n node)) client ≡ Some false)
-    × (has ≡ false → session_of (past_of usual_limits (log_of n node)) client ≡ Some false → ⊥)
+kept_in : (n : NodesState) (node : ℕ) (client : Client) (has : Bool) → has ≡ welcomes_back client (whole_log_of n node) →
+    (has ≡ true → session_of (past_of usual_limits (whole_log_of n node)) client ≡ Some false)
+    × (has ≡ false → session_of (past_of usual_limits (whole_log_of n node)) client ≡ Some false → ⊥)
 kept_in n node client has is = (
-  λ yes. (welcomed_are_kept client (log_of n node)).0 (sym is ∙ yes),
-  λ off session. false≢true (sym off ∙ is ∙ (welcomed_are_kept client (log_of n node)).1 session),
+  λ yes. (welcomed_are_kept client (whole_log_of n node)).0 (sym is ∙ yes),
+  λ off session. false≢true (sym off ∙ is ∙ (welcomed_are_kept client (whole_log_of n node)).1 session),
 )
 
-none_kept : (n : NodesState) (node : ℕ) (client : Client) (has : Bool) → node_of n.nodes node ≡ None → has ≡ false →
-    (has ≡ true → session_of (past_of usual_limits (log_of n node)) client ≡ Some false)
-    × (has ≡ false → session_of (past_of usual_limits (log_of n node)) client ≡ Some false → ⊥)
+none_kept : (n : NodesState) (node : ℕ) (client : Client) (has : Bool) → numbered_node n.nodes node ≡ None → has ≡ false →
+    (has ≡ true → session_of (past_of usual_limits (whole_log_of n node)) client ≡ Some false)
+    × (has ≡ false → session_of (past_of usual_limits (whole_log_of n node)) client ≡ Some false → ⊥)
 unfolding session_of past_from
 none_kept n node client has none off = (
   λ yes. absurd (false≢true (sym off ∙ yes)),
-  λ _ session. none-some false (sym (ap (λ (o : Option CountedCore). session_of (past_of usual_limits (log_in n.archive o)) client) none) ∙ session),
+  λ _ session. none-some false (sym (ap (λ (o : Option CountedCore). session_of (past_of usual_limits (whole_log_in n.archive o)) client) none) ∙ session),
 )
 
 pub session_told : {E : Type 0} (n : NodesState) (node : ℕ) (client : Client) (result : Result Bool E) →
-    ((core : CountedCore) → node_of n.nodes node ≡ Some core → IfOk result (λ has. has ≡ welcomes_back client (log_of n node))) →
-    (node_of n.nodes node ≡ None → IfOk result (λ has. has ≡ false)) →
-    IfOk result (λ has. (has ≡ true → session_of (past_of usual_limits (log_of n node)) client ≡ Some false)
-    × (has ≡ false → session_of (past_of usual_limits (log_of n node)) client ≡ Some false → ⊥))
+    ((core : CountedCore) → numbered_node n.nodes node ≡ Some core → IfOk result (λ has. has ≡ welcomes_back client (whole_log_of n node))) →
+    (numbered_node n.nodes node ≡ None → IfOk result (λ has. has ≡ false)) →
+    IfOk result (λ has. (has ≡ true → session_of (past_of usual_limits (whole_log_of n node)) client ≡ Some false)
+    × (has ≡ false → session_of (past_of usual_limits (whole_log_of n node)) client ≡ Some false → ⊥))
 session_told n node client (Err cause) told unknown = tt
-session_told n node client (Ok has) told unknown = by (node_of n.nodes node) refl
+session_told n node client (Ok has) told unknown = by (numbered_node n.nodes node) refl
   where
-    by : (o : Option CountedCore) → node_of n.nodes node ≡ o →
-        (has ≡ true → session_of (past_of usual_limits (log_of n node)) client ≡ Some false)
-        × (has ≡ false → session_of (past_of usual_limits (log_of n node)) client ≡ Some false → ⊥)
+    by : (o : Option CountedCore) → numbered_node n.nodes node ≡ o →
+        (has ≡ true → session_of (past_of usual_limits (whole_log_of n node)) client ≡ Some false)
+        × (has ≡ false → session_of (past_of usual_limits (whole_log_of n node)) client ≡ Some false → ⊥)
     by None e = none_kept n node client has e (unknown e)
     by (Some core) e = kept_in n node client has (told core e)
 
@@ -148,7 +148,7 @@ session_no P Q (Ok has) both = both.1
 -- ---- the member whose log is fetched
 
 pub fetched_here : (w : WorldState) (members : List ℕ) (place held : ℕ) → members ≡ w.nodes.master.members → place < length members →
-    position (is_running w.nodes.nodes) w.nodes.master.members ≡ Some place → held ≡ held_in (node_of w.nodes.nodes (get_or members place 0)) → held + 2 ≤ max_places →
+    position (is_running w.nodes.nodes) w.nodes.master.members ≡ Some place → held ≡ held_in (numbered_node w.nodes.nodes (get_or members place 0)) → held + 2 ≤ max_places →
     IsFetchedFrom w place (get_or members place 0)
 fetched_here w members place held same below first is room =
     record {
@@ -158,14 +158,14 @@ fetched_here w members place held same below first is room =
     }
 
 pub fetched_nowhere : (w : WorldState) (members : List ℕ) (place held : ℕ) → members ≡ w.nodes.master.members → place < length members →
-    position (is_running w.nodes.nodes) w.nodes.master.members ≡ Some place → held ≡ held_in (node_of w.nodes.nodes (get_or members place 0)) → max_places < held + 2 →
+    position (is_running w.nodes.nodes) w.nodes.master.members ≡ Some place → held ≡ held_in (numbered_node w.nodes.nodes (get_or members place 0)) → max_places < held + 2 →
     (other source : ℕ) → IsFetchedFrom w other source → ⊥
 fetched_nowhere w members place held same below first is full other source f =
     let here : other ≡ place = same_Some other place (sym f.first ∙ first) in
     let there : get_or members place 0 ≡ source =
     same_Some (get_or members place 0) source (sym (get_there members place (get_or members place 0) below (get_or_default members place 0 (get_or members place 0) below))
     ∙ ap (λ (l : List ℕ). slice_get l place) same ∙ ap (slice_get w.nodes.master.members) (sym here) ∙ f.asked) in
-    let room : held + 2 ≤ max_places = subst (λ (k : ℕ). k + 2 ≤ max_places) (sym (is ∙ ap (λ (m : ℕ). held_in (node_of w.nodes.nodes m)) there)) f.room in
+    let room : held + 2 ≤ max_places = subst (λ (k : ℕ). k + 2 ≤ max_places) (sym (is ∙ ap (λ (m : ℕ). held_in (numbered_node w.nodes.nodes m)) there)) f.room in
     omega (arith, room, full)
 
 -- ---- the list, piece by piece

@@ -7,7 +7,7 @@ use Rattle.escaping_client.specs.client_base.State.{is_open}
 use Rattle.escaping_client.specs.client_base.Steps.{Call, keeper_step}
 use Rattle.world_base.specs.Core.{CountedCore, serves}
 use Rattle.world_nodes.specs.ExactSteps.{ComesToNobody}
-use Rattle.world_nodes.specs.Running.{cutting, node_of, proposing, running}
+use Rattle.world_nodes.specs.Running.{cutting, numbered_node, proposing, running}
 use Rattle.world_pipes.specs.declared.way.Way.{Way}
 use Rattle.world_pipes.specs.Piped.{is_holding}
 use Rattle.world_events.specs.declared.event.Event.{Event}
@@ -74,7 +74,7 @@ CannotHappen (events.Expel name node) w =
     (position (is_named name) w.clients ≡ None) ⊎ (proposing w.nodes.nodes node ≡ None)
 CannotHappen (events.Crash node) w = running w.nodes.nodes node ≡ None
 CannotHappen (events.Open name node) w =
-    CannotOpen (core_named name w.clients) ⊎ (is_serving (node_of w.nodes.nodes node) ≡ false)
+    CannotOpen (core_named name w.clients) ⊎ (is_serving (numbered_node w.nodes.nodes node) ≡ false)
 CannotHappen (events.CarryUp number count) w =
     IsClosed (slot_numbered number w.connections) w.nodes.nodes
     ⊎ IsNoPart count (up_of (way_of number w))

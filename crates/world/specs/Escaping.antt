@@ -14,8 +14,8 @@ use Rattle.escaping_client.specs.client.Core.{Core}
 use Rattle.escaping_client.specs.client_base.State.{is_online}
 use Rattle.world_base.specs.Core.{CountedCore}
 use Rattle.world_nodes.specs.Agreed.{AgreeOn}
-use Rattle.world_nodes.specs.Asking.{log_of}
-use Rattle.world_nodes.specs.Running.{is_running, node_of}
+use Rattle.world_nodes.specs.Asking.{whole_log_of}
+use Rattle.world_nodes.specs.Running.{is_running, numbered_node}
 use Rattle.world_events.specs.declared.event.Event.{Event}
 use Rattle.world.specs.Found.{core_named}
 use Rattle.world.specs.Trace.{WorldLosesNothing}
@@ -45,11 +45,11 @@ pub record CanEscape (members : List ℕ) (name : Client) (w : WorldState) : Typ
   pub first : position (is_running w.nodes.nodes) w.nodes.master.members ≡ Some index
   pub source : ℕ
   pub asked : slice_get w.nodes.master.members index ≡ Some source
-  pub room : held_in (node_of w.nodes.nodes source) + 2 ≤ max_places
+  pub room : held_in (numbered_node w.nodes.nodes source) + 2 ≤ max_places
   pub core : Core
   pub client : core_named name w.clients ≡ Some core
   pub session :
-      session_of (past_of usual_limits (log_of w.nodes source)) core.state.client ≡ Some false
+      session_of (past_of usual_limits (whole_log_of w.nodes source)) core.state.client ≡ Some false
 
 -- ---- what it leads to
 

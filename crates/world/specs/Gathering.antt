@@ -5,7 +5,7 @@ use Rattle.headline.specs.node_moves.Moves.NodeCall.{gives}
 use Rattle.world_base.specs.Core.{CountedCore}
 use Rattle.world_base.specs.declared.item.Item.{Item}
 use Rattle.world_nodes.specs.ExactSteps.{TakesExactly}
-use Rattle.world_nodes.specs.Running.{node_of}
+use Rattle.world_nodes.specs.Running.{numbered_node}
 use Rattle.world_nodes.specs.Nodes.{NodesState}
 use Rattle.world_nodes.specs.Steps.{TakesIn, nodes_with_loss}
 use Rattle.world_clients.specs.declared.connection_slot.ConnectionSlot.{ConnectionSlot}
@@ -21,7 +21,7 @@ use Rattle.world_clients.specs.Handing.{put_out, is_told_open, HandsOverBytes}
 pub record IsGathered (number : ℕ) (old new : WorldState) : Type 0 where
   pub c : Connected number old
   pub node : Option CountedCore
-  pub is_node : node ≡ node_of old.nodes.nodes c.slot.node
+  pub is_node : node ≡ numbered_node old.nodes.nodes c.slot.node
   pub between : NodesState
   pub gives : HandsOverBytes node c.slot.node (port_of number) old.nodes between
   pub is : new ≡ record (with_piped c.slot.client c.client

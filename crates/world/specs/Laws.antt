@@ -3,7 +3,7 @@ use Rattle.std.specs.Prelude.{◌≡◌, ◌<◌, ◌≤◌, ℕ, false, List, S
 use Rattle.headline.specs.ballot_base.Losses.{greatest_count}
 use Rattle.headline.specs.broker_spec.Connection.{max_ballot, max_count}
 use Rattle.world_base.specs.Core.{CountedCore}
-use Rattle.world_nodes.specs.Running.{node_of}
+use Rattle.world_nodes.specs.Running.{numbered_node}
 use Rattle.world_events.specs.declared.event.Event.{Event}
 use Rattle.world_events.specs.declared.event.Event.TheVariants as events
 use Rattle.world.specs.Opening.{has_no_name_left}
@@ -23,7 +23,7 @@ UncountedIsExact =
 abbrev pub OpensPastTheLast : Type 0
 OpensPastTheLast =
     (name : List ℕ) (node : ℕ) (core : CountedCore) (old new : WorldState) →
-    node_of old.nodes.nodes node ≡ Some core →
+    numbered_node old.nodes.nodes node ≡ Some core →
     core.core.last_name ≡ record { ballot = core.core.replica.state.joined; count = max_count } →
     old.nodes.losses < greatest_count →
     EventHappens (events.Open name node) old (Ok tt) new → new ≡ old

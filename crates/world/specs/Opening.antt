@@ -5,7 +5,7 @@ use Rattle.escaping_client.specs.client_base.Steps.{Call, keeper_step}
 use Rattle.world_base.specs.Core.{CountedCore}
 use Rattle.world_base.specs.Step.{next_name}
 use Rattle.world_base.specs.declared.item.Item.TheVariants as items
-use Rattle.world_nodes.specs.Running.{node_of}
+use Rattle.world_nodes.specs.Running.{numbered_node}
 use Rattle.world_nodes.specs.Nodes.{NodesState}
 use Rattle.world_pipes.specs.Piped.{SendsConnect, Piped}
 use Rattle.world.specs.Found.{Named, port_of, with_piped}
@@ -64,7 +64,7 @@ OpensUnless false whole name node old new = OpensOne whole name node old new
 -- exactly that, or, if losses are allowed, perhaps no new connection
 abbrev pub OpensWhere : Bool → List ℕ → ℕ → WorldState → WorldState → Type 0
 OpensWhere true name node old new =
-    OpensUnless (has_no_name_left (node_of old.nodes.nodes node)) true name node old new
+    OpensUnless (has_no_name_left (numbered_node old.nodes.nodes node)) true name node old new
 OpensWhere false name node old new =
-    OpensUnless (has_no_name_left (node_of old.nodes.nodes node)) false name node old new
+    OpensUnless (has_no_name_left (numbered_node old.nodes.nodes node)) false name node old new
     ⊎ OpensNone name node old new

@@ -4,7 +4,7 @@ use Rattle.headline.specs.ballot_base.declared.message.Message.{Message}
 use Rattle.headline.specs.broker_spec.declared.command.Command.{Command}
 use Rattle.world_base.specs.declared.item.Item.{Item}
 use Rattle.world_base.specs.declared.item.Item.TheVariants as items
-use Rattle.world_nodes.specs.Running.{node_of}
+use Rattle.world_nodes.specs.Running.{numbered_node}
 use Rattle.world_nodes.specs.Nodes.{NodesState}
 use Rattle.world_nodes.specs.Quiet.{IsUnheeded, RestsAt}
 use Rattle.world_events.specs.declared.event.Event.{Event}
@@ -40,6 +40,7 @@ EventTakesNoMemory (events.Tick node) w = IsQuietAt node (items.Tick 0) w.nodes
 EventTakesNoMemory (events.Crash node) w = IsQuietAt node items.Crash w.nodes
 EventTakesNoMemory (events.Notice number) w =
     EndsQuietly number (slot_numbered number w.connections) w.nodes
-EventTakesNoMemory (events.Open name node) w = has_no_name_left (node_of w.nodes.nodes node) ≡ true
+EventTakesNoMemory (events.Open name node) w =
+    has_no_name_left (numbered_node w.nodes.nodes node) ≡ true
 EventTakesNoMemory (events.Abandon name) w = Unit {0}
 EventTakesNoMemory event w = ⊥

@@ -1,7 +1,7 @@
 // What clients do in a world.
 
 ghost use Rattle.std.specs.Prelude.{◌≡◌, ◌<◌, true, false, length, slice_get, IfSome};
-ghost use Rattle.world_nodes.specs.Running.{node_of};
+ghost use Rattle.world_nodes.specs.Running.{numbered_node};
 ghost use Rattle.world_pipes.specs.Piped.{is_holding};
 ghost use Rattle.world.specs.Trace.{CountsOnce};
 ghost use Rattle.world.specs.Opening.{has_no_name_left};
@@ -217,7 +217,7 @@ impl World {
 
     // Says whether a node has no name left in its ballot.
     fn has_no_name_left(&self, node: u8) -> bool
-        ensures { result ≡ has_no_name_left (node_of self.now.nodes.nodes node) }
+        ensures { result ≡ has_no_name_left (numbered_node self.now.nodes.nodes node) }
     {
         match self.nodes.node(node) {
             Some(core) => core.has_no_name_left(),
@@ -227,7 +227,7 @@ impl World {
 
     // Says whether a node is a running active primary.
     fn serves(&self, node: u8) -> bool
-        ensures { result ≡ is_serving (node_of self.now.nodes.nodes node) }
+        ensures { result ≡ is_serving (numbered_node self.now.nodes.nodes node) }
     {
         match self.nodes.node(node) {
             Some(core) => core.status().serves(),

@@ -5,11 +5,11 @@ ghost use Rattle.std.specs.List.{list_all, position};
 ghost use Rattle.headline.specs.agreement.MasterState.{refusal};
 ghost use Rattle.headline.specs.broker_spec.Commands.{past_of, usual_limits};
 ghost use Rattle.headline.specs.broker_spec.Past.{session_of};
-ghost use Rattle.world_nodes.specs.Asking.{log_of};
+ghost use Rattle.world_nodes.specs.Asking.{whole_log_of};
 ghost use Rattle.world_events.specs.EscapeEvents.{connect_bytes};
 ghost use Rattle.world_pipes.specs.Piped.{is_holding};
 ghost use Rattle.world_clients.specs.declared.world_client.WorldClient.{WorldClient};
-ghost use Rattle.world_nodes.specs.Running.{is_running, node_of};
+ghost use Rattle.world_nodes.specs.Running.{is_running, numbered_node};
 ghost use Rattle.world.specs.Escaping.{CanEscape, LeadsClientOut, configuration_of, held_in};
 ghost use Rattle.world.specs.Inside.Escaping.{IsFetchedFrom, escaping_events};
 
@@ -112,7 +112,7 @@ impl World {
 
     // Returns how many places the log of a node has; 0 if the node does not exist.
     fn held(&self, node: u8) -> u64
-        ensures { result ≡ held_in (node_of self.now.nodes.nodes node) }
+        ensures { result ≡ held_in (numbered_node self.now.nodes.nodes node) }
     {
         match self.nodes.node(node) {
             Some(core) => core.status().held,
@@ -130,10 +130,10 @@ impl World {
     // Says whether a client has a session that is not clean after the whole log of a node.
     fn has_session(&self, node: u8, client: &ClientId) -> Result<bool, Memory>
         ensures yes { IfOk result (λ has. has ≡ true
-            → session_of (past_of usual_limits (log_of self.now.nodes node)) client.now
+            → session_of (past_of usual_limits (whole_log_of self.now.nodes node)) client.now
             ≡ Some false) }
         ensures no { IfOk result (λ has. has ≡ false
-            → session_of (past_of usual_limits (log_of self.now.nodes node)) client.now
+            → session_of (past_of usual_limits (whole_log_of self.now.nodes node)) client.now
             ≡ Some false → ⊥) }
     {
         self.nodes.welcomes_back(node, client)

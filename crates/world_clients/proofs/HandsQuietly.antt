@@ -9,7 +9,7 @@ use Rattle.world_base.specs.declared.Handed.{Handed}
 use Rattle.world_base.specs.declared.Port.{Port}
 use Rattle.world_base.proofs.Calmly.{hands_over_waits, nothing_handed}
 use Rattle.world_nodes.specs.ExactSteps.{GivesExactly}
-use Rattle.world_nodes.specs.Running.{node_of}
+use Rattle.world_nodes.specs.Running.{numbered_node}
 use Rattle.world_nodes.specs.Nodes.{NodesState}
 use Rattle.world_nodes.specs.Quiet.{WaitsAtNone}
 use Rattle.world_clients.specs.Handing.{StaysQuiet}
@@ -19,7 +19,7 @@ set_there [] i x y z there found = absurd (none-some x there)
 set_there (w ∷ xs) zero x y z there found = sym (same_Some y z found)
 set_there (w ∷ xs) (suc i) x y z there found = set_there xs i x y z there found
 
-pub node_set : (nodes : List CountedCore) (node : ℕ) (core new found : CountedCore) → node_of nodes node ≡ Some core → node_of (slice_set nodes (node - 1) new) node ≡ Some found → found ≡ new
+pub node_set : (nodes : List CountedCore) (node : ℕ) (core new found : CountedCore) → numbered_node nodes node ≡ Some core → numbered_node (slice_set nodes (node - 1) new) node ≡ Some found → found ≡ new
 node_set nodes zero core new found there stands = absurd (none-some core there)
 node_set nodes (suc at) core new found there stands =
     set_there nodes at core new found there
@@ -35,7 +35,7 @@ handing_quiet (Ok handed) X node port old new hands same = λ holds.
     let g = hands (λ core there. nothing_handed port core.core (holds core there)) in
     let later : CountedCore = record g.core { core = hands_over port g.core.core } in (
       λ core there.
-          let is : core ≡ later = node_set old.nodes node g.core later core g.there (subst (λ (n : NodesState). node_of n.nodes node ≡ Some core) g.is there) in
+          let is : core ≡ later = node_set old.nodes node g.core later core g.there (subst (λ (n : NodesState). numbered_node n.nodes node ≡ Some core) g.is there) in
           subst (λ (c : CountedCore). WaitsNothing c.core) (sym is) (hands_over_waits port g.core.core (holds g.core g.there)),
       ap (λ (n : NodesState). n.losses) g.is,
     )

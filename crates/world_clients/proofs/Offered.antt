@@ -15,7 +15,7 @@ use Rattle.world_base.specs.Handing.{listed_at}
 use Rattle.byte_world.specs.node_moves.Moves.NodeCall.{takes}
 use Rattle.byte_world.proofs.of_node_group.Placed.{get_of_set}
 use Rattle.world_nodes.specs.ExactSteps.{NodeDoesCall, after_node_call}
-use Rattle.world_nodes.specs.Running.{node_of, running, unless_stopped}
+use Rattle.world_nodes.specs.Running.{numbered_node, running, unless_stopped}
 use Rattle.world_nodes.specs.Nodes.{NodesState}
 use Rattle.world_nodes.specs.Steps.{ActsWithLosses, TakesIn}
 use Rattle.client.specs.client_base.Steps.{Call, keeper_step}
@@ -35,17 +35,17 @@ unstopped (Some c) core e = by c.core.replica.state.stopped e
     by true f = absurd (none-some core f)
     by false f = f
 
-set_there : (nodes : List CountedCore) (node : ℕ) (core later : CountedCore) → running nodes node ≡ Some core → node_of (slice_set nodes (node - 1) later) node ≡ Some later
+set_there : (nodes : List CountedCore) (node : ℕ) (core later : CountedCore) → running nodes node ≡ Some core → numbered_node (slice_set nodes (node - 1) later) node ≡ Some later
 set_there nodes zero core later e = absurd (none-some core e)
 set_there nodes (suc n) core later e =
     subst (λ (k : ℕ). slice_get (slice_set nodes k later) n ≡ Some later) (let same : n ≡ suc n - 1 = omega arith in same)
     (get_of_set nodes n core later (unstopped (slice_get nodes n) core e))
 
-pub still_there : (node : ℕ) (item : Item) (old new : NodesState) → TakesIn node item old new → node_of new.nodes node ≡ None → ⊥
+pub still_there : (node : ℕ) (item : Item) (old new : NodesState) → TakesIn node item old new → numbered_node new.nodes node ≡ None → ⊥
 still_there node item old new t none = by t.way
   where
     at_once : (later : CountedCore) → new.nodes ≡ slice_set old.nodes (node - 1) later → ⊥
-    at_once later is = none-some later (sym none ∙ ap (λ (l : List CountedCore). node_of l node) is ∙ set_there old.nodes node t.core later t.runs)
+    at_once later is = none-some later (sym none ∙ ap (λ (l : List CountedCore). numbered_node l node) is ∙ set_there old.nodes node t.core later t.runs)
 
     by : (new ≡ after_node_call (node - 1) t.core (takes item) old) ⊎ ActsWithLosses (node - 1) item t.core old new → ⊥
     by (inl exact) = at_once _ (ap (λ (n : NodesState). n.nodes) exact)
@@ -63,7 +63,7 @@ was_heard (Ok x) P ok does = does
 was_heard (Err e) P ok does = absurd (both_ways true ok refl)
 
 -- it has it then, or not
-pub hears_of_one : (has : Bool) (node : ℕ) (port : Port) (old new : NodesState) (core : CountedCore) → node_of new.nodes node ≡ Some core
+pub hears_of_one : (has : Bool) (node : ℕ) (port : Port) (old new : NodesState) (core : CountedCore) → numbered_node new.nodes node ≡ Some core
     → has ≡ is_some (listed_at port core.core) → TakesIn node (Opened port 0) old new → NodeDoesCall (node - 1) (takes (Opened port 0)) old new
     → HearsOfOne has node port old new
 hears_of_one true node port old new core stands known step acts =

@@ -8,7 +8,7 @@ use Rattle.world_base.specs.declared.Handed.{Handed}
 use Rattle.world_base.specs.declared.Port.{Port}
 use Rattle.world_base.specs.Core.{CountedCore}
 use Rattle.byte_world.specs.node_moves.Moves.NodeCall.{gives}
-use Rattle.world_nodes.specs.Running.{node_of}
+use Rattle.world_nodes.specs.Running.{numbered_node}
 use Rattle.world_nodes.specs.Nodes.{NodesState}
 use Rattle.world_nodes.specs.HandingOver.{HandsIn}
 use Rattle.world_nodes.proofs.Exactly.{gives_acts}
@@ -26,7 +26,7 @@ abbrev HandsExactly : ℕ → Port → NodesState → List ℕ → NodesState �
 HandsExactly node port old before new after is_open o = HandsOverBytes o node port old new × (after ≡ before ++ put_out port o) × (is_open ≡ is_told_open port o)
 
 pub handed_down : (r : Result Handed Idle) (is_open : Bool) (node : ℕ) (port : Port) (old new : NodesState) (before after : List ℕ) → is_open ≡ tells_open r
-    → IsErr r ↔ (node_of old.nodes node ≡ None) → IfOk r (λ handed. HandsIn node port old new before after handed) → OnErr r ((new ≡ old) × (after ≡ before))
+    → IsErr r ↔ (numbered_node old.nodes node ≡ None) → IfOk r (λ handed. HandsIn node port old new before after handed) → OnErr r ((new ≡ old) × (after ≡ before))
     → HandsDown node port old before new after is_open
 handed_down r is_open node port old new before after eq idle does same = by r eq idle does same
   where
@@ -36,7 +36,7 @@ handed_down r is_open node port old new before after eq idle does same = by r eq
         inl (subst (HandsExactly node port old before new after is_open) (sym there) (hands.0.is, hands.1 hands.0.core there, eq ∙ ap is_more (hands.2 hands.0.core there)))
     one h eq (inr rests) = inr (rests.0, rests.1, eq ∙ ap is_more rests.2)
 
-    by : (r : Result Handed Idle) → is_open ≡ tells_open r → IsErr r ↔ (node_of old.nodes node ≡ None) → IfOk r (λ handed. HandsIn node port old new before after handed)
+    by : (r : Result Handed Idle) → is_open ≡ tells_open r → IsErr r ↔ (numbered_node old.nodes node ≡ None) → IfOk r (λ handed. HandsIn node port old new before after handed)
         → OnErr r ((new ≡ old) × (after ≡ before)) → HandsDown node port old before new after is_open
     by (Ok h) eq idle does same = one h eq does
     by (Err x) eq idle does same = inl (subst (HandsExactly node port old before new after is_open) (sym (idle.0 refl)) (same.0, same.1 ∙ sym (append-nil before), eq))

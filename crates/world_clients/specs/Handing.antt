@@ -7,7 +7,7 @@ use Rattle.world_base.specs.declared.Handed.{Handed}
 use Rattle.world_base.specs.declared.Handed.TheVariants as answers
 use Rattle.world_base.specs.declared.Port.{Port}
 use Rattle.world_nodes.specs.ExactSteps.{after_node_call, NodeDoesCall, HandsOver}
-use Rattle.world_nodes.specs.Running.{node_of}
+use Rattle.world_nodes.specs.Running.{numbered_node}
 use Rattle.world_nodes.specs.Nodes.{NodesState}
 use Rattle.world_nodes.specs.Steps.{nodes_with_loss}
 use Rattle.world_base.specs.Losses.{WaitsNothing}
@@ -40,7 +40,7 @@ HandsOverBytes (Some core) node port old new =
 -- a node has nothing to hand over
 abbrev pub HasNothingToHandOver : ℕ → NodesState → Type 0
 HasNothingToHandOver node n =
-    (core : CountedCore) → node_of n.nodes node ≡ Some core → WaitsNothing core.core
+    (core : CountedCore) → numbered_node n.nodes node ≡ Some core → WaitsNothing core.core
 
 -- these bytes are in transit down on the client's connection at this index
 abbrev pub with_down : ℕ → Way → List ℕ → Piped → Piped
@@ -56,9 +56,9 @@ tells_open (Err idle) = false
 -- Or it runs out of memory: it hands nothing over, and its end is open.
 abbrev pub HandsDown : ℕ → Port → NodesState → List ℕ → NodesState → List ℕ → Bool → Type 0
 HandsDown node port old before new after is_open =
-    (HandsOverBytes (node_of old.nodes node) node port old new
-    × (after ≡ before ++ put_out port (node_of old.nodes node))
-    × (is_open ≡ is_told_open port (node_of old.nodes node)))
+    (HandsOverBytes (numbered_node old.nodes node) node port old new
+    × (after ≡ before ++ put_out port (numbered_node old.nodes node))
+    × (is_open ≡ is_told_open port (numbered_node old.nodes node)))
     ⊎ ((new ≡ nodes_with_loss old) × (after ≡ before) × (is_open ≡ true))
 
 -- a node hands down what it queued, after what is in transit on the connection at this index

@@ -5,7 +5,7 @@ use Rattle.client.specs.client_base.declared.error.ClientError.{ClientError}
 use Rattle.world_base.specs.Core.{CountedCore}
 use Rattle.world_base.specs.declared.item.Item.TheVariants as items
 use Rattle.world_base.specs.declared.Port.{Port}
-use Rattle.world_nodes.specs.Running.{node_of}
+use Rattle.world_nodes.specs.Running.{numbered_node}
 use Rattle.world_nodes.specs.Nodes.{NodesState}
 use Rattle.world_nodes.specs.Steps.{TakesIn}
 use Rattle.world_pipes.specs.Piped.{SendsConnect, Piped, taken_back}
@@ -31,7 +31,7 @@ NoneOpens node port old client new later =
 -- the node of this number exists, and has a connection at this port or not
 pub record IsKnown (has : Bool) (node : ℕ) (port : Port) (n : NodesState) : Type 0 where
   pub core : CountedCore
-  pub stands : node_of n.nodes node ≡ Some core
+  pub stands : numbered_node n.nodes node ≡ Some core
   pub known : is_some (listed_at port core.core) ≡ has
 
 -- a new connection is reported to a node, which then has it or not

@@ -26,7 +26,7 @@ use Rattle.byte_world.proofs.of_node_group.Placed.{get_mapped, set_mapped}
 use Rattle.world_nodes.specs.Nodes.{NodesState, NodesStandFor}
 use Rattle.world_nodes.specs.ExactSteps.{NodeDoesCall, after_node_call}
 use Rattle.world_nodes.specs.Steps.{TakesIn}
-use Rattle.world_nodes.specs.Inside.{RunsAt, TookItem, WasSent}
+use Rattle.world_nodes.specs.Inside.{RunsAt, TookItem, ItemWasSent}
 
 abbrev pub core_in : CountedCore → CoreState
 core_in c = c.core
@@ -71,7 +71,7 @@ not_one_more losses low e = omega (arith, low, e)
 -- ---- an item
 
 -- what was sent to the node of a number was sent to the one at its index
-pub node_call_sent : (old : NodesState) (node at : ℕ) (core : CoreState) (item : Item) → at ≡ node - 1 → 0 < node → WasSent node item old.sent
+pub node_call_sent : (old : NodesState) (node at : ℕ) (core : CoreState) (item : Item) → at ≡ node - 1 → 0 < node → ItemWasSent node item old.sent
     → (g : Group) → NodesStandFor g old → NodeCallWasSent g at core (takes item)
 node_call_sent old zero at core item place positive sent g s = absurd (omega (arith, positive))
 node_call_sent old (suc n) at core (Peer message) place positive sent g s =

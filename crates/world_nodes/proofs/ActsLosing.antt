@@ -20,7 +20,7 @@ use Rattle.byte_world.proofs.of_node_group.Placed.{get_mapped, set_mapped}
 use Rattle.byte_world.proofs.of_node_group.Recorded.{records_none, records_to}
 use Rattle.world_nodes.specs.Nodes.{NodesState, NodesStandFor}
 use Rattle.world_nodes.specs.ExactSteps.{NodeDoesCall}
-use Rattle.world_nodes.specs.Inside.{RunsAt, TookItem, WasSent}
+use Rattle.world_nodes.specs.Inside.{RunsAt, TookItem, ItemWasSent}
 use Rattle.world_nodes.specs.Steps.{recorded_if_cut}
 use Rattle.world_nodes.proofs.Acts.{after_turn_of, after_turn_with, core_in, node_call_sent}
 
@@ -66,7 +66,7 @@ were_sent g at core (Expel client) sent = tt
 were_sent g at core Cut sent = tt
 were_sent g at core Crash sent = tt
 
-no_cut : (node : ℕ) (item : Item) (sent : List (ℕ × Message Command)) → WasSent node item sent → is_cut item ≡ false
+no_cut : (node : ℕ) (item : Item) (sent : List (ℕ × Message Command)) → ItemWasSent node item sent → is_cut item ≡ false
 no_cut node (Peer message) sent was = refl
 no_cut node (Tick now) sent was = refl
 no_cut node (Opened port now) sent was = refl
@@ -77,7 +77,7 @@ no_cut node Cut sent was = absurd was
 no_cut node Crash sent was = refl
 
 pub turn_loses : (old : NodesState) (node at : ℕ) (x : RunsAt old.nodes node at) (new : CountedCore) (item : Item) (more : List (ℕ × Message Command)) (whole : Bool) (losses : ℕ)
-    → TookItem x.core item new old.sent more whole → WasSent node item old.sent → NodeDoesCall (node - 1) (takes item) old (after_turn_of at new more losses old)
+    → TookItem x.core item new old.sent more whole → ItemWasSent node item old.sent → NodeDoesCall (node - 1) (takes item) old (after_turn_of at new more losses old)
 turn_loses old node at x new item more whole losses t sent =
     let by = run_of t in
     subst (λ (k : ℕ). NodeDoesCall k (takes item) old (after_turn_of at new more losses old)) x.index

@@ -9,7 +9,7 @@ use Rattle.world_base.specs.Core.{CountedCore}
 use Rattle.byte_world.specs.node_moves.Moves.NodeCall.{takes, gives}
 use Rattle.world_nodes.specs.Nodes.{NodesState}
 use Rattle.world_nodes.specs.ExactSteps.{NodeDoesCall, GivesExactly, TakesExactly, after_node_call}
-use Rattle.world_nodes.specs.Running.{node_of}
+use Rattle.world_nodes.specs.Running.{numbered_node}
 use Rattle.world_nodes.specs.Steps.{ActsWithLosses, NodesLoseNothing, TakesIn}
 use Rattle.world_nodes.proofs.Acts.{acts, not_one_more}
 
@@ -21,7 +21,7 @@ exactly node item old new t none = by t.way
     by (inr loses) = absurd (not_one_more old.losses none.1 (sym (ap (λ (n : NodesState). n.losses) loses.is) ∙ none.0))
 
 -- the node of a number is at its index
-pub at_place : (nodes : List CountedCore) (node : ℕ) (core : CountedCore) → node_of nodes node ≡ Some core → slice_get nodes (node - 1) ≡ Some core
+pub at_place : (nodes : List CountedCore) (node : ℕ) (core : CountedCore) → numbered_node nodes node ≡ Some core → slice_get nodes (node - 1) ≡ Some core
 at_place nodes zero core there = absurd (none-some core there)
 at_place nodes (suc n) core there = subst (λ (k : ℕ). slice_get nodes k ≡ Some core) (let e : n ≡ suc n - 1 = omega arith in e) there
 

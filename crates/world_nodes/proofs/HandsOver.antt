@@ -11,7 +11,7 @@ use Rattle.world_base.specs.Handing.{answer_of, bytes_of, hands_over, listed_at}
 use Rattle.byte_world.proofs.of_node_group.Placed.{set_same}
 use Rattle.world_nodes.specs.Nodes.{NodesState}
 use Rattle.world_nodes.specs.ExactSteps.{AnswersFor, GivesExactly, HandsOver}
-use Rattle.world_nodes.specs.Running.{node_of}
+use Rattle.world_nodes.specs.Running.{numbered_node}
 
 there : (nodes : List CountedCore) (at : ℕ) (z : CountedCore) → at < length nodes → z ≡ get_or nodes at z → slice_get nodes at ≡ Some z
 there [] at z below is = absurd (omega (arith, below))
@@ -26,14 +26,14 @@ pub stands_there : (nodes : List CountedCore) (node : ℕ) (z : CountedCore) →
 stands_there nodes zero z positive below is = absurd (positive refl)
 stands_there nodes (suc n) z positive below is = there nodes (suc n - 1) z (omega (arith, below)) is
 
-pub is_there : (nodes : List CountedCore) (node : ℕ) (z : CountedCore) → (node ≡ 0 → ⊥) → slice_get nodes (node - 1) ≡ Some z → node_of nodes node ≡ Some z
+pub is_there : (nodes : List CountedCore) (node : ℕ) (z : CountedCore) → (node ≡ 0 → ⊥) → slice_get nodes (node - 1) ≡ Some z → numbered_node nodes node ≡ Some z
 is_there nodes zero z positive found = absurd (positive refl)
 is_there nodes (suc n) z positive found = subst (λ (k : ℕ). slice_get nodes k ≡ Some z) (let e : suc n - 1 ≡ n = omega arith in e) found
 
 abbrev pub with_node : ℕ → CountedCore → NodesState → NodesState
 with_node at node old = record old { nodes = slice_set old.nodes at node }
 
-pub hands : (old : NodesState) (node : ℕ) (z new : CountedCore) (port : Port) → node_of old.nodes node ≡ Some z
+pub hands : (old : NodesState) (node : ℕ) (z new : CountedCore) (port : Port) → numbered_node old.nodes node ≡ Some z
     → new ≡ record z { core = hands_over port z.core } → GivesExactly node port old (with_node (node - 1) new old)
 hands old node z new port there is =
     record {
@@ -49,15 +49,15 @@ rests old at z new found same =
     ap (λ (l : List CountedCore). record old { nodes = l }) (ap (slice_set old.nodes at) same ∙ set_same old.nodes at z found)
 
 -- what is read at the index of a number is the node of that number
-pub same_node : (nodes : List CountedCore) (node : ℕ) (z core : CountedCore) → node_of nodes node ≡ Some z → node_of nodes node ≡ Some core → z ≡ core
+pub same_node : (nodes : List CountedCore) (node : ℕ) (z core : CountedCore) → numbered_node nodes node ≡ Some z → numbered_node nodes node ≡ Some core → z ≡ core
 same_node nodes node z core a b = same_some z core (sym a ∙ b)
 
-pub hands_bytes : (n : NodesState) (node : ℕ) (port : Port) (z : CountedCore) (before after : List ℕ) → node_of n.nodes node ≡ Some z
+pub hands_bytes : (n : NodesState) (node : ℕ) (port : Port) (z : CountedCore) (before after : List ℕ) → numbered_node n.nodes node ≡ Some z
     → after ≡ before ++ bytes_of (listed_at port z.core) → HandsOver node port n before after
 hands_bytes n node port z before after is bytes core there =
     subst (λ (y : CountedCore). after ≡ before ++ bytes_of (listed_at port y.core)) (same_node n.nodes node z core is there) bytes
 
-pub answers_so : (n : NodesState) (node : ℕ) (port : Port) (z : CountedCore) (handed : Handed) → node_of n.nodes node ≡ Some z
+pub answers_so : (n : NodesState) (node : ℕ) (port : Port) (z : CountedCore) (handed : Handed) → numbered_node n.nodes node ≡ Some z
     → handed ≡ answer_of (listed_at port z.core) → AnswersFor node port n handed
 answers_so n node port z handed is answer core there =
     subst (λ (y : CountedCore). handed ≡ answer_of (listed_at port y.core)) (same_node n.nodes node z core is there) answer

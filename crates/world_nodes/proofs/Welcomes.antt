@@ -16,8 +16,8 @@ use Rattle.master.proofs.of_snapshots.PastsAgree.{logs_are_cut_right}
 use Rattle.world_base.specs.Core.{CoreState, CountedCore, rules}
 use Rattle.byte_world.specs.node_group.Group.{moment_of, replica_of}
 use Rattle.byte_world.proofs.of_node_group.Placed.{get_mapped}
-use Rattle.world_nodes.specs.Asking.{first_connection, is_welcome, log_in, log_of, welcomes_back}
-use Rattle.world_nodes.specs.Running.{node_of}
+use Rattle.world_nodes.specs.Asking.{first_connection, is_welcome, whole_log_in, whole_log_of, welcomes_back}
+use Rattle.world_nodes.specs.Running.{numbered_node}
 use Rattle.world_nodes.specs.Inside.{HaveCounted}
 use Rattle.world_nodes.specs.Nodes.{NodesState}
 use Rattle.world_nodes.proofs.Acts.{core_in}
@@ -35,7 +35,7 @@ done_more s commands i command before after below same held is =
     ∙ ap (replay_from rules s) (sym (take_more commands i command below ∙ ap (λ (c : Command). take i commands ++ c ∷ []) (sym same)))
 
 -- its log was cut right
-cut_right : (n : NodesState) (told next : ToldIn) → HaveCounted n told next → (node : ℕ) (core : CountedCore) → node_of n.nodes node ≡ Some core →
+cut_right : (n : NodesState) (told next : ToldIn) → HaveCounted n told next → (node : ℕ) (core : CountedCore) → numbered_node n.nodes node ≡ Some core →
     IsCutRight rules n.archive core.core.replica.state
 cut_right n told next c node core there =
     let found : slice_get (moment_of c.group).world.nodes (node - 1) ≡ Some (replica_of core.core) =
@@ -56,17 +56,17 @@ at_base archive r right base bytes machine is read fresh thawed = by base is fre
         same_Some machine (replay rules (take r.log.base archive)) (sym (old (omega arith)) ∙ ap rules.thawed read ∙ right.snapshot high)
 
 -- and so it says whether the client is welcomed back
-pub welcomed : (n : NodesState) (told next : ToldIn) → HaveCounted n told next → (node : ℕ) (core : CountedCore) → node_of n.nodes node ≡ Some core → (client : Client)
+pub welcomed : (n : NodesState) (told next : ToldIn) → HaveCounted n told next → (node : ℕ) (core : CountedCore) → numbered_node n.nodes node ≡ Some core → (client : Client)
     (base : ℕ) (bytes : List ℕ) (first last : State) (rest : List Command) (answer : Bool) → base ≡ core.core.replica.state.log.base → bytes ≡ core.core.replica.state.log.snapshot →
     (base ≡ 0 → first ≡ rules.opening) → (0 < base → rules.thawed bytes ≡ Some first) → rest ≡ core.core.replica.state.log.rest → last ≡ replay_from rules first rest →
-    answer ≡ is_welcome (rules.gives (rules.after last (commands.Start 1)) (commands.Connect first_connection client false)) → answer ≡ welcomes_back client (log_of n node)
+    answer ≡ is_welcome (rules.gives (rules.after last (commands.Start 1)) (commands.Connect first_connection client false)) → answer ≡ welcomes_back client (whole_log_of n node)
 welcomed n told next c node core there client base bytes first last rest answer is read fresh thawed left done tells =
     tells
     ∙ ap (λ (s : State). is_welcome (rules.gives (rules.after s (commands.Start 1)) (commands.Connect first_connection client false)))
     (done ∙ ap (replay_from rules first) left ∙ ap (λ (s : State). replay_from rules s log.rest) whole ∙ sym (replay_join rules.opening (take log.base n.archive) log.rest))
     ∙ ap (λ (s : State). is_welcome (rules.gives s (commands.Connect first_connection client false)))
     (sym (replay_join rules.opening (take log.base n.archive ++ log.rest) (commands.Start 1 ∷ [])))
-    ∙ ap (λ (o : Option CountedCore). welcomes_back client (log_in n.archive o)) (sym there)
+    ∙ ap (λ (o : Option CountedCore). welcomes_back client (whole_log_in n.archive o)) (sym there)
   where
     log : Log Command
     log = core.core.replica.state.log
@@ -75,12 +75,12 @@ welcomed n told next c node core there client base bytes first last rest answer 
     whole = at_base n.archive core.core.replica.state (cut_right n told next c node core there) base bytes first is read fresh thawed
 
 -- of nodes as they are seen, if there was memory for the answer
-pub welcomed_in : {E : Type 0} (n seen : NodesState) (told next : ToldIn) → HaveCounted n told next → n ≡ seen → (node : ℕ) (core : CountedCore) → node_of seen.nodes node ≡ Some core → (client : Client)
+pub welcomed_in : {E : Type 0} (n seen : NodesState) (told next : ToldIn) → HaveCounted n told next → n ≡ seen → (node : ℕ) (core : CountedCore) → numbered_node seen.nodes node ≡ Some core → (client : Client)
     (base : ℕ) (bytes : List ℕ) (first last : State) (rest : List Command) (result : Result Bool E) → base ≡ core.core.replica.state.log.base → bytes ≡ core.core.replica.state.log.snapshot →
     (base ≡ 0 → first ≡ rules.opening) → (0 < base → rules.thawed bytes ≡ Some first) → rest ≡ core.core.replica.state.log.rest → last ≡ replay_from rules first rest →
     IfOk result (λ answer. answer ≡ is_welcome (rules.gives (rules.after last (commands.Start 1)) (commands.Connect first_connection client false))) →
-    IfOk result (λ answer. answer ≡ welcomes_back client (log_of seen node))
+    IfOk result (λ answer. answer ≡ welcomes_back client (whole_log_of seen node))
 welcomed_in n seen told next c same node core there client base bytes first last rest (Err cause) is read fresh thawed left done tells = tt
 welcomed_in n seen told next c same node core there client base bytes first last rest (Ok answer) is read fresh thawed left done tells =
-    subst (λ (m : NodesState). answer ≡ welcomes_back client (log_of m node)) same
-    (welcomed n told next c node core (ap (λ (m : NodesState). node_of m.nodes node) same ∙ there) client base bytes first last rest answer is read fresh thawed left done tells)
+    subst (λ (m : NodesState). answer ≡ welcomes_back client (whole_log_of m node)) same
+    (welcomed n told next c node core (ap (λ (m : NodesState). numbered_node m.nodes node) same ∙ there) client base bytes first last rest answer is read fresh thawed left done tells)

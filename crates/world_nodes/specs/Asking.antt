@@ -12,17 +12,17 @@ use Rattle.byte_world.specs.broker_spec.declared.command.Output.{Output}
 use Rattle.byte_world.specs.broker_spec.declared.command.Output.TheVariants.{Send}
 use Rattle.byte_world.specs.broker_spec.Place.{Client}
 use Rattle.world_base.specs.Core.{CountedCore, rules}
-use Rattle.world_nodes.specs.Running.{node_of}
+use Rattle.world_nodes.specs.Running.{numbered_node}
 use Rattle.world_nodes.specs.Nodes.{NodesState}
 
 -- the record up to the base of a node's log, then the rest
-abbrev pub log_in : List Command → Option CountedCore → List Command
-log_in archive None = []
-log_in archive (Some node) = whole_log archive node.core.replica.state.log
+abbrev pub whole_log_in : List Command → Option CountedCore → List Command
+whole_log_in archive None = []
+whole_log_in archive (Some node) = whole_log archive node.core.replica.state.log
 
 -- the whole log of the node of a number
-abbrev pub log_of : NodesState → ℕ → List Command
-log_of n node = log_in n.archive (node_of n.nodes node)
+abbrev pub whole_log_of : NodesState → ℕ → List Command
+whole_log_of n node = whole_log_in n.archive (numbered_node n.nodes node)
 
 -- the name of the first connection of ballot 1
 abbrev pub first_connection : ConnectionName

@@ -19,7 +19,7 @@ use Rattle.byte_world.specs.node_moves.Moves.NodeCall.{takes, gives}
 use Rattle.byte_world.specs.node_group.Group.{Group}
 use Rattle.byte_world.specs.Steps.{DoesCall}
 use Rattle.world_nodes.specs.Nodes.{NodesState, NodesStandFor}
-use Rattle.world_nodes.specs.Running.{running, node_of, cutting}
+use Rattle.world_nodes.specs.Running.{running, numbered_node, cutting}
 
 -- ---- a call of a node
 
@@ -50,7 +50,7 @@ pub record CutsExactly (node : ℕ) (old new : NodesState) : Type 0 where
 -- the node of this number exists, running or not, and handed over what it queued for a port
 pub record GivesExactly (node : ℕ) (port : Port) (old new : NodesState) : Type 0 where
   pub core : CountedCore
-  pub there : node_of old.nodes node ≡ Some core
+  pub there : numbered_node old.nodes node ≡ Some core
   pub is : new ≡ after_node_call (node - 1) core (gives port) old
 
 -- a group does a call of a node, or of the master, exactly or with losses, and then corresponds to
@@ -69,13 +69,13 @@ NodeDoesCall at node_call old new =
 -- what the node of this number queued for a port is appended
 abbrev pub HandsOver : ℕ → Port → NodesState → List ℕ → List ℕ → Type 0
 HandsOver node port n before after =
-    (core : CountedCore) → node_of n.nodes node ≡ Some core →
+    (core : CountedCore) → numbered_node n.nodes node ≡ Some core →
     after ≡ before ++ bytes_of (listed_at port core.core)
 
 -- the answer to a handing over says whether more may come
 abbrev pub AnswersFor : ℕ → Port → NodesState → Handed → Type 0
 AnswersFor node port n handed =
-    (core : CountedCore) → node_of n.nodes node ≡ Some core →
+    (core : CountedCore) → numbered_node n.nodes node ≡ Some core →
     handed ≡ answer_of (listed_at port core.core)
 
 -- ---- the master

@@ -42,10 +42,10 @@ pub record RunsAt (nodes : List CountedCore) (node at : ℕ) : Type 0 where
 
 -- what a node takes from others was sent to it; a cut is not taken in this way, since the record
 -- has it first
-abbrev pub WasSent : ℕ → Item → List (ℕ × Message Command) → Type 0
-WasSent node (Peer message) sent = In (node, message) sent
-WasSent node Cut sent = ⊥
-WasSent node _ sent = Unit {0}
+abbrev pub ItemWasSent : ℕ → Item → List (ℕ × Message Command) → Type 0
+ItemWasSent node (Peer message) sent = In (node, message) sent
+ItemWasSent node Cut sent = ⊥
+ItemWasSent node _ sent = Unit {0}
 
 -- the message of this number was sent to the node that runs at this index, and ignores it
 pub record IsPassedOver (at number : ℕ) (n : NodesState) : Type 0 where

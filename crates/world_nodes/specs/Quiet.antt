@@ -13,7 +13,7 @@ use Rattle.world_base.specs.declared.Port.{Port}
 use Rattle.world_base.specs.Core.{CountedCore}
 use Rattle.world_base.specs.Handing.{bytes_of, listed_at}
 use Rattle.world_base.specs.Losses.{ItemTakesNoMemory}
-use Rattle.world_nodes.specs.Running.{node_of, running}
+use Rattle.world_nodes.specs.Running.{numbered_node, running}
 use Rattle.world_nodes.specs.Nodes.{NodesState}
 
 -- The node of this number runs, and the item takes no memory there. It has no failed connection
@@ -39,5 +39,5 @@ ComesUnheeded (Some (suc at, message)) n = RestsAt (suc at) (Peer message) n
 -- nothing waits at a node to be handed over for a port
 abbrev pub WaitsAtNone : ℕ → Port → NodesState → Type 0
 WaitsAtNone node port n =
-    (core : CountedCore) → node_of n.nodes node ≡ Some core →
+    (core : CountedCore) → numbered_node n.nodes node ≡ Some core →
     bytes_of (listed_at port core.core) ≡ []

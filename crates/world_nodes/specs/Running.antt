@@ -15,9 +15,9 @@ running nodes zero = None
 running nodes (suc at) = unless_stopped (slice_get nodes at)
 
 -- the node of a number, if it exists
-abbrev pub node_of : List CountedCore → ℕ → Option CountedCore
-node_of nodes zero = None
-node_of nodes (suc at) = slice_get nodes at
+abbrev pub numbered_node : List CountedCore → ℕ → Option CountedCore
+numbered_node nodes zero = None
+numbered_node nodes (suc at) = slice_get nodes at
 
 -- whether there is a node, and it has not stopped
 abbrev pub is_up : Option CountedCore → Bool
@@ -26,7 +26,7 @@ is_up (Some node) = not node.core.replica.state.stopped
 
 -- whether the node of a number exists and has not stopped
 abbrev pub is_running : List CountedCore → ℕ → Bool
-is_running nodes node = is_up (node_of nodes node)
+is_running nodes node = is_up (numbered_node nodes node)
 
 -- the node, if it has something to cut
 abbrev pub unless_whole : Option CountedCore → Option CountedCore

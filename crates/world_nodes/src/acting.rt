@@ -13,7 +13,7 @@ ghost use Rattle.world_nodes.specs.Quiet.{ComesUnheeded, RestsAt};
 ghost use Rattle.world_nodes.specs.Steps.{ComesIn, CutsIn, GivesIn, HearsIn, NodesLoseNothing, TakesIn, nodes_with_loss};
 ghost use Rattle.world_nodes.specs.GroupSteps.{ActsOrRests, ComesOrRests, MasterGoes};
 ghost use Rattle.world_base.specs.Core.{CountedCore};
-ghost use Rattle.world_nodes.specs.Inside.{IsPassedOver, RunsAt, WasSent};
+ghost use Rattle.world_nodes.specs.Inside.{IsPassedOver, RunsAt, ItemWasSent};
 
 use crate::nodes::Nodes;
 use crate::stepping::{cut_back, pass_over, step_node};
@@ -23,7 +23,7 @@ use world_base::{Body, BrokerMachine, Command, Config, Item, Members, Memory, Me
 impl Nodes {
     /// Lets a node that runs take an item. `Idle` comes if it is unknown or has stopped.
     pub(crate) fn act(&mut self, node: u8, item: Item) -> Result<(), Idle>
-        requires { WasSent node item self.old.sent }
+        requires { ItemWasSent node item self.old.sent }
         ensures lossy { OnOk result (TakesIn node item self.old self.new) }
         ensures exact { NodesLoseNothing self.old self.new →
             OnOk result (TakesExactly node item self.old self.new) }

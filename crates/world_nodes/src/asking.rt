@@ -4,8 +4,8 @@ ghost use Rattle.std.specs.Prelude.{◌≡◌, ◌<◌, ◌++◌, ◌↔◌, [],
 ghost use Rattle.master.specs.agreement.MasterState.{refusal};
 ghost use Rattle.master.specs.machine.Machine.{replay_from};
 ghost use Rattle.world_base.specs.Core.{CountedCore, rules};
-ghost use Rattle.world_nodes.specs.Asking.{first_connection, is_present, is_welcome, log_of, welcomes_back};
-ghost use Rattle.world_nodes.specs.Running.{node_of};
+ghost use Rattle.world_nodes.specs.Asking.{first_connection, is_present, is_welcome, whole_log_of, welcomes_back};
+ghost use Rattle.world_nodes.specs.Running.{numbered_node};
 
 use crate::nodes::Nodes;
 use ballot::Machine;
@@ -27,9 +27,10 @@ impl Nodes {
     /// read from the log's snapshot, or begun afresh if there is none, and takes the rest;
     /// [`Memory`] is the only error.
     pub fn welcomes_back(&self, node: u8, client: &ClientId) -> Result<bool, Memory>
-        ensures told { (core : CountedCore) → node_of self.now.nodes node ≡ Some core →
-            IfOk result (λ welcomes. welcomes ≡ welcomes_back client.now (log_of self.now node)) }
-        ensures unknown { node_of self.now.nodes node ≡ None →
+        ensures told { (core : CountedCore) → numbered_node self.now.nodes node ≡ Some core →
+            IfOk result (λ welcomes. welcomes
+            ≡ welcomes_back client.now (whole_log_of self.now node)) }
+        ensures unknown { numbered_node self.now.nodes node ≡ None →
             IfOk result (λ welcomes. welcomes ≡ false) }
     {
         let Some(core) = self.node(node) else {

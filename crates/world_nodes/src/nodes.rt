@@ -8,7 +8,7 @@ ghost use Rattle.byte_world.specs.node_group.Group.{Group, opening_group};
 ghost use Rattle.byte_world.specs.node_moves.Moves.NodeCall.{takes};
 ghost use Rattle.world_nodes.specs.Nodes.{NodesState, NodesStandFor};
 ghost use Rattle.world_nodes.specs.ExactSteps.{NodeDoesCall, AnswersFor, MessageArrives, ComesToNobody, CutsExactly, GivesExactly, HandsOver, TakesExactly, after_giving};
-ghost use Rattle.world_nodes.specs.Running.{cutting, is_running, node_of, proposing, running};
+ghost use Rattle.world_nodes.specs.Running.{cutting, is_running, numbered_node, proposing, running};
 ghost use Rattle.world_nodes.specs.Quiet.{ComesUnheeded, RestsAt, WaitsAtNone};
 ghost use Rattle.world_nodes.specs.Steps.{ComesIn, CutsIn, ExpelsIn, GivesIn, NodesLoseNothing, TakesIn};
 ghost use Rattle.world_nodes.specs.HandingOver.{HandsIn};
@@ -309,7 +309,7 @@ impl Nodes {
         ensures quiet { WaitsAtNone node port self.old →
             OnOk result (GivesExactly node port self.old self.new) }
         ensures rises { self.old.losses ≤ self.new.losses }
-        ensures idle { IsErr result ↔ (node_of self.old.nodes node ≡ None) }
+        ensures idle { IsErr result ↔ (numbered_node self.old.nodes node ≡ None) }
         ensures same { OnErr result ((self.new ≡ self.old) × (out.new.items ≡ out.old.items)) }
     {
         if node == 0 || node as usize > self.nodes.len() {
@@ -350,8 +350,8 @@ impl Nodes {
 
     /// Returns a node, if it exists.
     pub fn node(&self, node: u8) -> Option<&NodeCore>
-        ensures some { IfSome result (λ core. node_of self.now.nodes node ≡ Some core.now) }
-        ensures none { result ≡ None → node_of self.now.nodes node ≡ None }
+        ensures some { IfSome result (λ core. numbered_node self.now.nodes node ≡ Some core.now) }
+        ensures none { result ≡ None → numbered_node self.now.nodes node ≡ None }
     {
         if node == 0 {
             return None;

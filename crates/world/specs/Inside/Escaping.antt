@@ -3,7 +3,7 @@ use Rattle.std.specs.Prelude.{◌≡◌, ◌≤◌, ℕ, suc, ◌+◌, ◌-◌, 
 use Rattle.std.specs.List.{position}
 use Rattle.headline.specs.ballot_base.Serving.{max_places}
 use Rattle.ways_out.specs.Deliveries.{way_out}
-use Rattle.world_nodes.specs.Running.{is_running, node_of}
+use Rattle.world_nodes.specs.Running.{is_running, numbered_node}
 use Rattle.world_events.specs.declared.event.Event.{Event}
 use Rattle.world_events.specs.declared.event.Event.TheVariants as events
 use Rattle.world_events.specs.EscapeEvents.{answer_events, client_events}
@@ -16,7 +16,7 @@ use Rattle.world.specs.World.{WorldState}
 pub record IsFetchedFrom (w : WorldState) (index source : ℕ) : Type 0 where
   pub first : position (is_running w.nodes.nodes) w.nodes.master.members ≡ Some index
   pub asked : slice_get w.nodes.master.members index ≡ Some source
-  pub room : held_in (node_of w.nodes.nodes source) + 2 ≤ max_places
+  pub room : held_in (numbered_node w.nodes.nodes source) + 2 ≤ max_places
 
 -- ---- the events
 

@@ -1,7 +1,7 @@
 -- What a node queued goes down.
 use Rattle.std.specs.Prelude.{◌≡◌, ◌⊎◌, ◌-◌, ℕ, Bool, true, false, ◌++◌, Some, length, set, slice_get, take}
 use Rattle.headline.specs.node_moves.Moves.NodeCall.{gives}
-use Rattle.world_nodes.specs.Running.{node_of}
+use Rattle.world_nodes.specs.Running.{numbered_node}
 use Rattle.world_nodes.specs.Nodes.{NodesState}
 use Rattle.world_nodes.specs.Steps.{nodes_with_loss}
 use Rattle.world_pipes.specs.declared.way.Way.{Way}
@@ -22,12 +22,13 @@ pub record GathersOn (number : ℕ) (slot : ConnectionSlot) (old : WorldState) (
   pub way : Way
   pub stands : slice_get client.piped.ways slot.at ≡ Some way
   pub between : NodesState
-  pub gives : HandsOverBytes (node_of old.nodes.nodes slot.node) slot.node
+  pub gives : HandsOverBytes (numbered_node old.nodes.nodes slot.node) slot.node
       (port_of number) old.nodes between
-  pub told : is_open ≡ is_told_open (port_of number) (node_of old.nodes.nodes slot.node)
+  pub told : is_open ≡ is_told_open (port_of number) (numbered_node old.nodes.nodes slot.node)
   pub is : new ≡ record (with_piped slot.client client
       (with_down slot.at way
-      (way.down ++ put_out (port_of number) (node_of old.nodes.nodes slot.node)) client.piped) old)
+      (way.down ++ put_out (port_of number) (numbered_node old.nodes.nodes slot.node)) client.piped)
+      old)
       { nodes = between }
 
 -- What a node queued is in transit. Or the node ran out of memory: nothing changes, its end is

@@ -1,6 +1,6 @@
 use Rattle.std.proofs.Common.{◌≡◌, ◌≤◌, ◌-◌, ◌∙◌, inl, inr, length, Some, refl, ap, arith}
 use Rattle.byte_world.specs.node_moves.Moves.NodeCall.{gives}
-use Rattle.world_nodes.specs.Running.{node_of}
+use Rattle.world_nodes.specs.Running.{numbered_node}
 use Rattle.world_nodes.specs.Nodes.{NodesState}
 use Rattle.world_nodes.specs.Steps.{nodes_with_loss}
 use Rattle.world_nodes.proofs.CountsGoOn.{acts_counting}
@@ -12,7 +12,7 @@ pub returns-in-Ok-clause-exact : goal.returns-in-Ok-clause-exact
 returns-in-Ok-clause-exact c =
     let below : c.args.node ≤ length c.self.inside.nodes.items = omega (arith, c.self.inside.nodes.ok.0, c.len.ensures, c.if-node-len.false) in
     let found = stands_there c.self.inside.nodes.items c.args.node c.index_mut-core.result.now c.if-node-eq0.false below c.index_mut-core.ensures.value in
-    let is : node_of c.self.inside.nodes.items c.args.node ≡ Some c.index_mut-core.result.now = is_there c.self.inside.nodes.items c.args.node c.index_mut-core.result.now c.if-node-eq0.false found in
+    let is : numbered_node c.self.inside.nodes.items c.args.node ≡ Some c.index_mut-core.result.now = is_there c.self.inside.nodes.items c.args.node c.index_mut-core.result.now c.if-node-eq0.false found in
     rw (← c.self.view_is) (λ none. hands (let old : NodesState = record {
       master = c.self.inside.master;
       nodes = c.self.inside.nodes.items;
@@ -25,21 +25,21 @@ pub returns-in-Ok-clause-idle : goal.returns-in-Ok-clause-idle
 returns-in-Ok-clause-idle c =
     let below : c.args.node ≤ length c.self.inside.nodes.items = omega (arith, c.self.inside.nodes.ok.0, c.len.ensures, c.if-node-len.false) in
     let found = stands_there c.self.inside.nodes.items c.args.node c.index_mut-core.result.now c.if-node-eq0.false below c.index_mut-core.ensures.value in
-    let is : node_of c.self.inside.nodes.items c.args.node ≡ Some c.index_mut-core.result.now = is_there c.self.inside.nodes.items c.args.node c.index_mut-core.result.now c.if-node-eq0.false found in
+    let is : numbered_node c.self.inside.nodes.items c.args.node ≡ Some c.index_mut-core.result.now = is_there c.self.inside.nodes.items c.args.node c.index_mut-core.result.now c.if-node-eq0.false found in
     rw (← c.self.view_is) (λ e. cc, λ e. cc)
 
 pub returns-in-Err-clause-idle : goal.returns-in-Err-clause-idle
 returns-in-Err-clause-idle c =
     let below : c.args.node ≤ length c.self.inside.nodes.items = omega (arith, c.self.inside.nodes.ok.0, c.len.ensures, c.if-node-len.false) in
     let found = stands_there c.self.inside.nodes.items c.args.node c.index_mut-core.result.now c.if-node-eq0.false below c.index_mut-core.ensures.value in
-    let is : node_of c.self.inside.nodes.items c.args.node ≡ Some c.index_mut-core.result.now = is_there c.self.inside.nodes.items c.args.node c.index_mut-core.result.now c.if-node-eq0.false found in
+    let is : numbered_node c.self.inside.nodes.items c.args.node ≡ Some c.index_mut-core.result.now = is_there c.self.inside.nodes.items c.args.node c.index_mut-core.result.now c.if-node-eq0.false found in
     rw (← c.self.view_is) (λ e. cc, λ e. cc)
 
 pub returns-in-Ok-clause-bytes : goal.returns-in-Ok-clause-bytes
 returns-in-Ok-clause-bytes c =
     let below : c.args.node ≤ length c.self.inside.nodes.items = omega (arith, c.self.inside.nodes.ok.0, c.len.ensures, c.if-node-len.false) in
     let found = stands_there c.self.inside.nodes.items c.args.node c.index_mut-core.result.now c.if-node-eq0.false below c.index_mut-core.ensures.value in
-    let is : node_of c.self.inside.nodes.items c.args.node ≡ Some c.index_mut-core.result.now = is_there c.self.inside.nodes.items c.args.node c.index_mut-core.result.now c.if-node-eq0.false found in
+    let is : numbered_node c.self.inside.nodes.items c.args.node ≡ Some c.index_mut-core.result.now = is_there c.self.inside.nodes.items c.args.node c.index_mut-core.result.now c.if-node-eq0.false found in
     rw (← c.self.view_is) (λ none. hands_bytes (let old : NodesState = record {
       master = c.self.inside.master;
       nodes = c.self.inside.nodes.items;
@@ -52,7 +52,7 @@ pub returns-in-Ok-clause-answer : goal.returns-in-Ok-clause-answer
 returns-in-Ok-clause-answer c =
     let below : c.args.node ≤ length c.self.inside.nodes.items = omega (arith, c.self.inside.nodes.ok.0, c.len.ensures, c.if-node-len.false) in
     let found = stands_there c.self.inside.nodes.items c.args.node c.index_mut-core.result.now c.if-node-eq0.false below c.index_mut-core.ensures.value in
-    let is : node_of c.self.inside.nodes.items c.args.node ≡ Some c.index_mut-core.result.now = is_there c.self.inside.nodes.items c.args.node c.index_mut-core.result.now c.if-node-eq0.false found in
+    let is : numbered_node c.self.inside.nodes.items c.args.node ≡ Some c.index_mut-core.result.now = is_there c.self.inside.nodes.items c.args.node c.index_mut-core.result.now c.if-node-eq0.false found in
     rw (← c.self.view_is) (λ none. answers_so (let old : NodesState = record {
       master = c.self.inside.master;
       nodes = c.self.inside.nodes.items;
@@ -65,7 +65,7 @@ pub returns-in-Ok-clause-lossy : goal.returns-in-Ok-clause-lossy
 returns-in-Ok-clause-lossy c =
     let below : c.args.node ≤ length c.self.inside.nodes.items = omega (arith, c.self.inside.nodes.ok.0, c.len.ensures, c.if-node-len.false) in
     let found = stands_there c.self.inside.nodes.items c.args.node c.index_mut-core.result.now c.if-node-eq0.false below c.index_mut-core.ensures.value in
-    let is : node_of c.self.inside.nodes.items c.args.node ≡ Some c.index_mut-core.result.now = is_there c.self.inside.nodes.items c.args.node c.index_mut-core.result.now c.if-node-eq0.false found in
+    let is : numbered_node c.self.inside.nodes.items c.args.node ≡ Some c.index_mut-core.result.now = is_there c.self.inside.nodes.items c.args.node c.index_mut-core.result.now c.if-node-eq0.false found in
     rw (← c.self.view_is) (inl (
       hands (let old : NodesState = record {
         master = c.self.inside.master;
@@ -110,7 +110,7 @@ pub invariant_of-self : goal.invariant_of-self
 invariant_of-self c =
     let below : c.args.node ≤ length c.self.inside.nodes.items = omega (arith, c.self.inside.nodes.ok.0, c.len.ensures, c.if-node-len.false) in
     let found = stands_there c.self.inside.nodes.items c.args.node c.index_mut-core.result.now c.if-node-eq0.false below c.index_mut-core.ensures.value in
-    let is : node_of c.self.inside.nodes.items c.args.node ≡ Some c.index_mut-core.result.now = is_there c.self.inside.nodes.items c.args.node c.index_mut-core.result.now c.if-node-eq0.false found in
+    let is : numbered_node c.self.inside.nodes.items c.args.node ≡ Some c.index_mut-core.result.now = is_there c.self.inside.nodes.items c.args.node c.index_mut-core.result.now c.if-node-eq0.false found in
     acts_counting _ _ (c.args.node - 1) (gives c.args.port) c.self.inside.counters.told c.self.inside.counters.next c.self.inside.counters.told c.self.inside.counters.next c.self.invariant
     (gives_acts c.args.node c.args.port _ _ (hands (let old : NodesState = record {
       master = c.self.inside.master;
@@ -124,7 +124,7 @@ pub returns-in-Ok-clause-quiet : goal.returns-in-Ok-clause-quiet
 returns-in-Ok-clause-quiet c =
     let below : c.args.node ≤ length c.self.inside.nodes.items = omega (arith, c.self.inside.nodes.ok.0, c.len.ensures, c.if-node-len.false) in
     let found = stands_there c.self.inside.nodes.items c.args.node c.index_mut-core.result.now c.if-node-eq0.false below c.index_mut-core.ensures.value in
-    let is : node_of c.self.inside.nodes.items c.args.node ≡ Some c.index_mut-core.result.now = is_there c.self.inside.nodes.items c.args.node c.index_mut-core.result.now c.if-node-eq0.false found in
+    let is : numbered_node c.self.inside.nodes.items c.args.node ≡ Some c.index_mut-core.result.now = is_there c.self.inside.nodes.items c.args.node c.index_mut-core.result.now c.if-node-eq0.false found in
     rw (← c.self.view_is) (λ none. hands (let old : NodesState = record {
       master = c.self.inside.master;
       nodes = c.self.inside.nodes.items;
@@ -137,5 +137,5 @@ pub returns-in-Err-clause-quiet : goal.returns-in-Err-clause-quiet
 returns-in-Err-clause-quiet c =
     let below : c.args.node ≤ length c.self.inside.nodes.items = omega (arith, c.self.inside.nodes.ok.0, c.len.ensures, c.if-node-len.false) in
     let found = stands_there c.self.inside.nodes.items c.args.node c.index_mut-core.result.now c.if-node-eq0.false below c.index_mut-core.ensures.value in
-    let is : node_of c.self.inside.nodes.items c.args.node ≡ Some c.index_mut-core.result.now = is_there c.self.inside.nodes.items c.args.node c.index_mut-core.result.now c.if-node-eq0.false found in
+    let is : numbered_node c.self.inside.nodes.items c.args.node ≡ Some c.index_mut-core.result.now = is_there c.self.inside.nodes.items c.args.node c.index_mut-core.result.now c.if-node-eq0.false found in
     rw (← c.self.view_is) (λ none. let no = c.in-Err.ensures.nothing (none c.index_mut-core.result.now is) in absurd cc)
