@@ -31,9 +31,9 @@ use Rattle.node_group.specs.node_connections.ConnectionChanges.{noted_proposed, 
 use Rattle.node_group.specs.world_base.Core.{CoreState, StepOutcome, serves}
 use Rattle.node_group.specs.world_base.Handing.{hands_over, left_by, listed_at}
 use Rattle.node_group.specs.world_base.KeepAlive.{ends_if, ends_silent, lowest_silent}
-use Rattle.node_group.specs.world_base.Reading.{takes_first_packet, changes, ends, loses, loses_open, open_at, reads, reads_next, reads_of, refused, proposes_packet, unread_of}
-use Rattle.node_group.specs.world_base.Step.{acts_on, next_name, opens, does_item, cuts, with_cut}
-use Rattle.node_group.specs.world_base.Effects.{changes_named, drives, has_room, heard, proposes, without_messages, repeated, handled}
+use Rattle.node_group.specs.world_base.Reading.{takes_first_packet, changes, port_closed, loses, loses_open, open_at, reads, reads_next, reads_of, refused, proposes_packet, unread_of}
+use Rattle.node_group.specs.world_base.Step.{acts_on, next_name, with_next_connection, does_item, cuts, with_cut}
+use Rattle.node_group.specs.world_base.Effects.{changes_named, drives, has_room, outcome_of_input, proposes, without_messages, repeated, with_effect}
 use Rattle.node_group.specs.node_moves.Moves.{NodeCall, done}
 use Rattle.node_group.specs.node_moves.Moves.NodeCall.{takes, gives}
 use Rattle.node_group.proofs.of_node_moves.EachKept.{IsKept, each_proposed, each_repeated, each_settled}
@@ -93,19 +93,19 @@ module _ (P : Connection → Type 0) (follows : IsFollowed P) where
   unfolding changes_named
   each_named name f core later all = each_changed (is_open_named name) f core.connections (λ c e. later c) all
 
-  each_handled : (core : CoreState) (e : Effect Command Output) → AllOf core → AllOf (handled core e)
+  each_handled : (core : CoreState) (e : Effect Command Output) → AllOf core → AllOf (with_effect core e)
   each_handled core (Out place (outputs.Send name packet)) all = each_named name (put_out (spelling packet)) core (is_put_out (spelling packet)) all
   each_handled core (Out place (outputs.Close name)) all = each_named name closed core is_shut all
   each_handled core (To receiver message) all = all
 
-  each_delivered : (core : CoreState) (effects : List (Effect Command Output)) → AllOf core → AllOf (fold handled core effects)
+  each_delivered : (core : CoreState) (effects : List (Effect Command Output)) → AllOf core → AllOf (fold with_effect core effects)
   each_delivered core [] all = all
-  each_delivered core (e ∷ effects) all = each_delivered (handled core e) effects (each_handled core e all)
+  each_delivered core (e ∷ effects) all = each_delivered (with_effect core e) effects (each_handled core e all)
 
   each_driven : (input : Input Command) (core : CoreState) → AllOf core → AllOf (drives input core).core
   unfolding drives
   each_driven input core all =
-      each_delivered (let k : CoreState = record core { replica = record core.replica { state = (heard input core.replica.state).state } } in k) (heard input core.replica.state).effects all
+      each_delivered (let k : CoreState = record core { replica = record core.replica { state = (outcome_of_input input core.replica.state).state } } in k) (outcome_of_input input core.replica.state).effects all
 
   -- ---- ends
 
@@ -120,8 +120,8 @@ module _ (P : Connection → Type 0) (follows : IsFollowed P) where
   lost_open port core None all = all
   lost_open port core (Some c) all = lost_one port c core all
 
-  each_ended : (port : Port) (core : CoreState) → AllOf core → AllOf (ends port core).core
-  unfolding ends
+  each_ended : (port : Port) (core : CoreState) → AllOf core → AllOf (port_closed port core).core
+  unfolding port_closed
   each_ended port core all = lost_open port core (open_at port core) all
 
   silent_ended : (core : CoreState) (o : Option Port) → AllOf core → AllOf (ends_if o core).core
@@ -188,8 +188,8 @@ module _ (P : Connection → Type 0) (follows : IsFollowed P) where
   each_time next each zero core all = all
   each_time next each (suc more) core all = each_time next each more (next core).core (each core all)
 
-  pub each_opened : (port : Port) (core : CoreState) → (list_any (is_at port) core.connections ≡ false → P (fresh port (next_name core))) → AllOf core → AllOf (opens port core)
-  unfolding opens
+  pub each_opened : (port : Port) (core : CoreState) → (list_any (is_at port) core.connections ≡ false → P (fresh port (next_name core))) → AllOf core → AllOf (with_next_connection port core)
+  unfolding with_next_connection
   each_opened port core new all = by (serves core) (list_any (is_at port) core.connections) (is_connection_name (next_name core)) refl
     where
       by : (a b c : Bool) → list_any (is_at port) core.connections ≡ b

@@ -34,7 +34,7 @@ use Rattle.node_group.specs.world_base.LossyReading.EndsSilent.{none_silent, end
 use Rattle.node_group.specs.world_base.LossyReading.LosesFailed.{none_failed, tells_one}
 use Rattle.node_group.specs.world_base.LossyReading.ReadsNext.{waits, first, later, refuses, ends}
 use Rattle.node_group.specs.world_base.Reading.{changes, open_at, refused, unread_of}
-use Rattle.node_group.specs.world_base.Step.{opens}
+use Rattle.node_group.specs.world_base.Step.{with_next_connection}
 use Rattle.node_group.proofs.of_node_moves.EachKept.{each_settled}
 use Rattle.node_group.proofs.of_node_moves.Kept.{failing_over, left_true, live}
 use Rattle.byte_world.proofs.PortsKept.{AllOf, Comes, IsFollowed, IsLater, IsOfOld, all_old, comes_later, each_at, each_changed, each_named, each_opened, is_put_out, is_shut, kept, old_later, shut_at}
@@ -145,7 +145,7 @@ module _ (P : Connection → Type 0) (follows : IsFollowed P) where
 
   -- what is asked of one that opens a connection
   abbrev pub OpensSo : Item → CoreState → Type 0
-  OpensSo (Opened port now) core = All core → All (opens port core)
+  OpensSo (Opened port now) core = All core → All (with_next_connection port core)
   OpensSo _ core = Unit {0}
 
   holds_kept : (port : Port) (piece : List ℕ) → Keeps (HoldsBytes port piece)
@@ -153,8 +153,8 @@ module _ (P : Connection → Type 0) (follows : IsFollowed P) where
       becomes (changes port (holding piece) core) did is (each_at P follows port (holding piece) core (λ c e. stays_later c (holding piece c) refl refl refl) all)
   holds_kept port piece core did (inr runs) all = ends_kept port core did runs all
 
-  opens_kept : (port : Port) (core : CoreState) (did : Account) → (All core → All (opens port core)) → AcceptsConnection port core did → All core → All did.core
-  opens_kept port core did new (inl is) all = becomes (opens port core) did is (new all)
+  opens_kept : (port : Port) (core : CoreState) (did : Account) → (All core → All (with_next_connection port core)) → AcceptsConnection port core did → All core → All did.core
+  opens_kept port core did new (inl is) all = becomes (with_next_connection port core) did is (new all)
   opens_kept port core did new (inr is) all = becomes core did is all
 
   all_silent : (now : ℕ) (core : CoreState) (did : Account) → Repeated (length core.connections) (EndsSilent now) core did → All core → All did.core

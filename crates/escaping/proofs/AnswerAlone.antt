@@ -33,7 +33,7 @@ use Rattle.node_moves.specs.world_base.Core.{CoreState, StepOutcome, rules, serv
 use Rattle.node_moves.specs.world_base.Handing.{listed_at}
 use Rattle.node_moves.specs.world_base.Reading.{takes_first_packet, changes, loses, open_at, reads, reads_all, reads_next, reads_of, refused, proposes_packet, unread_of}
 use Rattle.node_moves.specs.world_base.Step.{node_step}
-use Rattle.node_moves.specs.world_base.Effects.{has_room, moved, proposes, without_messages, repeated, handled}
+use Rattle.node_moves.specs.world_base.Effects.{has_room, after_replica_step, proposes, without_messages, repeated, with_effect}
 use Rattle.node_moves.proofs.Views.{found_passes}
 use Rattle.escaping.specs.Answering.{AnswerAloneIsPutOut, PutsOutFirst}
 use Rattle.escaping.specs.Asking.{asked_now, proposal_at}
@@ -171,10 +171,10 @@ module _ (core : CoreState) (port : Port) (now : ℕ) (piece : List ℕ) (c : Co
   answered : FrontOf port (spelling packet) some (proposes command (with_change now_asked)).core.connections
   unfolding proposes
   answered =
-      subst (λ (b : Bool). FrontOf port (spelling packet) some (let t : StepOutcome = if b then moved (proposed rules core.replica.state command) (with_change now_asked) else without_messages (with_change now_asked) in t).core.connections)
+      subst (λ (b : Bool). FrontOf port (spelling packet) some (let t : StepOutcome = if b then after_replica_step (proposed rules core.replica.state command) (with_change now_asked) else without_messages (with_change now_asked) in t).core.connections)
       (sym leads)
-      (subst (λ (l : List (Effect Command Output)). FrontOf port (spelling packet) some (fold handled (with_replica (proposal_at core command).state (with_change now_asked)) l).connections) (sym effects)
-      (front_delivered port (spelling packet) some (handled (with_replica (proposal_at core command).state (with_change now_asked)) (Out place (outputs.Send c.name packet))) (map (Out place) others ++ more)
+      (subst (λ (l : List (Effect Command Output)). FrontOf port (spelling packet) some (fold with_effect (with_replica (proposal_at core command).state (with_change now_asked)) l).connections) (sym effects)
+      (front_delivered port (spelling packet) some (with_effect (with_replica (proposal_at core command).state (with_change now_asked)) (Out place (outputs.Send c.name packet))) (map (Out place) others ++ more)
       (first_put port c.name packet (with_replica (proposal_at core command).state (with_change now_asked)) (now_asked c) some short then_listed then_named none)))
 
   all_read : FrontOf port (spelling packet) some (reads_all now port (with_change (holding piece))).core.connections

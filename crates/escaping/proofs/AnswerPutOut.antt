@@ -25,7 +25,7 @@ use Rattle.node_moves.specs.world_base.Core.{CoreState, StepOutcome, rules, serv
 use Rattle.node_moves.specs.world_base.Failing.{closes_failed, loses_all_failed, loses_failed, loses_if}
 use Rattle.node_moves.specs.world_base.Handing.{listed_at}
 use Rattle.node_moves.specs.world_base.Step.{node_step, settled}
-use Rattle.node_moves.specs.world_base.Effects.{changes_named, drives, moved, proposes, without_messages, repeated, handled, performed_by}
+use Rattle.node_moves.specs.world_base.Effects.{changes_named, drives, after_replica_step, proposes, without_messages, repeated, with_effect, performed_by}
 use Rattle.node_moves.proofs.Views.{found_passes}
 use Rattle.escaping.specs.Answering.{AnswerIsPutOut, PutsOutFirst}
 use Rattle.escaping.specs.Delivery.{heard_by}
@@ -132,20 +132,20 @@ module _ (port : Port) (front : List ℕ) (some : 0 < length front) where
   unfolding changes_named
   front_named x f core keeps z = front_changed (is_open_named x) f core.connections keeps z
 
-  front_handled : (core : CoreState) (e : Effect Command Output) → FrontOf core.connections → FrontOf (handled core e).connections
+  front_handled : (core : CoreState) (e : Effect Command Output) → FrontOf core.connections → FrontOf (with_effect core e).connections
   front_handled core (Out place (outputs.Send x packet)) z = front_named x (put_out (spelling packet)) core (put_keeps (spelling packet)) z
   front_handled core (Out place (outputs.Close x)) z = front_named x closed core closed_keeps z
   front_handled core (To receiver message) z = z
 
-  pub front_delivered : (core : CoreState) (effects : List (Effect Command Output)) → FrontOf core.connections → FrontOf (fold handled core effects).connections
+  pub front_delivered : (core : CoreState) (effects : List (Effect Command Output)) → FrontOf core.connections → FrontOf (fold with_effect core effects).connections
   front_delivered core [] z = z
-  front_delivered core (e ∷ effects) z = front_delivered (handled core e) effects (front_handled core e z)
+  front_delivered core (e ∷ effects) z = front_delivered (with_effect core e) effects (front_handled core e z)
 
   pub front_proposed : (command : Command) (core : CoreState) → FrontOf core.connections → FrontOf (proposes command core).core.connections
   unfolding proposes
   front_proposed command core z = by (serves core)
     where
-      by : (b : Bool) → FrontOf (let t : StepOutcome = if b then moved (proposed rules core.replica.state command) core else without_messages core in t).core.connections
+      by : (b : Bool) → FrontOf (let t : StepOutcome = if b then after_replica_step (proposed rules core.replica.state command) core else without_messages core in t).core.connections
       by true = front_delivered (with_replica (proposed rules core.replica.state command).state core) (proposed rules core.replica.state command).effects z
       by false = z
 
@@ -215,12 +215,12 @@ unfolding drives
 answer_is_put_out core message port x c place packet others more runs listed opened none effects some short =
     by (front_acted port (spelling packet) some (drives (Receives message) core).core
     (subst (λ (k : CoreState). FrontOf port (spelling packet) some k.connections) (sym is)
-    (front_delivered port (spelling packet) some (handled (with_replica (heard_by core message).state core) (Out place (outputs.Send x packet))) (map (Out place) others ++ more)
+    (front_delivered port (spelling packet) some (with_effect (with_replica (heard_by core message).state core) (Out place (outputs.Send x packet))) (map (Out place) others ++ more)
     (first_put port x packet (with_replica (heard_by core message).state core) c some short listed opened none))))
   where
     by : FrontOf port (spelling packet) some (node_step (Peer message) core).core.connections → PutsOutFirst port (spelling packet) (node_step (Peer message) core).core
     by z = record { connection = z.c; listed = z.found; first = z.first }
 
-    is : (drives (Receives message) core).core ≡ fold handled (with_replica (heard_by core message).state core) (Out place (outputs.Send x packet) ∷ (map (Out place) others ++ more))
-    is = ap (λ (b : Bool). (moved (if b then (record { state = core.replica.state; effects = [] }) else heard_by core message) core).core) runs
-        ∙ ap (λ (l : List (Effect Command Output)). fold handled (with_replica (heard_by core message).state core) l) effects
+    is : (drives (Receives message) core).core ≡ fold with_effect (with_replica (heard_by core message).state core) (Out place (outputs.Send x packet) ∷ (map (Out place) others ++ more))
+    is = ap (λ (b : Bool). (after_replica_step (if b then (record { state = core.replica.state; effects = [] }) else heard_by core message) core).core) runs
+        ∙ ap (λ (l : List (Effect Command Output)). fold with_effect (with_replica (heard_by core message).state core) l) effects

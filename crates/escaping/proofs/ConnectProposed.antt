@@ -30,7 +30,7 @@ use Rattle.node_moves.specs.world_base.Core.{CoreState, StepOutcome, rules, serv
 use Rattle.node_moves.specs.world_base.Failing.{loses_all_failed}
 use Rattle.node_moves.specs.world_base.Reading.{changes, open_at, reads, reads_all, reads_next, reads_of, unread_of}
 use Rattle.node_moves.specs.world_base.Step.{node_step, settled}
-use Rattle.node_moves.specs.world_base.Effects.{has_room, is_message, proposes, without_messages, repeated, handled, then_also}
+use Rattle.node_moves.specs.world_base.Effects.{has_room, is_message, proposes, without_messages, repeated, with_effect, then_also}
 use Rattle.node_moves.proofs.Views.{each_kept}
 use Rattle.escaping.specs.Asking.{ConnectIsProposed, asked_now, proposal_at, with_asked}
 use Rattle.escaping.specs.Delivery.{ReportsItsLosses}
@@ -148,7 +148,7 @@ module _ (core : CoreState) (port : Port) (now : ℕ) (piece : List ℕ) (c : Co
       (only_messages (proposal_at core command).effects silent)
     where
       delivered_of : Outcome State Command Output → CoreState → StepOutcome
-      delivered_of o x = record { core = fold handled (with_replica o.state x) o.effects; messages = filter is_message o.effects }
+      delivered_of o x = record { core = fold with_effect (with_replica o.state x) o.effects; messages = filter is_message o.effects }
 
   -- the connection is found with its bytes
   found : open_at port (with_change (holding piece)) ≡ Some (holding piece c)

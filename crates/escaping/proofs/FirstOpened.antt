@@ -12,7 +12,7 @@ use Rattle.node_moves.specs.node_connections.Connections.{fresh, has_failed, is_
 use Rattle.node_moves.specs.node_connections.ConnectionChanges.{closed}
 use Rattle.node_moves.specs.world_base.Core.{CoreState, StepOutcome, serves}
 use Rattle.node_moves.specs.world_base.Failing.{loses_all_failed}
-use Rattle.node_moves.specs.world_base.Step.{next_name, opens, settled}
+use Rattle.node_moves.specs.world_base.Step.{next_name, with_next_connection, settled}
 use Rattle.node_moves.specs.world_base.Effects.{without_messages}
 use Rattle.escaping.specs.Opening.{FirstIsOpened, first_name, with_first}
 use Rattle.escaping.proofs.OneDelivery.{calm_finds, none_lost}
@@ -36,8 +36,8 @@ is_name core low most =
     ∙ ap (λ (b : Bool). b && (nat_lt 0 1 && nat_le 1 (2 ^ 40))) (le-leb core.replica.state.joined (2 ^ 32) most)
 
 opens_first : (core : CoreState) (port : Port) → serves core ≡ true → core.last_name.ballot < core.replica.state.joined → core.replica.state.joined ≤ 2 ^ 32 →
-    list_any (is_at port) core.connections ≡ false → opens port core ≡ with_new port core
-unfolding opens
+    list_any (is_at port) core.connections ≡ false → with_next_connection port core ≡ with_new port core
+unfolding with_next_connection
 opens_first core port leads low most new =
     ap (λ (b : Bool). if b then opened (next_name core) else core)
     (both (serves core && not (list_any (is_at port) core.connections)) (is_connection_name (next_name core))

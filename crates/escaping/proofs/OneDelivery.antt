@@ -20,7 +20,7 @@ use Rattle.node_moves.specs.node_connections.Connections.{has_failed}
 use Rattle.node_moves.specs.world_base.Core.{CoreState, StepOutcome, serves}
 use Rattle.node_moves.specs.world_base.Failing.{closes_failed, loses_all_failed, loses_failed, loses_if}
 use Rattle.node_moves.specs.world_base.Step.{node_step, settled}
-use Rattle.node_moves.specs.world_base.Effects.{drives, is_message, moved, proposes, without_messages, repeated, handled, then_also}
+use Rattle.node_moves.specs.world_base.Effects.{drives, is_message, after_replica_step, proposes, without_messages, repeated, with_effect, then_also}
 use Rattle.node_moves.proofs.LossesReported.{each_loss_is_reported}
 use Rattle.escaping.specs.Delivery.{AStepIsADelivery, ReportsItsLosses, heard_by}
 
@@ -31,7 +31,7 @@ only_messages [] e = refl
 only_messages (To receiver message ∷ effects) e = ap (λ (l : List (Effect Command Output)). To receiver message ∷ l) (only_messages effects e)
 only_messages (Out place output ∷ effects) e = cc
 
-pub none_handled : (effects : List (Effect Command Output)) → outputs effects ≡ [] → (core : CoreState) → fold handled core effects ≡ core
+pub none_handled : (effects : List (Effect Command Output)) → outputs effects ≡ [] → (core : CoreState) → fold with_effect core effects ≡ core
 none_handled [] e core = refl
 none_handled (To receiver message ∷ effects) e core = none_handled effects e core
 none_handled (Out place output ∷ effects) e core = cc
@@ -43,7 +43,7 @@ pub drives_silently : (core : CoreState) (message : Message Command) → core.re
     drives (Receives message) core ≡ record { core = with_replica (heard_by core message).state core; messages = (heard_by core message).effects }
 unfolding drives
 drives_silently core message runs silent =
-    ap (λ (b : Bool). moved (if b then (record { state = core.replica.state; effects = [] }) else heard_by core message) core) runs
+    ap (λ (b : Bool). after_replica_step (if b then (record { state = core.replica.state; effects = [] }) else heard_by core message) core) runs
     ∙ ap (λ (k : CoreState). let t : StepOutcome = record { core = k; messages = filter is_message (heard_by core message).effects } in t)
     (none_handled (heard_by core message).effects silent (with_replica (heard_by core message).state core))
     ∙ ap (λ (l : List (Effect Command Output)). let t : StepOutcome = record { core = with_replica (heard_by core message).state core; messages = l } in t)

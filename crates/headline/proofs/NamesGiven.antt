@@ -19,7 +19,7 @@ use Rattle.byte_world.specs.world_base.declared.Port.{Port}
 use Rattle.byte_world.specs.node_connections.Connections.{fresh, is_at}
 use Rattle.byte_world.specs.world_base.Core.{CoreState, StepOutcome, serves}
 use Rattle.byte_world.specs.world_base.LossyStep.{RunsOn}
-use Rattle.byte_world.specs.world_base.Step.{acts_on, next_name, opens, does_item}
+use Rattle.byte_world.specs.world_base.Step.{acts_on, next_name, with_next_connection, does_item}
 use Rattle.byte_world.specs.node_moves.Moves.{NodeCall, done}
 use Rattle.byte_world.specs.node_moves.Moves.NodeCall.{takes, gives}
 use Rattle.byte_world.proofs.of_node_moves.EachKept.{IsKept, each_repeated, each_settled}
@@ -49,8 +49,8 @@ kept_named = record { shut = λ c fits. fits; put = λ bytes c fits. subst IsCon
 
 -- ---- a node
 
-opens_named : (port : Port) (core : CoreState) → AreNamed core → AreNamed (opens port core)
-unfolding opens
+opens_named : (port : Port) (core : CoreState) → AreNamed core → AreNamed (with_next_connection port core)
+unfolding with_next_connection
 opens_named port core all = by (serves core && not (list_any (is_at port) core.connections)) (is_connection_name (next_name core)) refl
   where
     by : (a b : Bool) → is_connection_name (next_name core) ≡ b

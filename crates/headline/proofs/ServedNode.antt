@@ -30,7 +30,7 @@ use Rattle.byte_world.specs.world_base.Core.{CoreState, opening_core, rules}
 use Rattle.byte_world.specs.world_base.Failing.{loses_failed}
 use Rattle.byte_world.specs.world_base.Handing.{hands_over}
 use Rattle.byte_world.specs.world_base.Reading.{changes, reads_next}
-use Rattle.byte_world.specs.world_base.Step.{opens, settled}
+use Rattle.byte_world.specs.world_base.Step.{with_next_connection, settled}
 use Rattle.byte_world.specs.world_base.Effects.{changes_named, proposes, repeated}
 use Rattle.byte_world.specs.node_moves.Moves.{done}
 use Rattle.byte_world.specs.node_moves.Moves.NodeCall.{takes, gives}
@@ -86,7 +86,7 @@ list_released = list_published ++ said (packets.Pubrel 1) ∷ said (packets.Pubr
 -- ---- its turns
 
 pub it_opens : (done (takes (Opened the_port 0)) core_at_first).core ≡ core_opened
-unfolding opens settled repeated loses_failed
+unfolding with_next_connection settled repeated loses_failed
 it_opens = refl
 
 pub it_connects : (done (takes (Bytes the_port (spelling connect) 0)) core_opened).core ≡ serving list_connected (spelling connack)

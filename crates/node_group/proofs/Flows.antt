@@ -12,7 +12,7 @@ use Rattle.node_moves.specs.node_connections.Connections.{fresh, is_at, is_liste
 use Rattle.node_moves.specs.node_connections.ConnectionChanges.{changed, closed, handed}
 use Rattle.node_moves.specs.world_base.Core.{CoreState, StepOutcome, serves}
 use Rattle.node_moves.specs.world_base.Handing.{hands_over, left_by}
-use Rattle.node_moves.specs.world_base.Step.{next_name, opens, settled}
+use Rattle.node_moves.specs.world_base.Step.{next_name, with_next_connection, settled}
 use Rattle.node_moves.specs.Closed.{listed_named}
 use Rattle.node_moves.specs.Ends.{IsOrderly}
 use Rattle.node_moves.specs.LossyMoves.{LossyMoves}
@@ -57,8 +57,8 @@ stays_there c d e = subst (λ (z : Connection). Flows [] [] (Some c) (Some z)) e
 
 -- ---- one is opened
 
-opens_flow : (x : ConnectionName) (port : Port) (core : CoreState) → Flows [] [] (listed_named x core) (listed_named x (opens port core))
-unfolding opens
+opens_flow : (x : ConnectionName) (port : Port) (core : CoreState) → Flows [] [] (listed_named x core) (listed_named x (with_next_connection port core))
+unfolding with_next_connection
 opens_flow x port core = by ((serves core && not (list_any (is_at port) core.connections)) && is_connection_name (next_name core))
   where
     one : Connection

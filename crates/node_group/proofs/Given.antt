@@ -12,7 +12,7 @@ use Rattle.node_moves.specs.world_base.Core.{CoreState, StepOutcome, serves}
 use Rattle.node_moves.specs.world_base.Failing.{closes_failed}
 use Rattle.node_moves.specs.world_base.Lossy.{Account, TakesCommand}
 use Rattle.node_moves.specs.world_base.Reading.{changes}
-use Rattle.node_moves.specs.world_base.Step.{next_name, opens}
+use Rattle.node_moves.specs.world_base.Step.{next_name, with_next_connection}
 use Rattle.node_moves.specs.world_base.Effects.{proposes}
 use Rattle.node_moves.specs.Ends.{IsGiven, IsOrderly}
 use Rattle.node_moves.specs.LossyMoves.{LossyMoves}
@@ -35,8 +35,8 @@ after command core between o same = (stays_proposed command between o).last ∙ 
 by_same : (x : ConnectionName) (core later : CoreState) → later.last_name ≡ core.last_name → IsGiven core.last_name x → IsGiven later.last_name x
 by_same x core later same given = subst (λ (y : ConnectionName). IsGiven y x) (sym same) given
 
-opened_given : (x : ConnectionName) (port : Port) (core : CoreState) → IsOrderly core → IsGiven core.last_name x → IsGiven (opens port core).last_name x
-unfolding opens
+opened_given : (x : ConnectionName) (port : Port) (core : CoreState) → IsOrderly core → IsGiven core.last_name x → IsGiven (with_next_connection port core).last_name x
+unfolding with_next_connection
 opened_given x port core o given = by ((serves core && not (list_any (is_at port) core.connections)) && is_connection_name (next_name core))
   where
     by : (b : Bool)

@@ -20,7 +20,7 @@ use Rattle.node_moves.specs.node_connections.ConnectionChanges.{noted_proposed, 
 use Rattle.node_moves.specs.world_base.Core.{CoreState, StepOutcome, rules, serves}
 use Rattle.node_moves.specs.world_base.Lossy.{Account, Drives, TakesCommand}
 use Rattle.node_moves.specs.world_base.Reading.{changes}
-use Rattle.node_moves.specs.world_base.Effects.{has_room, heard}
+use Rattle.node_moves.specs.world_base.Effects.{has_room, outcome_of_input}
 use Rattle.node_moves.specs.LossyMoves.{LossyMoves, outcome_in}
 use Rattle.node_moves.specs.LossyParts.{given_in, inputs_in}
 use Rattle.node_moves.specs.LossyRuns.{Freezes}
@@ -64,9 +64,9 @@ drives_happen g n core input did kept at other sent m t config earlier came = by
     replica : replica_of did.core ≡ new
     replica = state_of did.core (record core { replica = m.replica }) (delivers_replica did.given (record core { replica = m.replica }) did.core did.messages m.handles)
 
-    lost : Loses rules (replica_of core) (heard input (replica_of core)) new k.thin
+    lost : Loses rules (replica_of core) (outcome_of_input input (replica_of core)) new k.thin
     lost =
-        loses_more (replica_of core) new (heard input (replica_of core)) did.given k.thin (steps_lose core.replica m.replica (heard input (replica_of core)) did.given m.steps)
+        loses_more (replica_of core) new (outcome_of_input input (replica_of core)) did.given k.thin (steps_lose core.replica m.replica (outcome_of_input input (replica_of core)) did.given m.steps)
         k.thinned
 
     by : (b : Bool) → (replica_of core).stopped ≡ b → Once came (moment_of (after_outcome g n (keeping kept (outcome_in did)) did.given)) [] n (outputs did.given)

@@ -49,11 +49,11 @@ use Rattle.node_moves.specs.world_base.declared.Port.{Port}
 use Rattle.node_moves.specs.world_base.Core.{CoreState, StepOutcome, rules, serves}
 use Rattle.node_moves.specs.world_base.Failing.{closes_failed}
 use Rattle.node_moves.specs.world_base.Reading.{changes}
-use Rattle.node_moves.specs.world_base.Effects.{drives, has_room, heard, moved, proposes, without_messages}
+use Rattle.node_moves.specs.world_base.Effects.{drives, has_room, outcome_of_input, after_replica_step, proposes, without_messages}
 use Rattle.node_moves.specs.node_connections.ConnectionChanges.{noted_proposed, closed, holding, left_with}
 use Rattle.node_moves.specs.world_base.Handing.{hands_over}
 use Rattle.node_moves.specs.world_base.Reading.{refused}
-use Rattle.node_moves.specs.world_base.Step.{opens, settled, with_cut}
+use Rattle.node_moves.specs.world_base.Step.{with_next_connection, settled, with_cut}
 use Rattle.node_moves.specs.Moves.{Moves, is_proposal}
 use Rattle.node_moves.specs.Moves.Moves.{hears, opens_one, holds, reads_first, reads_later, closes, refuses, loses_one, loses_next, expels_one, cuts_log, crashes, settles, hands}
 use Rattle.node_moves.specs.Puts.{given_in}
@@ -273,10 +273,10 @@ moved_happens : (g : Group) (n : ℕ) (core between : CoreState) (input : Input 
     → (replica_of core).stopped ≡ false → MayTake (moment_of g).world n input → AreTaken (replica_of core) (replica_step rules (replica_of core) input).state input
     → KeptOf kept (replica_step rules (replica_of core) input).effects → (config : Config) (earlier : List (Moment State Command Output))
     (came : Moments rules config (moment_of g ∷ earlier))
-    → Once came (moment_of (after_outcome g n (keeping kept (moved (replica_step rules (replica_of core) input) between)) (replica_step rules (replica_of core) input).effects))
+    → Once came (moment_of (after_outcome g n (keeping kept (after_replica_step (replica_step rules (replica_of core) input) between)) (replica_step rules (replica_of core) input).effects))
     (proposal_by (replica_of core) input) n (outputs (replica_step rules (replica_of core) input).effects)
 moved_happens g n core between input kept at runs may took k config earlier came =
-    one_step g n core (keeping kept (moved (replica_step rules (replica_of core) input) between)) input (replica_step rules (replica_of core) input).state
+    one_step g n core (keeping kept (after_replica_step (replica_step rules (replica_of core) input) between)) input (replica_step rules (replica_of core) input).state
     (replica_step rules (replica_of core) input).effects k.thin config earlier came at runs may (moved_replica (replica_step rules (replica_of core) input) between)
     (inl (refl, k.thinned)) k.sent k.left took
 
@@ -297,14 +297,14 @@ put_happens g n core between command kept at same serving room t config earlier 
     serving_between = serves_as between core same ∙ serving
 
     core_if : Bool → CoreState
-    core_if b = (let u : StepOutcome = if b then moved (proposed rules (replica_of between) command) between else without_messages between in u).core
+    core_if b = (let u : StepOutcome = if b then after_replica_step (proposed rules (replica_of between) command) between else without_messages between in u).core
 
-    is : core_if (serves between) ≡ (moved (proposed rules (replica_of core) command) between).core
-    is = ap core_if serving_between ∙ ap (λ (r : ReplicaState State Command). (moved (proposed rules r command) between).core) (state_of between core same)
+    is : core_if (serves between) ≡ (after_replica_step (proposed rules (replica_of core) command) between).core
+    is = ap core_if serving_between ∙ ap (λ (r : ReplicaState State Command). (after_replica_step (proposed rules r command) between).core) (state_of between core same)
 
-    by : {b : Bool} → b ≡ true → Thinned kept (let u : StepOutcome = if b then moved (proposed rules (replica_of between) command) between else without_messages between in u).messages
-        → Thinned kept (moved (proposed rules (replica_of core) command) between).messages
-    by {b = true} e f = subst (λ (r : ReplicaState State Command). Thinned kept (moved (proposed rules r command) between).messages) (state_of between core same) f
+    by : {b : Bool} → b ≡ true → Thinned kept (let u : StepOutcome = if b then after_replica_step (proposed rules (replica_of between) command) between else without_messages between in u).messages
+        → Thinned kept (after_replica_step (proposed rules (replica_of core) command) between).messages
+    by {b = true} e f = subst (λ (r : ReplicaState State Command). Thinned kept (after_replica_step (proposed rules r command) between).messages) (state_of between core same) f
     by {b = false} e f = absurd cc
 
 -- a replica that has stopped does nothing
@@ -318,10 +318,10 @@ heard_running : (b : Bool) (r : ReplicaState State Command) (input : Input Comma
 heard_running true r input e = absurd cc
 heard_running false r input e = refl
 
-pub heard_as_stopped : (r : ReplicaState State Command) (input : Input Command) → r.stopped ≡ true → heard input r ≡ nothing_done Output r
+pub heard_as_stopped : (r : ReplicaState State Command) (input : Input Command) → r.stopped ≡ true → outcome_of_input input r ≡ nothing_done Output r
 heard_as_stopped r input e = heard_stopped r.stopped r input e
 
-pub heard_as_running : (r : ReplicaState State Command) (input : Input Command) → r.stopped ≡ false → heard input r ≡ replica_step rules r input
+pub heard_as_running : (r : ReplicaState State Command) (input : Input Command) → r.stopped ≡ false → outcome_of_input input r ≡ replica_step rules r input
 heard_as_running r input e = heard_running r.stopped r input e
 
 pub may_take : (g : Group) (n : ℕ) (i : Input Command) → is_proposal i ≡ false → InputWasSent g n i → MayTake (moment_of g).world n i
@@ -337,23 +337,23 @@ none_put core Ticks e = refl
 heard_happens : (g : Group) (n : ℕ) (core : CoreState) (input : Input Command) (kept : Given) → slice_get g.nodes n ≡ Some core → is_proposal input ≡ false
     → InputWasSent g n input → Thinned kept (drives input core).messages → (config : Config) (earlier : List (Moment State Command Output))
     (came : Moments rules config (moment_of g ∷ earlier))
-    → Once came (moment_of (after_outcome g n (keeping kept (drives input core)) (heard input (replica_of core)).effects)) [] n (outputs (heard input (replica_of core)).effects)
+    → Once came (moment_of (after_outcome g n (keeping kept (drives input core)) (outcome_of_input input (replica_of core)).effects)) [] n (outputs (outcome_of_input input (replica_of core)).effects)
 unfolding drives
 heard_happens g n core input kept at other sent t config earlier came = by (replica_of core).stopped refl t
   where
     after : Outcome State Command Output → Type 0
-    after o = Thinned kept (moved o core).messages → Once came (moment_of (after_outcome g n (keeping kept (moved o core)) o.effects)) [] n (outputs o.effects)
+    after o = Thinned kept (after_replica_step o core).messages → Once came (moment_of (after_outcome g n (keeping kept (after_replica_step o core)) o.effects)) [] n (outputs o.effects)
 
-    by : (b : Bool) → (replica_of core).stopped ≡ b → after (heard input (replica_of core))
+    by : (b : Bool) → (replica_of core).stopped ≡ b → after (outcome_of_input input (replica_of core))
     by true e =
         subst after (sym (heard_as_stopped (replica_of core) input e))
         (λ f.
-        no_step g n core (keeping kept (moved (nothing_done Output (replica_of core)) core)) [] config earlier came at
+        no_step g n core (keeping kept (after_replica_step (nothing_done Output (replica_of core)) core)) [] config earlier came at
         (moved_replica (nothing_done Output (replica_of core)) core) (ap messages (nothing_kept kept f)) refl)
     by false e =
         subst after (sym (heard_as_running (replica_of core) input e))
         (λ f.
-        subst (λ l. Once came (moment_of (after_outcome g n (keeping kept (moved (replica_step rules (replica_of core) input) core)) (replica_step rules (replica_of core) input).effects)) l n
+        subst (λ l. Once came (moment_of (after_outcome g n (keeping kept (after_replica_step (replica_step rules (replica_of core) input) core)) (replica_step rules (replica_of core) input).effects)) l n
         (outputs (replica_step rules (replica_of core) input).effects))
         (none_put core input other)
         (moved_happens g n core core input kept at e (may_take g n input other sent) (none_taken (replica_of core) (replica_step rules (replica_of core) input).state input other)
@@ -366,8 +366,8 @@ lost_unheard : (g : Group) (n : ℕ) (core between : CoreState) (command : Comma
 unfolding proposes
 lost_unheard g n core between command kept at same none_served t config earlier came = by (serves between) (serves_as between core same ∙ none_served) t
   where
-    by : (b : Bool) → b ≡ false → Thinned kept (let u : StepOutcome = if b then moved (proposed rules (replica_of between) command) between else without_messages between in u).messages
-        → Once came (moment_of (after_outcome g n (keeping kept (let u : StepOutcome = if b then moved (proposed rules (replica_of between) command) between else without_messages between in u)) [])) [] n []
+    by : (b : Bool) → b ≡ false → Thinned kept (let u : StepOutcome = if b then after_replica_step (proposed rules (replica_of between) command) between else without_messages between in u).messages
+        → Once came (moment_of (after_outcome g n (keeping kept (let u : StepOutcome = if b then after_replica_step (proposed rules (replica_of between) command) between else without_messages between in u)) [])) [] n []
     by true e f = absurd cc
     by false e f = happens_without_messages g n core between kept at (state_of between core same) f config earlier came
 
@@ -406,7 +406,7 @@ cut_happens g n core kept at can reads t config earlier came =
 pub moves_happen : (g : Group) (n : ℕ) (core : CoreState) (outcome : StepOutcome) (m : Moves core outcome) (kept : Given) → slice_get g.nodes n ≡ Some core → WasSent g n m
     → Thinned kept outcome.messages → Happens g n core outcome m kept
 moves_happen g n core outcome (hears input other) kept at sent t = heard_happens g n core input kept at other sent t
-moves_happen g n core outcome (opens_one port) kept at sent t = happens_without_messages g n core _ kept at (state_of (opens port core) core (opens_keeps port core)) t
+moves_happen g n core outcome (opens_one port) kept at sent t = happens_without_messages g n core _ kept at (state_of (with_next_connection port core) core (opens_keeps port core)) t
 moves_happen g n core outcome (holds port piece) kept at sent t = happens_without_messages g n core _ kept at (changed_state port (holding piece) core) t
 moves_happen g n core outcome (reads_first now port c connect rest is_at first is room) kept at sent t =
     put_happens g n core (changes port (noted_proposed connect.keep_alive) (changes port (left_with now rest) core)) _ kept at

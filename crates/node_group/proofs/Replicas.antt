@@ -17,8 +17,8 @@ use Rattle.node_moves.specs.node_connections.ConnectionChanges.{closed, put_out}
 use Rattle.node_moves.specs.world_base.Core.{CoreState, serves}
 use Rattle.node_moves.specs.world_base.Handing.{hands_over, left_by, listed_at}
 use Rattle.node_moves.specs.world_base.Reading.{changes}
-use Rattle.node_moves.specs.world_base.Step.{opens, settled}
-use Rattle.node_moves.specs.world_base.Effects.{changes_named, moved, handled}
+use Rattle.node_moves.specs.world_base.Step.{with_next_connection, settled}
+use Rattle.node_moves.specs.world_base.Effects.{changes_named, after_replica_step, with_effect}
 use Rattle.node_group.specs.Group.{replica_of}
 
 -- ---- moves that leave it as it is
@@ -27,8 +27,8 @@ pub changes_keep : (port : Port) (f : Connection → Connection) (core : CoreSta
 unfolding changes
 changes_keep port f core = refl
 
-pub opens_keeps : (port : Port) (core : CoreState) → (opens port core).replica ≡ core.replica
-unfolding opens
+pub opens_keeps : (port : Port) (core : CoreState) → (with_next_connection port core).replica ≡ core.replica
+unfolding with_next_connection
 opens_keeps port core = by _ _ _
   where
     by : (b : Bool) (name : ConnectionName) (cs : List Connection)
@@ -54,16 +54,16 @@ named_keeps : (name : ConnectionName) (f : Connection → Connection) (core : Co
 unfolding changes_named
 named_keeps name f core = refl
 
-handled_keeps : (core : CoreState) (e : Effect Command Output) → (handled core e).replica ≡ core.replica
+handled_keeps : (core : CoreState) (e : Effect Command Output) → (with_effect core e).replica ≡ core.replica
 handled_keeps core (Out place (outputs.Send name packet)) = named_keeps name (put_out (spelling packet)) core
 handled_keeps core (Out place (outputs.Close name)) = named_keeps name closed core
 handled_keeps core (To receiver message) = refl
 
-folded_keeps : (core : CoreState) (effects : List (Effect Command Output)) → (fold handled core effects).replica ≡ core.replica
+folded_keeps : (core : CoreState) (effects : List (Effect Command Output)) → (fold with_effect core effects).replica ≡ core.replica
 folded_keeps core [] = refl
-folded_keeps core (e ∷ effects) = folded_keeps (handled core e) effects ∙ handled_keeps core e
+folded_keeps core (e ∷ effects) = folded_keeps (with_effect core e) effects ∙ handled_keeps core e
 
-pub moved_replica : (outcome : Outcome State Command Output) (core : CoreState) → replica_of (moved outcome core).core ≡ outcome.state
+pub moved_replica : (outcome : Outcome State Command Output) (core : CoreState) → replica_of (after_replica_step outcome core).core ≡ outcome.state
 moved_replica outcome core =
     ap (λ (r : CountedReplica State Command). r.state)
     (folded_keeps (let k : CoreState = record core { replica = record core.replica { state = outcome.state } } in k) outcome.effects)

@@ -20,7 +20,7 @@ use Rattle.world_base.specs.node_connections.ConnectionChanges.{closed, put_out}
 use Rattle.world_base.specs.Core.{CoreState, StepOutcome, rules, serves}
 use Rattle.world_base.specs.Failing.{closes_failed, loses_failed, loses_if}
 use Rattle.world_base.specs.Step.{settled}
-use Rattle.world_base.specs.Effects.{without_messages, repeated, handled, moved, proposes, changes_named}
+use Rattle.world_base.specs.Effects.{without_messages, repeated, with_effect, after_replica_step, proposes, changes_named}
 use Rattle.node_moves.proofs.Views.{each_kept, each_mapped, each_filtered}
 
 pub record IsKept (P : Connection → Type 0) : Type 0 where
@@ -33,16 +33,16 @@ module _ (P : Connection → Type 0) (kept : IsKept P) where
   unfolding changes_named
   each_named name f core low all = each_kept P (is_open_named name) f core.connections low all
 
-  each_handled : (core : CoreState) (e : Effect Command Output) → Each P core.connections → Each P (handled core e).connections
+  each_handled : (core : CoreState) (e : Effect Command Output) → Each P core.connections → Each P (with_effect core e).connections
   each_handled core (Out place (outputs.Send name packet)) all = each_named name (put_out (spelling packet)) core (kept.put (spelling packet)) all
   each_handled core (Out place (outputs.Close name)) all = each_named name closed core kept.shut all
   each_handled core (To receiver message) all = all
 
-  each_delivered : (core : CoreState) (effects : List (Effect Command Output)) → Each P core.connections → Each P (fold handled core effects).connections
+  each_delivered : (core : CoreState) (effects : List (Effect Command Output)) → Each P core.connections → Each P (fold with_effect core effects).connections
   each_delivered core [] all = all
-  each_delivered core (e ∷ effects) all = each_delivered (handled core e) effects (each_handled core e all)
+  each_delivered core (e ∷ effects) all = each_delivered (with_effect core e) effects (each_handled core e all)
 
-  each_moved : (outcome : Outcome State Command Output) (core : CoreState) → Each P core.connections → Each P (moved outcome core).core.connections
+  each_moved : (outcome : Outcome State Command Output) (core : CoreState) → Each P core.connections → Each P (after_replica_step outcome core).core.connections
   each_moved outcome core all =
       each_delivered (let k : CoreState = record core { replica = record core.replica { state = outcome.state } } in k) outcome.effects all
 
@@ -50,7 +50,7 @@ module _ (P : Connection → Type 0) (kept : IsKept P) where
   unfolding proposes
   each_proposed command core all = by (serves core)
     where
-      by : (b : Bool) → Each P (let t : StepOutcome = if b then moved (proposed rules core.replica.state command) core else without_messages core in t).core.connections
+      by : (b : Bool) → Each P (let t : StepOutcome = if b then after_replica_step (proposed rules core.replica.state command) core else without_messages core in t).core.connections
       by true = each_moved (proposed rules core.replica.state command) core all
       by false = all
 

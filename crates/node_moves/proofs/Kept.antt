@@ -25,7 +25,7 @@ use Rattle.world_base.specs.Failing.{closes_failed}
 use Rattle.world_base.specs.Handing.{hands_over, left_by, listed_at}
 use Rattle.world_base.specs.Reading.{changes}
 use Rattle.world_base.specs.Step.{settled, crashed, with_cut}
-use Rattle.world_base.specs.Effects.{without_messages, moved, handled, proposes, drives, heard, changes_named}
+use Rattle.world_base.specs.Effects.{without_messages, after_replica_step, with_effect, proposes, drives, outcome_of_input, changes_named}
 use Rattle.node_moves.specs.Ends.{AtMostOne, IsGiven, IsOrderly, open_named}
 use Rattle.node_moves.proofs.JoinedGrows.{Up, up_if, up_nothing, up_proposed, joined_grows}
 use Rattle.node_moves.proofs.NamesInOrder.{same_le}
@@ -168,17 +168,17 @@ pub stays_named : (name : ConnectionName) (f : Connection → Connection) (core 
 unfolding changes_named
 stays_named name f core o mild = stays_changed core (changes_named name f core) (is_open_named name) f o refl refl (same_le core.replica.state.joined) (λ d e. left_true (live d) (named name d) e) mild
 
-pub stays_handled : (core : CoreState) (e : Effect Command Output) → IsOrderly core → Stays core (handled core e)
+pub stays_handled : (core : CoreState) (e : Effect Command Output) → IsOrderly core → Stays core (with_effect core e)
 stays_handled core (Out place (outputs.Send name packet)) o = stays_named name (put_out (spelling packet)) core o (put_out_is_mild (spelling packet))
 stays_handled core (Out place (outputs.Close name)) o = stays_named name closed core o closed_is_mild
 stays_handled core (To receiver message) o = stays_same core o
 
-stays_delivered : (core : CoreState) (effects : List (Effect Command Output)) → IsOrderly core → Stays core (fold handled core effects)
+stays_delivered : (core : CoreState) (effects : List (Effect Command Output)) → IsOrderly core → Stays core (fold with_effect core effects)
 stays_delivered core [] o = stays_same core o
 stays_delivered core (e ∷ effects) o =
-    let s = stays_handled core e o in stays_joined core (handled core e) (fold handled (handled core e) effects) s (stays_delivered (handled core e) effects s.orderly)
+    let s = stays_handled core e o in stays_joined core (with_effect core e) (fold with_effect (with_effect core e) effects) s (stays_delivered (with_effect core e) effects s.orderly)
 
-stays_moved : (outcome : Outcome State Command Output) (core : CoreState) → Up core.replica.state outcome → IsOrderly core → Stays core (moved outcome core).core
+stays_moved : (outcome : Outcome State Command Output) (core : CoreState) → Up core.replica.state outcome → IsOrderly core → Stays core (after_replica_step outcome core).core
 stays_moved outcome core up o =
     let hears : CoreState = record core { replica = record core.replica { state = outcome.state } } in
     let within = o.within in
@@ -186,20 +186,20 @@ stays_moved outcome core up o =
     record { kept = s.kept; last = s.last; orderly = s.orderly }
 
 -- what is received leaves no later ballot either
-pub heard_up : (input : Input Command) (core : CoreState) → Up core.replica.state (heard input core.replica.state)
+pub heard_up : (input : Input Command) (core : CoreState) → Up core.replica.state (outcome_of_input input core.replica.state)
 heard_up input core =
     up_if core.replica.state core.replica.state.stopped (nothing_done Output core.replica.state) (replica_step rules core.replica.state input)
     (λ e. up_nothing Output core.replica.state) (λ e. joined_grows rules core.replica.state input)
 
 pub stays_driven : (input : Input Command) (core : CoreState) → IsOrderly core → Stays core (drives input core).core
 unfolding drives
-stays_driven input core o = stays_moved (heard input core.replica.state) core (heard_up input core) o
+stays_driven input core o = stays_moved (outcome_of_input input core.replica.state) core (heard_up input core) o
 
 pub stays_proposed : (command : Command) (core : CoreState) → IsOrderly core → Stays core (proposes command core).core
 unfolding proposes
 stays_proposed command core o = by (serves core)
   where
-    by : (b : Bool) → Stays core (let t : StepOutcome = if b then moved (proposed rules core.replica.state command) core else without_messages core in t).core
+    by : (b : Bool) → Stays core (let t : StepOutcome = if b then after_replica_step (proposed rules core.replica.state command) core else without_messages core in t).core
     by true = stays_moved (proposed rules core.replica.state command) core (up_proposed rules core.replica.state command) o
     by false = stays_same core o
 

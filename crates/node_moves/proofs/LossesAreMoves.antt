@@ -10,13 +10,13 @@ use Rattle.world_base.specs.declared.item.Item.{Item}
 use Rattle.world_base.specs.declared.item.Item.TheVariants.{Peer, Tick, Opened, Bytes, Ended, Expel, Cut, Crash}
 use Rattle.world_base.specs.node_connections.ConnectionChanges.{closed, holding}
 use Rattle.world_base.specs.Core.{CoreState, StepOutcome}
-use Rattle.world_base.specs.Lossy.{Account, joined, without_effects}
+use Rattle.world_base.specs.Lossy.{Account, both_accounts, without_effects}
 use Rattle.world_base.specs.LossyStep.{Cuts, HoldsBytes, LosesAllFailed, AcceptsConnection, DoesItem}
 use Rattle.world_base.specs.LossyReading.{EndsSilent, ReadsNext}
 use Rattle.world_base.specs.LossyStep.Cuts.{nothing_to_cut, cuts_log as cuts_log_at, forgets_cut}
 use Rattle.world_base.specs.LossyReading.EndsConnection.{none_open, unproposed, proposed}
 use Rattle.world_base.specs.Reading.{changes, open_at, unread_of}
-use Rattle.world_base.specs.Step.{crashed, opens, settled, with_cut}
+use Rattle.world_base.specs.Step.{crashed, with_next_connection, settled, with_cut}
 use Rattle.node_moves.specs.Ends.{piece_on}
 use Rattle.node_moves.specs.LossyMoves.{with_loss, outcome_in}
 use Rattle.node_moves.specs.ItemRuns.{IsRunOn, LossesAreMoves, came_with, heard_with, is_cut}
@@ -34,7 +34,7 @@ before_is : (core : CoreState) (one did : Account) (inputs : List (Input Command
 before_is core one did inputs may_cut bytes is b = subst (λ (d : Account). Before core d inputs may_cut bytes) (sym is) b
 
 before_then : (core : CoreState) (one two : Account) (inputs : List (Input Command)) (may_cut : Bool) (bytes : ConnectionName → List ℕ) → Before core one inputs may_cut bytes
-    → Still one.core two → Before core (joined one two) inputs may_cut bytes
+    → Still one.core two → Before core (both_accounts one two) inputs may_cut bytes
 before_then core one two inputs may_cut bytes b still next tail =
     subst (λ (given : Given). First core (let t : StepOutcome = record { core = next.core; messages = given } in t) inputs may_cut bytes)
     (sym (append_assoc one.messages two.messages next.messages)) (b (and_then (outcome_in two) next) (calm_join still tail))
@@ -60,8 +60,8 @@ held port piece now core did (inr (proposed c found heard proposes)) =
 
 opened : (port : Port) (now : ℕ) (core : CoreState) (did : Account) → AcceptsConnection port core did → Before core did [] false (λ x. came_with x (Opened port now) core)
 opened port now core did (inl is) =
-    before_is core (without_effects (opens port core)) did [] false _ is
-    (before_calm core (without_effects (opens port core)) false (λ x. []) (λ x. refl) (calm_move (exactly (opens_one port)) (refl, refl, refl, λ x. refl)))
+    before_is core (without_effects (with_next_connection port core)) did [] false _ is
+    (before_calm core (without_effects (with_next_connection port core)) false (λ x. []) (λ x. refl) (calm_move (exactly (opens_one port)) (refl, refl, refl, λ x. refl)))
 opened port now core did (inr is) = before_is core (without_effects core) did [] false _ is (λ next tail. first_calm false (λ x. []) (λ x. refl) tail)
 
 cut : (core : CoreState) (did : Account) → Cuts core did → Before core did [] true (λ x. came_with x Cut core)
@@ -75,12 +75,12 @@ cut core did (forgets_cut can is) =
 taken_in : (item : Item) (core : CoreState) (did : Account) → DoesItem item core did → Before core did (heard_with item) (is_cut item) (λ x. came_with x item core)
 taken_in (Peer message) core did drives = λ next tail. first_move (hears_losing (Receives message) did refl drives) false (λ x. []) refl (λ x. refl) (λ e. refl) tt tail
 taken_in (Tick now) core did t =
-    before_is core (joined t.one t.two) did (Ticks ∷ []) false _ t.is
+    before_is core (both_accounts t.one t.two) did (Ticks ∷ []) false _ t.is
     (before_then core t.one t.two (Ticks ∷ []) false (λ x. []) (λ next tail. first_move (hears_losing Ticks t.one refl t.first) false (λ x. []) refl (λ x. refl) (λ e. refl) tt tail)
     (still_repeated (length t.one.core.connections) (EndsSilent now) (still_silent now) t.one.core t.two t.next))
 taken_in (Opened port now) core did o = opened port now core did o
 taken_in (Bytes port piece now) core did t =
-    before_is core (joined t.one t.two) did [] false _ t.is
+    before_is core (both_accounts t.one t.two) did [] false _ t.is
     (before_then core t.one t.two [] false _ (held port piece now core t.one t.first)
     (still_repeated (unread_of (open_at port t.one.core)) (ReadsNext now port) (still_reads now port) t.one.core t.two t.next))
 taken_in (Ended port) core did runs = before_calm core did false (λ x. []) (λ x. refl) (still_ends port core did runs)

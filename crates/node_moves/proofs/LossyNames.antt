@@ -20,7 +20,7 @@ use Rattle.world_base.specs.Core.{CoreState, StepOutcome, rules, serves}
 use Rattle.world_base.specs.Lossy.{Account, Drives, TakesCommand}
 use Rattle.world_base.specs.Reading.{changes}
 use Rattle.world_base.specs.Step.{crashed}
-use Rattle.world_base.specs.Effects.{drives, heard}
+use Rattle.world_base.specs.Effects.{drives, outcome_of_input}
 use Rattle.node_moves.specs.Closed.{listed_named}
 use Rattle.node_moves.specs.Ends.{IsOrderly}
 use Rattle.node_moves.specs.Keeping.{AreOfTheBallot, moves_replica}
@@ -134,7 +134,7 @@ heard_keeps core later bytes or shuts of serving = record { each = λ x d e live
 
 exact_heard : (core : CoreState) (input : Input Command) → IsOrderly core → AreOfTheBallot core → AreWhereItServes (drives input core).core
 exact_heard core input o of =
-    heard_keeps core (drives input core).core (λ x. bytes_for x (heard input core.replica.state).effects)
+    heard_keeps core (drives input core).core (λ x. bytes_for x (outcome_of_input input core.replica.state).effects)
     (subst (λ (r : ReplicaState State Command). StaysOr core.replica.state r) (sym (drives_state input core)) (heard_stays input core.replica.state))
     (λ x. driven_shuts x input core o) of
 
@@ -144,7 +144,7 @@ lossy_heard input core did other m o of =
     heard_keeps core did.core (λ x. bytes_for x did.given)
     (subst (λ (r : CountedReplica State Command). StaysOr core.replica.state r.state)
     (sym (delivers_replica did.given (record core { replica = m.replica }) did.core did.messages m.handles))
-    (lossy_stays core.replica m.replica (heard input core.replica.state) did.given (heard_stays input core.replica.state) m.steps))
+    (lossy_stays core.replica m.replica (outcome_of_input input core.replica.state) did.given (heard_stays input core.replica.state) m.steps))
     (λ x. driven x input core did m o) of
 
 where_it_serves : (core : CoreState) → AreOfTheBallot core → AreWhereItServes core

@@ -21,7 +21,7 @@ use Rattle.world_base.specs.node_connections.ConnectionChanges.{noted_proposed, 
 use Rattle.world_base.specs.Core.{CoreState, StepOutcome, rules}
 use Rattle.world_base.specs.Lossy.{Account, Drives, TakesCommand}
 use Rattle.world_base.specs.Reading.{changes, open_at}
-use Rattle.world_base.specs.Effects.{heard}
+use Rattle.world_base.specs.Effects.{outcome_of_input}
 use Rattle.node_moves.specs.Ends.{IsEnd, IsGiven, IsOrderly, commands_of, is_nothing, open_named, piece_on}
 use Rattle.node_moves.specs.Ends.IsEnd.{is_over}
 use Rattle.node_moves.specs.LossyLaws.{LossesReadInOrder, ReadsOn}
@@ -51,7 +51,7 @@ stays_replica core replica up o =
 
 pub stays_drives : (input : Input Command) (core : CoreState) (did : Account) → Drives input core did → IsOrderly core → Stays core did.core
 stays_drives input core did m o =
-    let s = stays_replica core m.replica (steps_up core.replica m.replica (heard input core.replica.state) did.given (heard_up input core) m.steps) o in
+    let s = stays_replica core m.replica (steps_up core.replica m.replica (outcome_of_input input core.replica.state) did.given (heard_up input core) m.steps) o in
     stays_joined core (record core { replica = m.replica }) did.core s
     (stays_delivers did.given (record core { replica = m.replica }) did.core did.messages m.handles s.orderly)
 

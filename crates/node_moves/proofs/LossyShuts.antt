@@ -12,7 +12,7 @@ use Rattle.world_base.specs.node_connections.ConnectionChanges.{noted_proposed, 
 use Rattle.world_base.specs.Core.{CoreState, StepOutcome}
 use Rattle.world_base.specs.Lossy.{Account, Drives, TakesCommand}
 use Rattle.world_base.specs.Reading.{changes}
-use Rattle.world_base.specs.Effects.{heard}
+use Rattle.world_base.specs.Effects.{outcome_of_input}
 use Rattle.node_moves.specs.Closed.{listed_named}
 use Rattle.node_moves.specs.Ends.{IsOrderly, open_named}
 use Rattle.node_moves.specs.LossyLaws.{LossesPutInOrder}
@@ -43,7 +43,7 @@ pub driven : (x : ConnectionName) (input : Input Command) (core : CoreState) (di
     → Shuts (bytes_for x did.given) (listed_named x core) (listed_named x did.core)
 driven x input core did m o =
     delivers_shuts x did.given (record core { replica = m.replica }) did.core did.messages m.handles
-    (replica_orderly core m.replica (steps_up core.replica m.replica (heard input core.replica.state) did.given (heard_up input core) m.steps) o)
+    (replica_orderly core m.replica (steps_up core.replica m.replica (outcome_of_input input core.replica.state) did.given (heard_up input core) m.steps) o)
 
 taken_shuts : (x : ConnectionName) (command : Command) (core : CoreState) (did : Account) → TakesCommand command core did → IsOrderly core
     → Shuts (bytes_for x did.given) (listed_named x core) (listed_named x did.core)

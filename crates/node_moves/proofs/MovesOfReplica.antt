@@ -20,8 +20,8 @@ use Rattle.world_base.specs.Core.{CoreState, StepOutcome, rules, serves}
 use Rattle.world_base.specs.Failing.{closes_failed}
 use Rattle.world_base.specs.Handing.{hands_over, left_by}
 use Rattle.world_base.specs.Reading.{changes}
-use Rattle.world_base.specs.Step.{next_name, opens, settled}
-use Rattle.world_base.specs.Effects.{changes_named, moved, proposes, without_messages, handled}
+use Rattle.world_base.specs.Step.{next_name, with_next_connection, settled}
+use Rattle.world_base.specs.Effects.{changes_named, after_replica_step, proposes, without_messages, with_effect}
 use Rattle.node_moves.specs.Keeping.{moves_replica}
 use Rattle.node_moves.specs.Moves.{Moves}
 use Rattle.node_moves.specs.Moves.Moves.{hears, opens_one, holds, reads_first, reads_later, closes, refuses, loses_one, loses_next, expels_one, cuts_log, crashes, settles, hands}
@@ -32,16 +32,16 @@ named_replica : (name : ConnectionName) (f : Connection → Connection) (core : 
 unfolding changes_named
 named_replica name f core = refl
 
-handled_replica : (core : CoreState) (e : Effect Command Output) → (handled core e).replica ≡ core.replica
+handled_replica : (core : CoreState) (e : Effect Command Output) → (with_effect core e).replica ≡ core.replica
 handled_replica core (Out place (outputs.Send name packet)) = named_replica name (put_out (spelling packet)) core
 handled_replica core (Out place (outputs.Close name)) = named_replica name closed core
 handled_replica core (To receiver message) = refl
 
-fold_replica : (core : CoreState) (effects : List (Effect Command Output)) → (fold handled core effects).replica ≡ core.replica
+fold_replica : (core : CoreState) (effects : List (Effect Command Output)) → (fold with_effect core effects).replica ≡ core.replica
 fold_replica core [] = refl
-fold_replica core (e ∷ effects) = fold_replica (handled core e) effects ∙ handled_replica core e
+fold_replica core (e ∷ effects) = fold_replica (with_effect core e) effects ∙ handled_replica core e
 
-pub moved_replica : (outcome : Outcome State Command Output) (core : CoreState) → (moved outcome core).core.replica.state ≡ outcome.state
+pub moved_replica : (outcome : Outcome State Command Output) (core : CoreState) → (after_replica_step outcome core).core.replica.state ≡ outcome.state
 moved_replica outcome core =
     ap (λ (r : CountedReplica State Command). r.state)
     (fold_replica (let k : CoreState = record core { replica = record core.replica { state = outcome.state } } in k) outcome.effects)
@@ -59,7 +59,7 @@ proposes_same : (command : Command) (core : CoreState) → Same core.replica.sta
 unfolding proposes
 proposes_same command core = by (serves core)
   where
-    by : (b : Bool) → Same core.replica.state (let t : StepOutcome = if b then moved (proposed rules core.replica.state command) core else without_messages core in t).core.replica.state
+    by : (b : Bool) → Same core.replica.state (let t : StepOutcome = if b then after_replica_step (proposed rules core.replica.state command) core else without_messages core in t).core.replica.state
     by true =
         subst (λ (r : ReplicaState State Command). Same core.replica.state r) (sym (moved_replica (proposed rules core.replica.state command) core))
         (proposed_same rules core.replica.state command)
@@ -71,8 +71,8 @@ after_same command core between e =
     let t = same_replica core between e in
     record { role = s.role ∙ t.role; joined = s.joined ∙ t.joined; stopped = s.stopped ∙ t.stopped; base = s.base ∙ t.base }
 
-opens_replica : (port : Port) (core : CoreState) → (opens port core).replica ≡ core.replica
-unfolding opens
+opens_replica : (port : Port) (core : CoreState) → (with_next_connection port core).replica ≡ core.replica
+unfolding with_next_connection
 opens_replica port core = by ((serves core && not (list_any (is_at port) core.connections)) && is_connection_name (next_name core))
   where
     by : (b : Bool) → (let k : CoreState = if b then record core { last_name = next_name core; connections = core.connections ++ fresh port (next_name core) ∷ [] } else core in k).replica ≡ core.replica
@@ -95,7 +95,7 @@ pub move_same : (core : CoreState) (turn : StepOutcome) (m : Moves core turn) �
 move_same core turn (hears input other) calm = absurd cc
 move_same core turn (cuts_log can) calm = absurd cc
 move_same core turn crashes calm = absurd cc
-move_same core turn (opens_one port) calm = same_replica core (opens port core) (opens_replica port core)
+move_same core turn (opens_one port) calm = same_replica core (with_next_connection port core) (opens_replica port core)
 move_same core turn (holds port piece) calm = same_replica core turn.core (at_replica port _ core)
 move_same core turn (reads_first now port c connect rest at first is room) calm =
     after_same _ core (changes port (noted_proposed connect.keep_alive) (changes port (left_with now rest) core)) (at_replica port (noted_proposed connect.keep_alive) (changes port (left_with now rest) core) ∙ at_replica port (left_with now rest) core)

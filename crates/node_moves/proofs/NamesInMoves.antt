@@ -6,7 +6,7 @@ use Rattle.world_base.specs.declared.Port.{Port}
 use Rattle.world_base.specs.declared.Connection.{Connection}
 use Rattle.world_base.specs.node_connections.Connections.{fresh, is_at, is_closed}
 use Rattle.world_base.specs.Core.{CoreState, StepOutcome, serves}
-use Rattle.world_base.specs.Step.{next_name, opens, settled}
+use Rattle.world_base.specs.Step.{next_name, with_next_connection, settled}
 use Rattle.node_moves.specs.Closed.{listed_named}
 use Rattle.node_moves.specs.Ends.{IsOrderly}
 use Rattle.node_moves.specs.Keeping.{AreOfTheBallot, moves_replica}
@@ -33,8 +33,8 @@ by_shuts x core later bytes d of same shuts e lives =
     let z = shuts_open bytes (listed_named x core) (listed_named x later) d shuts e lives in still_of x core later z.0 of same z.1 z.2
 
 -- one that is there is there when another is opened
-opened_found : (x : ConnectionName) (port : Port) (core : CoreState) (c : Connection) → listed_named x core ≡ Some c → listed_named x (opens port core) ≡ Some c
-unfolding opens
+opened_found : (x : ConnectionName) (port : Port) (core : CoreState) (c : Connection) → listed_named x core ≡ Some c → listed_named x (with_next_connection port core) ≡ Some c
+unfolding with_next_connection
 opened_found x port core c f = by ((serves core && not (list_any (is_at port) core.connections)) && is_connection_name (next_name core))
   where
     by : (b : Bool) → listed_named x (let k : CoreState = if b then record core { last_name = next_name core; connections = core.connections ++ fresh port (next_name core) ∷ [] } else core in k) ≡ Some c
@@ -42,19 +42,19 @@ opened_found x port core c f = by ((serves core && not (list_any (is_at port) co
     by false = f
 
 -- a connection that is opened
-opened_of : (x : ConnectionName) (port : Port) (core : CoreState) (d : Connection) → AreOfTheBallot core → Same core.replica.state (opens port core).replica.state
-    → listed_named x (opens port core) ≡ Some d → is_closed d.stage ≡ false → (o : Option Connection) → listed_named x core ≡ o
-    → (serves (opens port core) ≡ true) × (x.ballot ≡ (opens port core).replica.state.joined)
+opened_of : (x : ConnectionName) (port : Port) (core : CoreState) (d : Connection) → AreOfTheBallot core → Same core.replica.state (with_next_connection port core).replica.state
+    → listed_named x (with_next_connection port core) ≡ Some d → is_closed d.stage ≡ false → (o : Option Connection) → listed_named x core ≡ o
+    → (serves (with_next_connection port core) ≡ true) × (x.ballot ≡ (with_next_connection port core).replica.state.joined)
 opened_of x port core d of same e lives None none =
-    let n = opened_new x port core d none e in (serves_same core (opens port core) same ∙ n.leads, n.ballot ∙ sym same.joined)
+    let n = opened_new x port core d none e in (serves_same core (with_next_connection port core) same ∙ n.leads, n.ballot ∙ sym same.joined)
 opened_of x port core d of same e lives (Some c) there' =
     let one : d ≡ c = same_found (sym e ∙ still_found) in
-    still_of x core (opens port core) c of same there' (ap (λ (z : Connection). is_closed z.stage) (sym one) ∙ lives)
+    still_of x core (with_next_connection port core) c of same there' (ap (λ (z : Connection). is_closed z.stage) (sym one) ∙ lives)
   where
     same_found : {a b : Connection} → Some a ≡ Some b → a ≡ b
     same_found f = cc
 
-    still_found : listed_named x (opens port core) ≡ Some c
+    still_found : listed_named x (with_next_connection port core) ≡ Some c
     still_found = opened_found x port core c there'
 
 -- ---- the moves

@@ -19,7 +19,7 @@ use Rattle.world_base.specs.node_connections.Connections.{is_at, is_open_at, is_
 use Rattle.world_base.specs.Core.{CoreState, StepOutcome, rules, serves}
 use Rattle.world_base.specs.Reading.{open_at}
 use Rattle.world_base.specs.Step.{crashed, settled, with_cut}
-use Rattle.world_base.specs.Effects.{drives, heard}
+use Rattle.world_base.specs.Effects.{drives, outcome_of_input}
 use Rattle.node_moves.specs.Closed.{listed_named}
 use Rattle.node_moves.specs.Ends.{IsOrderly, proposal_of}
 use Rattle.node_moves.specs.Keeping.{AreOfTheBallot, NamesKeepTheirBallot}
@@ -36,11 +36,11 @@ use Rattle.node_moves.proofs.NamesInMoves.{move_of}
 
 -- ---- what the replica receives
 
-pub drives_state : (input : Input Command) (core : CoreState) → (drives input core).core.replica.state ≡ (heard input core.replica.state).state
+pub drives_state : (input : Input Command) (core : CoreState) → (drives input core).core.replica.state ≡ (outcome_of_input input core.replica.state).state
 unfolding drives
-drives_state input core = moved_replica (heard input core.replica.state) core
+drives_state input core = moved_replica (outcome_of_input input core.replica.state) core
 
-pub heard_stays : (input : Input Command) (r : ReplicaState State Command) → StaysOr r (heard input r).state
+pub heard_stays : (input : Input Command) (r : ReplicaState State Command) → StaysOr r (outcome_of_input input r).state
 heard_stays input r = by r.stopped
   where
     by : (b : Bool) → StaysOr r (let o : Outcome State Command Output = if b then nothing_done Output r else replica_step rules r input in o).state
@@ -65,16 +65,16 @@ heard_of core input o of x d e lives = (
     leads : serves later ≡ true
     leads = z.0
 
-    state : later.replica.state ≡ (heard input core.replica.state).state
+    state : later.replica.state ≡ (outcome_of_input input core.replica.state).state
     state = drives_state input core
 
     was : (c : Connection) × (listed_named x core ≡ Some c) × (is_closed c.stage ≡ false)
-    was = shuts_open (bytes_for x (heard input core.replica.state).effects) (listed_named x core) (listed_named x later) d (driven_shuts x input core o) z.1 lives
+    was = shuts_open (bytes_for x (outcome_of_input input core.replica.state).effects) (listed_named x core) (listed_named x later) d (driven_shuts x input core o) z.1 lives
 
     before : (serves core ≡ true) × (x.ballot ≡ core.replica.state.joined)
     before = of.each x was.0 was.1 was.2
 
-    joined : StaysOr core.replica.state (heard input core.replica.state).state → (heard input core.replica.state).state.joined ≡ core.replica.state.joined
+    joined : StaysOr core.replica.state (outcome_of_input input core.replica.state).state → (outcome_of_input input core.replica.state).state.joined ≡ core.replica.state.joined
     joined (inl same) = same
     joined (inr passive) =
         absurd (both_ways (is_active later.replica.state.role) (ap (λ (r : ReplicaState State Command). is_active r.role) state ∙ passive)

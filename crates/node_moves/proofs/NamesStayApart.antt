@@ -36,7 +36,7 @@ use Rattle.world_base.specs.LossyReading.EndsSilent.{none_silent, ends_one}
 use Rattle.world_base.specs.LossyReading.LosesFailed.{none_failed, tells_one}
 use Rattle.world_base.specs.LossyReading.ReadsNext.{waits, first, later, refuses, ends}
 use Rattle.world_base.specs.Reading.{changes, open_at, refused, unread_of}
-use Rattle.world_base.specs.Step.{crashed, next_name, opens, settled, with_cut}
+use Rattle.world_base.specs.Step.{crashed, next_name, with_next_connection, settled, with_cut}
 use Rattle.world_base.specs.LossyStep.Cuts.{nothing_to_cut, cuts_log, forgets_cut}
 use Rattle.world_base.specs.Effects.{changes_named}
 use Rattle.node_moves.specs.Apart.{KeepsNames, NamesStayApart}
@@ -265,20 +265,20 @@ next_above core x within n = by (next_precedes core within)
     by (inl above) = inl (subst (λ (b : ℕ). core.last_name.ballot < b) (sym n.ballot) above)
     by (inr (same, above)) = inr (same ∙ sym n.ballot, subst (λ (k : ℕ). core.last_name.count < k) (sym n.count) above)
 
-given_still : (x : ConnectionName) (port : Port) (core : CoreState) → IsOrderly core → IsGiven core.last_name x → IsGiven (opens port core).last_name x
-unfolding opens
+given_still : (x : ConnectionName) (port : Port) (core : CoreState) → IsOrderly core → IsGiven core.last_name x → IsGiven (with_next_connection port core).last_name x
+unfolding with_next_connection
 given_still x port core o g = by ((serves core && not (list_any (is_at port) core.connections)) && is_connection_name (next_name core))
   where
     by : (b : Bool) → IsGiven (let k : CoreState = if b then record core { last_name = next_name core; connections = core.connections ++ fresh port (next_name core) ∷ [] } else core in k).last_name x
     by true = given_later core.last_name (next_name core) x (next_precedes core o.within) g
     by false = g
 
-keep_opened : (port : Port) (core : CoreState) → Keep core (opens port core)
+keep_opened : (port : Port) (core : CoreState) → Keep core (with_next_connection port core)
 keep_opened port core o =
     record {
       orderly = (opens_well port core o).orderly;
       given = λ x g. given_still x port core o g;
-      gone = λ x g none. never_found (listed_named x (opens port core))
+      gone = λ x g none. never_found (listed_named x (with_next_connection port core))
           (λ d there. not_both core.last_name x (next_above core x o.within (opened_new x port core d none there)) g);
     }
 
@@ -290,7 +290,7 @@ keep_item (Tick now) core did runs =
     keep_then (Drives Ticks) (λ k d. Repeated (length k.connections) (EndsSilent now) k d) (keep_driven Ticks)
     (λ k d silent. keep_repeated (length k.connections) (EndsSilent now) (keep_silent now) k d silent) core did
     (record { one = runs.one; two = runs.two; first = runs.first; next = runs.next; is = runs.is })
-keep_item (Opened port now) core did (inl is) = by_account core (opens port core) did is (keep_opened port core)
+keep_item (Opened port now) core did (inl is) = by_account core (with_next_connection port core) did is (keep_opened port core)
 keep_item (Opened port now) core did (inr is) = by_account core core did is (keep_same core)
 keep_item (Bytes port piece now) core did runs =
     keep_then (HoldsBytes port piece) (λ k d. Repeated (unread_of (open_at port k)) (ReadsNext now port) k d) held

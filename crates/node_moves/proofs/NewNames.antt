@@ -10,7 +10,7 @@ use Rattle.world_base.specs.node_connections.Connections.{fresh, is_at, is_liste
 use Rattle.world_base.specs.node_connections.ConnectionChanges.{closed, handed, changed}
 use Rattle.world_base.specs.Core.{CoreState, serves}
 use Rattle.world_base.specs.Handing.{hands_over, left_by}
-use Rattle.world_base.specs.Step.{next_name, opens, settled}
+use Rattle.world_base.specs.Step.{next_name, with_next_connection, settled}
 use Rattle.node_moves.specs.Closed.{listed_named}
 use Rattle.node_moves.specs.Ends.{IsOrderly}
 use Rattle.node_moves.specs.Moves.Moves.{hears, opens_one, holds, reads_first, reads_later, closes, refuses, loses_one, loses_next, expels_one, cuts_log, crashes, settles, hands}
@@ -29,9 +29,9 @@ stays_away bytes (Some c) (Some e) d (stays_open a b f) none there = some_none c
 stays_away bytes (Some c) (Some e) d (is_shut front a b f g) none there = some_none c none
 stays_away bytes (Some c) (Some e) d (was_shut a b f) none there = some_none c none
 
-pub opened_new : (x : ConnectionName) (port : Port) (core : CoreState) (d : Connection) → listed_named x core ≡ None → listed_named x (opens port core) ≡ Some d
+pub opened_new : (x : ConnectionName) (port : Port) (core : CoreState) (d : Connection) → listed_named x core ≡ None → listed_named x (with_next_connection port core) ≡ Some d
     → IsNextName core x
-unfolding opens
+unfolding with_next_connection
 opened_new x port core d none there = by ((serves core && not (list_any (is_at port) core.connections)) && is_connection_name (next_name core)) refl there
   where
     now : (view all (named x) core.connections ≡ Some d) ⊎ (d ≡ fresh port (next_name core)) → named x d ≡ true → serves core ≡ true → IsNextName core x

@@ -16,7 +16,7 @@ use Rattle.world_base.specs.Failing.{closes_failed}
 use Rattle.world_base.specs.Core.{CoreState, StepOutcome, serves}
 use Rattle.world_base.specs.Handing.{hands_over, left_by}
 use Rattle.world_base.specs.Reading.{changes}
-use Rattle.world_base.specs.Step.{next_name, opens, settled}
+use Rattle.world_base.specs.Step.{next_name, with_next_connection, settled}
 use Rattle.node_moves.specs.Closed.{IsExactlyClosedBy, NothingOnClosed, listed_named, exact_refusal}
 use Rattle.node_moves.specs.Closed.IsExactlyClosedBy.{was_closed, closes_now}
 use Rattle.node_moves.specs.Ends.{IsOrderly}
@@ -69,9 +69,9 @@ found_pushed test (c ∷ cs) z d e = by (test c) (found_pushed test cs z d) e
     by true ih f = inl f
     by false ih f = ih f
 
-opened_closed : (x : ConnectionName) (port : Port) (core : CoreState) (d : Connection) → listed_named x (opens port core) ≡ Some d → is_closed d.stage ≡ true
+opened_closed : (x : ConnectionName) (port : Port) (core : CoreState) (d : Connection) → listed_named x (with_next_connection port core) ≡ Some d → is_closed d.stage ≡ true
     → listed_named x core ≡ Some d
-unfolding opens
+unfolding with_next_connection
 opened_closed x port core d e over =
     by ((serves core && not (list_any (is_at port) core.connections)) && is_connection_name (next_name core)) e
   where

@@ -12,7 +12,7 @@ use Rattle.world_base.specs.declared.Port.{Port}
 use Rattle.world_base.specs.declared.Connection.{Connection}
 use Rattle.world_base.specs.node_connections.Connections.{is_at, fresh}
 use Rattle.world_base.specs.Core.{CoreState, serves}
-use Rattle.world_base.specs.Step.{opens, next_name}
+use Rattle.world_base.specs.Step.{with_next_connection, next_name}
 use Rattle.node_moves.specs.Ends.{AtMostOne, IsGiven, Precedes, IsOrderly, IsEnd, open_named, stream_of, is_nothing}
 use Rattle.node_moves.specs.Ends.IsEnd.{not_yet, is_open, is_over}
 use Rattle.node_moves.proofs.NamesInOrder.{same_le, cases_name, not_both, last_given, given_later, not_named, next_precedes}
@@ -103,8 +103,8 @@ pub record OpensWell (core later : CoreState) : Type 0 where
   pub orderly : IsOrderly later
   pub end : (x : ConnectionName) (written read : List Packet) (in_transit : List ℕ) → IsEnd x core written read in_transit → IsEnd x later written read in_transit
 
-pub opens_well : (port : Port) (core : CoreState) → IsOrderly core → OpensWell core (opens port core)
-unfolding opens
+pub opens_well : (port : Port) (core : CoreState) → IsOrderly core → OpensWell core (with_next_connection port core)
+unfolding with_next_connection
 opens_well port core o = by ((serves core && not (list_any (is_at port) core.connections)) && is_connection_name (next_name core))
   where
     opened : CoreState
@@ -118,8 +118,8 @@ opens_well port core o = by ((serves core && not (list_any (is_at port) core.con
 
 -- an open connection stays as it is if another is opened
 pub open_stays : (x : ConnectionName) (port : Port) (core : CoreState) (c : Connection) → IsOrderly core → open_named x core ≡ Some c
-    → open_named x (opens port core) ≡ Some c
-unfolding opens
+    → open_named x (with_next_connection port core) ≡ Some c
+unfolding with_next_connection
 open_stays x port core c o there = by ((serves core && not (list_any (is_at port) core.connections)) && is_connection_name (next_name core))
   where
     opened : CoreState

@@ -20,13 +20,13 @@ use Rattle.world_base.specs.declared.Port.{Port}
 use Rattle.world_base.specs.declared.Connection.{Connection}
 use Rattle.world_base.specs.ballot_base.Protocol.{Input}
 use Rattle.world_base.specs.ballot_base.Replica.{CountedReplica, ReplicaState}
-use Rattle.world_base.specs.Step.{settled, opens}
+use Rattle.world_base.specs.Step.{settled, with_next_connection}
 use Rattle.world_base.specs.node_connections.Connections.{is_listed, is_at, is_open_at, is_open_named}
 use Rattle.world_base.specs.node_connections.ConnectionChanges.{noted_proposed, holding, left_with, max_pending, closed, failing, put_out, putting, changed}
 use Rattle.world_base.specs.Core.{CoreState, StepOutcome, rules, serves}
 use Rattle.world_base.specs.Failing.{closes_failed}
 use Rattle.world_base.specs.Reading.{changes, refused}
-use Rattle.world_base.specs.Effects.{without_messages, moved, handled, proposes, changes_named, drives, heard, has_room}
+use Rattle.world_base.specs.Effects.{without_messages, after_replica_step, with_effect, proposes, changes_named, drives, outcome_of_input, has_room}
 use Rattle.node_moves.specs.Ends.{AtMostOne, IsOrderly, open_named}
 use Rattle.node_moves.specs.Moves.{Moves}
 use Rattle.node_moves.specs.Moves.Moves.{hears, opens_one, holds, reads_first, reads_later, closes, refuses, loses_one, loses_next, expels_one, cuts_log, crashes, settles, hands}
@@ -164,7 +164,7 @@ named_puts : (x name : ConnectionName) (f : Connection → Connection) (core : C
 unfolding changes_named
 named_puts x name f core bytes h = h
 
-handled_puts : (x : ConnectionName) (core : CoreState) (e : Effect Command Output) → IsOrderly core → Puts (bytes_for x (e ∷ [])) (open_named x core) (open_named x (handled core e))
+handled_puts : (x : ConnectionName) (core : CoreState) (e : Effect Command Output) → IsOrderly core → Puts (bytes_for x (e ∷ [])) (open_named x core) (open_named x (with_effect core e))
 handled_puts x core (To receiver message) o = puts_none (open_named x core)
 handled_puts x core (Out place (outputs.Close name)) o =
     named_puts x name closed core []
@@ -181,23 +181,23 @@ handled_puts x core (Out place (outputs.Send name packet)) o =
     by false h = h
 
 delivered_puts : (x : ConnectionName) (core : CoreState) (effects : List (Effect Command Output)) → IsOrderly core
-    → Puts (bytes_for x effects) (open_named x core) (open_named x (fold handled core effects))
+    → Puts (bytes_for x effects) (open_named x core) (open_named x (fold with_effect core effects))
 delivered_puts x core [] o = puts_none (open_named x core)
 delivered_puts x core (e ∷ effects) o =
-    subst (λ (l : List ℕ). Puts l (open_named x core) (open_named x (fold handled (handled core e) effects))) (sym (bytes_join x e effects))
-    (puts_joined (handled_puts x core e o) (delivered_puts x (handled core e) effects (stays_handled core e o).orderly))
+    subst (λ (l : List ℕ). Puts l (open_named x core) (open_named x (fold with_effect (with_effect core e) effects))) (sym (bytes_join x e effects))
+    (puts_joined (handled_puts x core e o) (delivered_puts x (with_effect core e) effects (stays_handled core e o).orderly))
 
 moved_puts : (x : ConnectionName) (outcome : Outcome State Command Output) (core : CoreState) → Up core.replica.state outcome → IsOrderly core
-    → Puts (bytes_for x outcome.effects) (open_named x core) (open_named x (moved outcome core).core)
+    → Puts (bytes_for x outcome.effects) (open_named x core) (open_named x (after_replica_step outcome core).core)
 moved_puts x outcome core up o =
     let within = o.within in
     delivered_puts x (let k : CoreState = record core { replica = record core.replica { state = outcome.state } } in k) outcome.effects
     (record { names = o.names; given = o.given; within = omega (arith, within, up) })
 
 driven_puts : (x : ConnectionName) (input : Input Command) (core : CoreState) → IsOrderly core
-    → Puts (bytes_for x (heard input core.replica.state).effects) (open_named x core) (open_named x (drives input core).core)
+    → Puts (bytes_for x (outcome_of_input input core.replica.state).effects) (open_named x core) (open_named x (drives input core).core)
 unfolding drives
-driven_puts x input core o = moved_puts x (heard input core.replica.state) core (heard_up input core) o
+driven_puts x input core o = moved_puts x (outcome_of_input input core.replica.state) core (heard_up input core) o
 
 -- what a proposal gives
 abbrev given_by : Command → Bool → ReplicaState State Command → List (Effect Command Output)
@@ -209,7 +209,7 @@ unfolding proposes
 proposed_puts x command core o = by (serves core)
   where
     by : (b : Bool) → Puts (bytes_for x (given_by command b core.replica.state)) (open_named x core)
-        (open_named x (let t : StepOutcome = if b then moved (proposed rules core.replica.state command) core else without_messages core in t).core)
+        (open_named x (let t : StepOutcome = if b then after_replica_step (proposed rules core.replica.state command) core else without_messages core in t).core)
     by true = moved_puts x (proposed rules core.replica.state command) core (up_proposed rules core.replica.state command) o
     by false = puts_none (open_named x core)
 
@@ -291,9 +291,9 @@ unfolding changes
 refused_puts x port code core o = closing_puts x port (refused code) core.connections (o.names x) (λ d. refl) (λ d. refl)
 
 opened_puts : (x : ConnectionName) (port : Port) (core : CoreState) (c : Connection) → IsOrderly core → open_named x core ≡ Some c
-    → Puts [] (open_named x core) (open_named x (opens port core))
+    → Puts [] (open_named x core) (open_named x (with_next_connection port core))
 opened_puts x port core c o there =
-    subst (λ (z : Option Connection). Puts [] z (open_named x (opens port core))) (sym there)
+    subst (λ (z : Option Connection). Puts [] z (open_named x (with_next_connection port core))) (sym there)
     (subst (Puts [] (Some c)) (sym (open_stays x port core c o there)) (put (sym (append-nil c.pending))))
 
 all_puts : (core : CoreState) (turn : StepOutcome) (m : Moves core turn) → IsOrderly core → is_handing m ≡ false → (x : ConnectionName) (c : Connection) → open_named x core ≡ Some c

@@ -19,7 +19,7 @@ use Rattle.world_base.specs.node_connections.ConnectionChanges.{noted_proposed, 
 use Rattle.world_base.specs.Core.{CoreState, StepOutcome}
 use Rattle.world_base.specs.Reading.{changes, open_at, refused}
 use Rattle.world_base.specs.Failing.{closes_failed}
-use Rattle.world_base.specs.Step.{opens}
+use Rattle.world_base.specs.Step.{with_next_connection}
 use Rattle.world_base.specs.Effects.{without_messages, proposes, has_room}
 use Rattle.node_moves.specs.Moves.{Moves}
 use Rattle.node_moves.specs.Moves.Moves.{hears, opens_one, holds, reads_first, reads_later, closes, refuses, loses_one, loses_next, expels_one, cuts_log, crashes, settles, hands}
@@ -328,7 +328,7 @@ hold_reads core port piece o = (
 
 -- ---- each move
 
-abbrev open_move : (core : CoreState) (port : Port) → Moves core (without_messages (opens port core))
+abbrev open_move : (core : CoreState) (port : Port) → Moves core (without_messages (with_next_connection port core))
 open_move core port = opens_one port
 
 open_reads : (core : CoreState) (port : Port) → IsOrderly core → ReadsAll (open_move core port)

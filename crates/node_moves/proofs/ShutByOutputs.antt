@@ -21,7 +21,7 @@ use Rattle.world_base.specs.declared.Connection.{Connection}
 use Rattle.world_base.specs.node_connections.Connections.{is_open_named}
 use Rattle.world_base.specs.node_connections.ConnectionChanges.{closed, put_out, changed}
 use Rattle.world_base.specs.Core.{CoreState, StepOutcome, rules, serves}
-use Rattle.world_base.specs.Effects.{without_messages, moved, handled, proposes, changes_named, drives, heard}
+use Rattle.world_base.specs.Effects.{without_messages, after_replica_step, with_effect, proposes, changes_named, drives, outcome_of_input}
 use Rattle.node_moves.specs.Closed.{listed_named}
 use Rattle.node_moves.specs.Ends.{AtMostOne, IsOrderly}
 use Rattle.node_moves.specs.Puts.{outputs_of, spelled}
@@ -87,7 +87,7 @@ unfolding changes_named
 named_shuts x name f core bytes h = h
 
 pub handled_shuts : (x : ConnectionName) (core : CoreState) (e : Effect Command Output) → IsOrderly core
-    → Shuts (bytes_for x (e ∷ [])) (listed_named x core) (listed_named x (handled core e))
+    → Shuts (bytes_for x (e ∷ [])) (listed_named x core) (listed_named x (with_effect core e))
 handled_shuts x core (To receiver message) o = shuts_same (listed_named x core)
 handled_shuts x core (Out place (outputs.Close name)) o =
     named_shuts x name closed core []
@@ -104,23 +104,23 @@ handled_shuts x core (Out place (outputs.Send name packet)) o =
     by false h = h
 
 delivered_shuts : (x : ConnectionName) (core : CoreState) (effects : List (Effect Command Output)) → IsOrderly core
-    → Shuts (bytes_for x effects) (listed_named x core) (listed_named x (fold handled core effects))
+    → Shuts (bytes_for x effects) (listed_named x core) (listed_named x (fold with_effect core effects))
 delivered_shuts x core [] o = shuts_same (listed_named x core)
 delivered_shuts x core (e ∷ effects) o =
-    subst (λ (l : List ℕ). Shuts l (listed_named x core) (listed_named x (fold handled (handled core e) effects))) (sym (bytes_join x e effects))
-    (shuts_joined (handled_shuts x core e o) (delivered_shuts x (handled core e) effects (stays_handled core e o).orderly))
+    subst (λ (l : List ℕ). Shuts l (listed_named x core) (listed_named x (fold with_effect (with_effect core e) effects))) (sym (bytes_join x e effects))
+    (shuts_joined (handled_shuts x core e o) (delivered_shuts x (with_effect core e) effects (stays_handled core e o).orderly))
 
 moved_shuts : (x : ConnectionName) (outcome : Outcome State Command Output) (core : CoreState) → Up core.replica.state outcome → IsOrderly core
-    → Shuts (bytes_for x outcome.effects) (listed_named x core) (listed_named x (moved outcome core).core)
+    → Shuts (bytes_for x outcome.effects) (listed_named x core) (listed_named x (after_replica_step outcome core).core)
 moved_shuts x outcome core up o =
     let within = o.within in
     delivered_shuts x (let k : CoreState = record core { replica = record core.replica { state = outcome.state } } in k) outcome.effects
     (record { names = o.names; given = o.given; within = omega (arith, within, up) })
 
 pub driven_shuts : (x : ConnectionName) (input : Input Command) (core : CoreState) → IsOrderly core
-    → Shuts (bytes_for x (heard input core.replica.state).effects) (listed_named x core) (listed_named x (drives input core).core)
+    → Shuts (bytes_for x (outcome_of_input input core.replica.state).effects) (listed_named x core) (listed_named x (drives input core).core)
 unfolding drives
-driven_shuts x input core o = moved_shuts x (heard input core.replica.state) core (heard_up input core) o
+driven_shuts x input core o = moved_shuts x (outcome_of_input input core.replica.state) core (heard_up input core) o
 
 -- what a proposal gives
 abbrev pub given_by : Command → Bool → ReplicaState State Command → List (Effect Command Output)
@@ -132,6 +132,6 @@ unfolding proposes
 proposed_shuts x command core o = by (serves core)
   where
     by : (b : Bool) → Shuts (bytes_for x (given_by command b core.replica.state)) (listed_named x core)
-        (listed_named x (let t : StepOutcome = if b then moved (proposed rules core.replica.state command) core else without_messages core in t).core)
+        (listed_named x (let t : StepOutcome = if b then after_replica_step (proposed rules core.replica.state command) core else without_messages core in t).core)
     by true = moved_shuts x (proposed rules core.replica.state command) core (up_proposed rules core.replica.state command) o
     by false = shuts_same (listed_named x core)

@@ -12,7 +12,7 @@ use Rattle.world_base.specs.node_connections.Connections.{is_closed, is_proposed
 use Rattle.world_base.specs.node_connections.ConnectionChanges.{closed, failing}
 use Rattle.world_base.specs.Core.{CoreState, StepOutcome}
 use Rattle.world_base.specs.KeepAlive.{lower, lower_silent, lowest_silent, ends_if, ends_silent}
-use Rattle.world_base.specs.Reading.{changes, ends, loses, loses_open, open_at}
+use Rattle.world_base.specs.Reading.{changes, port_closed, loses, loses_open, open_at}
 use Rattle.world_base.specs.Step.{acts_on, does_item}
 use Rattle.world_base.specs.Effects.{without_messages, drives, proposes}
 use Rattle.node_moves.specs.Settled.{NoneIsSilent}
@@ -73,8 +73,8 @@ loses_lowers port c core at = by (is_proposed c.stage)
 abbrev HasOpen : Port → List Connection → Type 0
 HasOpen port cs = find (is_open_at port) cs ≡ None → ⊥
 
-ends_lowers : (port : Port) (core : CoreState) → HasOpen port core.connections → total open_weight (ends port core).core.connections < total open_weight core.connections
-unfolding ends
+ends_lowers : (port : Port) (core : CoreState) → HasOpen port core.connections → total open_weight (port_closed port core).core.connections < total open_weight core.connections
+unfolding port_closed
 ends_lowers port core has = by (open_at port core) refl
   where
     by : (o : Option Connection) → open_at port core ≡ o → total open_weight (loses_open port core o).core.connections < total open_weight core.connections

@@ -21,7 +21,7 @@ use Rattle.world_base.specs.declared.Connection.{Connection}
 use Rattle.world_base.specs.node_connections.Connections.{is_closed, is_first, is_proposed, has_failed, is_at, is_open_at}
 use Rattle.world_base.specs.node_connections.ConnectionChanges.{noted_proposed, holding, left_with, closed, changed}
 use Rattle.world_base.specs.Core.{CoreState, StepOutcome}
-use Rattle.world_base.specs.Reading.{changes, open_at, loses, loses_open, ends, connects, proposes_packet, takes_first_packet, reads, reads_of, reads_next, refused, unread_of}
+use Rattle.world_base.specs.Reading.{changes, open_at, loses, loses_open, port_closed, connect_proposed, proposes_packet, takes_first_packet, reads, reads_of, reads_next, refused, unread_of}
 use Rattle.world_base.specs.ballot_base.Cutting.{can_cut}
 use Rattle.world_base.specs.Step.{node_step, acts_on, cuts, settled, does_item, with_cut}
 use Rattle.world_base.specs.Failing.{loses_failed, loses_if}
@@ -135,8 +135,8 @@ ended_runs : (port : Port) (core : CoreState) (o : Option Connection) → open_a
 ended_runs port core None at = (rests, tt)
 ended_runs port core (Some c) at = lost_runs port c core at
 
-ends_run : (port : Port) (core : CoreState) → Calm core (ends port core)
-unfolding ends
+ends_run : (port : Port) (core : CoreState) → Calm core (port_closed port core)
+unfolding port_closed
 ends_run port core = ended_runs port core (open_at port core) refl
 
 -- ---- a packet is read
@@ -146,13 +146,13 @@ closes_with port core later same = subst (λ (z : CoreState). Calm core (without
 
 first_runs : (now : ℕ) (port : Port) (c : Connection) (core : CoreState) (connect : Connect) (rest : List ℕ) → open_at port core ≡ Some c → is_first c.stage ≡ true
     → verdict c.unread ≡ Ok (packets.Connect connect, rest)
-    → Calm core (connects port c.name connect (changes port (noted_proposed connect.keep_alive) (changes port (left_with now rest) core)))
+    → Calm core (connect_proposed port c.name connect (changes port (noted_proposed connect.keep_alive) (changes port (left_with now rest) core)))
 first_runs now port c core connect rest at first is = by (has_room core) refl
   where
     same : has_room (changes port (noted_proposed connect.keep_alive) (changes port (left_with now rest) core)) ≡ has_room core
     same = room_kept port (noted_proposed connect.keep_alive) (changes port (left_with now rest) core) ∙ room_kept port (left_with now rest) core
 
-    by : (b : Bool) → has_room core ≡ b → Calm core (connects port c.name connect (changes port (noted_proposed connect.keep_alive) (changes port (left_with now rest) core)))
+    by : (b : Bool) → has_room core ≡ b → Calm core (connect_proposed port c.name connect (changes port (noted_proposed connect.keep_alive) (changes port (left_with now rest) core)))
     by true room = rw (same ∙ room) (calm_move (reads_first now port c connect rest at first is room) (refl, refl))
     by false none = rw (same ∙ none) (closes_with port core _ (closed_asked connect.keep_alive now port rest core))
 

@@ -19,7 +19,7 @@ use Rattle.world_base.specs.declared.Connection.{Connection}
 use Rattle.world_base.specs.node_connections.ConnectionChanges.{noted_proposed, left_with, closed, put_out}
 use Rattle.world_base.specs.Core.{CoreState, rules, serves}
 use Rattle.world_base.specs.Reading.{changes}
-use Rattle.world_base.specs.Effects.{moved, handled, proposes, has_room, changes_named}
+use Rattle.world_base.specs.Effects.{after_replica_step, with_effect, proposes, has_room, changes_named}
 use Rattle.node_moves.specs.Moves.Moves.{hears, opens_one, holds, reads_first, reads_later, closes, refuses, loses_one, loses_next, expels_one, cuts_log, crashes, settles, hands}
 use Rattle.node_moves.specs.RunProposals.{ReadsAreTaken}
 use Rattle.node_moves.proofs.Kept.{left_true}
@@ -38,16 +38,16 @@ named_replica : (name : ConnectionName) (f : Connection → Connection) (core : 
 unfolding changes_named
 named_replica name f core = refl
 
-handled_replica : (core : CoreState) (e : Effect Command Output) → (handled core e).replica ≡ core.replica
+handled_replica : (core : CoreState) (e : Effect Command Output) → (with_effect core e).replica ≡ core.replica
 handled_replica core (Out place (outputs.Send name packet)) = named_replica name (put_out (spelling packet)) core
 handled_replica core (Out place (outputs.Close name)) = named_replica name closed core
 handled_replica core (To receiver message) = refl
 
-fold_replica : (core : CoreState) (effects : List (Effect Command Output)) → (fold handled core effects).replica ≡ core.replica
+fold_replica : (core : CoreState) (effects : List (Effect Command Output)) → (fold with_effect core effects).replica ≡ core.replica
 fold_replica core [] = refl
-fold_replica core (e ∷ effects) = fold_replica (handled core e) effects ∙ handled_replica core e
+fold_replica core (e ∷ effects) = fold_replica (with_effect core e) effects ∙ handled_replica core e
 
-moved_log : (outcome : Outcome State Command Output) (core : CoreState) → (moved outcome core).core.replica.state.log ≡ outcome.state.log
+moved_log : (outcome : Outcome State Command Output) (core : CoreState) → (after_replica_step outcome core).core.replica.state.log ≡ outcome.state.log
 moved_log outcome core =
     ap (λ (r : CountedReplica State Command). r.state.log)
     (fold_replica (let k : CoreState = record core { replica = record core.replica { state = outcome.state } } in k) outcome.effects)

@@ -15,7 +15,7 @@ use Rattle.world_base.specs.declared.Connection.{Connection}
 use Rattle.world_base.specs.node_connections.Connections.{is_open_named}
 use Rattle.world_base.specs.node_connections.ConnectionChanges.{max_pending, closed, failing, putting, put_out, changed}
 use Rattle.world_base.specs.Core.{CoreState, StepOutcome, rules, serves}
-use Rattle.world_base.specs.Effects.{without_messages, repeated, handled, moved, proposes, changes_named}
+use Rattle.world_base.specs.Effects.{without_messages, repeated, with_effect, after_replica_step, proposes, changes_named}
 use Rattle.node_moves.proofs.NamesInOrder.{same_le}
 use Rattle.node_moves.proofs.Views.{same_some}
 
@@ -69,21 +69,21 @@ total_named : (w : Connection → ℕ) (name : ConnectionName) (f : Connection �
 unfolding changes_named
 total_named w name f core low = total_changed w (is_open_named name) f core.connections low
 
-total_handled : (w : Connection → ℕ) → IsLight w → (core : CoreState) (e : Effect Command Output) → total w (handled core e).connections ≤ total w core.connections
+total_handled : (w : Connection → ℕ) → IsLight w → (core : CoreState) (e : Effect Command Output) → total w (with_effect core e).connections ≤ total w core.connections
 total_handled w light core (Out place (outputs.Send name packet)) = total_named w name (put_out (spelling packet)) core (light.put (spelling packet))
 total_handled w light core (Out place (outputs.Close name)) = total_named w name closed core light.shut
 total_handled w light core (To receiver message) = same_le (total w core.connections)
 
 total_delivered : (w : Connection → ℕ) → IsLight w → (core : CoreState) (effects : List (Effect Command Output))
-    → total w (fold handled core effects).connections ≤ total w core.connections
+    → total w (fold with_effect core effects).connections ≤ total w core.connections
 total_delivered w light core [] = same_le (total w core.connections)
 total_delivered w light core (e ∷ effects) =
     let first = total_handled w light core e in
-    let rest = total_delivered w light (handled core e) effects in
+    let rest = total_delivered w light (with_effect core e) effects in
     omega (arith, first, rest)
 
 total_moved : (w : Connection → ℕ) → IsLight w → (outcome : Outcome State Command Output) (core : CoreState)
-    → total w (moved outcome core).core.connections ≤ total w core.connections
+    → total w (after_replica_step outcome core).core.connections ≤ total w core.connections
 total_moved w light outcome core =
     total_delivered w light (let k : CoreState = record core { replica = record core.replica { state = outcome.state } } in k) outcome.effects
 
@@ -92,7 +92,7 @@ pub total_proposed : (w : Connection → ℕ) → IsLight w → (command : Comma
 unfolding proposes
 total_proposed w light command core = by (serves core)
   where
-    by : (b : Bool) → total w (let t : StepOutcome = if b then moved (proposed rules core.replica.state command) core else without_messages core in t).core.connections
+    by : (b : Bool) → total w (let t : StepOutcome = if b then after_replica_step (proposed rules core.replica.state command) core else without_messages core in t).core.connections
         ≤ total w core.connections
     by true = total_moved w light (proposed rules core.replica.state command) core
     by false = same_le (total w core.connections)

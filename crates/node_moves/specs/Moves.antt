@@ -21,7 +21,7 @@ use Rattle.world_base.specs.Core.{CoreState, StepOutcome}
 use Rattle.world_base.specs.Failing.{closes_failed}
 use Rattle.world_base.specs.Handing.{hands_over}
 use Rattle.world_base.specs.Reading.{changes, open_at, refused}
-use Rattle.world_base.specs.Step.{node_step, opens, settled, crashed, with_cut}
+use Rattle.world_base.specs.Step.{node_step, with_next_connection, settled, crashed, with_cut}
 use Rattle.world_base.specs.Effects.{without_messages, proposes, drives, has_room}
 
 -- whether an input of a replica is a proposal
@@ -35,7 +35,7 @@ pub data Moves (core : CoreState) : StepOutcome → Type 0 where
   -- the replica receives a message or a tick, and its effects are done
   hears : (input : Input Command) → is_proposal input ≡ false → Moves core (drives input core)
   -- a connection is opened
-  opens_one : (port : Port) → Moves core (without_messages (opens port core))
+  opens_one : (port : Port) → Moves core (without_messages (with_next_connection port core))
   -- bytes come in on an open connection
   holds : (port : Port) (piece : List ℕ) →
       Moves core (without_messages (changes port (holding piece) core))

@@ -12,7 +12,7 @@ use Rattle.exactly_once.specs.broker_spec.Connection.{ConnectionName}
 use Rattle.exactly_once.specs.Sends.{sends_to}
 use Rattle.world_base.specs.declared.Connection.{Connection}
 use Rattle.world_base.specs.Core.{CoreState, StepOutcome, rules, serves}
-use Rattle.world_base.specs.Effects.{heard}
+use Rattle.world_base.specs.Effects.{outcome_of_input}
 use Rattle.node_moves.specs.Moves.{Moves}
 use Rattle.node_moves.specs.Moves.Moves.{hears, reads_first, reads_later, loses_one, loses_next, expels_one, hands}
 use Rattle.node_moves.specs.Ends.{IsOrderly, open_named}
@@ -20,7 +20,7 @@ use Rattle.node_moves.specs.Ends.{IsOrderly, open_named}
 -- the effects of its replica in a move
 abbrev pub given_in : {core : CoreState} {outcome : StepOutcome} → Moves core outcome →
     List (Effect Command Output)
-given_in {core = core} (hears input is) = (heard input core.replica.state).effects
+given_in {core = core} (hears input is) = (outcome_of_input input core.replica.state).effects
 given_in {core = core} (reads_first now port c connect rest at first is room) =
     (proposed rules core.replica.state
     (commands.Connect c.name connect.client connect.clean)).effects

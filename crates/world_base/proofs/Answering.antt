@@ -16,32 +16,32 @@ use Rattle.ballot.specs.ballot_base.Replica.{CountedReplica, ReplicaState, is_ac
 use Rattle.ballot.specs.ballot_base.Sending.{Outcome, nothing_done}
 use Rattle.ballot.specs.ballot_base.Serving.{added, max_places, proposed}
 use Rattle.world_base.specs.Core.{CoreState, rules, serves}
-use Rattle.world_base.specs.Inside.{StepsReplicaOrLoses, Answered, HandledAll, ProposedBy, Ran}
+use Rattle.world_base.specs.Inside.{StepsReplicaOrLoses, Answered, HandledAll, ProposedBy, RanStep}
 use Rattle.world_base.specs.Lossy.{Account, HandlesAll, Drives, without_effects}
 use Rattle.world_base.specs.LossyProposals.{ProposesCommand}
 use Rattle.world_base.specs.LossyProposals.Declines.{no_room, forgets, stops}
-use Rattle.world_base.specs.Effects.{has_room, heard}
+use Rattle.world_base.specs.Effects.{has_room, outcome_of_input}
 use Rattle.world_base.proofs.Asked.{left_true, right_false, has_room_by, proposed-stopped}
 use Rattle.world_base.proofs.Accounts.{ran_without_effects}
 use Rattle.world_base.proofs.Delivering.{delivers_nothing}
 
 -- ---- a message or a tick
 
-heard_stopped : (input : Input Command) (r : ReplicaState State Command) → r.stopped ≡ true → nothing_done Output r ≡ heard input r
+heard_stopped : (input : Input Command) (r : ReplicaState State Command) → r.stopped ≡ true → nothing_done Output r ≡ outcome_of_input input r
 heard_stopped input r e = ap (λ (b : Bool). if b then nothing_done Output r else replica_step rules r input) (sym e)
 
-heard_running : (input : Input Command) (r : ReplicaState State Command) → r.stopped ≡ false → replica_step rules r input ≡ heard input r
+heard_running : (input : Input Command) (r : ReplicaState State Command) → r.stopped ≡ false → replica_step rules r input ≡ outcome_of_input input r
 heard_running input r e = ap (λ (b : Bool). if b then nothing_done Output r else replica_step rules r input) (sym e)
 
 pub acts_heard : (input : Input Command) (old : CoreState) (new : CountedReplica State Command) (before later : List (Effect Command Output)) →
     before ≡ [] →
     (old.replica.state.stopped ≡ false → Stepped rules old.replica (replica_step rules old.replica.state input) new before later) →
     (old.replica.state.stopped ≡ true → (new ≡ old.replica) × (later ≡ before)) →
-    StepsReplicaOrLoses (heard input old.replica.state) old (record old { replica = new }) later
+    StepsReplicaOrLoses (outcome_of_input input old.replica.state) old (record old { replica = new }) later
 acts_heard input old new before later none step stays =
     record { replica = new; core = refl; steps = by (old.replica.state.stopped) refl }
   where
-    by : (b : Bool) → old.replica.state.stopped ≡ b → Steps rules old.replica (heard input old.replica.state) new later
+    by : (b : Bool) → old.replica.state.stopped ≡ b → Steps rules old.replica (outcome_of_input input old.replica.state) new later
     by true e =
         let same = stays e in
         subst (λ (o : Outcome State Command Output). Steps rules old.replica o new later) (heard_stopped input old.replica.state e)
@@ -57,7 +57,7 @@ acts_heard input old new before later none step stays =
         (subst (λ (l : List (Effect Command Output)). Steps rules old.replica (replica_step rules old.replica.state input) new l) given did.steps)
 
 pub drives_all : (input : Input Command) (a b c : CoreState) (given x y : List (Effect Command Output)) →
-    StepsReplicaOrLoses (heard input a.replica.state) a b given → HandledAll given b c x y → Ran (Drives input) a c x y
+    StepsReplicaOrLoses (outcome_of_input input a.replica.state) a b given → HandledAll given b c x y → RanStep (Drives input) a c x y
 drives_all input a b c given x y acts delivered =
     record {
       did = record { core = c; given = given; messages = delivered.messages };
@@ -75,9 +75,9 @@ pub acts_kept : (input : Input Command) (old : CoreState) (new : CountedReplica 
     (after : CoreState) → before ≡ [] →
     (old.replica.state.stopped ≡ false → Stepped rules old.replica (replica_step rules old.replica.state input) new before later) →
     (old.replica.state.stopped ≡ true → (new ≡ old.replica) × (later ≡ before)) → after ≡ record old { replica = new } →
-    StepsReplicaOrLoses (heard input old.replica.state) old after later
+    StepsReplicaOrLoses (outcome_of_input input old.replica.state) old after later
 acts_kept input old new before later after none step stays kept =
-    subst (λ (k : CoreState). StepsReplicaOrLoses (heard input old.replica.state) old k later) (sym kept)
+    subst (λ (k : CoreState). StepsReplicaOrLoses (outcome_of_input input old.replica.state) old k later) (sym kept)
     (acts_heard input old new before later none step stays)
 
 -- a replica that has stopped hands nothing out
@@ -184,7 +184,7 @@ answered_kept result old new command before later after none serving step done h
 
 -- with what it gave
 pub proposed_all : (taken : Bool) (command : Command) (a b c : CoreState) (given x y : List (Effect Command Output)) →
-    Answered taken command a b given → HandledAll given b c x y → Ran (ProposedBy taken command) a c x y
+    Answered taken command a b given → HandledAll given b c x y → RanStep (ProposedBy taken command) a c x y
 proposed_all true command a b c given x y took delivered =
     record {
       did = record { core = c; given = given; messages = delivered.messages };
@@ -208,7 +208,7 @@ proposed_all false command a b c given x y declined delivered =
 
 -- it was not put to the replica
 pub proposed_not : (command : Command) (core : CoreState) (x : List (Effect Command Output)) → serves core ≡ false →
-    Ran (ProposedBy false command) core core x x
+    RanStep (ProposedBy false command) core core x x
 proposed_not command core x idle =
     ran_without_effects (ProposedBy false command) core core x (no_room (rw idle refl) refl)
 

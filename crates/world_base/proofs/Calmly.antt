@@ -17,9 +17,9 @@ use Rattle.world_base.specs.Core.{CoreState, StepOutcome, serves}
 use Rattle.world_base.specs.Failing.{loses_all_failed, loses_failed}
 use Rattle.world_base.specs.Handing.{bytes_of, hands_over, left_by, listed_at}
 use Rattle.world_base.specs.Losses.{IsHeardQuietly, IsIgnored, ReadsNone, ItemTakesNoMemory, WaitsNothing, was_proposed}
-use Rattle.world_base.specs.Reading.{changes, ends, loses_open, open_at}
+use Rattle.world_base.specs.Reading.{changes, port_closed, loses_open, open_at}
 use Rattle.world_base.specs.Step.{acts_on, crashed, node_step, settled, does_item}
-use Rattle.world_base.specs.Effects.{handled_all, drives, heard, without_messages, then_also}
+use Rattle.world_base.specs.Effects.{handled_all, drives, outcome_of_input, without_messages, then_also}
 use Rattle.world_base.proofs.Failures.{failed_next}
 use Rattle.world_base.proofs.Idle.{closing_fails_none, repeated_without_messages, takes_nothing}
 
@@ -96,7 +96,7 @@ nothing_goes : (item : Item) (core : CoreState) → does_item item core ≡ with
 nothing_goes item core is = record { next = core; is = is; fails_none = λ none. none; waits = λ each. each }
 
 ends_calmly : (port : Port) (core : CoreState) → was_proposed (open_at port core) ≡ false → GoesCalmly (Ended port) core
-unfolding ends changes
+unfolding port_closed changes
 ends_calmly port core unproposed = by (open_at port core) refl unproposed
   where
     by : (o : Option Connection) → open_at port core ≡ o → was_proposed o ≡ false → GoesCalmly (Ended port) core
@@ -121,7 +121,7 @@ hears_calmly message core heard_so =
     }
   where
     learnt : CoreState
-    learnt = record core { replica = record core.replica { state = (heard (Receives message) core.replica.state).state } }
+    learnt = record core { replica = record core.replica { state = (outcome_of_input (Receives message) core.replica.state).state } }
 
 message_calmly : (message : Message Command) (core : CoreState) → IsIgnored (Receives message) core ⊎ IsHeardQuietly message core → ReadsNone message core →
     GoesCalmly (Peer message) core

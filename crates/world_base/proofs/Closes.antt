@@ -13,32 +13,32 @@ use Rattle.node_connections.specs.declared.connection.Connection.{Connection}
 use Rattle.node_connections.specs.Connections.{is_proposed}
 use Rattle.node_connections.specs.ConnectionChanges.{closed}
 use Rattle.world_base.specs.Core.{CoreState, StepOutcome, rules, serves}
-use Rattle.world_base.specs.Inside.{Running, DoesExactly, DoesOutcome}
-use Rattle.world_base.specs.Reading.{changes, ends, open_at}
+use Rattle.world_base.specs.Inside.{RunningStep, DoesExactly, DoesOutcome}
+use Rattle.world_base.specs.Reading.{changes, port_closed, open_at}
 use Rattle.world_base.specs.Effects.{without_messages, then_also, proposes, has_room}
 use Rattle.world_base.proofs.Asked.{left_true}
 use Rattle.world_base.proofs.StepsJoin.{turns_idle, turns_join, turns_as, turns_after, turns_without_messages}
 
 -- if no connection of the port is open nothing is done
-pub ends_none : (port : Port) (r : Running) (out : List (Effect Command Output)) → open_at port r.core ≡ None →
-    DoesOutcome r r out out (ends port r.core)
-unfolding ends
+pub ends_none : (port : Port) (r : RunningStep) (out : List (Effect Command Output)) → open_at port r.core ≡ None →
+    DoesOutcome r r out out (port_closed port r.core)
+unfolding port_closed
 ends_none port r out none = subst (λ (t : StepOutcome). DoesOutcome r r out out t) (rw none refl) (turns_idle r out)
 
 -- the connection's CONNECT was proposed, and its loss is reported to the broker
-pub ends_proposed : (port : Port) (c : Connection) (a b r : Running) (x y : List (Effect Command Output)) →
+pub ends_proposed : (port : Port) (c : Connection) (a b r : RunningStep) (x y : List (Effect Command Output)) →
     open_at port a.core ≡ Some c → is_proposed c.stage ≡ true → b ≡ record a { core = changes port closed a.core } →
-    DoesOutcome b r x y (proposes (commands.Lost c.name) b.core) → DoesOutcome a r x y (ends port a.core)
-unfolding ends
+    DoesOutcome b r x y (proposes (commands.Lost c.name) b.core) → DoesOutcome a r x y (port_closed port a.core)
+unfolding port_closed
 ends_proposed port c a b r x y found heard shut turns =
     subst (λ (t : StepOutcome). DoesOutcome a r x y t) (rw (found, heard) refl)
     (turns_after a b r x y (changes port closed a.core) (proposes (commands.Lost c.name)) shut turns)
 
 -- it did not
-pub ends_other : (port : Port) (c : Connection) (a b : Running) (x : List (Effect Command Output)) →
+pub ends_other : (port : Port) (c : Connection) (a b : RunningStep) (x : List (Effect Command Output)) →
     open_at port a.core ≡ Some c → is_proposed c.stage ≡ false → b ≡ record a { core = changes port closed a.core } →
-    DoesOutcome a b x x (ends port a.core)
-unfolding ends
+    DoesOutcome a b x x (port_closed port a.core)
+unfolding port_closed
 ends_other port c a b x found silent shut =
     subst (λ (t : StepOutcome). DoesOutcome a b x x t) (rw (found, silent) refl)
     (turns_without_messages a b x (changes port closed a.core) (λ _. shut))
@@ -71,7 +71,7 @@ proposes_nothing command core e =
         rw (full.0, nothing) refl
 
 -- a refused proposal closes the connection
-pub closes_refused : (port : Port) (command : Command) (a b c : Running)
+pub closes_refused : (port : Port) (command : Command) (a b c : RunningStep)
     (x y : List (Effect Command Output)) → (c.out_of_memory ≡ false → false ≡ has_room a.core) →
     DoesOutcome a b x y (proposes command a.core) → DoesExactly b c (changes port closed b.core) →
     DoesOutcome a c x y (if has_room a.core then proposes command a.core else without_messages (changes port closed a.core))

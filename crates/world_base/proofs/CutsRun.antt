@@ -7,7 +7,7 @@ use Rattle.ballot.specs.ballot_base.Cutting.{can_cut, cut}
 use Rattle.ballot.specs.ballot_base.Losses.{one_more}
 use Rattle.ballot.specs.ballot_base.Replica.{CountedReplica, ReplicaState}
 use Rattle.world_base.specs.Core.{CoreState, rules}
-use Rattle.world_base.specs.Inside.{DoesExactly, Running}
+use Rattle.world_base.specs.Inside.{DoesExactly, RunningStep}
 use Rattle.world_base.specs.Lossy.{without_effects}
 use Rattle.world_base.specs.LossyStep.{Cuts}
 use Rattle.world_base.specs.LossyStep.Cuts.{nothing_to_cut, cuts_log, forgets_cut}
@@ -48,7 +48,7 @@ cut_exactly core new false r same below = by_need (cases_Bool (can_cut core.repl
     by_need (inr cannot) = rw cannot (ap (λ (x : CountedReplica State Command). let z : CoreState = record core { replica = x } in z) (r.idle cannot).1)
 
 -- so it is what was done, unless memory ran out
-pub cut_does : (old new : Running) (replica : CountedReplica State Command) (result : Bool) (before : ℕ) → ReplicaCut old.core replica result →
+pub cut_does : (old new : RunningStep) (replica : CountedReplica State Command) (result : Bool) (before : ℕ) → ReplicaCut old.core replica result →
     before ≡ old.core.replica.losses → new.core ≡ record old.core { replica = replica } →
     (new.out_of_memory ≡ false → (old.out_of_memory ≡ false) × ((replica.losses ≡ before) × (before < 2 ^ 64 - 1))) → DoesExactly old new (cuts old.core)
 cut_does old new replica result before r losses kept none quiet =

@@ -9,7 +9,7 @@ use Rattle.node_connections.specs.declared.connection.Connection.{Connection}
 use Rattle.node_connections.specs.Connections.{has_failed}
 use Rattle.world_base.specs.Core.{CoreState, StepOutcome}
 use Rattle.world_base.specs.Failing.{closes_failed, loses_failed}
-use Rattle.world_base.specs.Inside.{Running, DoesOutcome}
+use Rattle.world_base.specs.Inside.{RunningStep, DoesOutcome}
 use Rattle.world_base.specs.Effects.{without_messages, proposes}
 use Rattle.world_base.proofs.StepsJoin.{turns_idle, turns_after}
 
@@ -18,13 +18,13 @@ pub failed_next : (core : CoreState) → find has_failed core.connections ≡ No
 unfolding loses_failed
 failed_next core none = rw none refl
 
-pub failed_none : (r : Running) (out : List (Effect Command Output)) → find has_failed r.core.connections ≡ None →
+pub failed_none : (r : RunningStep) (out : List (Effect Command Output)) → find has_failed r.core.connections ≡ None →
     DoesOutcome r r out out (loses_failed r.core)
 unfolding loses_failed
 failed_none r out none = subst (λ (t : StepOutcome). DoesOutcome r r out out t) (rw none refl) (turns_idle r out)
 
 -- one did
-pub failed_one : (c : Connection) (a b r : Running) (x y : List (Effect Command Output)) →
+pub failed_one : (c : Connection) (a b r : RunningStep) (x y : List (Effect Command Output)) →
     find has_failed a.core.connections ≡ Some c → b ≡ record a { core = closes_failed a.core } →
     DoesOutcome b r x y (proposes (commands.Lost c.name) b.core) → DoesOutcome a r x y (loses_failed a.core)
 unfolding loses_failed
@@ -33,12 +33,12 @@ failed_one c a b r x y found shut turns =
     (turns_after a b r x y (closes_failed a.core) (proposes (commands.Lost c.name)) shut turns)
 
 -- if none failed nothing is done, and then nothing more
-pub none_again : (a b c : Running) → (find has_failed a.core.connections ≡ None → b ≡ a) →
+pub none_again : (a b c : RunningStep) → (find has_failed a.core.connections ≡ None → b ≡ a) →
     (find has_failed b.core.connections ≡ None → c ≡ b) → find has_failed a.core.connections ≡ None → c ≡ a
 none_again a b c first next none =
     let same = first none in
-    next (ap (λ (r : Running). find has_failed r.core.connections) same ∙ none) ∙ same
+    next (ap (λ (r : RunningStep). find has_failed r.core.connections) same ∙ none) ∙ same
 
-pub none_some : (c : Connection) (a b : Running) → find has_failed a.core.connections ≡ Some c →
+pub none_some : (c : Connection) (a b : RunningStep) → find has_failed a.core.connections ≡ Some c →
     find has_failed a.core.connections ≡ None → b ≡ a
 none_some c a b some none = absurd cc

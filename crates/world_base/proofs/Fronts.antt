@@ -24,7 +24,7 @@ use Rattle.node_connections.specs.ConnectionChanges.{changed, closed, left_with}
 use Rattle.world_base.specs.Core.{CoreState, StepOutcome}
 use Rattle.node_connections.specs.Fronts.{IsFaultOfBytes}
 use Rattle.node_connections.specs.Fronts.{TakesFront}
-use Rattle.world_base.specs.Inside.{Running, DoesOutcome}
+use Rattle.world_base.specs.Inside.{RunningStep, DoesOutcome}
 use Rattle.world_base.specs.Reading.{takes_first_packet, changes, loses, open_at, reads, reads_next, refused, proposes_packet}
 use Rattle.world_base.specs.Effects.{proposes, without_messages}
 use Rattle.world_base.proofs.StepsJoin.{turns_idle, turns_without_messages, turns_after}
@@ -75,7 +75,7 @@ becomes_itself port core c new found is =
 -- ---- what the front does to the node
 
 -- no connection of the port is open
-pub nothing_open : (now : ℕ) (port : Port) (r : Running) (out : List (Effect Command Output)) →
+pub nothing_open : (now : ℕ) (port : Port) (r : RunningStep) (out : List (Effect Command Output)) →
     open_at port r.core ≡ None → DoesOutcome r r out out (reads_next now port r.core)
 unfolding reads_next
 nothing_open now port r out none = subst (λ (t : StepOutcome). DoesOutcome r r out out t) (rw none refl) (turns_idle r out)
@@ -90,19 +90,19 @@ unfolding reads_next
 reads_by now port core c v found is = rw (found, is) refl
 
 -- less than a packet: nothing changes
-same_after : (now : ℕ) (port : Port) (c new : Connection) (a b : Running) → open_at port a.core ≡ Some c →
+same_after : (now : ℕ) (port : Port) (c new : Connection) (a b : RunningStep) → open_at port a.core ≡ Some c →
     TakesFront now c fronts.More new → b ≡ record a { core = changes port (λ _. new) a.core } → b ≡ a
 same_after now port c new a b found did is =
     is ∙ ap (λ (k : CoreState). record a { core = k }) (becomes_itself port a.core c new found did.1)
 
-pub more_next : (now : ℕ) (port : Port) (c new : Connection) (a b : Running) → open_at port a.core ≡ Some c →
+pub more_next : (now : ℕ) (port : Port) (c new : Connection) (a b : RunningStep) → open_at port a.core ≡ Some c →
     TakesFront now c fronts.More new → b ≡ record a { core = changes port (λ _. new) a.core } →
     reads_next now port b.core ≡ without_messages b.core
 more_next now port c new a b found did is =
-    subst (λ (r : Running). reads_next now port r.core ≡ without_messages r.core) (sym (same_after now port c new a b found did is))
+    subst (λ (r : RunningStep). reads_next now port r.core ≡ without_messages r.core) (sym (same_after now port c new a b found did is))
     (sym (reads_by now port a.core c (Err stops.More) found did.0))
 
-pub more_there : (now : ℕ) (port : Port) (c new : Connection) (a b : Running) (out : List (Effect Command Output)) →
+pub more_there : (now : ℕ) (port : Port) (c new : Connection) (a b : RunningStep) (out : List (Effect Command Output)) →
     open_at port a.core ≡ Some c → TakesFront now c fronts.More new →
     b ≡ record a { core = changes port (λ _. new) a.core } → DoesOutcome a b out out (reads_next now port a.core)
 more_there now port c new a b out found did is =
@@ -111,7 +111,7 @@ more_there now port c new a b out found did is =
     (turns_without_messages a b out (changes port (λ _. new) a.core) (λ _. is))
 
 -- a packet
-pub packet_there : (now : ℕ) (port : Port) (c new : Connection) (packet : Packet) (a b r : Running) (x y : List (Effect Command Output)) →
+pub packet_there : (now : ℕ) (port : Port) (c new : Connection) (packet : Packet) (a b r : RunningStep) (x y : List (Effect Command Output)) →
     open_at port a.core ≡ Some c → TakesFront now c (fronts.Packet packet) new →
     b ≡ record a { core = changes port (λ _. new) a.core } →
     DoesOutcome b r x y (if is_first c.stage then takes_first_packet port c.name packet b.core else proposes_packet port c.name packet b.core) →
@@ -124,13 +124,13 @@ packet_there now port c new packet a b r x y found did is turns =
     (is ∙ ap (λ (k : CoreState). record a { core = k }) (becomes_same port a.core c new (left_with now rest) found did.3)) turns)
 
 -- a first packet that is no CONNECT
-other_turns : (port : Port) (name : ConnectionName) (packet : Packet) (a b : Running) (x : List (Effect Command Output)) →
+other_turns : (port : Port) (name : ConnectionName) (packet : Packet) (a b : RunningStep) (x : List (Effect Command Output)) →
     ((connect : Connect) → packet ≡ packets.Connect connect → ⊥) → b ≡ record a { core = changes port closed a.core } →
     DoesOutcome a b x x (takes_first_packet port name packet a.core)
 other_turns port name (packets.Connect connect) a b x other shut = absurd (other connect refl)
 other_turns port name _ a b x other shut = turns_without_messages a b x (changes port closed a.core) (λ _. shut)
 
-pub turns_other : (awaits : Bool) (port : Port) (name : ConnectionName) (packet : Packet) (a b : Running) (x : List (Effect Command Output)) →
+pub turns_other : (awaits : Bool) (port : Port) (name : ConnectionName) (packet : Packet) (a b : RunningStep) (x : List (Effect Command Output)) →
     awaits ≡ true → ((connect : Connect) → packet ≡ packets.Connect connect → ⊥) → b ≡ record a { core = changes port closed a.core } →
     DoesOutcome a b x x (if awaits then takes_first_packet port name packet a.core else proposes_packet port name packet a.core)
 turns_other awaits port name packet a b x is other shut =
@@ -145,7 +145,7 @@ Told c core = if is_proposed c.stage then proposes (commands.Lost c.name) core e
 lost_there : (port : Port) (c : Connection) (core : CoreState) → Told c (changes port closed core) ≡ loses port c core
 lost_there port c core = refl
 
-pub fault_there : (now : ℕ) (port : Port) (c new : Connection) (a b r : Running) (x y : List (Effect Command Output)) →
+pub fault_there : (now : ℕ) (port : Port) (c new : Connection) (a b r : RunningStep) (x y : List (Effect Command Output)) →
     open_at port a.core ≡ Some c → TakesFront now c fronts.Fault new →
     b ≡ record a { core = changes port (λ _. new) a.core } → DoesOutcome b r x y (Told c b.core) →
     DoesOutcome a r x y (reads_next now port a.core)
@@ -162,7 +162,7 @@ fault_there now port c new a b r x y found did is turns = by (verdict c.unread) 
     by (Err (stops.Refused code)) e fault = absurd fault
     by (Ok _) e fault = absurd fault
 
-pub refused_there : (now : ℕ) (port : Port) (c new : Connection) (code : RefusalCode) (a b r : Running) (x y : List (Effect Command Output)) →
+pub refused_there : (now : ℕ) (port : Port) (c new : Connection) (code : RefusalCode) (a b r : RunningStep) (x y : List (Effect Command Output)) →
     open_at port a.core ≡ Some c → TakesFront now c (fronts.Refused code) new →
     b ≡ record a { core = changes port (λ _. new) a.core } → DoesOutcome b r x y (Told c b.core) →
     DoesOutcome a r x y (reads_next now port a.core)
@@ -183,7 +183,7 @@ refused_there now port c new code a b r x y found did is turns =
     by Failed e is_new = rw (e) (rw (e) at (after closed (rw (e) at is_new)))
 
 -- either of them
-pub gone_there : (now : ℕ) (port : Port) (c new : Connection) (front : Front) (a b r : Running) (x y : List (Effect Command Output)) →
+pub gone_there : (now : ℕ) (port : Port) (c new : Connection) (front : Front) (a b r : RunningStep) (x y : List (Effect Command Output)) →
     open_at port a.core ≡ Some c → TakesFront now c front new →
     ((code : RefusalCode) × (front ≡ fronts.Refused code)) ⊎ (front ≡ fronts.Fault) →
     b ≡ record a { core = changes port (λ _. new) a.core } → DoesOutcome b r x y (Told c b.core) →

@@ -33,7 +33,7 @@ use Rattle.world_base.specs.LossyReading.EndsSilent.{none_silent, ends_one}
 use Rattle.world_base.specs.LossyReading.LosesFailed.{none_failed, tells_one}
 use Rattle.world_base.specs.LossyReading.ReadsNext.{waits, first, later, refuses, ends}
 use Rattle.world_base.specs.Reading.{changes, open_at, refused, unread_of}
-use Rattle.world_base.specs.Step.{next_name, opens}
+use Rattle.world_base.specs.Step.{next_name, with_next_connection}
 use Rattle.world_base.proofs.ConnectionsGoOn.{apart_on, changed_on, delivers_on, each_both, each_itself, goes_closed, goes_failing, goes_refused, goes_still}
 
 -- each connection continues in what was done
@@ -198,9 +198,9 @@ with_none_new item core did is on =
     }
 
 -- a connection is opened, or not
-opens_one : (port : Port) (core : CoreState) → (opens port core ≡ core)
-    ⊎ ((opens port core).connections ≡ core.connections ++ fresh port (next_name core) ∷ [])
-unfolding opens
+opens_one : (port : Port) (core : CoreState) → (with_next_connection port core ≡ core)
+    ⊎ ((with_next_connection port core).connections ≡ core.connections ++ fresh port (next_name core) ∷ [])
+unfolding with_next_connection
 opens_one port core =
     by ((serves core && not (list_any (is_at port) core.connections)) && is_connection_name (next_name core))
   where
@@ -225,7 +225,7 @@ opened_on port now core did acts = by acts.first (opens_one port core)
         (λ k d same. without_effects_on k k d same (each_itself k.connections)) all_failed_on core did
         (record { one = acts.one; two = acts.two; first = is; next = acts.next; is = acts.is }))
 
-    one : acts.one ≡ without_effects (opens port core) → (opens port core).connections ≡ core.connections ++ fresh port (next_name core) ∷ [] →
+    one : acts.one ≡ without_effects (with_next_connection port core) → (with_next_connection port core).connections ≡ core.connections ++ fresh port (next_name core) ∷ [] →
         GoOn (Opened port now) core did
     one is more =
         record {
@@ -233,13 +233,13 @@ opened_on port now core did acts = by acts.first (opens_one port core)
           is_new = inr refl;
           each = λ apart. subst (λ (l : List Connection). EachGoesOn did.given l did.core.connections) more
               (then_on (λ k d. d ≡ without_effects k) (λ k d. Repeated (length k.connections) LosesFailed k d)
-              (λ k d same. without_effects_on k k d same (each_itself k.connections)) all_failed_on (opens port core) did
+              (λ k d same. without_effects_on k k d same (each_itself k.connections)) all_failed_on (with_next_connection port core) did
               (record { one = acts.one; two = acts.two; first = is; next = acts.next; is = acts.is })
               (subst (λ (l : List Connection). AreNamedApart l) (sym more) apart));
         }
 
-    by : AcceptsConnection port core acts.one → (opens port core ≡ core)
-        ⊎ ((opens port core).connections ≡ core.connections ++ fresh port (next_name core) ∷ []) → GoOn (Opened port now) core did
+    by : AcceptsConnection port core acts.one → (with_next_connection port core ≡ core)
+        ⊎ ((with_next_connection port core).connections ≡ core.connections ++ fresh port (next_name core) ∷ []) → GoOn (Opened port now) core did
     by (inl is) (inl same) = none (is ∙ ap without_effects same)
     by (inl is) (inr more) = one is more
     by (inr is) any = none is

@@ -6,14 +6,14 @@ use Rattle.node_connections.specs.declared.connection.Connection.{Connection}
 use Rattle.node_connections.specs.Connections.{is_at, is_listed}
 use Rattle.node_connections.specs.ConnectionChanges.{handed}
 use Rattle.world_base.specs.Handing.{hands_over, listed_at}
-use Rattle.world_base.specs.Inside.{Running}
+use Rattle.world_base.specs.Inside.{RunningStep}
 use Rattle.world_base.proofs.Indices.{index_changed}
 
-pub handed_none : (port : Port) (r : Running) → listed_at port r.core ≡ None → r ≡ record r { core = hands_over port r.core }
+pub handed_none : (port : Port) (r : RunningStep) → listed_at port r.core ≡ None → r ≡ record r { core = hands_over port r.core }
 unfolding hands_over
 handed_none port r none = rw none refl
 
-pub handed_there : (port : Port) (r : Running) (index : Option ℕ) (i : ℕ) (c new : Connection) (left : List Connection) →
+pub handed_there : (port : Port) (r : RunningStep) (index : Option ℕ) (i : ℕ) (c new : Connection) (left : List Connection) →
     index ≡ position (is_at port) r.core.connections → index ≡ Some i → c ≡ get_or r.core.connections i c →
     listed_at port r.core ≡ Some c → new ≡ handed c → left ≡ filter is_listed (set r.core.connections i new) →
     record r { core = record r.core { connections = left } } ≡ record r { core = hands_over port r.core }

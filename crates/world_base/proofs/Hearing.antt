@@ -18,7 +18,7 @@ use Rattle.node_connections.specs.Connections.{has_failed}
 use Rattle.world_base.specs.declared.item.Item.{Item}
 use Rattle.world_base.specs.declared.item.Item.TheVariants.{Peer}
 use Rattle.world_base.specs.Core.{CoreState, rules}
-use Rattle.world_base.specs.Inside.{Running, WithoutFailure}
+use Rattle.world_base.specs.Inside.{RunningStep, WithoutFailure}
 use Rattle.world_base.specs.Losses.{IsHeardQuietly, ReadsNone}
 
 -- a list with something at its end has something
@@ -40,7 +40,7 @@ given_nothing old o new given e (inr (inr (inl (same, is)), counted)) = is
 given_nothing old o new given e (inr (inr (inr (same, is)), counted)) = is
 
 -- only the replica
-pub heard_quietly : (message : Message Command) (old mid new : Running) (replica : CountedReplica State Command) (before after : List (Effect Command Output)) (losses : ℕ) →
+pub heard_quietly : (message : Message Command) (old mid new : RunningStep) (replica : CountedReplica State Command) (before after : List (Effect Command Output)) (losses : ℕ) →
     before ≡ [] →
     (old.core.replica.state.stopped ≡ false →
     Stepped rules old.core.replica (replica_step rules old.core.replica.state (Receives message)) replica before after) →
@@ -53,8 +53,8 @@ pub heard_quietly : (message : Message Command) (old mid new : Running) (replica
     IsHeardQuietly message old.core → ReadsNone message old.core → WithoutFailure old new × (after ≡ [])
 heard_quietly message old mid new replica before after losses empty step still stays is was notes quiet reads = (
   record {
-    out_of_memory = ap (λ (r : Running). r.out_of_memory) becomes;
-    failed = λ none. ap (λ (r : Running). find has_failed r.core.connections) becomes ∙ none;
+    out_of_memory = ap (λ (r : RunningStep). r.out_of_memory) becomes;
+    failed = λ none. ap (λ (r : RunningStep). find has_failed r.core.connections) becomes ∙ none;
   },
   (by old.core.replica.state.stopped refl).1,
 )
@@ -75,17 +75,17 @@ heard_quietly message old mid new replica before after losses empty step still s
         )
 
     same_losses : mid.core.replica.losses ≡ losses
-    same_losses = ap (λ (r : Running). r.core.replica.losses) is ∙ (by old.core.replica.state.stopped refl).0 ∙ sym was
+    same_losses = ap (λ (r : RunningStep). r.core.replica.losses) is ∙ (by old.core.replica.state.stopped refl).0 ∙ sym was
 
     becomes : new ≡ record old { core = record old.core { replica = replica } }
     becomes = notes same_losses (subst (λ (k : ℕ). k < 2 ^ 64 - 1) (sym was) quiet.1) ∙ is
 
 -- with what it gave, which is nothing
-pub delivers_calmly : (a b c : Running) (given : List (Effect Command Output)) → WithoutFailure a b × (given ≡ []) → (given ≡ [] → c ≡ b) → WithoutFailure a c
-delivers_calmly a b c given heard nothing = subst (λ (r : Running). WithoutFailure a r) (sym (nothing heard.1)) heard.0
+pub delivers_calmly : (a b c : RunningStep) (given : List (Effect Command Output)) → WithoutFailure a b × (given ≡ []) → (given ≡ [] → c ≡ b) → WithoutFailure a c
+delivers_calmly a b c given heard nothing = subst (λ (r : RunningStep). WithoutFailure a r) (sym (nothing heard.1)) heard.0
 
 -- the item
-pub peer_calmly : (message seen : Message Command) (item : Item) (a b : Running) → item ≡ Peer seen → item ≡ Peer message →
+pub peer_calmly : (message seen : Message Command) (item : Item) (a b : RunningStep) → item ≡ Peer seen → item ≡ Peer message →
     (IsHeardQuietly seen a.core → ReadsNone seen a.core → WithoutFailure a b) → IsHeardQuietly message a.core → ReadsNone message a.core → WithoutFailure a b
 peer_calmly message seen item a b is same calm =
     let e : seen ≡ message = cc in

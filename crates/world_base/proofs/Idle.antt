@@ -18,7 +18,7 @@ use Rattle.node_connections.specs.Connections.{has_failed, is_open_at, is_propos
 use Rattle.node_connections.specs.ConnectionChanges.{changed, closed, holding}
 use Rattle.world_base.specs.Core.{CoreState, StepOutcome}
 use Rattle.world_base.specs.Failing.{loses_all_failed}
-use Rattle.world_base.specs.Inside.{Ran, Running, DoesOutcome, WithoutFailure}
+use Rattle.world_base.specs.Inside.{RanStep, RunningStep, DoesOutcome, WithoutFailure}
 use Rattle.world_base.specs.KeepAlive.{ends_all_silent, ends_silent}
 use Rattle.world_base.specs.Losses.{DoesNothing, IsHeardQuietly, IsIgnored, ReadsNone, ItemTakesNoMemory, was_proposed}
 use Rattle.world_base.specs.Lossy.{Account, Drives, Repeated, without_effects}
@@ -30,9 +30,9 @@ use Rattle.world_base.specs.LossyProposals.Declines.{no_room}
 use Rattle.world_base.specs.LossyStep.Cuts.{nothing_to_cut}
 use Rattle.world_base.specs.LossyReading.EndsConnection.{none_open}
 use Rattle.world_base.specs.LossyReading.EndsSilent.{none_silent}
-use Rattle.world_base.specs.Reading.{changes, ends, open_at, reads_all, reads_next, unread_of}
-use Rattle.world_base.specs.Step.{accepts, acts_on, cuts, opens, does_item}
-use Rattle.world_base.specs.Effects.{drives, moved, without_messages, repeated, then_also}
+use Rattle.world_base.specs.Reading.{changes, port_closed, open_at, reads_all, reads_next, unread_of}
+use Rattle.world_base.specs.Step.{accepts_connection, acts_on, cuts, with_next_connection, does_item}
+use Rattle.world_base.specs.Effects.{drives, after_replica_step, without_messages, repeated, then_also}
 use Rattle.world_base.proofs.Accounts.{ran_without_effects, ran_then}
 use Rattle.world_base.proofs.Closes.{proposes_nothing}
 use Rattle.world_base.proofs.Indices.{none_found, none_indexed}
@@ -55,7 +55,7 @@ idle_repeated Next (suc n) core idle =
 
 drives_nothing : (input : Input Command) (core : CoreState) → IsIgnored input core → drives input core ≡ without_messages core
 unfolding drives
-drives_nothing input core ignored = ap (λ (o : Outcome State Command Output). moved o core) ignored
+drives_nothing input core ignored = ap (λ (o : Outcome State Command Output). after_replica_step o core) ignored
 
 drives_idle : (input : Input Command) (core : CoreState) → IsIgnored input core → Drives input core (without_effects core)
 drives_idle input core ignored =
@@ -87,7 +87,7 @@ unfolding changes
 nothing_changes port change core none =
     ap (λ (l : List Connection). record core { connections = l }) (unchanged (is_open_at port) change core.connections none)
 
-pub closes_nothing : (port : Port) (r : Running) → open_at port r.core ≡ None → r ≡ record r { core = changes port closed r.core }
+pub closes_nothing : (port : Port) (r : RunningStep) → open_at port r.core ≡ None → r ≡ record r { core = changes port closed r.core }
 closes_nothing port r none = ap (λ (k : CoreState). let r2 : Running = record r { core = k } in r2) (sym (nothing_changes port closed r.core none))
 
 -- one whose CONNECT was proposed counts as told
@@ -103,12 +103,12 @@ reads_nothing : (now : ℕ) (port : Port) (core : CoreState) → open_at port co
 reads_nothing now port core none =
     subst (λ (o : Option Connection). Repeated (unread_of o) (ReadsNext now port) core (without_effects core)) (sym none) refl
 
-ends_nothing : (port : Port) (core : CoreState) → open_at port core ≡ None → ends port core ≡ without_messages core
-unfolding ends
+ends_nothing : (port : Port) (core : CoreState) → open_at port core ≡ None → port_closed port core ≡ without_messages core
+unfolding port_closed
 ends_nothing port core none = rw none refl
 
-opens_nothing : (port : Port) (core : CoreState) → accepts port core ≡ false → opens port core ≡ core
-unfolding opens
+opens_nothing : (port : Port) (core : CoreState) → accepts_connection port core ≡ false → with_next_connection port core ≡ core
+unfolding with_next_connection
 opens_nothing port core none = rw none refl
 
 cuts_nothing : (core : CoreState) → can_cut core.replica.state ≡ false → cuts core ≡ core
@@ -165,31 +165,31 @@ none_open_at port core (Some i) false at is =
     ((λ e. absurd cc), (λ found. absurd (none_indexed (is_open_at port) core.connections i at found)))
 
 -- the reports of connections that failed, if there are any, are all that is done
-pub turns_ignored : (item : Item) (a b : Running) (x y : List (Effect Command Output)) → DoesNothing item a.core →
+pub turns_ignored : (item : Item) (a b : RunningStep) (x y : List (Effect Command Output)) → DoesNothing item a.core →
     DoesOutcome a b x y (loses_all_failed a.core) → DoesOutcome a b x y (acts_on item a.core)
 turns_ignored item a b x y idle turns =
     subst (λ (t : StepOutcome). DoesOutcome a b x y t) (sym (ap (λ (t : StepOutcome). then_also t loses_all_failed) (takes_nothing item a.core idle))) turns
 
 pub ran_ignored : (item : Item) (a b : CoreState) (x y : List (Effect Command Output)) → DoesNothing item a →
-    Ran LosesAllFailed a b x y → Ran (ActsOn item) a b x y
+    RanStep LosesAllFailed a b x y → RanStep (ActsOn item) a b x y
 ran_ignored item a b x y idle ran =
     ran_then (DoesItem item) LosesAllFailed a a b x x y (ran_without_effects (DoesItem item) a a x (takes_idle item a idle)) ran
 
 -- if nothing failed there are none
-pub quiet_ignored : (a b : Running) → (find has_failed a.core.connections ≡ None → b ≡ a) → find has_failed a.core.connections ≡ None →
+pub quiet_ignored : (a b : RunningStep) → (find has_failed a.core.connections ≡ None → b ≡ a) → find has_failed a.core.connections ≡ None →
     b.out_of_memory ≡ a.out_of_memory
-quiet_ignored a b none failed = ap (λ (r : Running). r.out_of_memory) (none failed)
+quiet_ignored a b none failed = ap (λ (r : RunningStep). r.out_of_memory) (none failed)
 
-calm_then : (a b c : Running) → WithoutFailure a b → (find has_failed b.core.connections ≡ None → c ≡ b) → find has_failed a.core.connections ≡ None →
+calm_then : (a b c : RunningStep) → WithoutFailure a b → (find has_failed b.core.connections ≡ None → c ≡ b) → find has_failed a.core.connections ≡ None →
     c.out_of_memory ≡ a.out_of_memory
-calm_then a b c calm none failed = ap (λ (r : Running). r.out_of_memory) (none (calm.failed failed)) ∙ calm.out_of_memory
+calm_then a b c calm none failed = ap (λ (r : RunningStep). r.out_of_memory) (none (calm.failed failed)) ∙ calm.out_of_memory
 
-heeded : (item : Item) (a c : Running) (ignored : Bool) → ignored ≡ false → (ignored ≡ true) ↔ DoesNothing item a.core → DoesNothing item a.core →
+heeded : (item : Item) (a c : RunningStep) (ignored : Bool) → ignored ≡ false → (ignored ≡ true) ↔ DoesNothing item a.core → DoesNothing item a.core →
     c.out_of_memory ≡ a.out_of_memory
 heeded item a c ignored is decides idle = (let e = decides.1 idle in absurd cc)
 
 -- a message that has an effect is heard quietly
-heard_then : (message : Message Command) (a b c : Running) (ignored : Bool) → ignored ≡ false → (ignored ≡ true) ↔ DoesNothing (Peer message) a.core →
+heard_then : (message : Message Command) (a b c : RunningStep) (ignored : Bool) → ignored ≡ false → (ignored ≡ true) ↔ DoesNothing (Peer message) a.core →
     (IsHeardQuietly message a.core → ReadsNone message a.core → WithoutFailure a b) → (find has_failed b.core.connections ≡ None → c ≡ b) →
     IsIgnored (Receives message) a.core ⊎ IsHeardQuietly message a.core → ReadsNone message a.core → find has_failed a.core.connections ≡ None →
     c.out_of_memory ≡ a.out_of_memory
@@ -198,7 +198,7 @@ heard_then message a b c ignored is decides heard none (inr quiet) reads failed 
 
 -- what takes no memory, and does something, is a message that is heard quietly, a crash or the end
 -- of a connection whose CONNECT was not proposed
-pub quiet_otherwise : (item : Item) (a b c : Running) (ignored : Bool) → ignored ≡ false → (ignored ≡ true) ↔ DoesNothing item a.core →
+pub quiet_otherwise : (item : Item) (a b c : RunningStep) (ignored : Bool) → ignored ≡ false → (ignored ≡ true) ↔ DoesNothing item a.core →
     ((message : Message Command) → item ≡ Peer message → IsHeardQuietly message a.core → ReadsNone message a.core → WithoutFailure a b) →
     (item ≡ Crash → WithoutFailure a b) → ((port : Port) → item ≡ Ended port → was_proposed (open_at port a.core) ≡ false → WithoutFailure a b) →
     (find has_failed b.core.connections ≡ None → c ≡ b) → ItemTakesNoMemory item a.core → find has_failed a.core.connections ≡ None → c.out_of_memory ≡ a.out_of_memory
@@ -223,13 +223,13 @@ closing_fails_none test (c ∷ cs) none = by (test c) (has_failed c) refl (closi
     by true false is rest e = e
     by false false is rest e = rw is (rest e)
 
-pub ended_calmly : (port q : Port) (item : Item) (a b : Running) → item ≡ Ended q → item ≡ Ended port →
+pub ended_calmly : (port q : Port) (item : Item) (a b : RunningStep) → item ≡ Ended q → item ≡ Ended port →
     (was_proposed (open_at q a.core) ≡ false → b ≡ record a { core = changes q closed a.core }) → was_proposed (open_at port a.core) ≡ false → WithoutFailure a b
 unfolding changes
 ended_calmly port q item a b is same closes unproposed =
     let e : q ≡ port = cc in
     let done = closes (subst (λ (p : Port). was_proposed (open_at p a.core) ≡ false) (sym e) unproposed) in
     record {
-      out_of_memory = ap (λ (r : Running). r.out_of_memory) done;
-      failed = λ none. ap (λ (r : Running). find has_failed r.core.connections) done ∙ closing_fails_none (is_open_at q) a.core.connections none;
+      out_of_memory = ap (λ (r : RunningStep). r.out_of_memory) done;
+      failed = λ none. ap (λ (r : RunningStep). find has_failed r.core.connections) done ∙ closing_fails_none (is_open_at q) a.core.connections none;
     }

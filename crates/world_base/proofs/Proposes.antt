@@ -9,14 +9,14 @@ use Rattle.ballot.specs.ballot_base.Protocol.{Input}
 use Rattle.ballot.specs.ballot_base.Sending.{Outcome}
 use Rattle.ballot.specs.ballot_base.Serving.{proposed}
 use Rattle.world_base.specs.Core.{StepOutcome, rules, serves}
-use Rattle.world_base.specs.Inside.{Running, StepsReplica, DoesOutcome}
-use Rattle.world_base.specs.Effects.{handled_all, drives, heard, moved, proposes}
+use Rattle.world_base.specs.Inside.{RunningStep, StepsReplica, DoesOutcome}
+use Rattle.world_base.specs.Effects.{handled_all, drives, outcome_of_input, after_replica_step, proposes}
 use Rattle.world_base.proofs.StepsJoin.{turns_idle, out_of_memory_kept}
 
 -- a step of the replica, and what it gave
-turns_moved : (a b c : Running) (outcome : Outcome State Command Output) (given before after : List (Effect Command Output)) →
+turns_moved : (a b c : RunningStep) (outcome : Outcome State Command Output) (given before after : List (Effect Command Output)) →
     StepsReplica a b outcome given → DoesOutcome b c before after (handled_all given b.core) →
-    DoesOutcome a c before after (moved outcome a.core)
+    DoesOutcome a c before after (after_replica_step outcome a.core)
 turns_moved a b c outcome given before after hears turns =
     record {
       given = turns.given;
@@ -26,10 +26,10 @@ turns_moved a b c outcome given before after hears turns =
   where
     joined : c.out_of_memory ≡ false →
         (c ≡ record b { core = (handled_all given b.core).core }) × (turns.given ≡ (handled_all given b.core).messages) →
-        (c ≡ record a { core = (moved outcome a.core).core }) × (turns.given ≡ (moved outcome a.core).messages)
+        (c ≡ record a { core = (after_replica_step outcome a.core).core }) × (turns.given ≡ (after_replica_step outcome a.core).messages)
     joined whole did =
         let did_hear = hears (out_of_memory_kept b c (handled_all given b.core).core did.0 whole) in (
-          did.0 ∙ ap (λ (r : Running). record r { core = (handled_all given r.core).core }) did_hear.0
+          did.0 ∙ ap (λ (r : RunningStep). record r { core = (handled_all given r.core).core }) did_hear.0
               ∙ ap (λ (l : List (Effect Command Output)). record a {
                 core = (handled_all l (record a.core {
                   replica = record a.core.replica { state = outcome.state };
@@ -39,13 +39,13 @@ turns_moved a b c outcome given before after hears turns =
         )
 
 -- a command
-pub turns_refused : (r : Running) (command : Command) (out : List (Effect Command Output)) →
+pub turns_refused : (r : RunningStep) (command : Command) (out : List (Effect Command Output)) →
     serves r.core ≡ false → DoesOutcome r r out out (proposes command r.core)
 unfolding proposes
 turns_refused r command out idle =
     subst (λ (t : StepOutcome). DoesOutcome r r out out t) (rw idle refl) (turns_idle r out)
 
-pub turns_proposed : (a b c : Running) (command : Command) (given before after : List (Effect Command Output)) →
+pub turns_proposed : (a b c : RunningStep) (command : Command) (given before after : List (Effect Command Output)) →
     serves a.core ≡ true → StepsReplica a b (proposed rules a.core.replica.state command) given →
     DoesOutcome b c before after (handled_all given b.core) → DoesOutcome a c before after (proposes command a.core)
 unfolding proposes
@@ -54,8 +54,8 @@ turns_proposed a b c command given before after serving hears turns =
     (turns_moved a b c (proposed rules a.core.replica.state command) given before after hears turns)
 
 -- a message or a tick
-pub turns_driven : (a b c : Running) (input : Input Command) (given before after : List (Effect Command Output)) →
-    StepsReplica a b (heard input a.core.replica.state) given → DoesOutcome b c before after (handled_all given b.core) →
+pub turns_driven : (a b c : RunningStep) (input : Input Command) (given before after : List (Effect Command Output)) →
+    StepsReplica a b (outcome_of_input input a.core.replica.state) given → DoesOutcome b c before after (handled_all given b.core) →
     DoesOutcome a c before after (drives input a.core)
 unfolding drives
-turns_driven a b c input = turns_moved a b c (heard input a.core.replica.state)
+turns_driven a b c input = turns_moved a b c (outcome_of_input input a.core.replica.state)

@@ -5,7 +5,7 @@ use Rattle.broker_spec.specs.declared.command.Command.{Command}
 use Rattle.broker_spec.specs.declared.command.Output.{Output}
 use Rattle.ballot.specs.ballot_base.declared.message.Effect.{Effect}
 use Rattle.world_base.specs.Core.{CoreState, StepOutcome}
-use Rattle.world_base.specs.Inside.{Running, DoesOutcome}
+use Rattle.world_base.specs.Inside.{RunningStep, DoesOutcome}
 use Rattle.world_base.specs.Effects.{without_messages, repeated, then_also}
 use Rattle.world_base.proofs.StepsJoin.{turns_as, turns_idle, turns_join}
 
@@ -48,17 +48,17 @@ module _ (next : CoreState → StepOutcome) where
 
   -- ---- what the code did
 
-  pub repeats_none : (r : Running) (x : List (Effect Command Output)) → DoesOutcome r r x x (repeated 0 next r.core)
+  pub repeats_none : (r : RunningStep) (x : List (Effect Command Output)) → DoesOutcome r r x x (repeated 0 next r.core)
   repeats_none r x = subst (λ (t : StepOutcome). DoesOutcome r r x x t) (sym (none_of_them r.core)) (turns_idle r x)
 
-  pub repeats_more : (n : ℕ) (a b c : Running) (x y z : List (Effect Command Output)) →
+  pub repeats_more : (n : ℕ) (a b c : RunningStep) (x y z : List (Effect Command Output)) →
       DoesOutcome a b x y (repeated n next a.core) → DoesOutcome b c y z (next b.core) → DoesOutcome a c x z (repeated (suc n) next a.core)
   repeats_more n a b c x y z done more =
       subst (λ (t : StepOutcome). DoesOutcome a c x z t) (sym (one_more n a.core))
       (turns_join a b c x y z (repeated n next a.core) next done more)
 
   -- the last one says that the next would do nothing
-  pub repeats_enough : (n all : ℕ) (a b : Running) (x y : List (Effect Command Output)) → n ≤ all →
+  pub repeats_enough : (n all : ℕ) (a b : RunningStep) (x y : List (Effect Command Output)) → n ≤ all →
       DoesOutcome a b x y (repeated n next a.core) → (b.out_of_memory ≡ false → next b.core ≡ without_messages b.core) →
       DoesOutcome a b x y (repeated all next a.core)
   repeats_enough n all a b x y few done last =
@@ -66,7 +66,7 @@ module _ (next : CoreState → StepOutcome) where
     where
       same : b.out_of_memory ≡ false → repeated n next a.core ≡ repeated all next a.core
       same whole =
-          let core : b.core ≡ (repeated n next a.core).core = ap (λ (r : Running). r.core) (done.exact whole).0 in
+          let core : b.core ≡ (repeated n next a.core).core = ap (λ (r : RunningStep). r.core) (done.exact whole).0 in
           let without_messages_there = subst (λ (k : CoreState). next k ≡ without_messages k) core (last whole) in
           let rest : ℕ = all - n in
           let is : rest + n ≡ all = omega (arith, few) in

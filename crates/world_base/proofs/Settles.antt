@@ -5,17 +5,17 @@ use Rattle.node_connections.specs.declared.connection.Connection.{Connection}
 use Rattle.node_connections.specs.Connections.{is_listed}
 use Rattle.node_connections.specs.ConnectionChanges.{closed}
 use Rattle.world_base.specs.Core.{serves}
-use Rattle.world_base.specs.Inside.{Running}
+use Rattle.world_base.specs.Inside.{RunningStep}
 use Rattle.world_base.specs.Step.{settled}
 
-pub settles-idle : (r : Running) (mid new : List Connection) → serves r.core ≡ false →
+pub settles-idle : (r : RunningStep) (mid new : List Connection) → serves r.core ≡ false →
     mid ≡ map closed r.core.connections → new ≡ filter is_listed mid →
     record r { core = record r.core { connections = new } } ≡ record r { core = settled r.core }
 unfolding settled
 settles-idle r mid new idle all kept =
     rw idle (ap (λ (l : List Connection). record r { core = record r.core { connections = l } }) (kept ∙ ap (filter is_listed) all))
 
-pub settles-serving : (r : Running) (new : List Connection) → serves r.core ≡ true →
+pub settles-serving : (r : RunningStep) (new : List Connection) → serves r.core ≡ true →
     new ≡ filter is_listed r.core.connections →
     record r { core = record r.core { connections = new } } ≡ record r { core = settled r.core }
 unfolding settled

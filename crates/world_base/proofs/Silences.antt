@@ -6,9 +6,9 @@ use Rattle.broker_spec.specs.declared.command.Output.{Output}
 use Rattle.ballot.specs.ballot_base.declared.message.Effect.{Effect}
 use Rattle.node_connections.specs.declared.port.Port.{Port}
 use Rattle.world_base.specs.Core.{CoreState, StepOutcome}
-use Rattle.world_base.specs.Inside.{Running, DoesOutcome}
+use Rattle.world_base.specs.Inside.{RunningStep, DoesOutcome}
 use Rattle.world_base.specs.KeepAlive.{ends_silent, lowest_silent}
-use Rattle.world_base.specs.Reading.{ends}
+use Rattle.world_base.specs.Reading.{port_closed}
 use Rattle.world_base.specs.Effects.{without_messages}
 
 -- more time went by than is allowed
@@ -26,10 +26,10 @@ silent_none now core none = rw none refl
 
 -- one is
 silent_some : (now : ℕ) (core : CoreState) (port : Port) → lowest_silent now core.connections ≡ Some port →
-    ends port core ≡ ends_silent now core
+    port_closed port core ≡ ends_silent now core
 unfolding ends_silent
 silent_some now core port some = rw some refl
 
-pub turns_silent : (now : ℕ) (port : Port) (a b : Running) (x y : List (Effect Command Output)) →
-    lowest_silent now a.core.connections ≡ Some port → DoesOutcome a b x y (ends port a.core) → DoesOutcome a b x y (ends_silent now a.core)
+pub turns_silent : (now : ℕ) (port : Port) (a b : RunningStep) (x y : List (Effect Command Output)) →
+    lowest_silent now a.core.connections ≡ Some port → DoesOutcome a b x y (port_closed port a.core) → DoesOutcome a b x y (ends_silent now a.core)
 turns_silent now port a b x y some turns = subst (λ (t : StepOutcome). DoesOutcome a b x y t) (silent_some now a.core port some) turns

@@ -8,25 +8,25 @@ use Rattle.broker_spec.specs.declared.command.Command.{Command}
 use Rattle.broker_spec.specs.declared.command.Output.{Output}
 use Rattle.ballot.specs.ballot_base.declared.message.Effect.{Effect}
 use Rattle.world_base.specs.Core.{CoreState, StepOutcome}
-use Rattle.world_base.specs.Inside.{Running, DoesExactly, DoesOutcome}
-use Rattle.world_base.specs.Effects.{without_messages, then_also, handled_all, handled, is_message}
+use Rattle.world_base.specs.Inside.{RunningStep, DoesExactly, DoesOutcome}
+use Rattle.world_base.specs.Effects.{without_messages, then_also, handled_all, with_effect, is_message}
 
 -- nothing was done
-pub turns_idle : (r : Running) (out : List (Effect Command Output)) → DoesOutcome r r out out (without_messages r.core)
+pub turns_idle : (r : RunningStep) (out : List (Effect Command Output)) → DoesOutcome r r out out (without_messages r.core)
 turns_idle r out = record { given = []; appended = sym (append-nil out); exact = λ _. (refl, refl) }
 
 -- something without messages
-pub turns_without_messages : (old new : Running) (out : List (Effect Command Output)) (core : CoreState) →
+pub turns_without_messages : (old new : RunningStep) (out : List (Effect Command Output)) (core : CoreState) →
     DoesExactly old new core → DoesOutcome old new out out (without_messages core)
 turns_without_messages old new out core does =
     record { given = []; appended = sym (append-nil out); exact = λ whole. (does whole, refl) }
 
 -- the parts of a step that was done
-pub out_of_memory_kept : (a b : Running) (core : CoreState) → b ≡ record a { core = core } → b.out_of_memory ≡ false → a.out_of_memory ≡ false
-out_of_memory_kept a b core e whole = sym (ap (λ (z : Running). z.out_of_memory) e) ∙ whole
+pub out_of_memory_kept : (a b : RunningStep) (core : CoreState) → b ≡ record a { core = core } → b.out_of_memory ≡ false → a.out_of_memory ≡ false
+out_of_memory_kept a b core e whole = sym (ap (λ (z : RunningStep). z.out_of_memory) e) ∙ whole
 
 -- one thing and then another
-pub turns_join : (a b c : Running) (x y z : List (Effect Command Output)) (first : StepOutcome) (next : CoreState → StepOutcome) →
+pub turns_join : (a b c : RunningStep) (x y z : List (Effect Command Output)) (first : StepOutcome) (next : CoreState → StepOutcome) →
     DoesOutcome a b x y first → DoesOutcome b c y z (next b.core) → DoesOutcome a c x z (then_also first next)
 turns_join a b c x y z first next one two =
     record {
@@ -41,15 +41,15 @@ turns_join a b c x y z first next one two =
         × (one.given ++ two.given ≡ (then_also first next).messages)
     joined whole did =
         let before = one.exact (out_of_memory_kept b c (next b.core).core did.0 whole) in
-        let core : b.core ≡ first.core = ap (λ (r : Running). r.core) before.0 in (
-          did.0 ∙ ap (λ (r : Running). record r { core = (next r.core).core }) before.0,
+        let core : b.core ≡ first.core = ap (λ (r : RunningStep). r.core) before.0 in (
+          did.0 ∙ ap (λ (r : RunningStep). record r { core = (next r.core).core }) before.0,
           ap (λ (l : List (Effect Command Output)). l ++ two.given) before.1
               ∙ ap (λ (l : List (Effect Command Output)). first.messages ++ l)
               (did.1 ∙ ap (λ (k : CoreState). (next k).messages) core),
         )
 
 -- effects that were done one by one
-pub turns_push : (a b c : Running) (x y z given : List (Effect Command Output)) (e : Effect Command Output) →
+pub turns_push : (a b c : RunningStep) (x y z given : List (Effect Command Output)) (e : Effect Command Output) →
     DoesOutcome a b x y (handled_all given a.core) → DoesOutcome b c y z (handled_all (e ∷ []) b.core) →
     DoesOutcome a c x z (handled_all (given ++ e ∷ []) a.core)
 turns_push a b c x y z given e one two =
@@ -59,12 +59,12 @@ turns_push a b c x y z given e one two =
     same : then_also (handled_all given a.core) (handled_all (e ∷ [])) ≡ handled_all (given ++ e ∷ []) a.core
     same =
         ap (λ (k : CoreState). let t : StepOutcome = record { core = k; messages = filter is_message given ++ filter is_message (e ∷ []) } in t)
-        (sym (fold_push handled a.core given e))
-        ∙ ap (λ (l : List (Effect Command Output)). let t : StepOutcome = record { core = fold handled a.core (given ++ e ∷ []); messages = l } in t)
+        (sym (fold_push with_effect a.core given e))
+        ∙ ap (λ (l : List (Effect Command Output)). let t : StepOutcome = record { core = fold with_effect a.core (given ++ e ∷ []); messages = l } in t)
         (sym (filter-append is_message given (e ∷ [])))
 
 -- memory ran out before: nothing exact is said
-pub turns_out_of_memory : (a b c : Running) (x y : List (Effect Command Output)) (t u : StepOutcome) → b.out_of_memory ≡ true →
+pub turns_out_of_memory : (a b c : RunningStep) (x y : List (Effect Command Output)) (t u : StepOutcome) → b.out_of_memory ≡ true →
     DoesOutcome b c x y t → DoesOutcome a c x y u
 turns_out_of_memory a b c x y t u lost turns =
     record {
@@ -74,7 +74,7 @@ turns_out_of_memory a b c x y t u lost turns =
     }
 
 -- the same turn, if memory suffices
-pub turns_as : (a c : Running) (x y : List (Effect Command Output)) (t u : StepOutcome) → (c.out_of_memory ≡ false → t ≡ u) →
+pub turns_as : (a c : RunningStep) (x y : List (Effect Command Output)) (t u : StepOutcome) → (c.out_of_memory ≡ false → t ≡ u) →
     DoesOutcome a c x y t → DoesOutcome a c x y u
 turns_as a c x y t u same turns =
     record {
@@ -87,14 +87,14 @@ turns_as a c x y t u same turns =
     }
 
 -- something after a change without messages
-pub turns_after : (a b c : Running) (x y : List (Effect Command Output)) (core : CoreState) (next : CoreState → StepOutcome) →
+pub turns_after : (a b c : RunningStep) (x y : List (Effect Command Output)) (core : CoreState) (next : CoreState → StepOutcome) →
     b ≡ record a { core = core } → DoesOutcome b c x y (next b.core) → DoesOutcome a c x y (next core)
 turns_after a b c x y core next e turns =
     record {
       given = turns.given;
       appended = turns.appended;
       exact = λ whole. (
-        (turns.exact whole).0 ∙ ap (λ (r : Running). record r { core = (next r.core).core }) e,
-        (turns.exact whole).1 ∙ ap (λ (r : Running). (next r.core).messages) e,
+        (turns.exact whole).0 ∙ ap (λ (r : RunningStep). record r { core = (next r.core).core }) e,
+        (turns.exact whole).1 ∙ ap (λ (r : RunningStep). (next r.core).messages) e,
       );
     }

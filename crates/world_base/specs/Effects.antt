@@ -50,9 +50,9 @@ performed_by (outputs.Send name packet) core = changes_named name (put_out (spel
 performed_by (outputs.Close name) core = changes_named name closed core
 
 -- an effect is done on its connection; a message does nothing to connections
-abbrev pub handled : CoreState → Effect Command Output → CoreState
-handled core (Out place output) = performed_by output core
-handled core (To receiver message) = core
+abbrev pub with_effect : CoreState → Effect Command Output → CoreState
+with_effect core (Out place output) = performed_by output core
+with_effect core (To receiver message) = core
 
 -- whether an effect is a message to another node, and not an output
 abbrev pub is_message : Effect Command Output → Bool
@@ -63,11 +63,11 @@ is_message (To receiver message) = true
 -- sent
 abbrev pub handled_all : List (Effect Command Output) → CoreState → StepOutcome
 handled_all effects core =
-    record { core = fold handled core effects; messages = filter is_message effects }
+    record { core = fold with_effect core effects; messages = filter is_message effects }
 
 -- a node after a step of its replica: it has the new state, and the effects are handled
-abbrev pub moved : Outcome State Command Output → CoreState → StepOutcome
-moved outcome core =
+abbrev pub after_replica_step : Outcome State Command Output → CoreState → StepOutcome
+after_replica_step outcome core =
     handled_all outcome.effects
     (record core { replica = record core.replica { state = outcome.state } })
 
@@ -76,16 +76,17 @@ moved outcome core =
 -- a command of a client is proposed to it while the node serves clients
 unfoldable pub proposes : Command → CoreState → StepOutcome
 proposes command core =
-    if serves core then moved (proposed rules core.replica.state command) core
+    if serves core then after_replica_step (proposed rules core.replica.state command) core
     else without_messages core
 
 -- a message of another node or a tick; a replica that has stopped does nothing
-abbrev pub heard : Input Command → ReplicaState State Command → Outcome State Command Output
-heard input r = if r.stopped then nothing_done Output r else replica_step rules r input
+abbrev pub outcome_of_input : Input Command → ReplicaState State Command →
+    Outcome State Command Output
+outcome_of_input input r = if r.stopped then nothing_done Output r else replica_step rules r input
 
 -- the replica receives an input, and its effects are done
 unfoldable pub drives : Input Command → CoreState → StepOutcome
-drives input core = moved (heard input core.replica.state) core
+drives input core = after_replica_step (outcome_of_input input core.replica.state) core
 
 -- whether a proposal is taken: by an active primary whose log has room
 abbrev pub has_room : CoreState → Bool

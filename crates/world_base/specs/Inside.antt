@@ -21,22 +21,22 @@ use Rattle.world_base.specs.LossyProposals.{Declines, ProposesCommand}
 use Rattle.world_base.specs.Effects.{has_room}
 
 -- a node during a step, and whether memory ran out in it
-pub record Running : Type 0 where
+pub record RunningStep : Type 0 where
   pub core : CoreState
   pub out_of_memory : Bool
 
 -- memory did not run out, and no connection failed
-pub record WithoutFailure (old new : Running) : Type 0 where
+pub record WithoutFailure (old new : RunningStep) : Type 0 where
   pub out_of_memory : new.out_of_memory ≡ old.out_of_memory
   pub failed : find has_failed old.core.connections ≡ None →
       find has_failed new.core.connections ≡ None
 
 -- this is what was done, unless memory ran out
-abbrev pub DoesExactly : Running → Running → CoreState → Type 0
+abbrev pub DoesExactly : RunningStep → RunningStep → CoreState → Type 0
 DoesExactly old new core = new.out_of_memory ≡ false → new ≡ record old { core = core }
 
 -- this is what was done, unless memory ran out; its messages were appended to what was there
-pub record DoesOutcome (old new : Running) (before after : List (Effect Command Output))
+pub record DoesOutcome (old new : RunningStep) (before after : List (Effect Command Output))
     (done : StepOutcome) : Type 0 where
   pub given : List (Effect Command Output)
   pub appended : after ≡ before ++ given
@@ -44,7 +44,7 @@ pub record DoesOutcome (old new : Running) (before after : List (Effect Command 
       (new ≡ record old { core = done.core }) × (given ≡ done.messages)
 
 -- a step of the replica only
-abbrev pub StepsReplica : Running → Running →
+abbrev pub StepsReplica : RunningStep → RunningStep →
     Outcome State Command Output → List (Effect Command Output) → Type 0
 StepsReplica old new outcome given = new.out_of_memory ≡ false →
     (new ≡ record old {
@@ -56,7 +56,7 @@ StepsReplica old new outcome given = new.out_of_memory ≡ false →
 
 -- what was done, when memory may have run out; the messages that were sent were appended to what
 -- was there
-pub record Ran (Did : CoreState → Account → Type 0) (old new : CoreState)
+pub record RanStep (Did : CoreState → Account → Type 0) (old new : CoreState)
     (before after : List (Effect Command Output)) : Type 0 where
   pub did : Account
   pub runs : Did old did

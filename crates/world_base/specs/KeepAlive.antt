@@ -3,14 +3,14 @@
 use Rattle.std.specs.Prelude.{ℕ, length, Option, Some, None}
 use Rattle.node_connections.specs.declared.port.Port.{Port}
 use Rattle.world_base.specs.Core.{CoreState, StepOutcome}
-use Rattle.world_base.specs.Reading.{ends}
+use Rattle.world_base.specs.Reading.{port_closed}
 use Rattle.world_base.specs.Effects.{without_messages, repeated}
 pub use Rattle.node_connections.specs.Silent.{lower, lower_silent, lowest_silent}
 
 -- the silent connection with the lowest port is closed as if its stream had ended
 abbrev pub ends_if : Option Port → CoreState → StepOutcome
 ends_if None core = without_messages core
-ends_if (Some port) core = ends port core
+ends_if (Some port) core = port_closed port core
 
 -- the silent connection with the lowest port is closed, if there is one at this time
 unfoldable pub ends_silent : ℕ → CoreState → StepOutcome

@@ -20,14 +20,15 @@ use Rattle.world_base.specs.Core.{CoreState, CountedCore, StepOutcome, rules}
 use Rattle.world_base.specs.KeepAlive.{lowest_silent}
 use Rattle.world_base.specs.LossyStep.{RunsOn}
 use Rattle.world_base.specs.Reading.{open_at}
-use Rattle.world_base.specs.Step.{accepts, node_step}
-use Rattle.world_base.specs.Effects.{has_room, heard}
+use Rattle.world_base.specs.Step.{accepts_connection, node_step}
+use Rattle.world_base.specs.Effects.{has_room, outcome_of_input}
 
 -- ---- what does nothing
 
 -- by the protocol the replica does nothing with its input, as if it has stopped
 abbrev pub IsIgnored : Input Command → CoreState → Type 0
-IsIgnored input core = heard input core.replica.state ≡ nothing_done Output core.replica.state
+IsIgnored input core = outcome_of_input input core.replica.state
+    ≡ nothing_done Output core.replica.state
 
 -- a node does not have to read a snapshot that does not thaw
 abbrev pub ReadsNone : Message Command → CoreState → Type 0
@@ -39,7 +40,7 @@ ReadsNone message core =
 abbrev pub DoesNothing : Item → CoreState → Type 0
 DoesNothing (Peer message) core = IsIgnored (Receives message) core × ReadsNone message core
 DoesNothing (Tick now) core = IsIgnored Ticks core × (lowest_silent now core.connections ≡ None)
-DoesNothing (Opened port now) core = accepts port core ≡ false
+DoesNothing (Opened port now) core = accepts_connection port core ≡ false
 DoesNothing (Bytes port piece now) core = open_at port core ≡ None
 DoesNothing (Ended port) core = open_at port core ≡ None
 DoesNothing (Expel client) core = has_room core ≡ false
@@ -57,7 +58,7 @@ was_proposed (Some c) = is_proposed c.stage
 -- shows whether a call lost something.
 abbrev pub IsHeardQuietly : Message Command → CoreState → Type 0
 IsHeardQuietly message core =
-    SendsAndAddsNothing core.replica.state (heard (Receives message) core.replica.state)
+    SendsAndAddsNothing core.replica.state (outcome_of_input (Receives message) core.replica.state)
     × (core.replica.losses < greatest_count)
 
 -- An item takes no memory if it does nothing. The same holds for a message that is heard quietly

@@ -14,7 +14,7 @@ use Rattle.ballot.specs.ballot_base.Sending.{Outcome}
 use Rattle.ballot.specs.ballot_base.Serving.{added}
 use Rattle.node_connections.specs.ConnectionChanges.{failing}
 use Rattle.world_base.specs.Core.{CoreState, rules}
-use Rattle.world_base.specs.Effects.{changes_named, has_room, heard, performed_by}
+use Rattle.world_base.specs.Effects.{changes_named, has_room, outcome_of_input, performed_by}
 
 -- ---- what was done
 
@@ -30,8 +30,8 @@ abbrev pub without_effects : CoreState → Account
 without_effects core = record { core = core; given = []; messages = [] }
 
 -- one account, followed by another
-abbrev pub joined : Account → Account → Account
-joined one two =
+abbrev pub both_accounts : Account → Account → Account
+both_accounts one two =
     record {
       core = two.core;
       given = one.given ++ two.given;
@@ -45,7 +45,7 @@ pub record Then (First Next : CoreState → Account → Type 0) (core : CoreStat
   pub two : Account
   pub first : First core one
   pub next : Next one.core two
-  pub is : did ≡ joined one two
+  pub is : did ≡ both_accounts one two
 
 -- one thing was done this many times, each after the one before
 abbrev pub Repeated : ℕ → (CoreState → Account → Type 0) → CoreState → Account → Type 0
@@ -94,7 +94,7 @@ pub record ReplicaSteps (outcome : Outcome State Command Output) (core : CoreSta
 
 -- a message of another node, or a tick
 abbrev pub Drives : Input Command → CoreState → Account → Type 0
-Drives input core did = ReplicaSteps (heard input core.replica.state) core did
+Drives input core did = ReplicaSteps (outcome_of_input input core.replica.state) core did
 
 -- a command that the replica takes into its log; some of the messages that it then sends may be
 -- missing, which it counts

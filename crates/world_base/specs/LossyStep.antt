@@ -16,7 +16,7 @@ use Rattle.world_base.specs.Core.{CoreState, rules}
 use Rattle.world_base.specs.Lossy.{Account, Drives, Repeated, Then, without_effects}
 use Rattle.world_base.specs.LossyProposals.{ProposesCommand}
 use Rattle.world_base.specs.Reading.{changes, open_at, unread_of}
-use Rattle.world_base.specs.Step.{crashed, opens, settled, with_cut}
+use Rattle.world_base.specs.Step.{crashed, with_next_connection, settled, with_cut}
 use Rattle.world_base.specs.LossyReading.{EndsConnection, EndsSilent, LosesFailed, ReadsNext}
 
 -- ---- an item
@@ -29,7 +29,7 @@ HoldsBytes port piece core did =
 -- a connection is accepted, or, if there is no memory for it, not
 abbrev pub AcceptsConnection : Port → CoreState → Account → Type 0
 AcceptsConnection port core did =
-    (did ≡ without_effects (opens port core)) ⊎ (did ≡ without_effects core)
+    (did ≡ without_effects (with_next_connection port core)) ⊎ (did ≡ without_effects core)
 
 -- the replica cuts its log, and its frozen bytes thaw to its machine; or, if there is no memory for
 -- that, it counts a loss

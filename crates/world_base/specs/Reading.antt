@@ -39,12 +39,12 @@ loses_open port core None = without_messages core
 loses_open port core (Some c) = loses port c core
 
 -- the open connection of a port is closed as lost, if there is one
-unfoldable pub ends : Port → CoreState → StepOutcome
-ends port core = loses_open port core (open_at port core)
+unfoldable pub port_closed : Port → CoreState → StepOutcome
+port_closed port core = loses_open port core (open_at port core)
 
 -- a CONNECT is proposed; a refused proposal closes the connection
-abbrev pub connects : Port → ConnectionName → Connect → CoreState → StepOutcome
-connects port name connect core =
+abbrev pub connect_proposed : Port → ConnectionName → Connect → CoreState → StepOutcome
+connect_proposed port name connect core =
     if has_room core
     then proposes (commands.Connect name connect.client connect.clean) core
     else without_messages (changes port closed core)
@@ -59,7 +59,7 @@ proposes_packet port name packet core =
 -- the first packet of a connection must be a CONNECT (MQTT-3.1.0-1)
 abbrev pub takes_first_packet : Port → ConnectionName → Packet → CoreState → StepOutcome
 takes_first_packet port name (packets.Connect connect) core =
-    connects port name connect (changes port (noted_proposed connect.keep_alive) core)
+    connect_proposed port name connect (changes port (noted_proposed connect.keep_alive) core)
 takes_first_packet port name _ core = without_messages (changes port closed core)
 
 -- what the front of a connection's bytes does to the node at this time: a later CONNECT that is

@@ -14,7 +14,7 @@ use Rattle.node_connections.specs.ConnectionChanges.{holding, closed}
 use Rattle.world_base.specs.Core.{CoreState, StepOutcome, rules, serves}
 use Rattle.world_base.specs.Failing.{loses_all_failed}
 use Rattle.world_base.specs.KeepAlive.{ends_all_silent}
-use Rattle.world_base.specs.Reading.{changes, ends, reads_all}
+use Rattle.world_base.specs.Reading.{changes, port_closed, reads_all}
 use Rattle.world_base.specs.Effects.{without_messages, then_also, drives, proposes}
 
 -- how many connections it accepted in the ballot that it joined
@@ -28,15 +28,15 @@ next_name core = record { ballot = core.replica.state.joined; count = accepted c
 
 -- a connection is accepted while the node serves clients and has a name for it; a port may be used
 -- again once nothing is listed for it
-abbrev pub accepts : Port → CoreState → Bool
-accepts port core =
+abbrev pub accepts_connection : Port → CoreState → Bool
+accepts_connection port core =
     (serves core && not (list_any (is_at port) core.connections))
     && is_connection_name (next_name core)
 
 -- a connection that is accepted gets the next name of the ballot
-unfoldable pub opens : Port → CoreState → CoreState
-opens port core =
-    if accepts port core
+unfoldable pub with_next_connection : Port → CoreState → CoreState
+with_next_connection port core =
+    if accepts_connection port core
     then record core {
       last_name = next_name core;
       connections = core.connections ++ fresh port (next_name core) ∷ [];
@@ -70,10 +70,10 @@ crashed core =
 abbrev pub does_item : Item → CoreState → StepOutcome
 does_item (Peer message) core = drives (Receives message) core
 does_item (Tick now) core = then_also (drives Ticks core) (ends_all_silent now)
-does_item (Opened port now) core = without_messages (opens port core)
+does_item (Opened port now) core = without_messages (with_next_connection port core)
 does_item (Bytes port piece now) core =
     then_also (without_messages (changes port (holding piece) core)) (reads_all now port)
-does_item (Ended port) core = ends port core
+does_item (Ended port) core = port_closed port core
 does_item (Expel client) core = proposes (commands.Expel client) core
 does_item Cut core = without_messages (cuts core)
 does_item Crash core = without_messages (crashed core)

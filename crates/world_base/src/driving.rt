@@ -5,12 +5,12 @@ ghost use Rattle.ballot.specs.ballot_base.Losses.{greatest_count};
 ghost use Rattle.ballot.specs.ballot_base.Protocol.Input.{Receives, Ticks};
 ghost use Rattle.ballot.specs.ballot_base.Serving.{proposed};
 ghost use Rattle.world_base.specs.Core.{rules, serves};
-ghost use Rattle.world_base.specs.Inside.{StepsReplicaOrLoses, Answered, HandledAll, DoesExactly, DoesOutcome, StepsReplica, ProposedBy, Ran, WithoutFailure};
+ghost use Rattle.world_base.specs.Inside.{StepsReplicaOrLoses, Answered, HandledAll, DoesExactly, DoesOutcome, StepsReplica, ProposedBy, RanStep, WithoutFailure};
 ghost use Rattle.world_base.specs.Losses.{IsHeardQuietly, ReadsNone};
 ghost use Rattle.world_base.specs.Lossy.{Drives, Performs, without_effects};
 ghost use Rattle.world_base.specs.LossyStep.{Cuts};
 ghost use Rattle.world_base.specs.Step.{cuts};
-ghost use Rattle.world_base.specs.Effects.{handled_all, drives, has_room, heard, proposes, performed_by};
+ghost use Rattle.world_base.specs.Effects.{handled_all, drives, has_room, outcome_of_input, proposes, performed_by};
 
 use crate::stepping_node::SteppingNode;
 use ballot::{Effect, Message};
@@ -21,7 +21,7 @@ impl SteppingNode {
     pub fn propose(&mut self, command: Command, effects: &mut Vec<Effect<Command, Output>>) -> bool
         ensures exact { DoesOutcome self.old self.new effects.old.items effects.new.items
             (proposes command self.old.core) }
-        ensures lossy { Ran (ProposedBy result command) self.old.core self.new.core
+        ensures lossy { RanStep (ProposedBy result command) self.old.core self.new.core
             effects.old.items effects.new.items }
         ensures taken { self.new.out_of_memory ≡ false → result ≡ has_room self.old.core }
     {
@@ -57,7 +57,7 @@ impl SteppingNode {
     pub fn receive(&mut self, message: Message<Command>, effects: &mut Vec<Effect<Command, Output>>)
         ensures exact { DoesOutcome self.old self.new effects.old.items effects.new.items
             (drives (Receives message) self.old.core) }
-        ensures lossy { Ran (Drives (Receives message)) self.old.core self.new.core
+        ensures lossy { RanStep (Drives (Receives message)) self.old.core self.new.core
             effects.old.items effects.new.items }
         ensures quiet { IsHeardQuietly message self.old.core → ReadsNone message self.old.core →
             WithoutFailure self.old self.new }
@@ -71,8 +71,9 @@ impl SteppingNode {
     fn give_message(&mut self, message: Message<Command>, given: &mut Vec<Effect<Command, Output>>)
         requires { given.old.items ≡ [] }
         ensures hears { StepsReplica self.old self.new
-            (heard (Receives message) self.old.core.replica.state) given.new.items }
-        ensures acts { StepsReplicaOrLoses (heard (Receives message) self.old.core.replica.state)
+            (outcome_of_input (Receives message) self.old.core.replica.state) given.new.items }
+        ensures acts { StepsReplicaOrLoses
+            (outcome_of_input (Receives message) self.old.core.replica.state)
             self.old.core self.new.core given.new.items }
         ensures quiet { IsHeardQuietly message self.old.core → ReadsNone message self.old.core →
             WithoutFailure self.old self.new × (given.new.items ≡ []) }
@@ -87,7 +88,7 @@ impl SteppingNode {
     pub fn tick(&mut self, effects: &mut Vec<Effect<Command, Output>>)
         ensures exact { DoesOutcome self.old self.new effects.old.items effects.new.items
             (drives Ticks self.old.core) }
-        ensures lossy { Ran
+        ensures lossy { RanStep
             (Drives Ticks) self.old.core self.new.core effects.old.items effects.new.items }
     {
         let mut given = Vec::new(self.alloc);
@@ -99,8 +100,8 @@ impl SteppingNode {
     fn tick_replica(&mut self, given: &mut Vec<Effect<Command, Output>>)
         requires { given.old.items ≡ [] }
         ensures hears { StepsReplica self.old self.new
-            (heard Ticks self.old.core.replica.state) given.new.items }
-        ensures acts { StepsReplicaOrLoses (heard Ticks self.old.core.replica.state)
+            (outcome_of_input Ticks self.old.core.replica.state) given.new.items }
+        ensures acts { StepsReplicaOrLoses (outcome_of_input Ticks self.old.core.replica.state)
             self.old.core self.new.core given.new.items }
     {
         let before = self.replica.losses();

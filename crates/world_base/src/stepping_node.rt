@@ -14,7 +14,7 @@ ghost use Rattle.world_base.specs.Inside.{DoesExactly};
 ghost use Rattle.world_base.specs.KeepAlive.{lowest_silent};
 ghost use Rattle.packet.specs.Spelling.{spelling};
 ghost use Rattle.world_base.specs.Reading.{changes, open_at, refused, unread_of};
-ghost use Rattle.world_base.specs.Step.{accepted, accepts, next_name, opens, settled};
+ghost use Rattle.world_base.specs.Step.{accepted, accepts_connection, next_name, with_next_connection, settled};
 ghost use Rattle.world_base.specs.Effects.{changes_named, has_room};
 
 use ballot::{Config, MAX_NODE, MAX_PLACES, OpeningError, Replica, Status};
@@ -54,9 +54,9 @@ impl Drop for SteppingNode {
 impl Model for SteppingNode {
     ghost use Rattle.std.specs.Prelude.{◌≤◌};
     ghost use Rattle.broker_spec.specs.Connection.{max_count};
-    ghost use Rattle.world_base.specs.Inside.{Running};
+    ghost use Rattle.world_base.specs.Inside.{RunningStep};
 
-    ghost Value = { Running };
+    ghost Value = { RunningStep };
 
     ghost view = { λ s.
         record {
@@ -312,8 +312,8 @@ impl SteppingNode {
     /// Returns the name that a new connection of a port gets, or none if it is not accepted.
     pub fn name_for(&self, port: Port) -> Option<ConnectionName>
         ensures named { IfSome result (λ name. name ≡ next_name self.now.core) }
-        ensures some { OnSome result (accepts port self.now.core ≡ true) }
-        ensures none { IfNone result (accepts port self.now.core ≡ false) }
+        ensures some { OnSome result (accepts_connection port self.now.core ≡ true) }
+        ensures none { IfNone result (accepts_connection port self.now.core ≡ false) }
     {
         if !self.serves() {
             return None;
@@ -327,8 +327,8 @@ impl SteppingNode {
     /// Accepts a connection at this port, with the next name, if the node serves clients and the
     /// port is free. Nothing changes otherwise, nor if memory runs out.
     pub fn open(&mut self, port: Port)
-        ensures exact { DoesExactly self.old self.new (opens port self.old.core) }
-        ensures lossy { (self.new.core ≡ opens port self.old.core)
+        ensures exact { DoesExactly self.old self.new (with_next_connection port self.old.core) }
+        ensures lossy { (self.new.core ≡ with_next_connection port self.old.core)
             ⊎ (self.new.core ≡ self.old.core) }
     {
         let Some(name) = self.name_for(port) else {

@@ -1,7 +1,7 @@
 use Rattle.std.proofs.Common.{Bool, if◌then◌else◌, ap, subst, ◌∙◌}
 use Rattle.ballot.specs.ballot_base.Losses.{one_more}
 use Rattle.world_base.specs.Core.{CountedCore}
-use Rattle.world_base.specs.Inside.{Running}
+use Rattle.world_base.specs.Inside.{RunningStep}
 use Rattle.world_base.specs.Losses.{NodeStepped}
 use Rattle.world_base.proofs.EndsRun.{core_of}
 use Rattle.world_base.proofs.ItemsRun.{stepped_by}
@@ -14,4 +14,4 @@ returns c =
     (stepped_by _ c.args.item c.begin_step.new.self c.act_on.new.self c.settle.new.self.core c.losses_after-self-inside.result _ _
     (core_of _ _ c.begin_step.ensures) c.act_on.ensures.exact c.act_on.ensures.lossy (core_of _ _ c.settle.ensures)
     (c.losses_after-self-inside.ensures ∙ ap (λ (w : Bool). if w then one_more c.self.inside.losses else c.self.inside.losses) c.is_out_of_memory.ensures)
-    (ap (λ (r : Running). r.out_of_memory) c.begin_step.ensures) c.act_on.ensures.quiet)
+    (ap (λ (r : RunningStep). r.out_of_memory) c.begin_step.ensures) c.act_on.ensures.quiet)

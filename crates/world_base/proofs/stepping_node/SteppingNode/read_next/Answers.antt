@@ -1,6 +1,6 @@
 use Rattle.std.proofs.Common.{slice_set, refl, sym, ◌∙◌}
 use Rattle.node_connections.specs.Connections.{is_open_at}
-use Rattle.world_base.specs.Inside.{Running}
+use Rattle.world_base.specs.Inside.{RunningStep}
 use Rattle.world_base.proofs.Changes.{changed_there, core_changed}
 use Rattle.world_base.proofs.Indices.{none_found, found_there}
 use Rattle.world_base.proofs.Fronts.{nothing_open, nothing_next, more_there, more_next, packet_there, gone_there}
