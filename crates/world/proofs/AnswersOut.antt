@@ -34,7 +34,7 @@ use Rattle.world.specs.Gathering.{Gathers}
 use Rattle.world.specs.Trace.{WorldLosesNothing}
 use Rattle.world_clients.specs.NodesGoOn.{NodesGo}
 use Rattle.world.specs.Happening.{EventsHappen}
-use Rattle.world_clients.specs.SlotsAreValid.{SlotsAreValid, leads_of}
+use Rattle.world_clients.specs.SlotsAreValid.{SlotsAreValid, targets_of_clients}
 use Rattle.world.specs.World.{WorldState}
 use Rattle.world.proofs.ExactRuns.{in_two}
 use Rattle.world_clients.proofs.NodesGoOn.{acts_go}
@@ -50,7 +50,7 @@ use Rattle.world.proofs.WaitsOn.{own_waits, walk_waiting}
 module _ (name : List ℕ) (i at number place : ℕ) (core : Core) (up : List ℕ) (w after : WorldState) (node : CountedCore) (positive : 0 < number)
     (stands : slice_get w.nodes.nodes place ≡ Some node) (piece : List ℕ)
     (gathers : Gathers true (suc place) (with_nodes (after_node_call place node (takes (Bytes (port_of number) piece 0)) w.nodes) w) after)
-    (housed : SlotsAreValid (leads_of w.clients) w.connections)
+    (housed : SlotsAreValid (targets_of_clients w.clients) w.connections)
     (s : IsNewest i at number (suc place) core up [] true (with_nodes (after_node_call place node (takes (Bytes (port_of number) piece 0)) w.nodes) w))
     (first : position (is_named name) w.clients ≡ Some i)
     (config : Config) (a : Moment State Command Output) (past : List (Moment State Command Output)) (came : Moments rules config (a ∷ past)) (ballot start : ℕ) (x : ConnectionName)

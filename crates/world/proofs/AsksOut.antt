@@ -34,7 +34,7 @@ use Rattle.world.specs.Found.{port_of}
 use Rattle.world.specs.Gathering.{Gathers}
 use Rattle.world.specs.Trace.{WorldLosesNothing}
 use Rattle.world.specs.Happening.{EventsHappen}
-use Rattle.world_clients.specs.SlotsAreValid.{SlotsAreValid, leads_of}
+use Rattle.world_clients.specs.SlotsAreValid.{SlotsAreValid, targets_of_clients}
 use Rattle.world.specs.World.{WorldState}
 use Rattle.world.proofs.AnswersOut.{answers_alone, answers_with_others}
 use Rattle.world.proofs.ExactRuns.{First, first_done}
@@ -62,7 +62,7 @@ split (x ∷ xs) = by (split xs)
 -- ---- the CONNECT
 
 module _ (name : List ℕ) (v : WorldState) (i at number place : ℕ) (core : Core) (up : List ℕ) (positive : 0 < number) (newest : IsNewest i at number (suc place) core up [] true v)
-    (housed : SlotsAreValid (leads_of v.clients) v.connections) (first : position (is_named name) v.clients ≡ Some i)
+    (housed : SlotsAreValid (targets_of_clients v.clients) v.connections) (first : position (is_named name) v.clients ≡ Some i)
     (config : Config) (a : Moment State Command Output) (past : List (Moment State Command Output)) (came : Moments rules config (a ∷ past)) (ballot : ℕ) (os : List ℕ)
     (list : List Command) (o : IsOpened a v.nodes ballot place os (begun list ballot) (port_of number)) (room : length list + 2 ≤ max_places) (connect : Connect)
     (session : session_of (past_of usual_limits list) connect.client ≡ Some false) (is_connect : verdict up ≡ Ok (packets.Connect connect, [])) (kept : connect.clean ≡ false)
@@ -94,7 +94,7 @@ module _ (name : List ℕ) (v : WorldState) (i at number place : ℕ) (core : Co
   w_newest : IsNewest i at number (suc place) core (drop count newest.way.up) [] true (with_nodes taken w)
   w_newest = emptied_newest i at number place core up v newest positive o.node o.stands count many taken
 
-  w_housed : SlotsAreValid (leads_of w.clients) w.connections
+  w_housed : SlotsAreValid (targets_of_clients w.clients) w.connections
   w_housed = emptied_housed i at number place core up v newest positive o.node o.stands count many housed
 
   w_first : position (is_named name) w.clients ≡ Some i

@@ -11,7 +11,7 @@ use Rattle.world_pipes.specs.Piped.{Piped}
 use Rattle.world_pipes.proofs.StepsInWorlds.{steps_in_worlds}
 use Rattle.world_clients.specs.declared.connection_slot.ConnectionSlot.{ConnectionSlot}
 use Rattle.world_clients.specs.declared.world_client.WorldClient.{WorldClient}
-use Rattle.world_clients.specs.SlotsAreValid.{SlotsAreValid, leads, leads_of}
+use Rattle.world_clients.specs.SlotsAreValid.{SlotsAreValid, connection_targets, targets_of_clients}
 use Rattle.world.specs.Inside.Steps.{IsTrace, IsTraceAsking}
 use Rattle.world.specs.Inside.Calling.{with_loss}
 use Rattle.world.specs.StandsFor.{WorldSteps, FollowsModel, FollowsModelAsking, published_along}
@@ -111,7 +111,7 @@ same_piped old i client piped found same =
 
 -- and connections lead to the same nodes
 pub housed_still : (clients : List WorldClient) (connections : List ConnectionSlot) (i : ℕ) (client : WorldClient) (piped : Piped) → slice_get clients i ≡ Some client →
-    leads piped.ways ≡ leads client.piped.ways → SlotsAreValid (leads_of clients) connections →
-    SlotsAreValid (leads_of (set clients i (record client { piped = piped }))) connections
+    connection_targets piped.ways ≡ connection_targets client.piped.ways → SlotsAreValid (targets_of_clients clients) connections →
+    SlotsAreValid (targets_of_clients (set clients i (record client { piped = piped }))) connections
 housed_still clients connections i client piped found same housed =
     subst (λ all. SlotsAreValid all connections) (sym (housed_set clients i client (record client { piped = piped }) found same)) housed

@@ -13,7 +13,7 @@ use Rattle.world_pipes.specs.declared.way.Way.{Way}
 use Rattle.world_pipes.specs.Piped.{Piped}
 use Rattle.world_clients.specs.declared.connection_slot.ConnectionSlot.{ConnectionSlot}
 use Rattle.world_clients.specs.declared.world_client.WorldClient.{WorldClient}
-use Rattle.world_clients.specs.SlotsAreValid.{LeadsThere, leads_of}
+use Rattle.world_clients.specs.SlotsAreValid.{LeadsThere, targets_of_clients}
 use Rattle.world_clients.specs.Carrying.{with_less}
 use Rattle.world_clients.specs.Carrying.{CarriesUp}
 use Rattle.world.specs.StandsFor.{ModelStepsTo, WorldStandsFor, FollowsModel}
@@ -53,7 +53,7 @@ taken_up old m s place client one way x new count part acts =
       };
     }
 
-pub takes_up : (old : WorldState) (number count : ℕ) (place : ConnectionSlot) (client : WorldClient) (new : NodesState) (later : Piped) → LeadsThere (leads_of old.clients) number place
+pub takes_up : (old : WorldState) (number count : ℕ) (place : ConnectionSlot) (client : WorldClient) (new : NodesState) (later : Piped) → LeadsThere (targets_of_clients old.clients) number place
     → slice_get old.clients place.client ≡ Some client → CarriesUp place (record { 0 = number }) count old.nodes client.piped new later
     → FollowsModel old (put_down place.client client later new old)
 takes_up old number count place client new later there at t nodes config cs m trail s =

@@ -22,7 +22,7 @@ use Rattle.world_pipes.specs.declared.way.Way.{Way}
 use Rattle.world_pipes.specs.Following.{ConnectingFollows}
 use Rattle.world_pipes.specs.StandsFor.{AreWays}
 use Rattle.world_clients.specs.declared.world_client.WorldClient.{WorldClient}
-use Rattle.world_clients.specs.SlotsAreValid.{SlotsAreValid, leads, leads_of}
+use Rattle.world_clients.specs.SlotsAreValid.{SlotsAreValid, connection_targets, targets_of_clients}
 use Rattle.world.specs.Inside.Connecting.{ConnectsAt}
 use Rattle.world_clients.specs.Opening.{IsKnown}
 use Rattle.world_clients.specs.Clients.{ClientsStand}
@@ -58,7 +58,7 @@ module _ (n bound : ℕ) (port : Port) (beyond : bound < port.0) where
       none false = refl
 
   pub unused : (clients : List WorldClient) (cs : List ClientPipes) → ClientsStand clients cs
-      → ((i at node : ℕ) (q : Port) (ways : List (ℕ × Port)) → slice_get (leads_of clients) i ≡ Some ways → slice_get ways at ≡ Some (node, q) → q.0 ≤ bound)
+      → ((i at node : ℕ) (q : Port) (ways : List (ℕ × Port)) → slice_get (targets_of_clients clients) i ≡ Some ways → slice_get ways at ≡ Some (node, q) → q.0 ≤ bound)
       → is_used n port cs ≡ false
   unused [] [] all low = refl
   unused [] (c ∷ cs) all low = absurd all
@@ -72,11 +72,11 @@ module _ (n bound : ℕ) (port : Port) (beyond : bound < port.0) where
       in_turn j way e =
           let t = turned_at (reverse d.piped.ways) j way e in
           let found : slice_get d.piped.ways t.place ≡ Some way = ap (λ (l : List Way). slice_get l t.place) (sym (reverse-reverse d.piped.ways)) ∙ t.found in
-          low 0 t.place way.node way.port (leads d.piped.ways) refl (get_mapped (λ (w : Way). (w.node, w.port)) d.piped.ways t.place way found)
+          low 0 t.place way.node way.port (connection_targets d.piped.ways) refl (get_mapped (λ (w : Way). (w.node, w.port)) d.piped.ways t.place way found)
 
 -- ---- the step
 
-pub connects_goes : (i node : ℕ) (old new : WorldState) → SlotsAreValid (leads_of old.clients) old.connections → ConnectsAt i node old new → FollowsModel old new
+pub connects_goes : (i node : ℕ) (old new : WorldState) → SlotsAreValid (targets_of_clients old.clients) old.connections → ConnectsAt i node old new → FollowsModel old new
 connects_goes i node old new housed one nodes config cs m trail s = by node refl
   where
     number : ℕ

@@ -32,7 +32,7 @@ use Rattle.world.specs.Doing.{DoesEvent, receiver_of}
 use Rattle.world.specs.Gathering.{Gathers}
 use Rattle.world.specs.Trace.{WorldLosesNothing}
 use Rattle.world.specs.Happening.{EventsHappen}
-use Rattle.world_clients.specs.SlotsAreValid.{SlotsAreValid, leads_of}
+use Rattle.world_clients.specs.SlotsAreValid.{SlotsAreValid, targets_of_clients}
 use Rattle.world.specs.World.{WorldState}
 use Rattle.world.proofs.ExactRuns.{first_done}
 use Rattle.world.proofs.GroupGoes.{GoesApart, goes_apart, with_nodes}
@@ -42,7 +42,7 @@ use Rattle.world_clients.proofs.Turned.{mapped_from}
 
 -- ---- the nodes change, by a call in which connections have no part
 
-pub passes_apart : (ks : List ℕ) (old : WorldState) (new : NodesState) → SlotsAreValid (leads_of old.clients) old.connections → new.losses ≡ old.nodes.losses → GoesApart old.nodes new →
+pub passes_apart : (ks : List ℕ) (old : WorldState) (new : NodesState) → SlotsAreValid (targets_of_clients old.clients) old.connections → new.losses ≡ old.nodes.losses → GoesApart old.nodes new →
     Come old.nodes ks new → Passes ks old (with_nodes new old)
 passes_apart ks old new housed same apart comes =
     let on = goes_apart old new (omega (arith, same)) apart in
@@ -67,7 +67,7 @@ pub record AtNode (k at : ℕ) (message : Message Command) (old new : WorldState
   pub passes : Passes (k ∷ []) old new
 
 pub at_node : (k at : ℕ) (message : Message Command) (old new : WorldState) → slice_get old.nodes.sent k ≡ Some (at + 1, message) → DoesEvent true (events.Deliver k) old new →
-    SlotsAreValid (leads_of old.clients) old.connections → AtNode k at message old new
+    SlotsAreValid (targets_of_clients old.clients) old.connections → AtNode k at message old new
 at_node k at message old new came d housed =
     record {
       node = t.core;
@@ -114,7 +114,7 @@ at_master_is k from asked old new came d = gathers ∙ ap (λ (n : NodesState). 
     gathers = subst (λ (o : Option (ℕ × Message Command)). Gathers true (receiver_of o) (with_nodes d.0 old) new) came d.2
 
 pub at_master : (k from asked : ℕ) (old new : WorldState) → slice_get old.nodes.sent k ≡ Some (0, record { from = from; body = Activate asked }) → DoesEvent true (events.Deliver k) old new →
-    SlotsAreValid (leads_of old.clients) old.connections → Passes (k ∷ []) old new
+    SlotsAreValid (targets_of_clients old.clients) old.connections → Passes (k ∷ []) old new
 at_master k from asked old new came d housed =
     subst (Passes (k ∷ []) old) (sym (at_master_is k from asked old new came d))
     (passes_apart (k ∷ []) old (after_answer from asked old.nodes) housed refl
@@ -145,7 +145,7 @@ module _ (a : Moment State Command Output) (w : WorldState) (seen : IsSeen a w.n
 -- ---- one after another
 
 pub walk : (ballot : ℕ) (a b : Moment State Command Output) (ks : List ℕ) → Delivered rules ballot a ks b → (old new : WorldState) → EventsHappen (map events.Deliver ks) old new →
-    WorldLosesNothing old new → IsSeen a old.nodes → AreCalm ballot old.nodes → SlotsAreValid (leads_of old.clients) old.connections → Passes ks old new
+    WorldLosesNothing old new → IsSeen a old.nodes → AreCalm ballot old.nodes → SlotsAreValid (targets_of_clients old.clients) old.connections → Passes ks old new
 walk ballot a b ks all_came old new run none seen calm housed = subst (Passes [] old) (sym run) (passes_rest old housed)
 walk ballot a b ks (to_node {ks = rest} k at r m sent stands runs silent joined d) old new run none seen calm housed =
     let f = first_done (events.Deliver k) (map events.Deliver rest) old new run none (can_reach a old seen k at r m sent stands runs) in

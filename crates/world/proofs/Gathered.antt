@@ -6,7 +6,7 @@ use Rattle.world_clients.specs.declared.connection_slot.ConnectionSlot.{Connecti
 use Rattle.world.specs.Found.{slot_numbered, port_of, with_piped}
 use Rattle.world_clients.specs.Handing.{with_down}
 use Rattle.world.specs.Gathering.{GatheredWhere, Gathers, GathersAmong, IsGathered, MayBeGathered, is_open_at}
-use Rattle.world_clients.specs.Handing.{put_out}
+use Rattle.world_clients.specs.Handing.{bytes_put_out}
 use Rattle.world.specs.Inside.Steps.{IsTrace}
 use Rattle.world.specs.Inside.Handing.{GathersOn, MayGatherOn, marked}
 use Rattle.world.specs.World.{WorldState}
@@ -20,7 +20,7 @@ pub is_gathered : (number : ℕ) (place : ConnectionSlot) (is_open : Bool) (old 
     → new ≡ marked number place is_open mid → IsGathered number old new
 is_gathered number place is_open old mid new at positive h is =
     let down : WorldState = record (with_piped place.client h.client
-    (with_down place.at h.way (h.way.down ++ put_out (port_of number) (numbered_node old.nodes.nodes place.node)) h.client.piped) old) { nodes = h.between } in
+    (with_down place.at h.way (h.way.down ++ bytes_put_out (port_of number) (numbered_node old.nodes.nodes place.node)) h.client.piped) old) { nodes = h.between } in
     record {
       c = record { slot = place; numbered = numbered_at number old.connections (Some place) positive at; client = h.client; owned = h.owned; way = h.way; stands = h.stands };
       node = numbered_node old.nodes.nodes place.node;

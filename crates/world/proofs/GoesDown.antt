@@ -28,7 +28,7 @@ use Rattle.world_pipes.specs.declared.way.Way.{Way}
 use Rattle.world_pipes.specs.Piped.{Piped}
 use Rattle.world_clients.specs.declared.connection_slot.ConnectionSlot.{ConnectionSlot}
 use Rattle.world_clients.specs.declared.world_client.WorldClient.{WorldClient}
-use Rattle.world_clients.specs.SlotsAreValid.{LeadsThere, leads_of}
+use Rattle.world_clients.specs.SlotsAreValid.{LeadsThere, targets_of_clients}
 use Rattle.world_clients.specs.Handing.{with_down}
 use Rattle.world_clients.specs.Handing.{MayHandDown, MayPutDown}
 use Rattle.world_clients.specs.NodesGoOn.{NodesStay}
@@ -98,7 +98,7 @@ module _ {nodes : ℕ} {config : Config} {cs : List Client} (m : World) (trail :
       (record { after = m; steps = rests; asked_is = refl; stands = record { nodes = stay m.group s.nodes; clients = s.clients } }))
 
 -- what its node queued for the connection of a number goes down, or nothing does
-pub puts_down : (old : WorldState) (number : ℕ) (place : ConnectionSlot) (client : WorldClient) (new : NodesState) (later : Piped) → LeadsThere (leads_of old.clients) number place
+pub puts_down : (old : WorldState) (number : ℕ) (place : ConnectionSlot) (client : WorldClient) (new : NodesState) (later : Piped) → LeadsThere (targets_of_clients old.clients) number place
     → slice_get old.clients place.client ≡ Some client → MayPutDown place.at place.node (record { 0 = number }) old.nodes client.piped new later
     → FollowsModel old (put_down place.client client later new old)
 puts_down old number place client new later there at puts nodes config cs m trail s =

@@ -9,7 +9,7 @@ use Rattle.world_pipes.specs.Piped.{Piped}
 use Rattle.world_clients.specs.declared.connection_slot.ConnectionSlot.{ConnectionSlot}
 use Rattle.world_clients.specs.declared.world_client.WorldClient.{WorldClient}
 use Rattle.world_clients.specs.NodesGoOn.{NodesGoOn}
-use Rattle.world_clients.specs.SlotsAreValid.{SlotsAreValid, leads_of}
+use Rattle.world_clients.specs.SlotsAreValid.{SlotsAreValid, targets_of_clients}
 use Rattle.world.specs.Found.{port_of}
 use Rattle.world_clients.specs.Handing.{with_down, HandsDown, MayPutDown, PutsDown}
 use Rattle.world_clients.specs.Carrying.{CannotCarryUp, CarriesUpWhere}
@@ -59,14 +59,14 @@ gathers_on old number place client way is_open new later owned stands puts = by 
           same_client old place.client client new later owned (is ∙ same_bytes bytes p.1) ∙ ap (λ (n : NodesState). let w : WorldState = record old { nodes = n } in w) p.0,
         )
 
-pub gathering_goes : (old : WorldState) (number : ℕ) (place : ConnectionSlot) (client : WorldClient) (new : NodesState) (later : Piped) → SlotsAreValid (leads_of old.clients) old.connections
+pub gathering_goes : (old : WorldState) (number : ℕ) (place : ConnectionSlot) (client : WorldClient) (new : NodesState) (later : Piped) → SlotsAreValid (targets_of_clients old.clients) old.connections
     → slice_get old.connections (number - 1) ≡ Some place → 0 < number → slice_get old.clients place.client ≡ Some client → NodesGoOn old.nodes new
     → MayPutDown place.at place.node (record { 0 = number }) old.nodes client.piped new later → IsTrace old (put_down place.client client later new old)
 gathering_goes old number place client new later housed at positive found nodes puts =
     record {
       rises = omega arith;
       nodes = nodes;
-      goes = puts_down old number place client new later (led_there (leads_of old.clients) old.connections number place housed at positive) found puts;
+      goes = puts_down old number place client new later (led_there (targets_of_clients old.clients) old.connections number place housed at positive) found puts;
     }
 
 -- nothing is changed
@@ -81,14 +81,14 @@ takes_nothing old i client new later found same still = goes_on_rest old (put_do
 
 -- bytes come, or there is no memory for them
 pub takes_on : {E : Type 0} (r : Result Bool E) (old : WorldState) (number count : ℕ) (place : ConnectionSlot) (client : WorldClient) (new : NodesState) (later : Piped)
-    → SlotsAreValid (leads_of old.clients) old.connections → slice_get old.connections (number - 1) ≡ Some place → 0 < number → slice_get old.clients place.client ≡ Some client
+    → SlotsAreValid (targets_of_clients old.clients) old.connections → slice_get old.connections (number - 1) ≡ Some place → 0 < number → slice_get old.clients place.client ≡ Some client
     → NodesGoOn old.nodes new → IfOk r (λ had. CarriesUpWhere had place (record { 0 = number }) count old.nodes client.piped new later)
     → OnErr r (new ≡ old.nodes) → OnErr r (later ≡ client.piped) → IsTrace old (put_down place.client client later new old)
 takes_on (Ok true) old number count place client new later housed at positive found nodes took same still =
     record {
       rises = omega arith;
       nodes = nodes;
-      goes = takes_up old number count place client new later (led_there (leads_of old.clients) old.connections number place housed at positive) found took;
+      goes = takes_up old number count place client new later (led_there (targets_of_clients old.clients) old.connections number place housed at positive) found took;
     }
 takes_on (Ok false) old number count place client new later housed at positive found nodes took same still = takes_nothing old place.client client new later found took.0 took.1
 takes_on (Err e) old number count place client new later housed at positive found nodes took same still = takes_nothing old place.client client new later found same still

@@ -30,7 +30,7 @@ use Rattle.world_clients.specs.Carrying.{IsNoPart}
 use Rattle.world.specs.Doing.{DoesEvent, LosesAtClient, receiver_of}
 use Rattle.world_clients.specs.Carrying.{CarriesDownWhere}
 use Rattle.world.specs.Happening.{EventHappens, HappensExactly, HappensLosing, EventsHappen}
-use Rattle.world_clients.specs.SlotsAreValid.{SlotsAreValid, leads_of}
+use Rattle.world_clients.specs.SlotsAreValid.{SlotsAreValid, targets_of_clients}
 use Rattle.world.specs.Quiet.{EventTakesNoMemory}
 use Rattle.world_clients.specs.Carrying.{CanCarryUp, CannotCarryDown, CarriesDownOn}
 use Rattle.world.specs.Inside.Carrying.{CannotCarryUpOn, CarriesUpOn}
@@ -213,7 +213,7 @@ lost_up number place count old mid new at positive up (same, client, owned, t) f
     can (inl closed) = not_closed number old place at positive up t.runs closed
     can (inr few) = no_part count t.way.up t.some t.part (subst (λ (o : Option Way). IsNoPart count (up_of o)) (way_found number old c) few)
 
-pub carries_nothing : (number : ℕ) (place : ConnectionSlot) (count : ℕ) (old : WorldState) → SlotsAreValid (leads_of old.clients) old.connections → slice_get old.connections (number - 1) ≡ Some place → 0 < number
+pub carries_nothing : (number : ℕ) (place : ConnectionSlot) (count : ℕ) (old : WorldState) → SlotsAreValid (targets_of_clients old.clients) old.connections → slice_get old.connections (number - 1) ≡ Some place → 0 < number
     → CannotCarryUpOn place count old → CannotHappen (events.CarryUp number count) old
 carries_nothing number place count old housed at positive cannot = by (cannot c.client c.owned c.way c.stands)
   where
@@ -229,7 +229,7 @@ carries_nothing number place count old housed at positive cannot = by (cannot c.
 held_there : (number : ℕ) (w : WorldState) (c : Connected number w) → is_held (slot_numbered number w.connections) w.clients ≡ (is_holding c.client.piped && (suc c.slot.at == length c.client.piped.ways))
 held_there number w c = ap (λ (o : Option ConnectionSlot). is_held o w.clients) c.numbered ∙ ap (λ (o : Option WorldClient). is_held_by o c.slot.at) c.owned
 
-pub carries_down : (number : ℕ) (place : ConnectionSlot) (count : ℕ) (had : Bool) (old : WorldState) (client : WorldClient) (piped : Piped) → SlotsAreValid (leads_of old.clients) old.connections
+pub carries_down : (number : ℕ) (place : ConnectionSlot) (count : ℕ) (had : Bool) (old : WorldState) (client : WorldClient) (piped : Piped) → SlotsAreValid (targets_of_clients old.clients) old.connections
     → slice_get old.connections (number - 1) ≡ Some place → 0 < number → slice_get old.clients place.client ≡ Some client → CarriesDownOn had place.at count client.piped piped
     → (CannotHappen (events.CarryDown number count) old → ⊥) × DoesEvent had (events.CarryDown number count) old (with_piped place.client client piped old)
     × (had ≡ false → LosesAtClient (events.CarryDown number count) old (with_piped place.client client piped old))
@@ -257,7 +257,7 @@ carries_down number place count had old client piped housed at positive owned ca
     can (inl other) = both_ways _ (sym (held_there number old c) ∙ other) carries.held
     can (inr few) = carries.some c.way c.stands (subst (λ (o : Option Way). IsNoPart count (down_of o)) (way_found number old c) few)
 
-pub carries_none_down : (number : ℕ) (place : ConnectionSlot) (count : ℕ) (old : WorldState) (client : WorldClient) → SlotsAreValid (leads_of old.clients) old.connections → slice_get old.connections (number - 1) ≡ Some place
+pub carries_none_down : (number : ℕ) (place : ConnectionSlot) (count : ℕ) (old : WorldState) (client : WorldClient) → SlotsAreValid (targets_of_clients old.clients) old.connections → slice_get old.connections (number - 1) ≡ Some place
     → 0 < number → slice_get old.clients place.client ≡ Some client → CannotCarryDown place.at count client.piped → CannotHappen (events.CarryDown number count) old
 carries_none_down number place count old client housed at positive owned cannot =
     by (subst (λ (k : WorldClient). CannotCarryDown place.at count k.piped) (same_Some client c.client (sym owned ∙ c.owned)) cannot c.way c.stands)
@@ -277,7 +277,7 @@ does_less : (number count : ℕ) (old new : WorldState) → DoesEvent true (even
 does_less number count old new d = (d.0, d.1, carries_down_less count d.0.client.piped d.1 d.2, d.3)
 
 -- running out of memory is counted
-pub carried_down_meets : (number : ℕ) (place : ConnectionSlot) (count : ℕ) (had : Bool) (old : WorldState) (client : WorldClient) (piped : Piped) (new : WorldState) → SlotsAreValid (leads_of old.clients) old.connections
+pub carried_down_meets : (number : ℕ) (place : ConnectionSlot) (count : ℕ) (had : Bool) (old : WorldState) (client : WorldClient) (piped : Piped) (new : WorldState) → SlotsAreValid (targets_of_clients old.clients) old.connections
     → slice_get old.connections (number - 1) ≡ Some place → 0 < number → slice_get old.clients place.client ≡ Some client → CarriesDownOn had place.at count client.piped piped
     → new ≡ (if had then with_piped place.client client piped old else with_loss (with_piped place.client client piped old))
     → EventIsDone (events.CarryDown number count) old new ⊎ HappensLosing (events.CarryDown number count) old new

@@ -33,7 +33,7 @@ use Rattle.world.specs.Found.{port_of}
 use Rattle.world.specs.Trace.{AreReached, WorldLosesNothing}
 use Rattle.world_clients.specs.NodesGoOn.{NodesGo}
 use Rattle.world.specs.Happening.{EventsHappen}
-use Rattle.world_clients.specs.SlotsAreValid.{SlotsAreValid, leads_of}
+use Rattle.world_clients.specs.SlotsAreValid.{SlotsAreValid, targets_of_clients}
 use Rattle.world_events.specs.EscapeEvents.{answer_events, client_events, leaving}
 use Rattle.world.specs.Inside.Escaping.{escaping_events, sent_then}
 use Rattle.world.specs.StandsFor.{IsReached}
@@ -54,7 +54,7 @@ use Rattle.world.proofs.OneAgreed.{reached_agree}
 use Rattle.world.proofs.OpensOut.{HasOpened, opens_out}
 use Rattle.world.proofs.PutsFirst.{AnsweredTo}
 
-module _ (name : Client) (w : WorldState) (housed : SlotsAreValid (leads_of w.clients) w.connections) (first : ℕ) (os : List ℕ) (can : CanEscape (first ∷ os) name w) (holds : Bool)
+module _ (name : Client) (w : WorldState) (housed : SlotsAreValid (targets_of_clients w.clients) w.connections) (first : ℕ) (os : List ℕ) (can : CanEscape (first ∷ os) name w) (holds : Bool)
     (held : holds ≡ is_open can.core.state.stage) (nodes : ℕ) (config : Config) (cs : List Client) (r : IsReached nodes config cs w) (new : WorldState) where
   abbrev g : Group
   g = r.world.group
@@ -191,6 +191,6 @@ module _ (name : Client) (w : WorldState) (housed : SlotsAreValid (leads_of w.cl
 
 -- whichever members they are
 pub escaping_leads_out : (members : List ℕ) (name : Client) (w : WorldState) (can : CanEscape members name w) (holds : Bool) → holds ≡ is_open can.core.state.stage →
-    SlotsAreValid (leads_of w.clients) w.connections → LeadsClientOut name w (escaping_events w members can.index holds name (14 + length can.core.state.client))
+    SlotsAreValid (targets_of_clients w.clients) w.connections → LeadsClientOut name w (escaping_events w members can.index holds name (14 + length can.core.state.client))
 escaping_leads_out [] name w can holds held housed nodes config cs new r run none = absurd (none-some bad_members (sym can.granted))
 escaping_leads_out (first ∷ os) name w can holds held housed nodes config cs new r run none = leads name w housed first os can holds held nodes config cs r new run none

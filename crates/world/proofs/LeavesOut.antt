@@ -14,7 +14,7 @@ use Rattle.world.specs.Doing.{DoesEvent}
 use Rattle.world.specs.Found.{core_named, with_piped}
 use Rattle.world.specs.Trace.{WorldLosesNothing}
 use Rattle.world.specs.Happening.{EventsHappen}
-use Rattle.world_clients.specs.SlotsAreValid.{SlotsAreValid, leads, leads_of}
+use Rattle.world_clients.specs.SlotsAreValid.{SlotsAreValid, connection_targets, targets_of_clients}
 use Rattle.world_events.specs.EscapeEvents.{leaving}
 use Rattle.world.specs.World.{WorldState}
 use Rattle.world.proofs.ExactRuns.{First, first_done}
@@ -33,12 +33,12 @@ pub record HasLeft (name : List ℕ) (core : Core) (more : List Event) (old new 
   pub keep_alive : before.state.keep_alive ≡ core.state.keep_alive
   pub nodes : after.nodes ≡ old.nodes
   pub connections : after.connections ≡ old.connections
-  pub housed : SlotsAreValid (leads_of after.clients) after.connections
+  pub housed : SlotsAreValid (targets_of_clients after.clients) after.connections
   pub rest : EventsHappen more after new
   pub whole : WorldLosesNothing after new
 
 module _ (name : List ℕ) (core : Core) (more : List Event) (old new : WorldState) (there : core_named name old.clients ≡ Some core)
-    (housed : SlotsAreValid (leads_of old.clients) old.connections) where
+    (housed : SlotsAreValid (targets_of_clients old.clients) old.connections) where
   holds_one : is_open core.state.stage ≡ true → HoldsNone (core_named name old.clients) → ⊥
   holds_one holding none = both_ways (is_open core.state.stage) (subst HoldsNone there none) holding
 
@@ -60,8 +60,8 @@ module _ (name : List ℕ) (core : Core) (more : List Event) (old new : WorldSta
             keep_alive = refl;
             nodes = ap (λ (w : WorldState). w.nodes) is;
             connections = ap (λ (w : WorldState). w.connections) is;
-            housed = subst (λ (w : WorldState). SlotsAreValid (leads_of w.clients) w.connections) (sym is)
-                (housed_client old.clients old.connections c.at c.client later c.stands (ap (λ (p : Piped). leads p.ways) loses) housed);
+            housed = subst (λ (w : WorldState). SlotsAreValid (targets_of_clients w.clients) w.connections) (sym is)
+                (housed_client old.clients old.connections c.at c.client later c.stands (ap (λ (p : Piped). connection_targets p.ways) loses) housed);
             rest = f.rest;
             whole = f.whole;
           }

@@ -30,7 +30,7 @@ use Rattle.world.specs.Escaping.{CanEscape, configuration_of}
 use Rattle.world.specs.Trace.{WorldLosesNothing}
 use Rattle.world_clients.specs.NodesGoOn.{NodesGo}
 use Rattle.world.specs.Happening.{EventsHappen}
-use Rattle.world_clients.specs.SlotsAreValid.{SlotsAreValid, leads_of}
+use Rattle.world_clients.specs.SlotsAreValid.{SlotsAreValid, targets_of_clients}
 use Rattle.world.specs.StandsFor.{FollowsModel}
 use Rattle.world.specs.World.{WorldState}
 use Rattle.world.proofs.CanLead.{can_be_led, seen_as}
@@ -50,7 +50,7 @@ pub record LedTo (config : Config) (g : Group) (past : List (Moment State Comman
   pub followed : AreFollowed (g.master.given + 1) way.last (after_giving (configuration_of members) w.nodes) mid.nodes
   pub nodes : NodesGo w.nodes mid.nodes
   pub world : FollowsModel w mid
-  pub housed : SlotsAreValid (leads_of mid.clients) mid.connections
+  pub housed : SlotsAreValid (targets_of_clients mid.clients) mid.connections
   pub clients : map seen_of mid.clients ≡ map seen_of w.clients
   pub many : length mid.connections ≡ length w.connections
   pub rest : EventsHappen more mid new
@@ -63,7 +63,7 @@ group_events w members index =
     ∷ map events.Deliver (way_out (length w.nodes.sent) (length w.nodes.master.members) index (length (configuration_of members).members - 1))
 
 module _ (config : Config) (g : Group) (past : List (Moment State Command Output)) (came : Moments rules config (moment_of g ∷ past)) (w : WorldState) (s : NodesStandFor g w.nodes)
-    (housed : SlotsAreValid (leads_of w.clients) w.connections) (members : List ℕ) (name : Client) (can : CanEscape members name w) (more : List Event) (new : WorldState) where
+    (housed : SlotsAreValid (targets_of_clients w.clients) w.connections) (members : List ℕ) (name : Client) (can : CanEscape members name w) (more : List Event) (new : WorldState) where
   abbrev conf : Config
   conf = configuration_of members
 

@@ -25,7 +25,7 @@ use Rattle.world.specs.Doing.{DoesEvent}
 use Rattle.world.specs.Found.{Connected, slot_numbered, port_of, way_at, way_in, way_of, with_piped}
 use Rattle.world_clients.specs.Carrying.{with_less}
 use Rattle.world.specs.Gathering.{Gathers, TakesItem}
-use Rattle.world_clients.specs.SlotsAreValid.{SlotsAreValid, leads_of}
+use Rattle.world_clients.specs.SlotsAreValid.{SlotsAreValid, targets_of_clients}
 use Rattle.world.specs.World.{WorldState}
 use Rattle.world.proofs.DeliversOn.{runs_there}
 use Rattle.world.proofs.GroupGoes.{with_nodes}
@@ -136,7 +136,7 @@ module _ (i at number place : ℕ) (core : Core) (up : List ℕ) (w : WorldState
         last = s.last;
       }
 
-  pub emptied_housed : SlotsAreValid (leads_of w.clients) w.connections → SlotsAreValid (leads_of emptied.clients) emptied.connections
+  pub emptied_housed : SlotsAreValid (targets_of_clients w.clients) w.connections → SlotsAreValid (targets_of_clients emptied.clients) emptied.connections
   emptied_housed housed = housed_client w.clients w.connections i s.client client s.found (leads_set s.client.piped.ways at s.way way s.stands refl) housed
 
   pub emptied_names : names_of emptied.clients ≡ names_of w.clients

@@ -23,7 +23,7 @@ use Rattle.world_base.specs.Core.{CoreState, CountedCore}
 use Rattle.world.specs.Found.{port_of}
 use Rattle.world.specs.StandsFor.{WorldStandsFor}
 use Rattle.world.specs.World.{WorldState}
-use Rattle.world_clients.specs.SlotsAreValid.{SlotsAreValid, leads_of}
+use Rattle.world_clients.specs.SlotsAreValid.{SlotsAreValid, targets_of_clients}
 use Rattle.world.proofs.Connects.{unused}
 
 -- ---- tests that nothing passes
@@ -44,7 +44,7 @@ at_none test (y ∷ xs) (suc i) x none e = at_none test xs i x (or_parts (test y
 -- ---- its ports and its names
 
 module _ {nodes : ℕ} {config : Config} {cs : List Client} (m : World) (trail : Reached nodes config cs m) (w : WorldState) (s : WorldStandsFor m w)
-    (housed : SlotsAreValid (leads_of w.clients) w.connections) (at : ℕ) (node : CountedCore) (stands : slice_get w.nodes.nodes at ≡ Some node) where
+    (housed : SlotsAreValid (targets_of_clients w.clients) w.connections) (at : ℕ) (node : CountedCore) (stands : slice_get w.nodes.nodes at ≡ Some node) where
   in_model : slice_get m.group.nodes at ≡ Some node.core
   in_model = ap (λ (l : List CoreState). slice_get l at) s.nodes.nodes ∙ get_mapped (λ (c : CountedCore). c.core) w.nodes.nodes at node stands
 

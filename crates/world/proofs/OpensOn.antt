@@ -20,7 +20,7 @@ use Rattle.world_nodes.specs.Steps.{NodesLoseNothing}
 use Rattle.world_pipes.specs.Following.{FollowsAll}
 use Rattle.world_pipes.specs.Piped.{Piped, is_holding}
 use Rattle.world_clients.specs.NodesGoOn.{NodesGoOn}
-use Rattle.world_clients.specs.SlotsAreValid.{SlotsAreValid, leads_of}
+use Rattle.world_clients.specs.SlotsAreValid.{SlotsAreValid, targets_of_clients}
 use Rattle.world_events.specs.declared.event.Event.TheVariants as events
 use Rattle.world_clients.specs.declared.world_client.WorldClient.{WorldClient}
 use Rattle.world_clients.specs.declared.connection_slot.ConnectionSlot.{ConnectionSlot}
@@ -54,7 +54,7 @@ is_none (Some x) e = absurd (both_ways true e refl)
 
 -- ---- its node takes it
 
-pub connects_on : (i node : ℕ) (old new : WorldState) → SlotsAreValid (leads_of old.clients) old.connections → new.losses ≡ old.losses → NodesGoOn old.nodes new.nodes → ConnectsAt i node old new
+pub connects_on : (i node : ℕ) (old new : WorldState) → SlotsAreValid (targets_of_clients old.clients) old.connections → new.losses ≡ old.losses → NodesGoOn old.nodes new.nodes → ConnectsAt i node old new
     → IsTrace old new
 connects_on i node old new housed losses nodes one = record { rises = omega (arith, losses); nodes = nodes; goes = connects_goes i node old new housed one }
 
@@ -76,7 +76,7 @@ connects_at i node number at old client between piped after found counted last i
 -- ---- it does not take it, or there is no memory for it
 
 -- only the nodes
-turned : (old : WorldState) (new : NodesState) (node : ℕ) (port : Port) → SlotsAreValid (leads_of old.clients) old.connections → length old.connections < port.0
+turned : (old : WorldState) (new : NodesState) (node : ℕ) (port : Port) → SlotsAreValid (targets_of_clients old.clients) old.connections → length old.connections < port.0
     → HearsOfOne false node port old.nodes new → FollowsModel old (with_nodes new old)
 turned old new node port housed beyond (inl same) nodes config cs m trail s = world_stands old new (nodes_stay old.nodes new same) nodes config cs m trail s
 turned old new node port housed beyond (inr hears) nodes config cs m trail s = by node refl
@@ -100,7 +100,7 @@ turned old new node port housed beyond (inr hears) nodes config cs m trail s = b
           stands = record { nodes = d.stands; clients = s.clients };
         }
 
-pub refused_on : (old : WorldState) (i node : ℕ) (client : WorldClient) (new : NodesState) (later : Piped) → SlotsAreValid (leads_of old.clients) old.connections
+pub refused_on : (old : WorldState) (i node : ℕ) (client : WorldClient) (new : NodesState) (later : Piped) → SlotsAreValid (targets_of_clients old.clients) old.connections
     → slice_get old.clients i ≡ Some client → NodesGoOn old.nodes new → FollowsAll client.piped later → HearsOfOne false node (port_of (next_number old)) old.nodes new
     → IsTrace old (put_down i client later new old)
 refused_on old i node client new later housed found nodes follows hears =

@@ -42,7 +42,7 @@ use Rattle.world.specs.Gathering.{Gathers}
 use Rattle.world.specs.Trace.{WorldLosesNothing}
 use Rattle.world_clients.specs.NodesGoOn.{NodesGo}
 use Rattle.world.specs.Happening.{EventsHappen}
-use Rattle.world_clients.specs.SlotsAreValid.{SlotsAreValid, leads_of}
+use Rattle.world_clients.specs.SlotsAreValid.{SlotsAreValid, targets_of_clients}
 use Rattle.world.specs.World.{WorldState}
 use Rattle.world.proofs.ExactRuns.{first_done}
 use Rattle.world_clients.proofs.NodesGoOn.{acts_go}
@@ -69,12 +69,12 @@ pub record HasOpened (name : List ℕ) (state : ClientState) (a : Moment State C
   pub unread : core.unread ≡ nothing_read
   pub written : AppendsAll [] up (opened state).writes
   pub first : position (is_named name) after.clients ≡ Some i
-  pub housed : SlotsAreValid (leads_of after.clients) after.connections
+  pub housed : SlotsAreValid (targets_of_clients after.clients) after.connections
   pub nodes : NodesGo old.nodes after.nodes
 
 module _ (name : List ℕ) (before : Core) (a : Moment State Command Output) (ballot place : ℕ) (node : CountedCore) (os : List ℕ) (log : List Command) (old : WorldState)
     (there : core_named name old.clients ≡ Some before) (can : CanOpen a old.nodes ballot place node os log (port_of (next_number old)))
-    (housed : SlotsAreValid (leads_of old.clients) old.connections) where
+    (housed : SlotsAreValid (targets_of_clients old.clients) old.connections) where
   serving : is_serving (numbered_node old.nodes.nodes (suc place)) ≡ true
   serving =
       ap is_serving can.stands
@@ -154,7 +154,7 @@ module _ (name : List ℕ) (before : Core) (a : Moment State Command Output) (ba
           last = last;
         }
 
-    mid_housed : SlotsAreValid (leads_of mid.clients) mid.connections
+    mid_housed : SlotsAreValid (targets_of_clients mid.clients) mid.connections
     mid_housed =
         housed_opened old.clients old.connections c.at c.client piped (suc place - 1) number stands_at core c.stands does.2.2 refl refl refl
         (let e : suc (suc place - 1) ≡ suc place = omega arith in e) housed

@@ -12,7 +12,7 @@ use Rattle.headline.specs.byte_world.Steps.Reached.{begins}
 use Rattle.world_nodes.specs.Nodes.{NodesStandFor}
 use Rattle.world_pipes.specs.declared.way.Way.{Way}
 use Rattle.world_clients.specs.declared.world_client.WorldClient.{WorldClient}
-use Rattle.world_clients.specs.SlotsAreValid.{SlotsAreValid, leads, leads_of}
+use Rattle.world_clients.specs.SlotsAreValid.{SlotsAreValid, connection_targets, targets_of_clients}
 use Rattle.world_clients.specs.Clients.{ClientsStand}
 use Rattle.world.specs.StandsFor.{IsReached, WorldStandsFor, asked_on}
 use Rattle.world.specs.World.{WorldState}
@@ -24,7 +24,7 @@ use Rattle.world.proofs.WaysStand.{pipe_at}
 -- ---- its clients
 
 -- none of them has a connection
-pub housed_none : (clients : List WorldClient) (ids : List Client) → ClientsStand clients (map new_client ids) → SlotsAreValid (leads_of clients) []
+pub housed_none : (clients : List WorldClient) (ids : List Client) → ClientsStand clients (map new_client ids) → SlotsAreValid (targets_of_clients clients) []
 housed_none clients ids all =
     record {
       known = λ n place e. absurd (none-some place e);
@@ -34,9 +34,9 @@ housed_none clients ids all =
     no_pipe : (c : ClientPipes) (j : ℕ) (p : Pipe) → c.pipes ≡ [] → slice_get c.pipes j ≡ Some p → ⊥
     no_pipe c j p bare e = none-some p (sym (ap (λ (l : List Pipe). slice_get l j) bare) ∙ e)
 
-    none_there : (i at node : ℕ) (port : Port) (ways : List (ℕ × Port)) → slice_get (leads_of clients) i ≡ Some ways → slice_get ways at ≡ Some (node, port) → ⊥
+    none_there : (i at node : ℕ) (port : Port) (ways : List (ℕ × Port)) → slice_get (targets_of_clients clients) i ≡ Some ways → slice_get ways at ≡ Some (node, port) → ⊥
     none_there i at node port ways there e =
-        let client = mapped_from (λ (c : WorldClient). leads c.piped.ways) clients i ways there in
+        let client = mapped_from (λ (c : WorldClient). connection_targets c.piped.ways) clients i ways there in
         let c = client_at clients (map new_client ids) i client.x all client.found in
         let id = mapped_from new_client ids i c.c c.at in
         let way = mapped_from (λ (w : Way). (w.node, w.port)) client.x.piped.ways at (node, port) (ap (λ (l : List (ℕ × Port)). slice_get l at) client.is ∙ e) in

@@ -21,9 +21,9 @@ use Rattle.world_clients.specs.declared.world_client.WorldClient.{WorldClient}
 use Rattle.world.specs.Found.{slot_numbered, port_of}
 use Rattle.world_clients.specs.Handing.{with_down}
 use Rattle.world.specs.Gathering.{GatheredWhere, Gathers, GathersAmong, IsGathered, is_open_at}
-use Rattle.world_clients.specs.Handing.{HandsOverBytes, is_told_open, put_out}
+use Rattle.world_clients.specs.Handing.{HandsOverBytes, is_told_open, bytes_put_out}
 use Rattle.world_clients.specs.NodesGoOn.{NodesGo}
-use Rattle.world_clients.specs.SlotsAreValid.{SlotsAreValid, leads_of}
+use Rattle.world_clients.specs.SlotsAreValid.{SlotsAreValid, targets_of_clients}
 use Rattle.world_clients.specs.Handing.{MayHandDown, MayPutDown}
 use Rattle.world.specs.StandsFor.{FollowsModel}
 use Rattle.world.specs.World.{WorldState}
@@ -44,7 +44,7 @@ seen_of client = (client.name, client.piped.core)
 pub record Passes (ks : List ℕ) (old new : WorldState) : Type 0 where
   pub nodes : NodesGo old.nodes new.nodes
   pub world : FollowsModel old new
-  pub housed : SlotsAreValid (leads_of new.clients) new.connections
+  pub housed : SlotsAreValid (targets_of_clients new.clients) new.connections
   pub clients : map seen_of new.clients ≡ map seen_of old.clients
   pub many : length new.connections ≡ length old.connections
   pub come : Come old.nodes ks new.nodes
@@ -55,7 +55,7 @@ come_join (comes_to_node k at node message came there going more) two = comes_to
 come_join (comes_to_master k from ballot came more) two = comes_to_master k from ballot came (come_join more two)
 come_join (hands at node port there more) two = hands at node port there (come_join more two)
 
-pub passes_rest : (w : WorldState) → SlotsAreValid (leads_of w.clients) w.connections → Passes [] w w
+pub passes_rest : (w : WorldState) → SlotsAreValid (targets_of_clients w.clients) w.connections → Passes [] w w
 passes_rest w housed =
     record {
       nodes = staying_goes w.nodes w.nodes (λ g s. s);
@@ -82,7 +82,7 @@ passes_join ks ls a b c one two =
 record Hands (o : Option CountedCore) (node : ℕ) (port : Port) (before : List ℕ) (old between : NodesState) : Type 0 where
   come : Come old [] between
   goes : NodesGo old between
-  may : MayHandDown node port old before between (before ++ put_out port o)
+  may : MayHandDown node port old before between (before ++ bytes_put_out port o)
 
 handed : (o : Option CountedCore) (node : ℕ) (port : Port) (before : List ℕ) (old between : NodesState) → o ≡ numbered_node old.nodes node → HandsOverBytes o node port old between →
     Hands o node port before old between
@@ -107,7 +107,7 @@ at_number zero connections place positive e = absurd (omega (arith, positive))
 at_number (suc n) connections place positive e =
     sym (ap (λ (b : Bool). if b then None else slice_get connections (suc n - 1)) (ne_eqb (suc n) 0 (λ z. cc))) ∙ e
 
-module _ (number : ℕ) (old new : WorldState) (a : IsGathered number old new) (housed : SlotsAreValid (leads_of old.clients) old.connections) (positive : 0 < number) where
+module _ (number : ℕ) (old new : WorldState) (a : IsGathered number old new) (housed : SlotsAreValid (targets_of_clients old.clients) old.connections) (positive : 0 < number) where
   abbrev place : ConnectionSlot
   place = a.c.slot
 
@@ -115,7 +115,7 @@ module _ (number : ℕ) (old new : WorldState) (a : IsGathered number old new) (
   port = port_of number
 
   abbrev bytes : List ℕ
-  bytes = a.c.way.down ++ put_out port a.node
+  bytes = a.c.way.down ++ bytes_put_out port a.node
 
   abbrev later : Piped
   later = with_down place.at a.c.way bytes a.c.client.piped
@@ -143,9 +143,9 @@ module _ (number : ℕ) (old new : WorldState) (a : IsGathered number old new) (
       (record {
         nodes = given.goes;
         world = world_goes_join old down (record down { connections = set old.connections (number - 1) (record place { is_open = is_told_open port a.node }) })
-            (puts_down old number place a.c.client a.between later (led_there (leads_of old.clients) old.connections number place housed found positive) a.c.owned may_put)
+            (puts_down old number place a.c.client a.between later (led_there (targets_of_clients old.clients) old.connections number place housed found positive) a.c.owned may_put)
             (world_stays down (record down { connections = set old.connections (number - 1) (record place { is_open = is_told_open port a.node }) }) refl refl);
-        housed = housed_mark (leads_of down.clients) old.connections (number - 1) place (is_told_open port a.node) found
+        housed = housed_mark (targets_of_clients down.clients) old.connections (number - 1) place (is_told_open port a.node) found
             (housed_client old.clients old.connections place.client a.c.client (record a.c.client { piped = later }) a.c.owned
             (leads_set a.c.client.piped.ways place.at a.c.way (record a.c.way { down = bytes }) a.c.stands refl) housed);
         clients = map-set seen_of old.clients place.client (record a.c.client { piped = later })
@@ -156,16 +156,16 @@ module _ (number : ℕ) (old new : WorldState) (a : IsGathered number old new) (
 
 -- ---- the connections of a node
 
-pub where_passes : (b : Bool) (number : ℕ) (old new : WorldState) → GatheredWhere true b number old new → SlotsAreValid (leads_of old.clients) old.connections → 0 < number → Passes [] old new
+pub where_passes : (b : Bool) (number : ℕ) (old new : WorldState) → GatheredWhere true b number old new → SlotsAreValid (targets_of_clients old.clients) old.connections → 0 < number → Passes [] old new
 where_passes true number old new a housed positive = asked_passes number old new a housed positive
 where_passes false number old new is housed positive = subst (Passes [] old) (sym is) (passes_rest old housed)
 
-pub among_passes : (count node : ℕ) (old new : WorldState) → GathersAmong true count node old new → SlotsAreValid (leads_of old.clients) old.connections → Passes [] old new
+pub among_passes : (count node : ℕ) (old new : WorldState) → GathersAmong true count node old new → SlotsAreValid (targets_of_clients old.clients) old.connections → Passes [] old new
 among_passes zero node old new is housed = subst (Passes [] old) (sym is) (passes_rest old housed)
 among_passes (suc before) node old new g housed =
     let one = where_passes (is_open_at node (slot_numbered (suc before) old.connections)) (suc before) old g.0 g.1 housed (omega arith) in
     passes_join [] [] old g.0 new one (among_passes before node g.0 new g.2 one.housed)
 
-pub gathers_passes : (node : ℕ) (old new : WorldState) → Gathers true node old new → SlotsAreValid (leads_of old.clients) old.connections → Passes [] old new
+pub gathers_passes : (node : ℕ) (old new : WorldState) → Gathers true node old new → SlotsAreValid (targets_of_clients old.clients) old.connections → Passes [] old new
 gathers_passes zero old new is housed = subst (Passes [] old) (sym is) (passes_rest old housed)
 gathers_passes (suc at) old new g housed = among_passes (length old.connections) (suc at) old new g housed

@@ -27,11 +27,11 @@ use Rattle.world_events.specs.declared.event.Event.TheVariants as events
 use Rattle.world_clients.specs.Clients.{is_named}
 use Rattle.world.specs.Found.{port_of}
 use Rattle.world.specs.Gathering.{Gathers}
-use Rattle.world_clients.specs.Handing.{is_told_open, put_out}
+use Rattle.world_clients.specs.Handing.{is_told_open, bytes_put_out}
 use Rattle.world.specs.Trace.{WorldLosesNothing}
 use Rattle.world_clients.specs.NodesGoOn.{NodesGo}
 use Rattle.world.specs.Happening.{EventsHappen}
-use Rattle.world_clients.specs.SlotsAreValid.{SlotsAreValid, leads_of}
+use Rattle.world_clients.specs.SlotsAreValid.{SlotsAreValid, targets_of_clients}
 use Rattle.world.specs.World.{WorldState}
 use Rattle.world.proofs.DeliversOn.{AtNode, at_node}
 use Rattle.world.proofs.ExactRuns.{first_done}
@@ -68,7 +68,7 @@ master_stays n new (hands at node port there more) = master_stays _ new more
 
 module _ (name : List ℕ) (i at number place : ℕ) (core : Core) (up : List ℕ) (w after : WorldState) (node : CountedCore) (positive : 0 < number)
     (stands : slice_get w.nodes.nodes place ≡ Some node) (puts : PutsOutFirst (port_of number) (spelling session_present) node.core)
-    (gathers : Gathers true (suc place) w after) (housed : SlotsAreValid (leads_of w.clients) w.connections) (s : IsNewest i at number (suc place) core up [] true w)
+    (gathers : Gathers true (suc place) w after) (housed : SlotsAreValid (targets_of_clients w.clients) w.connections) (s : IsNewest i at number (suc place) core up [] true w)
     (first : position (is_named name) w.clients ≡ Some i) where
   passes : Passes [] w after
   passes = gathers_passes (suc place) w after gathers housed
@@ -77,11 +77,11 @@ module _ (name : List ℕ) (i at number place : ℕ) (core : Core) (up : List �
   put_first old goes same =
       record {
         up = up;
-        down = put_out (port_of number) (numbered_node w.nodes.nodes (suc place));
+        down = bytes_put_out (port_of number) (numbered_node w.nodes.nodes (suc place));
         is_open = is_told_open (port_of number) (numbered_node w.nodes.nodes (suc place));
         newest = own_gathered i at number (suc place) core up positive [] w after (let e : 0 < suc place = omega arith in e) gathers housed s;
         begins = subst (λ (l : List ℕ). IsPrefixOf (spelling session_present) l)
-            (sym (ap (λ (o : Option CountedCore). put_out (port_of number) o) stands ∙ ap bytes_of puts.listed)) puts.first;
+            (sym (ap (λ (o : Option CountedCore). bytes_put_out (port_of number) o) stands ∙ ap bytes_of puts.listed)) puts.first;
         first = position_kept name after.clients w.clients (names_seen after.clients w.clients passes.clients) ∙ first;
         nodes = goes;
         master = master_stays w.nodes after.nodes passes.come ∙ same;

@@ -16,8 +16,8 @@ use Rattle.world_clients.specs.declared.world_client.WorldClient.{WorldClient}
 use Rattle.world.specs.Found.{slot_numbered, port_of}
 use Rattle.world_clients.specs.Handing.{with_down}
 use Rattle.world.specs.Gathering.{GatheredWhere, Gathers, GathersAmong, IsGathered, is_open_at}
-use Rattle.world_clients.specs.Handing.{is_told_open, put_out}
-use Rattle.world_clients.specs.SlotsAreValid.{SlotsAreValid, leads_of}
+use Rattle.world_clients.specs.Handing.{is_told_open, bytes_put_out}
+use Rattle.world_clients.specs.SlotsAreValid.{SlotsAreValid, targets_of_clients}
 use Rattle.world.specs.World.{WorldState}
 use Rattle.world_clients.proofs.LeadsKept.{IsLed, led, led_there}
 use Rattle.world.proofs.PassesOn.{at_number, where_passes}
@@ -42,7 +42,7 @@ newest_place i at node is_open = record { client = i; at = at; node = node; is_o
 -- ---- it is asked itself
 
 module _ (i at number node : ℕ) (core : Core) (up down : List ℕ) (is_open : Bool) (old new : WorldState) (s : IsNewest i at number node core up down is_open old) where
-  pub gathered_itself : 0 < number → (a : IsGathered number old new) → IsNewest i at number node core up (down ++ put_out (port_of number) (numbered_node old.nodes.nodes node)) (is_told_open (port_of number) (numbered_node old.nodes.nodes node)) new
+  pub gathered_itself : 0 < number → (a : IsGathered number old new) → IsNewest i at number node core up (down ++ bytes_put_out (port_of number) (numbered_node old.nodes.nodes node)) (is_told_open (port_of number) (numbered_node old.nodes.nodes node)) new
   gathered_itself positive a =
       record {
         client = later;
@@ -54,9 +54,9 @@ module _ (i at number node : ℕ) (core : Core) (up down : List ℕ) (is_open : 
         stands = ap (λ (j : ℕ). slice_get (set a.c.client.piped.ways j below) at) at_is ∙ get_set a.c.client.piped.ways at a.c.way below there;
         many = length-set a.c.client.piped.ways a.c.slot.at below ∙ ap (λ (c : WorldClient). length c.piped.ways) same_client ∙ s.many;
         up_is = ap (λ (w : Way). w.up) same_way ∙ s.up_is;
-        down_is = ap (λ (w : Way). w.down ++ put_out (port_of number) a.node) same_way
-            ∙ ap (λ (l : List ℕ). l ++ put_out (port_of number) a.node) s.down_is
-            ∙ ap (λ (o : Option CountedCore). down ++ put_out (port_of number) o) node_is;
+        down_is = ap (λ (w : Way). w.down ++ bytes_put_out (port_of number) a.node) same_way
+            ∙ ap (λ (l : List ℕ). l ++ bytes_put_out (port_of number) a.node) s.down_is
+            ∙ ap (λ (o : Option CountedCore). down ++ bytes_put_out (port_of number) o) node_is;
         place = ap (λ (w : WorldState). slice_get w.connections (number - 1)) a.is
             ∙ get_set old.connections (number - 1) a.c.slot (record a.c.slot { is_open = is_told_open (port_of number) a.node }) found
             ∙ ap (λ (p : ConnectionSlot). Some (let q : ConnectionSlot = record p { is_open = is_told_open (port_of number) a.node } in q)) place_is
@@ -93,14 +93,14 @@ module _ (i at number node : ℕ) (core : Core) (up down : List ℕ) (is_open : 
       same_way = same_Some a.c.way s.way (sym there ∙ ap (λ (c : WorldClient). slice_get c.piped.ways at) same_client ∙ s.stands)
 
       below : Way
-      below = record a.c.way { down = a.c.way.down ++ put_out (port_of number) a.node }
+      below = record a.c.way { down = a.c.way.down ++ bytes_put_out (port_of number) a.node }
 
       later : WorldClient
-      later = record a.c.client { piped = with_down a.c.slot.at a.c.way (a.c.way.down ++ put_out (port_of number) a.node) a.c.client.piped }
+      later = record a.c.client { piped = with_down a.c.slot.at a.c.way (a.c.way.down ++ bytes_put_out (port_of number) a.node) a.c.client.piped }
 
   -- ---- another is asked
 
-  pub gathered_another : (other : ℕ) → 0 < number → 0 < other → (other ≡ number → ⊥) → SlotsAreValid (leads_of old.clients) old.connections → IsGathered other old new →
+  pub gathered_another : (other : ℕ) → 0 < number → 0 < other → (other ≡ number → ⊥) → SlotsAreValid (targets_of_clients old.clients) old.connections → IsGathered other old new →
       IsNewest i at number node core up down is_open new
   gathered_another other positive some apart housed a = by (same_or_other i a.c.slot.client)
     where
@@ -119,7 +119,7 @@ module _ (i at number node : ℕ) (core : Core) (up down : List ℕ) (is_open : 
           ∙ length-set old.connections (other - 1) (record a.c.slot { is_open = is_told_open (port_of other) a.node }) ∙ s.last
 
       bytes : List ℕ
-      bytes = a.c.way.down ++ put_out (port_of other) a.node
+      bytes = a.c.way.down ++ bytes_put_out (port_of other) a.node
 
       later : WorldClient
       later = record a.c.client { piped = with_down a.c.slot.at a.c.way bytes a.c.client.piped }
@@ -163,10 +163,10 @@ module _ (i at number node : ℕ) (core : Core) (up down : List ℕ) (is_open : 
           -- else both would lead to one port
           mine : IsLed s.client.piped.ways number (newest_place i at node is_open)
           mine = led old.clients number (newest_place i at node is_open) s.client
-              (led_there (leads_of old.clients) old.connections number (newest_place i at node is_open) housed s.place positive) s.found
+              (led_there (targets_of_clients old.clients) old.connections number (newest_place i at node is_open) housed s.place positive) s.found
 
           its : IsLed a.c.client.piped.ways other a.c.slot
-          its = led old.clients other a.c.slot a.c.client (led_there (leads_of old.clients) old.connections other a.c.slot housed found some) a.c.owned
+          its = led old.clients other a.c.slot a.c.client (led_there (targets_of_clients old.clients) old.connections other a.c.slot housed found some) a.c.owned
 
           not_here : at ≡ a.c.slot.at → ⊥
           not_here here =
@@ -179,7 +179,7 @@ module _ (i at number node : ℕ) (core : Core) (up down : List ℕ) (is_open : 
 module _ (i at number node : ℕ) (core : Core) (up : List ℕ) (positive : 0 < number) where
   -- those before it
   pub older_asked : (count to : ℕ) (down : List ℕ) (is_open : Bool) (old new : WorldState) → GathersAmong true count to old new → count < number →
-      SlotsAreValid (leads_of old.clients) old.connections → IsNewest i at number node core up down is_open old → IsNewest i at number node core up down is_open new
+      SlotsAreValid (targets_of_clients old.clients) old.connections → IsNewest i at number node core up down is_open old → IsNewest i at number node core up down is_open new
   older_asked zero to down is_open old new is low housed s = subst (IsNewest i at number node core up down is_open) (sym is) s
   older_asked (suc before) to down is_open old new g low housed s =
       older_asked before to down is_open g.0 new g.2 (omega (arith, low))
@@ -196,7 +196,7 @@ module _ (i at number node : ℕ) (core : Core) (up : List ℕ) (positive : 0 < 
 
   -- all of another node
   pub elsewhere_gathered : (to : ℕ) (down : List ℕ) (is_open : Bool) (old new : WorldState) → (node ≡ to → ⊥) → Gathers true to old new →
-      SlotsAreValid (leads_of old.clients) old.connections → IsNewest i at number node core up down is_open old → IsNewest i at number node core up down is_open new
+      SlotsAreValid (targets_of_clients old.clients) old.connections → IsNewest i at number node core up down is_open old → IsNewest i at number node core up down is_open new
   elsewhere_gathered zero down is_open old new apart is housed s = subst (IsNewest i at number node core up down is_open) (sym is) s
   elsewhere_gathered (suc to) down is_open old new apart g housed s = by number refl (subst (λ (k : ℕ). GathersAmong true k (suc to) old new) s.last g)
     where
@@ -210,13 +210,13 @@ module _ (i at number node : ℕ) (core : Core) (up : List ℕ) (positive : 0 < 
           ap (λ (j : ℕ). is_open_at (suc to) (slot_numbered j old.connections)) e
           ∙ asks (suc to) is_open false down old s (ap (λ (b : Bool). b && is_open) (ne_eqb node (suc to) apart)) in
           let still : h.0 ≡ old = subst (λ (b : Bool). GatheredWhere true b (suc k) old h.0) shut h.1 in
-          older_asked k (suc to) down is_open h.0 new h.2 (omega (arith, e)) (subst (λ (w : WorldState). SlotsAreValid (leads_of w.clients) w.connections) (sym still) housed)
+          older_asked k (suc to) down is_open h.0 new h.2 (omega (arith, e)) (subst (λ (w : WorldState). SlotsAreValid (targets_of_clients w.clients) w.connections) (sym still) housed)
           (subst (IsNewest i at number node core up down is_open) (sym still) s)
 
   -- all of its own
-  pub own_gathered : (down : List ℕ) (old new : WorldState) → 0 < node → Gathers true node old new → SlotsAreValid (leads_of old.clients) old.connections →
+  pub own_gathered : (down : List ℕ) (old new : WorldState) → 0 < node → Gathers true node old new → SlotsAreValid (targets_of_clients old.clients) old.connections →
       IsNewest i at number node core up down true old →
-      IsNewest i at number node core up (down ++ put_out (port_of number) (numbered_node old.nodes.nodes node)) (is_told_open (port_of number) (numbered_node old.nodes.nodes node)) new
+      IsNewest i at number node core up (down ++ bytes_put_out (port_of number) (numbered_node old.nodes.nodes node)) (is_told_open (port_of number) (numbered_node old.nodes.nodes node)) new
   own_gathered down old new some g housed s = by number refl (among node some g)
     where
       among : (to : ℕ) → 0 < to → Gathers true to old new → GathersAmong true number to old new
@@ -224,13 +224,13 @@ module _ (i at number node : ℕ) (core : Core) (up : List ℕ) (positive : 0 < 
       among (suc to) low h = subst (λ (k : ℕ). GathersAmong true k (suc to) old new) s.last h
 
       by : (k : ℕ) → k ≡ number → GathersAmong true k node old new →
-          IsNewest i at number node core up (down ++ put_out (port_of number) (numbered_node old.nodes.nodes node)) (is_told_open (port_of number) (numbered_node old.nodes.nodes node)) new
+          IsNewest i at number node core up (down ++ bytes_put_out (port_of number) (numbered_node old.nodes.nodes node)) (is_told_open (port_of number) (numbered_node old.nodes.nodes node)) new
       by zero e h = absurd (omega (arith, e, positive))
       by (suc k) e h =
           let up_there : is_open_at node (slot_numbered (suc k) old.connections) ≡ true =
           ap (λ (j : ℕ). is_open_at node (slot_numbered j old.connections)) e
           ∙ asks node true true down old s (ap (λ (b : Bool). b && true) (eq-eqb node node refl)) in
           let a : IsGathered number old h.0 = subst (λ (j : ℕ). IsGathered j old h.0) e (subst (λ (b : Bool). GatheredWhere true b (suc k) old h.0) up_there h.1) in
-          older_asked k node (down ++ put_out (port_of number) (numbered_node old.nodes.nodes node)) (is_told_open (port_of number) (numbered_node old.nodes.nodes node)) h.0 new h.2 (omega (arith, e))
+          older_asked k node (down ++ bytes_put_out (port_of number) (numbered_node old.nodes.nodes node)) (is_told_open (port_of number) (numbered_node old.nodes.nodes node)) h.0 new h.2 (omega (arith, e))
           (where_passes (is_open_at node (slot_numbered (suc k) old.connections)) (suc k) old h.0 h.1 housed (omega arith)).housed
           (gathered_itself i at number node core up down true old h.0 s positive a)

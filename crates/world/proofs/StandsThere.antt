@@ -9,7 +9,7 @@ use Rattle.world_clients.specs.declared.connection_slot.ConnectionSlot.{Connecti
 use Rattle.world_clients.specs.declared.world_client.WorldClient.{WorldClient}
 use Rattle.world.specs.Found.{Connected, core_at, core_named, core_of, slot_numbered, way_at, way_in, way_of}
 use Rattle.world_clients.specs.Clients.{is_named}
-use Rattle.world_clients.specs.SlotsAreValid.{SlotsAreValid, leads, leads_of}
+use Rattle.world_clients.specs.SlotsAreValid.{SlotsAreValid, connection_targets, targets_of_clients}
 use Rattle.world.specs.World.{WorldState}
 use Rattle.world_clients.proofs.LeadsKept.{led, led_there}
 use Rattle.world_clients.proofs.Turned.{mapped_from}
@@ -20,10 +20,10 @@ pub numbered_at : (number : ℕ) (connections : List ConnectionSlot) (o : Option
 numbered_at zero connections o positive e = absurd (omega (arith, positive))
 numbered_at (suc n) connections o positive e = ap (λ (b : Bool). if b then None else slice_get connections (suc n - 1)) (ne_eqb (suc n) 0 (λ z. cc)) ∙ e
 
-abbrev pub connected : (w : WorldState) (number : ℕ) (place : ConnectionSlot) → SlotsAreValid (leads_of w.clients) w.connections → slice_get w.connections (number - 1) ≡ Some place → 0 < number → Connected number w
+abbrev pub connected : (w : WorldState) (number : ℕ) (place : ConnectionSlot) → SlotsAreValid (targets_of_clients w.clients) w.connections → slice_get w.connections (number - 1) ≡ Some place → 0 < number → Connected number w
 connected w number place housed at positive =
-    let there = led_there (leads_of w.clients) w.connections number place housed at positive in
-    let client = mapped_from (λ (c : WorldClient). leads c.piped.ways) w.clients place.client there.ways there.client in
+    let there = led_there (targets_of_clients w.clients) w.connections number place housed at positive in
+    let client = mapped_from (λ (c : WorldClient). connection_targets c.piped.ways) w.clients place.client there.ways there.client in
     let way = led w.clients number place client.x there client.found in
     record {
       slot = place;
@@ -38,18 +38,18 @@ pub way_found : (number : ℕ) (w : WorldState) (c : Connected number w) → way
 way_found number w c = ap (λ (o : Option ConnectionSlot). way_at o w.clients) c.numbered ∙ ap (λ (o : Option WorldClient). way_in o c.slot.at) c.owned ∙ c.stands
 
 -- its places are within the lists
-pub client_within : (clients : List WorldClient) (connections : List ConnectionSlot) (number : ℕ) (place : ConnectionSlot) → SlotsAreValid (leads_of clients) connections → slice_get connections (number - 1) ≡ Some place
+pub client_within : (clients : List WorldClient) (connections : List ConnectionSlot) (number : ℕ) (place : ConnectionSlot) → SlotsAreValid (targets_of_clients clients) connections → slice_get connections (number - 1) ≡ Some place
     → 0 < number → place.client < length clients
 client_within clients connections number place housed at positive =
-    let there = led_there (leads_of clients) connections number place housed at positive in
-    let below = slice_get_within (leads_of clients) place.client there.ways there.client in
-    let same = length-map clients (λ (c : WorldClient). leads c.piped.ways) in
+    let there = led_there (targets_of_clients clients) connections number place housed at positive in
+    let below = slice_get_within (targets_of_clients clients) place.client there.ways there.client in
+    let same = length-map clients (λ (c : WorldClient). connection_targets c.piped.ways) in
     omega (arith, below, same)
 
-pub way_within : (clients : List WorldClient) (connections : List ConnectionSlot) (number : ℕ) (place : ConnectionSlot) (client : WorldClient) → SlotsAreValid (leads_of clients) connections
+pub way_within : (clients : List WorldClient) (connections : List ConnectionSlot) (number : ℕ) (place : ConnectionSlot) (client : WorldClient) → SlotsAreValid (targets_of_clients clients) connections
     → slice_get connections (number - 1) ≡ Some place → 0 < number → slice_get clients place.client ≡ Some client → place.at < length client.piped.ways
 way_within clients connections number place client housed at positive owned =
-    let way = led clients number place client (led_there (leads_of clients) connections number place housed at positive) owned in
+    let way = led clients number place client (led_there (targets_of_clients clients) connections number place housed at positive) owned in
     slice_get_within client.piped.ways place.at way.way way.found
 
 -- ---- a client

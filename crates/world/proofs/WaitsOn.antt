@@ -34,10 +34,10 @@ use Rattle.world_nodes.specs.Nodes.{NodesState}
 use Rattle.world_events.specs.declared.event.Event.TheVariants as events
 use Rattle.world.specs.Found.{port_of}
 use Rattle.world.specs.Gathering.{Gathers}
-use Rattle.world_clients.specs.Handing.{is_more, is_told_open, put_out}
+use Rattle.world_clients.specs.Handing.{is_more, is_told_open, bytes_put_out}
 use Rattle.world.specs.Trace.{WorldLosesNothing}
 use Rattle.world.specs.Happening.{EventsHappen}
-use Rattle.world_clients.specs.SlotsAreValid.{SlotsAreValid, leads_of}
+use Rattle.world_clients.specs.SlotsAreValid.{SlotsAreValid, targets_of_clients}
 use Rattle.world.specs.World.{WorldState}
 use Rattle.world.proofs.DeliversOn.{at_master, at_master_is, at_node, can_ask, can_reach, sent_to}
 use Rattle.world.proofs.ExactRuns.{first_done}
@@ -55,7 +55,7 @@ open_stage x c e = by (is_closed c.stage) (and_parts (not (is_closed c.stage)) (
     by false f = refl
 
 module _ (port : Port) (x : ConnectionName) (node : CountedCore) (w : AwaitsAnswer port x node.core) where
-  pub nothing_out : put_out port (Some node) ≡ []
+  pub nothing_out : bytes_put_out port (Some node) ≡ []
   nothing_out = ap bytes_of w.listed ∙ w.none
 
   pub told_open : is_told_open port (Some node) ≡ true
@@ -85,10 +85,10 @@ newest_with i at number node core up down is_open old nodes s =
 -- what its own node hands over while it waits is nothing
 pub own_waits : (i at number place : ℕ) (core : Core) (up : List ℕ) (x : ConnectionName) (old new : WorldState) (node : CountedCore) → 0 < number →
     slice_get old.nodes.nodes place ≡ Some node → AwaitsAnswer (port_of number) x node.core → Gathers true (suc place) old new →
-    SlotsAreValid (leads_of old.clients) old.connections → IsNewest i at number (suc place) core up [] true old → IsNewest i at number (suc place) core up [] true new
+    SlotsAreValid (targets_of_clients old.clients) old.connections → IsNewest i at number (suc place) core up [] true old → IsNewest i at number (suc place) core up [] true new
 own_waits i at number place core up x old new node positive there w g housed s =
-    subst (λ (l : List ℕ). IsNewest i at number (suc place) core up l true new) (ap (put_out (port_of number)) there ∙ nothing_out (port_of number) x node w)
-    (subst (λ (b : Bool). IsNewest i at number (suc place) core up (put_out (port_of number) (numbered_node old.nodes.nodes (suc place))) b new)
+    subst (λ (l : List ℕ). IsNewest i at number (suc place) core up l true new) (ap (bytes_put_out (port_of number)) there ∙ nothing_out (port_of number) x node w)
+    (subst (λ (b : Bool). IsNewest i at number (suc place) core up (bytes_put_out (port_of number) (numbered_node old.nodes.nodes (suc place))) b new)
     (ap (is_told_open (port_of number)) there ∙ told_open (port_of number) x node w)
     (own_gathered i at number (suc place) core up positive [] old new (omega arith) g housed s))
 
@@ -104,7 +104,7 @@ module _ (ballot place : ℕ) (x : ConnectionName) (i at number : ℕ) (core : C
   one_waits : (a : Moment State Command Output) (k to : ℕ) (m : Message Command) (c : Moment State Command Output) → Delivered rules ballot a (k ∷ []) c → (old new : WorldState)
       (node : CountedCore) → slice_get old.nodes.sent k ≡ Some (to + 1, m) → slice_get old.nodes.nodes to ≡ Some node → node.core.replica.state.stopped ≡ false →
       Gathers true (suc to) (with_nodes (after_node_call to node (takes (Peer m)) old.nodes) old) new → IsSeen a old.nodes → AreCalm ballot old.nodes →
-      SlotsAreValid (leads_of old.clients) old.connections → StillWaits ballot place (port_of number) x old.nodes → IsNewest i at number (suc place) core up [] true old →
+      SlotsAreValid (targets_of_clients old.clients) old.connections → StillWaits ballot place (port_of number) x old.nodes → IsNewest i at number (suc place) core up [] true old →
       IsNewest i at number (suc place) core up [] true new
   one_waits a k to m c d old new node came there runs g seen calm housed w s =
       by (cases_eq place to) (waits_on ballot place (port_of number) x a c (k ∷ []) d old.nodes after (comes_to_node k to node m came there runs none_comes) seen calm w)
@@ -121,7 +121,7 @@ module _ (ballot place : ℕ) (x : ConnectionName) (i at number : ℕ) (core : C
           (newest_with i at number (suc place) core up [] true old after s)
 
   pub walk_waiting : (a b : Moment State Command Output) (ks : List ℕ) → Delivered rules ballot a ks b → (old new : WorldState) → EventsHappen (map events.Deliver ks) old new →
-      WorldLosesNothing old new → IsSeen a old.nodes → AreCalm ballot old.nodes → SlotsAreValid (leads_of old.clients) old.connections →
+      WorldLosesNothing old new → IsSeen a old.nodes → AreCalm ballot old.nodes → SlotsAreValid (targets_of_clients old.clients) old.connections →
       StillWaits ballot place (port_of number) x old.nodes → IsNewest i at number (suc place) core up [] true old → Waits ballot place x i at number core up ks old new
   walk_waiting a b ks all_came old new run none seen calm housed w s =
       subst (Waits ballot place x i at number core up [] old) (sym run) (record { passes = passes_rest old housed; waits = w; newest = s })

@@ -12,7 +12,7 @@ use Rattle.world_clients.specs.declared.connection_slot.ConnectionSlot.{Connecti
 use Rattle.world.specs.Found.{Connected, slot_numbered, port_of, with_piped}
 use Rattle.world_clients.specs.Handing.{with_down}
 use Rattle.world.specs.World.{WorldState}
-use Rattle.world_clients.specs.Handing.{put_out, is_told_open, HandsOverBytes}
+use Rattle.world_clients.specs.Handing.{bytes_put_out, is_told_open, HandsOverBytes}
 
 -- ---- one connection
 
@@ -25,7 +25,7 @@ pub record IsGathered (number : ℕ) (old new : WorldState) : Type 0 where
   pub between : NodesState
   pub gives : HandsOverBytes node c.slot.node (port_of number) old.nodes between
   pub is : new ≡ record (with_piped c.slot.client c.client
-      (with_down c.slot.at c.way (c.way.down ++ put_out (port_of number) node) c.client.piped)
+      (with_down c.slot.at c.way (c.way.down ++ bytes_put_out (port_of number) node) c.client.piped)
       old) {
         nodes = between;
         connections = set old.connections (number - 1)

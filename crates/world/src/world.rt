@@ -51,7 +51,7 @@ impl Drop for World {
 
 impl Model for World {
     ghost use Rattle.std.specs.Prelude.{◌≡◌};
-    ghost use Rattle.world_clients.specs.SlotsAreValid.{SlotsAreValid, leads_of, open_from};
+    ghost use Rattle.world_clients.specs.SlotsAreValid.{SlotsAreValid, targets_of_clients, open_from};
     ghost use Rattle.world.specs.World.{WorldState};
 
     ghost Value = { WorldState };
@@ -64,7 +64,7 @@ impl Model for World {
           losses = w.losses;
         } };
 
-    ghost invariant = { λ w. SlotsAreValid (leads_of w.clients.items) w.connections.items
+    ghost invariant = { λ w. SlotsAreValid (targets_of_clients w.clients.items) w.connections.items
         × (w.open_ends.items ≡ open_from 1 w.connections.items) };
 }
 

@@ -22,7 +22,7 @@ use Rattle.client.specs.client_base.Steps.{Call, keeper_step}
 use Rattle.world_pipes.specs.Following.{ConnectingFollows}
 use Rattle.world_pipes.specs.Piped.{SendsConnect as Opens, Piped, taken_back}
 use Rattle.world_pipes.proofs.TakenBack.{taken_back_ways, taking_back_follows}
-use Rattle.world_clients.specs.SlotsAreValid.{leads}
+use Rattle.world_clients.specs.SlotsAreValid.{connection_targets}
 use Rattle.world_clients.specs.Opening.{HearsOfOne, Reaches}
 
 -- ---- a node that takes an item in is there still
@@ -91,7 +91,7 @@ reaches false node port old new client mid later opens follows hears is =
 
 -- without one its connections lead to the same nodes
 pub back_leads : (taken : Bool) (node : ℕ) (port : Port) (client mid later : Piped) → Opens (node - 1) port (keeper_step Call.Opens client.core.state) client (Ok tt) mid
-    → later ≡ (if taken then mid else taken_back mid) → taken ≡ false → leads later.ways ≡ leads client.ways
+    → later ≡ (if taken then mid else taken_back mid) → taken ≡ false → connection_targets later.ways ≡ connection_targets client.ways
 back_leads true node port client mid later opens is none = absurd (both_ways true none refl)
 back_leads false node port client mid later opens is none =
-    ap (λ (p : Piped). leads p.ways) is ∙ ap leads (taken_back_ways (node - 1) port client mid opens)
+    ap (λ (p : Piped). connection_targets p.ways) is ∙ ap connection_targets (taken_back_ways (node - 1) port client mid opens)

@@ -14,8 +14,8 @@ use Rattle.world_nodes.specs.HandingOver.{HandsIn}
 use Rattle.world_nodes.proofs.Exactly.{gives_acts}
 use Rattle.world_pipes.specs.declared.way.Way.{Way}
 use Rattle.world_pipes.specs.Piped.{Piped}
-use Rattle.world_clients.specs.SlotsAreValid.{leads}
-use Rattle.world_clients.specs.Handing.{with_down, HandsOverBytes, is_more, is_told_open, put_out, HandsDown, MayHandDown, MayPutDown, PutsDown, tells_open}
+use Rattle.world_clients.specs.SlotsAreValid.{connection_targets}
+use Rattle.world_clients.specs.Handing.{with_down, HandsOverBytes, is_more, is_told_open, bytes_put_out, HandsDown, MayHandDown, MayPutDown, PutsDown, tells_open}
 use Rattle.world_clients.specs.NodesGoOn.{NodesGoOn}
 use Rattle.world_clients.proofs.NodesGoOn.{acts_go, nodes_forget, nodes_stay, staying_goes}
 use Rattle.world_clients.proofs.LeadsKept.{leads_set}
@@ -23,7 +23,7 @@ use Rattle.world_clients.proofs.LeadsKept.{leads_set}
 -- ---- one call of a node
 
 abbrev HandsExactly : ℕ → Port → NodesState → List ℕ → NodesState → List ℕ → Bool → Option CountedCore → Type 0
-HandsExactly node port old before new after is_open o = HandsOverBytes o node port old new × (after ≡ before ++ put_out port o) × (is_open ≡ is_told_open port o)
+HandsExactly node port old before new after is_open o = HandsOverBytes o node port old new × (after ≡ before ++ bytes_put_out port o) × (is_open ≡ is_told_open port o)
 
 pub handed_down : (r : Result Handed Idle) (is_open : Bool) (node : ℕ) (port : Port) (old new : NodesState) (before after : List ℕ) → is_open ≡ tells_open r
     → IsErr r ↔ (numbered_node old.nodes node ≡ None) → IfOk r (λ handed. HandsIn node port old new before after handed) → OnErr r ((new ≡ old) × (after ≡ before))
@@ -93,7 +93,7 @@ may_put node port nodes after old mid later at none moved handed first given sec
 
 pub same_leads : (old mid later : Piped) (at : ℕ) (none handed : List ℕ) (way : Way) → slice_get old.ways at ≡ Some way
     → IfSome (slice_get old.ways at) (λ way. mid ≡ with_down at way none old) → IfSome (slice_get mid.ways at) (λ way. later ≡ with_down at way handed mid)
-    → leads later.ways ≡ leads old.ways
+    → connection_targets later.ways ≡ connection_targets old.ways
 same_leads old mid later at none handed way found first second =
-    ap (λ (p : Piped). leads p.ways) (exchanged old mid later at none handed first second way found)
+    ap (λ (p : Piped). connection_targets p.ways) (exchanged old mid later at none handed first second way found)
     ∙ leads_set old.ways at way (record way { down = handed }) found refl

@@ -11,7 +11,7 @@ use Rattle.world_nodes.specs.Steps.{TakesIn}
 use Rattle.world_pipes.specs.declared.way.Way.{Way}
 use Rattle.world_pipes.specs.Piped.{Piped}
 use Rattle.world_clients.specs.declared.connection_slot.ConnectionSlot.{ConnectionSlot}
-use Rattle.world_clients.specs.SlotsAreValid.{leads}
+use Rattle.world_clients.specs.SlotsAreValid.{connection_targets}
 use Rattle.world_clients.specs.Carrying.{with_less, CanCarryUp, CarriesUp}
 use Rattle.world_clients.proofs.LeadsKept.{leads_set}
 use Rattle.world_clients.proofs.Turned.{there}
@@ -52,9 +52,9 @@ can_take place count old client waiting below up some part runs =
 
 -- and the connection leads to the same node
 pub less_leads : (client later : Piped) (at count : ℕ) (way : Way) → slice_get client.ways at ≡ Some way
-    → IfSome (slice_get client.ways at) (λ way. later ≡ with_less at count way client) → leads later.ways ≡ leads client.ways
+    → IfSome (slice_get client.ways at) (λ way. later ≡ with_less at count way client) → connection_targets later.ways ≡ connection_targets client.ways
 less_leads client later at count way found less =
-    ap (λ (p : Piped). leads p.ways) (of_some found less) ∙ leads_set client.ways at way (record way { up = drop count way.up }) found refl
+    ap (λ (p : Piped). connection_targets p.ways) (of_some found less) ∙ leads_set client.ways at way (record way { up = drop count way.up }) found refl
   where
     of_some : slice_get client.ways at ≡ Some way → IfSome (slice_get client.ways at) (λ w. later ≡ with_less at count w client) → later ≡ with_less at count way client
     of_some e i = subst (λ o. IfSome o (λ w. later ≡ with_less at count w client)) e i

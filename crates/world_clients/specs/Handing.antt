@@ -17,9 +17,9 @@ use Rattle.world_nodes.specs.master.declared.event.Idle.{Idle}
 use Rattle.world_clients.specs.NodesGoOn.{NodesStay}
 
 -- the bytes that the node queued for the port and has not yet handed over
-abbrev pub put_out : Port → Option CountedCore → List ℕ
-put_out port None = []
-put_out port (Some node) = bytes_of (listed_at port node.core)
+abbrev pub bytes_put_out : Port → Option CountedCore → List ℕ
+bytes_put_out port None = []
+bytes_put_out port (Some node) = bytes_of (listed_at port node.core)
 
 -- whether the node's end of a connection stays open after it handed over bytes
 abbrev pub is_more : Handed → Bool
@@ -57,7 +57,7 @@ tells_open (Err idle) = false
 abbrev pub HandsDown : ℕ → Port → NodesState → List ℕ → NodesState → List ℕ → Bool → Type 0
 HandsDown node port old before new after is_open =
     (HandsOverBytes (numbered_node old.nodes node) node port old new
-    × (after ≡ before ++ put_out port (numbered_node old.nodes node))
+    × (after ≡ before ++ bytes_put_out port (numbered_node old.nodes node))
     × (is_open ≡ is_told_open port (numbered_node old.nodes node)))
     ⊎ ((new ≡ nodes_with_loss old) × (after ≡ before) × (is_open ≡ true))
 

@@ -6,12 +6,13 @@ use Rattle.world_clients.specs.declared.connection_slot.ConnectionSlot.{Connecti
 use Rattle.world_clients.specs.declared.world_client.WorldClient.{WorldClient}
 
 -- where connections lead: each to the index of its node, by its port, the oldest first
-abbrev pub leads : List Way → List (ℕ × Port)
-leads ways = map (λ (way : Way). (way.node, way.port)) ways
+abbrev pub connection_targets : List Way → List (ℕ × Port)
+connection_targets ways = map (λ (way : Way). (way.node, way.port)) ways
 
 -- where the connections of each client lead
-abbrev pub leads_of : List WorldClient → List (List (ℕ × Port))
-leads_of clients = map (λ (client : WorldClient). leads client.piped.ways) clients
+abbrev pub targets_of_clients : List WorldClient → List (List (ℕ × Port))
+targets_of_clients clients = map (λ (client : WorldClient).
+    connection_targets client.piped.ways) clients
 
 -- The connection of this number is at a client's index, and leads to its node, by the port of its
 -- number.

@@ -4,7 +4,7 @@ ghost use Rattle.std.specs.Prelude.{◌≡◌, [], ◌∷◌};
 ghost use Rattle.client.specs.client_base.Steps.{Call, keeper_step};
 ghost use Rattle.world_pipes.specs.Following.{CallingFollows, FollowsAll};
 ghost use Rattle.world_pipes.specs.Piped.{TakesLeave};
-ghost use Rattle.world_clients.specs.SlotsAreValid.{leads};
+ghost use Rattle.world_clients.specs.SlotsAreValid.{connection_targets};
 ghost use Rattle.world_clients.specs.Calling.{IsCall, LosesConnection};
 
 use packet::QoS;
@@ -16,7 +16,8 @@ use world_pipes::{ClientError, PipedClient, Sending};
 pub fn lose_connection(piped: &mut PipedClient)
     ensures lost { LosesConnection piped.old piped.new }
     ensures goes { FollowsAll piped.old piped.new }
-    ensures leads { leads piped.new.ways ≡ leads piped.old.ways }
+    ensures connection_targets { connection_targets piped.new.ways
+        ≡ connection_targets piped.old.ways }
 {
     piped.abandon();
 }
@@ -26,7 +27,8 @@ pub fn leave(piped: &mut PipedClient) -> Result<Sending, ClientError>
     ensures leaves { TakesLeave (keeper_step Call.Disconnects piped.old.core.state)
         piped.old result piped.new }
     ensures goes { CallingFollows [] piped.old result piped.new }
-    ensures leads { leads piped.new.ways ≡ leads piped.old.ways }
+    ensures connection_targets { connection_targets piped.new.ways
+        ≡ connection_targets piped.old.ways }
 {
     piped.disconnect()
 }
@@ -38,7 +40,8 @@ pub fn publish_copy(
 ) -> Result<Sending, ClientError>
     ensures calls { IsCall (Call.Publishes publication.now) piped.old result piped.new }
     ensures goes { CallingFollows (publication.now ∷ []) piped.old result piped.new }
-    ensures leads { leads piped.new.ways ≡ leads piped.old.ways }
+    ensures connection_targets { connection_targets piped.new.ways
+        ≡ connection_targets piped.old.ways }
 {
     let copied = publication.clone()?;
     let retain = copied.retain;
@@ -53,7 +56,8 @@ pub fn subscribe_copy(
 ) -> Result<Sending, ClientError>
     ensures calls { IsCall (Call.Subscribes filter.now qos) piped.old result piped.new }
     ensures goes { CallingFollows [] piped.old result piped.new }
-    ensures leads { leads piped.new.ways ≡ leads piped.old.ways }
+    ensures connection_targets { connection_targets piped.new.ways
+        ≡ connection_targets piped.old.ways }
 {
     let copied = filter.clone()?;
     piped.subscribe(copied, qos)
@@ -63,7 +67,8 @@ pub fn subscribe_copy(
 pub fn unsubscribe_copy(piped: &mut PipedClient, filter: &Filter) -> Result<Sending, ClientError>
     ensures calls { IsCall (Call.Unsubscribes filter.now) piped.old result piped.new }
     ensures goes { CallingFollows [] piped.old result piped.new }
-    ensures leads { leads piped.new.ways ≡ leads piped.old.ways }
+    ensures connection_targets { connection_targets piped.new.ways
+        ≡ connection_targets piped.old.ways }
 {
     let copied = filter.clone()?;
     piped.unsubscribe(copied)

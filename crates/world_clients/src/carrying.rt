@@ -3,7 +3,7 @@
 ghost use Rattle.std.specs.Prelude.{◌≡◌, ◌⊎◌, ◌≤◌, ◌<◌, true, false, length, IfOk, OnErr};
 ghost use Rattle.world_pipes.specs.Following.{FollowsAll};
 ghost use Rattle.world_clients.specs.NodesGoOn.{NodesGoOn};
-ghost use Rattle.world_clients.specs.SlotsAreValid.{leads};
+ghost use Rattle.world_clients.specs.SlotsAreValid.{connection_targets};
 ghost use Rattle.world_clients.specs.Carrying.{CannotCarryDown, CannotCarryUp, CarriesDownOn, CarriesUpWhere};
 
 use crate::connection_slot::ConnectionSlot;
@@ -27,7 +27,8 @@ pub fn carry_to_node(
     ensures carries { IfOk result (λ had.
         CarriesUpWhere had slot port count nodes.old piped.old nodes.new piped.new) }
     ensures idle { OnErr result (CannotCarryUp slot count nodes.old piped.old) }
-    ensures leads { leads piped.new.ways ≡ leads piped.old.ways }
+    ensures connection_targets { connection_targets piped.new.ways
+        ≡ connection_targets piped.old.ways }
     ensures same { OnErr result (nodes.new ≡ nodes.old) }
     ensures still { OnErr result (piped.new ≡ piped.old) }
 {
@@ -52,7 +53,8 @@ pub fn carry_to_node(
 pub fn carry_down_on(piped: &mut PipedClient, at: usize, count: u64) -> Result<bool, Idle>
     requires { at < length piped.old.ways }
     ensures goes { FollowsAll piped.old piped.new }
-    ensures leads { leads piped.new.ways ≡ leads piped.old.ways }
+    ensures connection_targets { connection_targets piped.new.ways
+        ≡ connection_targets piped.old.ways }
     ensures carries { IfOk result (λ had. CarriesDownOn had at count piped.old piped.new) }
     ensures idle { OnErr result (CannotCarryDown at count piped.old) }
     ensures same { OnErr result (piped.new ≡ piped.old) }

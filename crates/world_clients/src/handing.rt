@@ -2,7 +2,7 @@
 
 ghost use Rattle.std.specs.Prelude.{◌≡◌, ◌<◌, length};
 ghost use Rattle.world_clients.specs.NodesGoOn.{NodesGoOn};
-ghost use Rattle.world_clients.specs.SlotsAreValid.{leads};
+ghost use Rattle.world_clients.specs.SlotsAreValid.{connection_targets};
 ghost use Rattle.world_clients.specs.Handing.{HandsDown, MayHandDown, MayPutDown, PutsDown, StaysQuiet, tells_open};
 
 use std::alloc::Global;
@@ -25,7 +25,8 @@ pub fn hand_down(
     ensures quiet { StaysQuiet node nodes.old nodes.new }
     ensures may { MayPutDown at node port nodes.old piped.old nodes.new piped.new }
     ensures puts { PutsDown at node port nodes.old piped.old nodes.new piped.new result }
-    ensures leads { leads piped.new.ways ≡ leads piped.old.ways }
+    ensures connection_targets { connection_targets piped.new.ways
+        ≡ connection_targets piped.old.ways }
 {
     let mut bytes = Vec::new(alloc);
     piped.swap_down(at, &mut bytes);

@@ -3,7 +3,7 @@
 ghost use Rattle.std.specs.Prelude.{◌≡◌, ◌<◌, if◌then◌else◌, false};
 ghost use Rattle.world_pipes.specs.Piped.{is_holding, taken_back};
 ghost use Rattle.world_clients.specs.NodesGoOn.{NodesGoOn};
-ghost use Rattle.world_clients.specs.SlotsAreValid.{leads};
+ghost use Rattle.world_clients.specs.SlotsAreValid.{connection_targets};
 ghost use Rattle.world_clients.specs.Opening.{HearsOfOne, Reaches};
 
 use world_base::Port;
@@ -17,7 +17,8 @@ pub fn open_pipe(nodes: &mut Nodes, piped: &mut PipedClient, node: u8, port: Por
     requires free { is_holding piped.old ≡ false }
     ensures nodes { NodesGoOn nodes.old nodes.new }
     ensures reaches { Reaches result node port nodes.old piped.old nodes.new piped.new }
-    ensures leads { result ≡ false → leads piped.new.ways ≡ leads piped.old.ways }
+    ensures connection_targets { result ≡ false → connection_targets piped.new.ways
+        ≡ connection_targets piped.old.ways }
 {
     match piped.open(node as usize - 1, port) {
         Ok(()) => keep_if_taken(nodes, piped, node, port),

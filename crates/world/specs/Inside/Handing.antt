@@ -8,7 +8,7 @@ use Rattle.world_pipes.specs.declared.way.Way.{Way}
 use Rattle.world_clients.specs.declared.connection_slot.ConnectionSlot.{ConnectionSlot}
 use Rattle.world_clients.specs.declared.world_client.WorldClient.{WorldClient}
 use Rattle.world.specs.Found.{slot_numbered, port_of, with_piped}
-use Rattle.world_clients.specs.Handing.{with_down, HandsOverBytes, is_told_open, put_out}
+use Rattle.world_clients.specs.Handing.{with_down, HandsOverBytes, is_told_open, bytes_put_out}
 use Rattle.world.specs.Gathering.{GatheredWhere, is_open_at}
 use Rattle.world_clients.specs.SlotsAreValid.{open_from}
 use Rattle.world.specs.World.{WorldState}
@@ -27,7 +27,8 @@ pub record GathersOn (number : ℕ) (slot : ConnectionSlot) (old : WorldState) (
   pub told : is_open ≡ is_told_open (port_of number) (numbered_node old.nodes.nodes slot.node)
   pub is : new ≡ record (with_piped slot.client client
       (with_down slot.at way
-      (way.down ++ put_out (port_of number) (numbered_node old.nodes.nodes slot.node)) client.piped)
+      (way.down ++ bytes_put_out (port_of number) (numbered_node old.nodes.nodes slot.node))
+      client.piped)
       old)
       { nodes = between }
 

@@ -1,6 +1,6 @@
 use Rattle.std.proofs.Common.{ap}
 use Rattle.world_pipes.specs.Piped.{Piped}
-use Rattle.world_clients.specs.SlotsAreValid.{leads}
+use Rattle.world_clients.specs.SlotsAreValid.{connection_targets}
 use Rattle.world_clients.proofs.CallsGiven.{losing_goes}
 use Rattle.world_clients.proofs.calling.lose_connection.Goals as goal
 
@@ -8,4 +8,4 @@ pub returns-clause-goes : goal.returns-clause-goes
 returns-clause-goes c = losing_goes c.args.piped.now c.abandon.new.self c.abandon.ensures.goes
 
 pub returns-clause-leads : goal.returns-clause-leads
-returns-clause-leads c = ap (λ (p : Piped). leads p.ways) c.abandon.ensures.lost
+returns-clause-leads c = ap (λ (p : Piped). connection_targets p.ways) c.abandon.ensures.lost

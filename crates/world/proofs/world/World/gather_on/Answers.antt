@@ -1,6 +1,6 @@
 use Rattle.std.proofs.Common.{arith}
 use Rattle.escaping_nodes.proofs.of_master.Counting.{get_there}
-use Rattle.world_clients.specs.SlotsAreValid.{leads_of}
+use Rattle.world_clients.specs.SlotsAreValid.{targets_of_clients}
 use Rattle.world.specs.World.{WorldState}
 use Rattle.world.proofs.ClientGoes.{housed_still}
 use Rattle.world.proofs.Handed.{gathers_on, gathering_goes}
@@ -49,7 +49,7 @@ returns-clause-gathers c =
       connections = c.self.inside.connections.items;
       losses = c.self.inside.losses;
     } in
-    let way = led old.clients c.args.number c.args.slot c.index_mut.result.now (led_there (leads_of old.clients) old.connections c.args.number c.args.slot c.self.invariant.0 stands c.requires.positive) found in
+    let way = led old.clients c.args.number c.args.slot c.index_mut.result.now (led_there (targets_of_clients old.clients) old.connections c.args.number c.args.slot c.self.invariant.0 stands c.requires.positive) found in
     rw (← c.self.view_is) (gathers_on old c.args.number c.args.slot c.index_mut.result.now way.way c.hand_down.result c.hand_down.new.nodes c.hand_down.new.piped found way.found
     c.hand_down.ensures.puts)
 
