@@ -20,7 +20,7 @@ use Rattle.headline.proofs.of_node_group.NamesInGroups.{puts_in_the_ballot_of_th
 use Rattle.headline.proofs.of_node_group.Ordered.{groups_keep_the_order, in_agreed}
 use Rattle.headline.proofs.of_node_group.Packets.{packets_join}
 use Rattle.world_nodes.specs.Nodes.{NodesState}
-use Rattle.world.specs.Trace.{AgreedGrows}
+use Rattle.world.specs.Trace.{AgreedListGrows}
 use Rattle.world_clients.specs.NodesGoOn.{StepsOfGroup, NodesGo}
 use Rattle.world_clients.specs.NodesGoOn.StepsOfGroup.{rests, goes_on}
 use Rattle.world.proofs.OneAgreed.{one_agreed}
@@ -56,7 +56,7 @@ leads_on nodes config g k went of (goes_on {h = h} goes step) =
       grows = λ xs ys before after. prefix_then (so_far.grows xs between.0 before between.1) (further.grows between.0 ys between.1 after);
     }
 
-pub agreed_grows : (old new : NodesState) → NodesGo old new → AgreedGrows old new
+pub agreed_grows : (old new : NodesState) → NodesGo old new → AgreedListGrows old new
 agreed_grows old new go nodes config before =
     let to = go before.group before.stands in
     let on = leads_on nodes config before.group to.after before.went before.order.of to.goes in

@@ -29,7 +29,7 @@ use Rattle.world_nodes.proofs.Acts.{acts}
 use Rattle.world_events.specs.declared.event.Event.{Event}
 use Rattle.world_events.specs.declared.event.Event.TheVariants as events
 use Rattle.world_clients.specs.Clients.{is_named}
-use Rattle.world.specs.Found.{port_of}
+use Rattle.world.specs.Found.{port_at_node}
 use Rattle.world.specs.Gathering.{Gathers}
 use Rattle.world.specs.Trace.{WorldLosesNothing}
 use Rattle.world_clients.specs.NodesGoOn.{NodesGo}
@@ -49,14 +49,14 @@ use Rattle.world.proofs.WaitsOn.{own_waits, walk_waiting}
 -- primary at this index; what that queues then goes down, to the world `after`.
 module _ (name : List ℕ) (i at number place : ℕ) (core : Core) (up : List ℕ) (w after : WorldState) (node : CountedCore) (positive : 0 < number)
     (stands : slice_get w.nodes.nodes place ≡ Some node) (piece : List ℕ)
-    (gathers : Gathers true (suc place) (with_nodes (after_node_call place node (takes (Bytes (port_of number) piece 0)) w.nodes) w) after)
+    (gathers : Gathers true (suc place) (with_nodes (after_node_call place node (takes (Bytes (port_at_node number) piece 0)) w.nodes) w) after)
     (housed : SlotsAreValid (targets_of_clients w.clients) w.connections)
-    (s : IsNewest i at number (suc place) core up [] true (with_nodes (after_node_call place node (takes (Bytes (port_of number) piece 0)) w.nodes) w))
+    (s : IsNewest i at number (suc place) core up [] true (with_nodes (after_node_call place node (takes (Bytes (port_at_node number) piece 0)) w.nodes) w))
     (first : position (is_named name) w.clients ≡ Some i)
     (config : Config) (a : Moment State Command Output) (past : List (Moment State Command Output)) (came : Moments rules config (a ∷ past)) (ballot start : ℕ) (x : ConnectionName)
     (list : List Command) (connect : Connect) where
   abbrev item : Item
-  item = Bytes (port_of number) piece 0
+  item = Bytes (port_at_node number) piece 0
 
   abbrev taken : NodesState
   taken = after_node_call place node (takes item) w.nodes
@@ -71,15 +71,15 @@ module _ (name : List ℕ) (i at number place : ℕ) (core : Core) (up : List �
   goes = acts_go (let node_call : Option (ℕ × NodeCall) = Some (place, takes item) in node_call) w.nodes taken (acts w.nodes place node (takes item) stands (λ g t. tt))
 
   -- a sole member answers at once
-  pub answers_alone : CanAsk a w.nodes ballot place node [] (port_of number) x list start piece connect → IsAnswered name i at number place core w.nodes after.nodes after
+  pub answers_alone : CanAsk a w.nodes ballot place node [] (port_at_node number) x list start piece connect → IsAnswered name i at number place core w.nodes after.nodes after
   answers_alone can =
       put_first name i at number place core up (with_nodes taken w) after turned positive (get_set w.nodes.nodes place node turned stands)
-      (sole_member_answers_the_client config a past came w.nodes ballot place node (port_of number) x list start 0 piece connect can)
+      (sole_member_answers_the_client config a past came w.nodes ballot place node (port_at_node number) x list start 0 piece connect can)
       gathers housed s first w.nodes (nodes_go_join w.nodes taken after.nodes goes passes.nodes) refl
 
   -- ---- with others
 
-  module _ (front : List ℕ) (last : ℕ) (can : CanAsk a w.nodes ballot place node (front ++ last ∷ []) (port_of number) x list start piece connect)
+  module _ (front : List ℕ) (last : ℕ) (can : CanAsk a w.nodes ballot place node (front ++ last ∷ []) (port_at_node number) x list start piece connect)
       (apart : NumbersAreApart (front ++ last ∷ [])) (out : In (place + 1) (front ++ last ∷ []) → ⊥)
       (each : (m : ℕ) → In m (front ++ last ∷ []) → NodeIs (Follows ballot (begun list start)) (whole_moment a).world.nodes m)
       (more : List Event) (new : WorldState) where
@@ -89,8 +89,8 @@ module _ (name : List ℕ) (i at number place : ℕ) (core : Core) (up : List �
     abbrev index : ℕ
     index = length w.nodes.sent + 2 * length front + 1
 
-    awaits : AwaitsOthers ballot place (port_of number) x ks taken
-    awaits = others_are_awaited config a past came w.nodes ballot place node front last (port_of number) x list start 0 piece connect can apart out each
+    awaits : AwaitsOthers ballot place (port_at_node number) x ks taken
+    awaits = others_are_awaited config a past came w.nodes ballot place node front last (port_at_node number) x list start 0 piece connect can apart out each
 
     newest : IsNewest i at number (suc place) core up [] true after
     newest = own_waits i at number place core up x (with_nodes taken w) after awaits.waits.node positive awaits.waits.stands awaits.waits.waits gathers housed s
@@ -102,7 +102,7 @@ module _ (name : List ℕ) (i at number place : ℕ) (core : Core) (up : List �
         let t = in_two (map events.Deliver ks) (events.Deliver index ∷ more) after new run none in
         let f = deliveries_are_followed ballot awaits.moment awaits.moment [] all_came taken after.nodes passes.come awaits.seen awaits.calm in
         let v = walk_waiting ballot place x i at number core up positive awaits.moment awaits.before ks awaits.delivered after t.mid t.first t.whole_first f.seen f.calm passes.housed
-        (waits_on ballot place (port_of number) x awaits.moment awaits.moment [] all_came taken after.nodes passes.come awaits.seen awaits.calm awaits.waits) newest in
+        (waits_on ballot place (port_at_node number) x awaits.moment awaits.moment [] all_came taken after.nodes passes.come awaits.seen awaits.calm awaits.waits) newest in
         record {
           mid = t.mid;
           passes = passes_join [] ks (with_nodes taken w) after t.mid passes v.passes;
@@ -116,5 +116,5 @@ module _ (name : List ℕ) (i at number place : ℕ) (core : Core) (up : List �
         let b = others_answer run none in
         let f = deliveries_are_followed ballot awaits.moment awaits.before ks awaits.delivered taken b.mid.nodes b.passes.come awaits.seen awaits.calm in
         answers_last name ks i at number place core up index last ballot (begun list start) more (with_nodes taken w) new positive b
-        (others_let_the_client_be_answered config a past came w.nodes b.mid.nodes ballot place node front last (port_of number) x list start 0 piece connect can apart out each b.passes.come)
+        (others_let_the_client_be_answered config a past came w.nodes b.mid.nodes ballot place node front last (port_at_node number) x list start 0 piece connect can apart out each b.passes.come)
         first w.nodes (nodes_go_join w.nodes taken b.mid.nodes goes b.passes.nodes) (sym f.seen.master ∙ awaits.master)

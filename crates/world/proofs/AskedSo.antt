@@ -21,7 +21,7 @@ use Rattle.world_clients.specs.declared.world_client.WorldClient.{WorldClient}
 use Rattle.world.specs.Asking.{AskedBy, AsksOne, EventAsks, RunAsks}
 use Rattle.world_clients.specs.Clients.{is_named}
 use Rattle.world.specs.Happening.{EventHappens}
-use Rattle.world.specs.Inside.Calling.{CountsRefusal, with_loss}
+use Rattle.world.specs.Inside.Calling.{CountsRefusal, with_one_loss}
 use Rattle.world_clients.specs.Calling.{IsCall}
 use Rattle.world.specs.Inside.Steps.{PublishesAsked, IsTrace, IsTraceAsking, IsCounted}
 use Rattle.world.specs.StandsFor.{KeepsReached, FollowsModelAsking}
@@ -62,7 +62,7 @@ module _ (name : List ℕ) (p : Publication) (old : WorldState) (at : ℕ) (clie
   was_idle (Err idle) err is same = record { asked = []; is = refl; goes = goes_on_rest old new (is ∙ same_piped old at client piped found same) }
 
   pub publish_asked : (done : Result Sending ClientError) (result : Result (Unit {0}) Idle) → IsCall (Call.Publishes p) client.piped done piped
-      → CallingFollows (p ∷ []) client.piped done piped → old.losses ≤ (with_loss old).losses → CountsRefusal done between result new → PublishesAsked (events.Publish name p) old result new
+      → CallingFollows (p ∷ []) client.piped done piped → old.losses ≤ (with_one_loss old).losses → CountsRefusal done between result new → PublishesAsked (events.Publish name p) old result new
   publish_asked (Ok sendings.Sent) (Ok done) calls follows rises counts =
       was_done sendings.Sent old.losses calls counts.1
       (subst (λ (w : WorldState). IsTraceAsking ((at, p) ∷ []) old w) (sym counts.1)
@@ -75,7 +75,7 @@ module _ (name : List ℕ) (p : Publication) (old : WorldState) (at : ℕ) (clie
   publish_asked (Err errors.Memory) (Ok done) calls follows rises counts =
       record {
         asked = [];
-        is = inr (record { is = counts.1 ∙ ap with_loss (same_piped old at client piped found follows); none = refl });
+        is = inr (record { is = counts.1 ∙ ap with_one_loss (same_piped old at client piped found follows); none = refl });
         goes = subst (λ (w : WorldState). IsTrace old w) (sym counts.1)
             (client_asked_with_loss [] old at client piped found (calling_goes (p ∷ []) client.piped (Err errors.Memory) piped follows) rises);
       }

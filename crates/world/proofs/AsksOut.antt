@@ -30,7 +30,7 @@ use Rattle.world_nodes.specs.Nodes.{NodesState}
 use Rattle.world_events.specs.declared.event.Event.{Event}
 use Rattle.world_events.specs.declared.event.Event.TheVariants as events
 use Rattle.world_clients.specs.Clients.{is_named}
-use Rattle.world.specs.Found.{port_of}
+use Rattle.world.specs.Found.{port_at_node}
 use Rattle.world.specs.Gathering.{Gathers}
 use Rattle.world.specs.Trace.{WorldLosesNothing}
 use Rattle.world.specs.Happening.{EventsHappen}
@@ -64,11 +64,11 @@ split (x ∷ xs) = by (split xs)
 module _ (name : List ℕ) (v : WorldState) (i at number place : ℕ) (core : Core) (up : List ℕ) (positive : 0 < number) (newest : IsNewest i at number (suc place) core up [] true v)
     (housed : SlotsAreValid (targets_of_clients v.clients) v.connections) (first : position (is_named name) v.clients ≡ Some i)
     (config : Config) (a : Moment State Command Output) (past : List (Moment State Command Output)) (came : Moments rules config (a ∷ past)) (ballot : ℕ) (os : List ℕ)
-    (list : List Command) (o : IsOpened a v.nodes ballot place os (begun list ballot) (port_of number)) (room : length list + 2 ≤ max_places) (connect : Connect)
+    (list : List Command) (o : IsOpened a v.nodes ballot place os (begun list ballot) (port_at_node number)) (room : length list + 2 ≤ max_places) (connect : Connect)
     (session : session_of (past_of usual_limits list) connect.client ≡ Some false) (is_connect : verdict up ≡ Ok (packets.Connect connect, [])) (kept : connect.clean ≡ false)
     (count : ℕ) (many : length up ≡ count) (some : 0 < count) (apart : NumbersAreApart os) (out : In (place + 1) os → ⊥)
     (each : (m : ℕ) → In m os → NodeIs (Follows ballot (begun list ballot)) (whole_moment a).world.nodes m) (more : List Event) (new : WorldState) where
-  asks : CanAsk a v.nodes ballot place o.node os (port_of number) (first_of ballot) list ballot up connect
+  asks : CanAsk a v.nodes ballot place o.node os (port_at_node number) (first_of ballot) list ballot up connect
   asks =
       record {
         seen = o.seen;
@@ -86,7 +86,7 @@ module _ (name : List ℕ) (v : WorldState) (i at number place : ℕ) (core : Co
   asked = map events.Deliver (asked_and_answered (length v.nodes.sent) (length os)) ++ more
 
   abbrev taken : NodesState
-  taken = after_node_call place o.node (takes (Bytes (port_of number) up 0)) v.nodes
+  taken = after_node_call place o.node (takes (Bytes (port_at_node number) up 0)) v.nodes
 
   abbrev w : WorldState
   w = emptied i at number place core up v newest positive o.node o.stands count many
@@ -107,14 +107,14 @@ module _ (name : List ℕ) (v : WorldState) (i at number place : ℕ) (core : Co
         after = f.after;
         is = answers_alone name i at number place core (drop count newest.way.up) w f.after o.node positive o.stands up gathers w_housed w_newest w_first config a past came ballot ballot
             (first_of ballot) list connect
-            (subst (λ (xs : List ℕ). CanAsk a v.nodes ballot place o.node xs (port_of number) (first_of ballot) list ballot up connect) none asks);
+            (subst (λ (xs : List ℕ). CanAsk a v.nodes ballot place o.node xs (port_at_node number) (first_of ballot) list ballot up connect) none asks);
         rest = subst (λ (xs : List ℕ). EventsHappen (map events.Deliver (asked_and_answered (length v.nodes.sent) (length xs)) ++ more) f.after new) none f.rest;
         whole = f.whole;
       }
   answered f gathers (inr e) =
       answers_with_others name i at number place core (drop count newest.way.up) w f.after o.node positive o.stands up gathers w_housed w_newest w_first config a past came ballot ballot
       (first_of ballot) list connect e.front e.last
-      (subst (λ (xs : List ℕ). CanAsk a v.nodes ballot place o.node xs (port_of number) (first_of ballot) list ballot up connect) e.is asks)
+      (subst (λ (xs : List ℕ). CanAsk a v.nodes ballot place o.node xs (port_at_node number) (first_of ballot) list ballot up connect) e.is asks)
       (subst NumbersAreApart e.is apart) (subst (λ (xs : List ℕ). In (place + 1) xs → ⊥) e.is out)
       (subst (λ (xs : List ℕ). (m : ℕ) → In m xs → NodeIs (Follows ballot (begun list ballot)) (whole_moment a).world.nodes m) e.is each)
       more new (subst (λ (es : List Event). EventsHappen es f.after new) in_parts f.rest) f.whole

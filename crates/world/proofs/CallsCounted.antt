@@ -11,7 +11,7 @@ use Rattle.world_pipes.specs.Following.{CallingFollows, FollowsAll}
 use Rattle.world_pipes.specs.Piped.{Piped}
 use Rattle.world_pipes.proofs.CallingFollows.{calling_goes}
 use Rattle.world_clients.specs.declared.world_client.WorldClient.{WorldClient}
-use Rattle.world.specs.Inside.Calling.{CountsRefusal, with_loss}
+use Rattle.world.specs.Inside.Calling.{CountsRefusal, with_one_loss}
 use Rattle.world.specs.Inside.Steps.{IsTrace}
 use Rattle.world.specs.World.{WorldState}
 use Rattle.world.proofs.ClientGoes.{client_goes_with_loss, client_goes_on, same_piped, with_piped}
@@ -36,7 +36,7 @@ idle_call old i client piped result new found same counts =
     record { goes = goes_on_rest old new still; same = on_err result (new ≡ old) still }
 
 pub call_counted : (old : WorldState) (i : ℕ) (client : WorldClient) (piped : Piped) (done : Result Sending ClientError) (result : Result (Unit {0}) Idle) (new : WorldState) →
-    slice_get old.clients i ≡ Some client → CallingFollows [] client.piped done piped → old.losses ≤ (with_loss old).losses → CountsRefusal done (with_piped i client piped old) result new →
+    slice_get old.clients i ≡ Some client → CallingFollows [] client.piped done piped → old.losses ≤ (with_one_loss old).losses → CountsRefusal done (with_piped i client piped old) result new →
     IsCounted old result new
 call_counted old i client piped (Ok sendings.Sent) result new found follows rises counts =
     record {
@@ -64,7 +64,7 @@ call_counted old i client piped (Err (errors.Malformed kind)) result new found f
 -- ---- what a client receives
 
 pub carrying_counted : (old : WorldState) (i : ℕ) (client : WorldClient) (piped : Piped) (had : Bool) (new : WorldState) → slice_get old.clients i ≡ Some client →
-    FollowsAll client.piped piped → old.losses ≤ (with_loss old).losses →
-    new ≡ (if had then with_piped i client piped old else with_loss (with_piped i client piped old)) → IsTrace old new
+    FollowsAll client.piped piped → old.losses ≤ (with_one_loss old).losses →
+    new ≡ (if had then with_piped i client piped old else with_one_loss (with_piped i client piped old)) → IsTrace old new
 carrying_counted old i client piped true new found follows rises is = subst (λ w. IsTrace old w) (sym is) (client_goes_on old i client piped found follows)
 carrying_counted old i client piped false new found follows rises is = subst (λ w. IsTrace old w) (sym is) (client_goes_with_loss old i client piped found follows rises)

@@ -28,7 +28,7 @@ use Rattle.world_clients.specs.Clients.{is_named}
 use Rattle.world.specs.ClientCalls.{SendsCall, ClientDoes, SendsDisconnect, LosesAsking, LosesLeaving}
 use Rattle.world_clients.specs.Calling.{LosesConnection, IsCall}
 use Rattle.world.specs.Cannot.{HoldsNone, RefusesCall}
-use Rattle.world.specs.Inside.Calling.{CountsRefusal, with_loss}
+use Rattle.world.specs.Inside.Calling.{CountsRefusal, with_one_loss}
 use Rattle.world.specs.Inside.Steps.{EventIsDone, Meets}
 use Rattle.world.specs.World.{WorldState}
 use Rattle.world.proofs.ClientGoes.{same_piped}
@@ -77,7 +77,7 @@ done_well name cannot does loses old at client piped (Ok x) new first stands can
 
 -- done with losses, or not at all
 lost_call : (name : List ℕ) (cannot : Option Core → Type 0) (does : Bool → Piped → Piped → Type 0) (loses : Piped → Piped → Type 0) (old done : WorldState) (result : Result (Unit {0}) Idle) (new : WorldState)
-    → (cannot (core_named name old.clients) → ⊥) → (done ≡ old) ⊎ ClientDoes name (does false) old done → (done ≡ old) ⊎ ClientDoes name loses old done → done.losses ≡ old.losses → IsOk result → new ≡ with_loss done
+    → (cannot (core_named name old.clients) → ⊥) → (done ≡ old) ⊎ ClientDoes name (does false) old done → (done ≡ old) ⊎ ClientDoes name loses old done → done.losses ≡ old.losses → IsOk result → new ≡ with_one_loss done
     → ClientMeets name cannot does loses old result new
 lost_call name cannot does loses old done (Err idle) new can less lost still ok is = absurd (both_ways false refl ok)
 lost_call name cannot does loses old done (Ok x) new can less lost still ok is =

@@ -29,7 +29,7 @@ use Rattle.world_base.specs.Core.{CountedCore, rules}
 use Rattle.world_nodes.specs.Asking.{whole_log_in, whole_log_of}
 use Rattle.world_nodes.specs.Running.{is_running, is_up, numbered_node}
 use Rattle.world_nodes.specs.Nodes.{NodesState, NodesStandFor}
-use Rattle.world.specs.Escaping.{CanEscape, configuration_of, held_in}
+use Rattle.world.specs.Escaping.{CanEscape, configuration_of, log_length_of}
 use Rattle.world.specs.World.{WorldState}
 
 -- nodes that a group corresponds to are seen as its moment
@@ -96,7 +96,7 @@ module _ (config : Config) (g : Group) (past : List (Moment State Command Output
       let within = (q.kept.nodes source.at (replica_of source.node.core) (replica_at a w.nodes seen source.at source.node source.stands)).0.within in
       let whole_is = whole_long g.archive source.node.core.replica.state.log within in
       let same = ap (λ (l : List Command). length l) log_is in
-      let held = ap held_in node_is in
+      let held = ap log_length_of node_is in
       let room = can.room in
       omega (arith, whole_is, same, held, room)
 

@@ -13,7 +13,7 @@ use Rattle.world_clients.specs.declared.connection_slot.ConnectionSlot.{Connecti
 use Rattle.world_clients.specs.declared.world_client.WorldClient.{WorldClient}
 use Rattle.world_clients.specs.SlotsAreValid.{SlotsAreValid, connection_targets, targets_of_clients}
 use Rattle.world.specs.Inside.Steps.{IsTrace, IsTraceAsking}
-use Rattle.world.specs.Inside.Calling.{with_loss}
+use Rattle.world.specs.Inside.Calling.{with_one_loss}
 use Rattle.world.specs.StandsFor.{WorldSteps, FollowsModel, FollowsModelAsking, published_along}
 use Rattle.world.specs.StandsFor.WorldSteps.{rests, goes_on}
 use Rattle.world.specs.World.{WorldState}
@@ -92,16 +92,16 @@ client_goes_on = client_asked_on []
 
 -- it finds no memory, which is counted
 pub client_asked_with_loss : (asked : List Publication) (old : WorldState) (i : ℕ) (client : WorldClient) (piped : Piped) → slice_get old.clients i ≡ Some client
-    → FollowsBy asked client.piped piped → old.losses ≤ (with_loss old).losses → IsTraceAsking (from_client i asked) old (with_loss (with_piped i client piped old))
+    → FollowsBy asked client.piped piped → old.losses ≤ (with_one_loss old).losses → IsTraceAsking (from_client i asked) old (with_one_loss (with_piped i client piped old))
 client_asked_with_loss asked old i client piped found follows rises =
     let mid = with_piped i client piped old in
     let all = from_client i asked in
-    clients_go_on all old (with_loss mid) refl rises
-    (subst (λ (l : List (ℕ × Publication)). FollowsModelAsking l old (with_loss mid)) (append-nil all)
-    (asked_goes_join all [] old mid (with_loss mid) (client_asked asked old i client piped found follows) (world_stays mid (with_loss mid) refl refl)))
+    clients_go_on all old (with_one_loss mid) refl rises
+    (subst (λ (l : List (ℕ × Publication)). FollowsModelAsking l old (with_one_loss mid)) (append-nil all)
+    (asked_goes_join all [] old mid (with_one_loss mid) (client_asked asked old i client piped found follows) (world_stays mid (with_one_loss mid) refl refl)))
 
 pub client_goes_with_loss : (old : WorldState) (i : ℕ) (client : WorldClient) (piped : Piped) → slice_get old.clients i ≡ Some client → FollowsAll client.piped piped →
-    old.losses ≤ (with_loss old).losses → IsTrace old (with_loss (with_piped i client piped old))
+    old.losses ≤ (with_one_loss old).losses → IsTrace old (with_one_loss (with_piped i client piped old))
 client_goes_with_loss = client_asked_with_loss []
 
 -- a client that stays as it is leaves the world as it is

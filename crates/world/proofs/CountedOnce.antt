@@ -7,7 +7,7 @@ use Rattle.escaping_nodes.specs.master.declared.event.Idle.{Idle}
 use Rattle.world_pipes.specs.declared.sending.Sending.{Sending}
 use Rattle.world_pipes.specs.declared.sending.Sending.TheVariants as sendings
 use Rattle.world.specs.Trace.{CountsOnce}
-use Rattle.world.specs.Inside.Calling.{CountsRefusal, with_loss}
+use Rattle.world.specs.Inside.Calling.{CountsRefusal, with_one_loss}
 use Rattle.world.specs.Inside.Steps.{IsCounted}
 use Rattle.world.specs.World.{WorldState}
 
@@ -41,7 +41,7 @@ call_once (Err errors.Protocol) old mid new result still counts = inl (ap (λ (w
 call_once (Err (errors.Malformed kind)) old mid new result still counts = inl (ap (λ (w : WorldState). w.losses) counts.1 ∙ still)
 
 -- bytes that come, for which there was memory or not
-pub had_once : (had : Bool) (old mid new : WorldState) → mid.losses ≡ old.losses → new ≡ (if had then mid else with_loss mid) → CountsOnce old new
+pub had_once : (had : Bool) (old mid new : WorldState) → mid.losses ≡ old.losses → new ≡ (if had then mid else with_one_loss mid) → CountsOnce old new
 had_once true old mid new still is = inl (ap (λ (w : WorldState). w.losses) is ∙ still)
 had_once false old mid new still is = inr (ap (λ (w : WorldState). w.losses) is ∙ ap one_more still)
 

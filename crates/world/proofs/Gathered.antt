@@ -3,9 +3,9 @@ use Rattle.std.proofs.Common.{◌≡◌, inl, inr, ◌<◌, ◌-◌, ℕ, zero, 
 use Rattle.world_nodes.specs.Running.{numbered_node}
 use Rattle.world_nodes.specs.Steps.{nodes_with_loss}
 use Rattle.world_clients.specs.declared.connection_slot.ConnectionSlot.{ConnectionSlot}
-use Rattle.world.specs.Found.{slot_numbered, port_of, with_piped}
+use Rattle.world.specs.Found.{slot_numbered, port_at_node, with_piped}
 use Rattle.world_clients.specs.Handing.{with_down}
-use Rattle.world.specs.Gathering.{GatheredWhere, Gathers, GathersAmong, IsGathered, MayBeGathered, is_open_at}
+use Rattle.world.specs.Gathering.{GatheredWhere, Gathers, GathersAmong, IsGathered, MayBeGathered, leads_open_to}
 use Rattle.world_clients.specs.Handing.{bytes_put_out}
 use Rattle.world.specs.Inside.Steps.{IsTrace}
 use Rattle.world.specs.Inside.Handing.{GathersOn, MayGatherOn, marked}
@@ -20,7 +20,7 @@ pub is_gathered : (number : ℕ) (place : ConnectionSlot) (is_open : Bool) (old 
     → new ≡ marked number place is_open mid → IsGathered number old new
 is_gathered number place is_open old mid new at positive h is =
     let down : WorldState = record (with_piped place.client h.client
-    (with_down place.at h.way (h.way.down ++ bytes_put_out (port_of number) (numbered_node old.nodes.nodes place.node)) h.client.piped) old) { nodes = h.between } in
+    (with_down place.at h.way (h.way.down ++ bytes_put_out (port_at_node number) (numbered_node old.nodes.nodes place.node)) h.client.piped) old) { nodes = h.between } in
     record {
       c = record { slot = place; numbered = numbered_at number old.connections (Some place) positive at; client = h.client; owned = h.owned; way = h.way; stands = h.stands };
       node = numbered_node old.nodes.nodes place.node;
@@ -52,7 +52,7 @@ pub record IsGathering (node count number : ℕ) (initial now : WorldState) : Ty
   pub rest : (later : WorldState) → GathersAmong false number node now later → GathersAmong false count node initial later
 
 pub gathering_on : (node count number next : ℕ) (initial now new : WorldState) → 0 < number → next ≡ number - 1 → IsGathering node count number initial now → IsTrace now new
-    → GatheredWhere false (is_open_at node (slot_numbered number now.connections)) number now new → IsGathering node count next initial new
+    → GatheredWhere false (leads_open_to node (slot_numbered number now.connections)) number now new → IsGathering node count next initial new
 gathering_on node count zero next initial now new positive less g goes asks = absurd (omega (arith, positive))
 gathering_on node count (suc before) next initial now new positive less g goes asks =
     subst (λ (k : ℕ). IsGathering node count k initial new) (let e : before ≡ next = omega (arith, less) in e)

@@ -10,7 +10,7 @@ use Rattle.world_clients.specs.declared.connection_slot.ConnectionSlot.{Connecti
 use Rattle.world_clients.specs.declared.world_client.WorldClient.{WorldClient}
 use Rattle.world_clients.specs.NodesGoOn.{NodesGoOn}
 use Rattle.world_clients.specs.SlotsAreValid.{SlotsAreValid, targets_of_clients}
-use Rattle.world.specs.Found.{port_of}
+use Rattle.world.specs.Found.{port_at_node}
 use Rattle.world_clients.specs.Handing.{with_down, HandsDown, MayPutDown, PutsDown}
 use Rattle.world_clients.specs.Carrying.{CannotCarryUp, CarriesUpWhere}
 use Rattle.world.specs.Inside.Carrying.{CannotCarryUpOn, CarriesUpOnWhere}
@@ -31,7 +31,7 @@ same_client old i client new later found still =
 
 -- what is known about the end, and what went down; or nothing went down
 pub gathers_on : (old : WorldState) (number : ℕ) (place : ConnectionSlot) (client : WorldClient) (way : Way) (is_open : Bool) (new : NodesState) (later : Piped) → slice_get old.clients place.client ≡ Some client
-    → slice_get client.piped.ways place.at ≡ Some way → PutsDown place.at place.node (port_of number) old.nodes client.piped new later is_open
+    → slice_get client.piped.ways place.at ≡ Some way → PutsDown place.at place.node (port_at_node number) old.nodes client.piped new later is_open
     → MayGatherOn number place old is_open (put_down place.client client later new old)
 gathers_on old number place client way is_open new later owned stands puts = by (puts way stands)
   where
@@ -40,7 +40,7 @@ gathers_on old number place client way is_open new later owned stands puts = by 
         ap (λ (b : List ℕ). with_down place.at way b client.piped) same
         ∙ ap (λ (l : List Way). let p : Piped = record client.piped { ways = l } in p) (set_itself client.piped.ways place.at way stands)
 
-    by : (bytes : List ℕ) × HandsDown place.node (port_of number) old.nodes way.down new bytes is_open × (later ≡ with_down place.at way bytes client.piped)
+    by : (bytes : List ℕ) × HandsDown place.node (port_at_node number) old.nodes way.down new bytes is_open × (later ≡ with_down place.at way bytes client.piped)
         → MayGatherOn number place old is_open (put_down place.client client later new old)
     by (bytes, inl p, is) =
         inl (record {
@@ -95,7 +95,7 @@ takes_on (Err e) old number count place client new later housed at positive foun
 
 -- the same in a world: they come, or they cannot
 pub takes_up_on : {E : Type 0} (r : Result Bool E) (old : WorldState) (number count : ℕ) (place : ConnectionSlot) (client : WorldClient) (new : NodesState) (later : Piped)
-    → slice_get old.clients place.client ≡ Some client → IfOk r (λ had. CarriesUpWhere had place (port_of number) count old.nodes client.piped new later)
+    → slice_get old.clients place.client ≡ Some client → IfOk r (λ had. CarriesUpWhere had place (port_at_node number) count old.nodes client.piped new later)
     → IfOk r (λ had. CarriesUpOnWhere had number place count old (put_down place.client client later new old))
 takes_up_on (Ok true) old number count place client new later owned taken = record { client = client; owned = owned; between = new; piped = later; carries = taken; is = refl }
 takes_up_on (Ok false) old number count place client new later owned taken = (unchanged old place.client client new later owned taken.0 taken.1, client, owned, taken.2)

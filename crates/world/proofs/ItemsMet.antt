@@ -21,7 +21,7 @@ use Rattle.world_events.specs.declared.event.Event.{Event}
 use Rattle.world_events.specs.declared.event.Event.TheVariants as events
 use Rattle.world_clients.specs.declared.connection_slot.ConnectionSlot.{ConnectionSlot}
 use Rattle.world_clients.specs.declared.world_client.WorldClient.{WorldClient}
-use Rattle.world.specs.Found.{Connected, slot_numbered, port_of, with_piped}
+use Rattle.world.specs.Found.{Connected, slot_numbered, port_at_node, with_piped}
 use Rattle.world_clients.specs.Clients.{is_named}
 use Rattle.world_clients.specs.Carrying.{with_less}
 use Rattle.world.specs.Gathering.{Gathers, TakesItem}
@@ -35,7 +35,7 @@ use Rattle.world.specs.Quiet.{EventTakesNoMemory}
 use Rattle.world_clients.specs.Carrying.{CanCarryUp, CannotCarryDown, CarriesDownOn}
 use Rattle.world.specs.Inside.Carrying.{CannotCarryUpOn, CarriesUpOn}
 use Rattle.world.specs.Inside.Steps.{IsCounted, EventIsDone, Meets}
-use Rattle.world.specs.Inside.Calling.{with_loss}
+use Rattle.world.specs.Inside.Calling.{with_one_loss}
 use Rattle.world.specs.World.{WorldState}
 use Rattle.world.proofs.GroupGoes.{with_nodes}
 use Rattle.world.proofs.NothingLost.{assigns_exactly, comes_rises, cuts_rises, expels_rises, gathers_exactly, gathers_rises, rises_split, takes_exactly}
@@ -132,10 +132,10 @@ may_expel name node w (Some i) none at is e proposes (inr full) = proposes full
 
 -- it sees the end of a connection
 pub noticed : (number : ℕ) (old : WorldState) (c : Connected number old) (between : NodesState) (new : WorldState) → (CannotHappen (events.Notice number) old → ⊥)
-    → TakesIn c.slot.node (Ended (port_of number)) old.nodes between → Gathers false c.slot.node (with_nodes between old) new → new.losses ≡ old.losses → EventIsDone (events.Notice number) old new
+    → TakesIn c.slot.node (Ended (port_at_node number)) old.nodes between → Gathers false c.slot.node (with_nodes between old) new → new.losses ≡ old.losses → EventIsDone (events.Notice number) old new
 noticed number old c between new can takes gathers still =
-    let item : TakesItem false c.slot.node (Ended (port_of number)) old new = (between, takes, gathers) in
-    record { can = can; does = inr (c, item); exact = λ none. (c, takes_exactly c.slot.node (Ended (port_of number)) old new item none); uncounted = still }
+    let item : TakesItem false c.slot.node (Ended (port_at_node number)) old new = (between, takes, gathers) in
+    record { can = can; does = inr (c, item); exact = λ none. (c, takes_exactly c.slot.node (Ended (port_at_node number)) old new item none); uncounted = still }
 
 pub closed_none : (number : ℕ) (w : WorldState) → slot_numbered number w.connections ≡ None → IsClosed (slot_numbered number w.connections) w.nodes.nodes
 closed_none number w none = subst (λ (o : Option ConnectionSlot). IsClosed o w.nodes.nodes) (sym none) tt
@@ -179,7 +179,7 @@ carries_up number place count old mid new at positive up t gathers still =
     can (inr few) = no_part count t.carries.way.up t.carries.some t.carries.part (subst (λ (o : Option Way). IsNoPart count (up_of o)) (way_found number old c) few)
 
     piece : Item
-    piece = Bytes (port_of number) (take count t.carries.way.up) 0
+    piece = Bytes (port_at_node number) (take count t.carries.way.up) 0
 
     less : WorldState
     less = with_piped place.client t.client (with_less place.at count t.carries.way t.client.piped) old
@@ -194,10 +194,10 @@ carries_up number place count old mid new at positive up t gathers still =
 
 -- there was no memory for them, and that is counted
 pub lost_up : (number : ℕ) (place : ConnectionSlot) (count : ℕ) (old mid new : WorldState) → slice_get old.connections (number - 1) ≡ Some place → 0 < number → place.is_open ≡ true
-    → (mid ≡ old) × (client : WorldClient) × (slice_get old.clients place.client ≡ Some client) × CanCarryUp place count old.nodes client.piped → new ≡ with_loss mid
+    → (mid ≡ old) × (client : WorldClient) × (slice_get old.clients place.client ≡ Some client) × CanCarryUp place count old.nodes client.piped → new ≡ with_one_loss mid
     → HappensLosing (events.CarryUp number count) old new
 lost_up number place count old mid new at positive up (same, client, owned, t) forgot =
-    record { can = can; needs = λ none low. none; done = old; does = inl refl; lost = inl refl; counted = forgot ∙ ap with_loss same }
+    record { can = can; needs = λ none low. none; done = old; does = inl refl; lost = inl refl; counted = forgot ∙ ap with_one_loss same }
   where
     c : Connected number old
     c = record {
@@ -279,7 +279,7 @@ does_less number count old new d = (d.0, d.1, carries_down_less count d.0.client
 -- running out of memory is counted
 pub carried_down_meets : (number : ℕ) (place : ConnectionSlot) (count : ℕ) (had : Bool) (old : WorldState) (client : WorldClient) (piped : Piped) (new : WorldState) → SlotsAreValid (targets_of_clients old.clients) old.connections
     → slice_get old.connections (number - 1) ≡ Some place → 0 < number → slice_get old.clients place.client ≡ Some client → CarriesDownOn had place.at count client.piped piped
-    → new ≡ (if had then with_piped place.client client piped old else with_loss (with_piped place.client client piped old))
+    → new ≡ (if had then with_piped place.client client piped old else with_one_loss (with_piped place.client client piped old))
     → EventIsDone (events.CarryDown number count) old new ⊎ HappensLosing (events.CarryDown number count) old new
 carried_down_meets number place count true old client piped new housed at positive owned carries is =
     let carried = with_piped place.client client piped old in

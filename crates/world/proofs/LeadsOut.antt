@@ -27,9 +27,9 @@ use Rattle.world_pipes.specs.StandsFor.{CanGoOut}
 use Rattle.world_events.specs.declared.event.Event.{Event}
 use Rattle.world_events.specs.declared.event.Event.TheVariants as events
 use Rattle.world_clients.specs.declared.connection_slot.ConnectionSlot.{ConnectionSlot}
-use Rattle.world.specs.Opening.{next_number}
+use Rattle.world.specs.Opening.{next_connection_number}
 use Rattle.world.specs.Escaping.{CanEscape, HasEscaped, LeadsClientOut}
-use Rattle.world.specs.Found.{port_of}
+use Rattle.world.specs.Found.{port_at_node}
 use Rattle.world.specs.Trace.{AreReached, WorldLosesNothing}
 use Rattle.world_clients.specs.NodesGoOn.{NodesGo}
 use Rattle.world.specs.Happening.{EventsHappen}
@@ -115,13 +115,13 @@ module _ (name : Client) (w : WorldState) (housed : SlotsAreValid (targets_of_cl
     abbrev b : Moment State Command Output
     b = l.way.last
 
-    same_number : next_number left.after ≡ number
+    same_number : next_connection_number left.after ≡ number
     same_number = ap (λ (c : List ConnectionSlot). suc (length c)) left.connections ∙ ap suc l.many
 
-    can_open : CanOpen b left.after.nodes ballot p.index p.node os log (port_of (next_number left.after))
+    can_open : CanOpen b left.after.nodes ballot p.index p.node os log (port_at_node (next_connection_number left.after))
     can_open =
-        subst (λ (n : NodesState). CanOpen b n ballot p.index p.node os log (port_of (next_number left.after))) (sym left.nodes)
-        (subst (λ (c : List ConnectionSlot). CanOpen b l.mid.nodes ballot p.index p.node os log (port_of (suc (length c)))) (sym left.connections) p.can)
+        subst (λ (n : NodesState). CanOpen b n ballot p.index p.node os log (port_at_node (next_connection_number left.after))) (sym left.nodes)
+        (subst (λ (c : List ConnectionSlot). CanOpen b l.mid.nodes ballot p.index p.node os log (port_at_node (suc (length c)))) (sym left.connections) p.can)
 
     -- from the world in which the connection was opened
     module _ (v : WorldState) (h : HasOpened name left.before.state b ballot p.index os log number left.after v)

@@ -35,7 +35,7 @@ use Rattle.world_nodes.specs.Nodes.{cores_of}
 use Rattle.world_nodes.specs.Running.{is_running}
 use Rattle.world_events.specs.declared.event.Event.{Event}
 use Rattle.world.specs.Escaping.{CanEscape}
-use Rattle.world.specs.Found.{port_of}
+use Rattle.world.specs.Found.{port_at_node}
 use Rattle.world.specs.StandsFor.{ModelStepsTo, WorldStandsFor}
 use Rattle.world.specs.World.{WorldState}
 use Rattle.world.proofs.CanLead.{each_passes, runs_here, seen_as}
@@ -50,7 +50,7 @@ pub record IsNewPrimary (b : Moment State Command Output) (ballot : ℕ) (log : 
   pub index : ℕ
   pub number : first ≡ suc index
   pub node : CountedCore
-  pub can : CanOpen b w.nodes ballot index node os log (port_of (suc (length w.connections)))
+  pub can : CanOpen b w.nodes ballot index node os log (port_at_node (suc (length w.connections)))
   pub apart : NumbersAreApart os
   pub out : In (index + 1) os → ⊥
   pub each : (k : ℕ) → In k os → NodeIs (Follows ballot log) (whole_moment b).world.nodes k
@@ -142,7 +142,7 @@ module _ (config : Config) {nodes : ℕ} {cs : List Client} (m : World) (trail :
   most : ballot ≤ 2 ^ 32
   most = let same = ap (λ (x : MasterState). x.given) s.nodes.master in omega (arith, same, given)
 
-  can_open : CanOpen b l.mid.nodes ballot index node os log (port_of (suc (length l.mid.connections)))
+  can_open : CanOpen b l.mid.nodes ballot index node os log (port_at_node (suc (length l.mid.connections)))
   can_open =
       record {
         seen = l.followed.seen;

@@ -22,7 +22,7 @@ use Rattle.world_clients.specs.declared.world_client.WorldClient.{WorldClient}
 use Rattle.world.specs.Cannot.{IsClosed, down_of, is_held, is_held_by, up_of}
 use Rattle.world_clients.specs.Carrying.{IsNoPart}
 use Rattle.world.specs.Doing.{DoesEvent}
-use Rattle.world.specs.Found.{Connected, slot_numbered, port_of, way_at, way_in, way_of, with_piped}
+use Rattle.world.specs.Found.{Connected, slot_numbered, port_at_node, way_at, way_in, way_of, with_piped}
 use Rattle.world_clients.specs.Carrying.{with_less}
 use Rattle.world.specs.Gathering.{Gathers, TakesItem}
 use Rattle.world_clients.specs.SlotsAreValid.{SlotsAreValid, targets_of_clients}
@@ -143,28 +143,28 @@ module _ (i at number place : ℕ) (core : Core) (up : List ℕ) (w : WorldState
   emptied_names = names_set w.clients i s.client client s.found refl
 
   pub come_up : (after : WorldState) → DoesEvent true (events.CarryUp number count) w after →
-      Gathers true (suc place) (with_nodes (after_node_call place node (takes (Bytes (port_of number) up 0)) w.nodes) emptied) after
+      Gathers true (suc place) (with_nodes (after_node_call place node (takes (Bytes (port_at_node number) up 0)) w.nodes) emptied) after
   come_up after (c, t) =
       subst (λ (n : NodesState). Gathers true (suc place) (with_nodes n emptied) after)
-      (takes_at place (Bytes (port_of number) up 0) w.nodes piece.0 node stands piece.1) piece.2
+      (takes_at place (Bytes (port_at_node number) up 0) w.nodes piece.0 node stands piece.1) piece.2
     where
-      at_place : TakesItem true (suc place) (Bytes (port_of number) (take count c.way.up) 0) (with_piped i c.client (with_less at count c.way c.client.piped) w) after
+      at_place : TakesItem true (suc place) (Bytes (port_at_node number) (take count c.way.up) 0) (with_piped i c.client (with_less at count c.way c.client.piped) w) after
       at_place =
-          subst (λ (p : ConnectionSlot). TakesItem true p.node (Bytes (port_of number) (take count c.way.up) 0) (with_piped p.client c.client (with_less p.at count c.way c.client.piped) w) after)
+          subst (λ (p : ConnectionSlot). TakesItem true p.node (Bytes (port_at_node number) (take count c.way.up) 0) (with_piped p.client c.client (with_less p.at count c.way c.client.piped) w) after)
           (place_is i at number (suc place) core up [] true w s positive c) t
 
-      at_client : TakesItem true (suc place) (Bytes (port_of number) (take count c.way.up) 0) (with_piped i s.client (with_less at count c.way s.client.piped) w) after
+      at_client : TakesItem true (suc place) (Bytes (port_at_node number) (take count c.way.up) 0) (with_piped i s.client (with_less at count c.way s.client.piped) w) after
       at_client =
-          subst (λ (d : WorldClient). TakesItem true (suc place) (Bytes (port_of number) (take count c.way.up) 0) (with_piped i d (with_less at count c.way d.piped) w) after)
+          subst (λ (d : WorldClient). TakesItem true (suc place) (Bytes (port_at_node number) (take count c.way.up) 0) (with_piped i d (with_less at count c.way d.piped) w) after)
           (client_is i at number (suc place) core up [] true w s positive c) at_place
 
-      at_way : TakesItem true (suc place) (Bytes (port_of number) (take count s.way.up) 0) emptied after
+      at_way : TakesItem true (suc place) (Bytes (port_at_node number) (take count s.way.up) 0) emptied after
       at_way =
-          subst (λ (z : Way). TakesItem true (suc place) (Bytes (port_of number) (take count z.up) 0) (with_piped i s.client (with_less at count z s.client.piped) w) after)
+          subst (λ (z : Way). TakesItem true (suc place) (Bytes (port_at_node number) (take count z.up) 0) (with_piped i s.client (with_less at count z s.client.piped) w) after)
           (way_is i at number (suc place) core up [] true w s positive c) at_client
 
       whole : take count s.way.up ≡ up
       whole = ap (take count) s.up_is ∙ take_all count up (let e : length up ≤ count = omega (arith, many) in e)
 
-      piece : TakesItem true (suc place) (Bytes (port_of number) up 0) emptied after
-      piece = subst (λ (l : List ℕ). TakesItem true (suc place) (Bytes (port_of number) l 0) emptied after) whole at_way
+      piece : TakesItem true (suc place) (Bytes (port_at_node number) up 0) emptied after
+      piece = subst (λ (l : List ℕ). TakesItem true (suc place) (Bytes (port_at_node number) l 0) emptied after) whole at_way

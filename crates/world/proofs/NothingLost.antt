@@ -17,8 +17,8 @@ use Rattle.world_nodes.specs.ExactSteps.{after_node_call}
 use Rattle.world_nodes.specs.Nodes.{NodesState}
 use Rattle.world_nodes.specs.Steps.{ActsWithLosses, ComesIn, CutsIn, CutsWithLosses, ExpelsIn, HearsIn, NodesLoseNothing, TakesIn, nodes_with_loss}
 use Rattle.world_nodes.proofs.Exactly.{exactly}
-use Rattle.world.specs.Found.{slot_numbered, port_of}
-use Rattle.world.specs.Gathering.{GatheredWhere, Gathers, GathersAmong, MayBeGathered, TakesItem, is_open_at}
+use Rattle.world.specs.Found.{slot_numbered, port_at_node}
+use Rattle.world.specs.Gathering.{GatheredWhere, Gathers, GathersAmong, MayBeGathered, TakesItem, leads_open_to}
 use Rattle.world_clients.specs.Handing.{HandsOverBytes}
 use Rattle.world.specs.Doing.{Assigns}
 use Rattle.world.specs.World.{WorldState}
@@ -70,7 +70,7 @@ gives_rises (Some core) node port old new is = let same = ap (λ (n : NodesState
 
 gathered_rises : (number : ℕ) (old new : WorldState) → MayBeGathered false number old new → Rises old.nodes new.nodes
 gathered_rises number old new (inl a) =
-    let low = gives_rises a.node a.c.slot.node (port_of number) old.nodes a.between a.gives in
+    let low = gives_rises a.node a.c.slot.node (port_at_node number) old.nodes a.between a.gives in
     let same = ap (λ (w : WorldState). w.nodes.losses) a.is in
     omega (arith, low, same)
 gathered_rises number old new (inr is) = forgets_rises old.nodes new.nodes (ap (λ (w : WorldState). w.nodes) is)
@@ -82,7 +82,7 @@ where_rises false number old new is = let same = ap (λ (w : WorldState). w.node
 among_rises : (count node : ℕ) (old new : WorldState) → GathersAmong false count node old new → Rises old.nodes new.nodes
 among_rises zero node old new is = let same = ap (λ (w : WorldState). w.nodes.losses) is in omega (arith, same)
 among_rises (suc before) node old new g =
-    let one = where_rises (is_open_at node (slot_numbered (suc before) old.connections)) (suc before) old g.0 g.1 in
+    let one = where_rises (leads_open_to node (slot_numbered (suc before) old.connections)) (suc before) old g.0 g.1 in
     let more = among_rises before node g.0 new g.2 in
     omega (arith, one, more)
 
@@ -101,7 +101,7 @@ gathered_exactly false number old new is none = is
 among_exactly : (count node : ℕ) (old new : WorldState) → GathersAmong false count node old new → NodesLoseNothing old.nodes new.nodes → GathersAmong true count node old new
 among_exactly zero node old new is none = is
 among_exactly (suc before) node old new g none =
-    let is_open = is_open_at node (slot_numbered (suc before) old.connections) in
+    let is_open = leads_open_to node (slot_numbered (suc before) old.connections) in
     let s = rises_split old.nodes g.0.nodes new.nodes (where_rises is_open (suc before) old g.0 g.1) (among_rises before node g.0 new g.2) none in
     (g.0, gathered_exactly is_open (suc before) old g.0 g.1 s.0, among_exactly before node g.0 new g.2 s.1)
 

@@ -20,7 +20,7 @@ use Rattle.world_base.specs.declared.Connection.{Connection}
 use Rattle.world_base.specs.declared.Port.{Port}
 use Rattle.headline.specs.node_connections.Connections.{is_at, is_open_named, is_closed}
 use Rattle.world_base.specs.Core.{CoreState, CountedCore}
-use Rattle.world.specs.Found.{port_of}
+use Rattle.world.specs.Found.{port_at_node}
 use Rattle.world.specs.StandsFor.{WorldStandsFor}
 use Rattle.world.specs.World.{WorldState}
 use Rattle.world_clients.specs.SlotsAreValid.{SlotsAreValid, targets_of_clients}
@@ -49,7 +49,7 @@ module _ {nodes : ℕ} {config : Config} {cs : List Client} (m : World) (trail :
   in_model = ap (λ (l : List CoreState). slice_get l at) s.nodes.nodes ∙ get_mapped (λ (c : CountedCore). c.core) w.nodes.nodes at node stands
 
   abbrev next : Port
-  next = port_of (suc (length w.connections))
+  next = port_at_node (suc (length w.connections))
 
   none_used : is_used at next m.clients ≡ false
   none_used = unused at (length w.connections) next (let e : length w.connections < suc (length w.connections) = omega arith in e) w.clients m.clients s.clients housed.used

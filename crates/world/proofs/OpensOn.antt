@@ -24,11 +24,11 @@ use Rattle.world_clients.specs.SlotsAreValid.{SlotsAreValid, targets_of_clients}
 use Rattle.world_events.specs.declared.event.Event.TheVariants as events
 use Rattle.world_clients.specs.declared.world_client.WorldClient.{WorldClient}
 use Rattle.world_clients.specs.declared.connection_slot.ConnectionSlot.{ConnectionSlot}
-use Rattle.world.specs.Found.{Named, core_named, port_of, with_piped}
+use Rattle.world.specs.Found.{Named, core_named, port_at_node, with_piped}
 use Rattle.world_clients.specs.Clients.{is_named}
 use Rattle.world.specs.Doing.{DoesEvent as HappenDoes}
 use Rattle.world_clients.specs.Opening.{NoneOpens}
-use Rattle.world.specs.Opening.{OpensNone, OpensOne, OpensUnless, has_no_name_left, next_number, with_connection}
+use Rattle.world.specs.Opening.{OpensNone, OpensOne, OpensUnless, has_no_name_left, next_connection_number, with_connection}
 use Rattle.world.specs.Happening.{HappensLosing}
 use Rattle.world.specs.Cannot.{CannotOpen, is_serving}
 use Rattle.world.specs.Gathering.{Gathers, TakesItem}
@@ -61,14 +61,14 @@ connects_on i node old new housed losses nodes one = record { rises = omega (ari
 -- what a client that has it does to the world
 pub connects_at : (i node number at : ℕ) (old : WorldState) (client : WorldClient) (between : NodesState) (piped : Piped) (after : List ConnectionSlot) → slice_get old.clients i ≡ Some client
     → number ≡ suc (length old.connections) → at ≡ length client.piped.ways → after ≡ old.connections ++ record { client = i; at = at; node = node; is_open = true } ∷ []
-    → HasNew node (port_of number) old.nodes client.piped between piped → ConnectsAt i node old (record (with_piped i client piped old) { nodes = between; connections = after })
+    → HasNew node (port_at_node number) old.nodes client.piped between piped → ConnectsAt i node old (record (with_piped i client piped old) { nodes = between; connections = after })
 connects_at i node number at old client between piped after found counted last is reaches =
     record {
       client = client;
       found = found;
       between = between;
       piped = piped;
-      reaches = subst (λ (k : ℕ). HasNew node (port_of k) old.nodes client.piped between piped) counted reaches;
+      reaches = subst (λ (k : ℕ). HasNew node (port_at_node k) old.nodes client.piped between piped) counted reaches;
       is = ap (λ (l : List ConnectionSlot). let w : WorldState = record (with_piped i client piped old) { nodes = between; connections = l } in w)
           (is ∙ ap (λ (k : ℕ). old.connections ++ record { client = i; at = k; node = node; is_open = true } ∷ []) last);
     }
@@ -101,27 +101,27 @@ turned old new node port housed beyond (inr hears) nodes config cs m trail s = b
         }
 
 pub refused_on : (old : WorldState) (i node : ℕ) (client : WorldClient) (new : NodesState) (later : Piped) → SlotsAreValid (targets_of_clients old.clients) old.connections
-    → slice_get old.clients i ≡ Some client → NodesGoOn old.nodes new → FollowsAll client.piped later → HearsOfOne false node (port_of (next_number old)) old.nodes new
+    → slice_get old.clients i ≡ Some client → NodesGoOn old.nodes new → FollowsAll client.piped later → HearsOfOne false node (port_at_node (next_connection_number old)) old.nodes new
     → IsTrace old (put_down i client later new old)
 refused_on old i node client new later housed found nodes follows hears =
     record {
       rises = omega arith;
       nodes = nodes;
       goes = world_goes_join old (with_nodes new old) (put_down i client later new old)
-          (turned old new node (port_of (next_number old)) housed (let e : length old.connections < suc (length old.connections) = omega arith in e) hears)
+          (turned old new node (port_at_node (next_connection_number old)) housed (let e : length old.connections < suc (length old.connections) = omega arith in e) hears)
           (client_goes (with_nodes new old) i client later found follows);
     }
 
 -- so it has none
-pub opens_none : (node : ℕ) (old : WorldState) (i number : ℕ) (client : WorldClient) (new : NodesState) (later : Piped) → slice_get old.clients i ≡ Some client → number ≡ next_number old
-    → NoneOpens node (port_of number) old.nodes client.piped new later → OpensNoneAt i node old (put_down i client later new old)
+pub opens_none : (node : ℕ) (old : WorldState) (i number : ℕ) (client : WorldClient) (new : NodesState) (later : Piped) → slice_get old.clients i ≡ Some client → number ≡ next_connection_number old
+    → NoneOpens node (port_at_node number) old.nodes client.piped new later → OpensNoneAt i node old (put_down i client later new old)
 opens_none node old i number client new later found counted none =
     record {
       client = client;
       found = found;
       between = new;
       piped = later;
-      none = subst (λ (k : ℕ). NoneOpens node (port_of k) old.nodes client.piped new later) counted none;
+      none = subst (λ (k : ℕ). NoneOpens node (port_at_node k) old.nodes client.piped new later) counted none;
       is = refl;
     }
 
@@ -146,11 +146,11 @@ opens_one : (name : List ℕ) (at node : ℕ) (old new : WorldState) → positio
 opens_one name at node old new first o =
     let c : Named name old = record { at = at; first = first; client = o.connects.client; stands = o.connects.found } in
     let one : WorldState = with_connection c o.connects.piped node in
-    let item : TakesItem false node (Opened (port_of (next_number old)) 0) one new =
+    let item : TakesItem false node (Opened (port_at_node (next_connection_number old)) 0) one new =
     (o.connects.between, o.connects.reaches.hears.step, subst (λ (w : WorldState). Gathers false node w new) o.connects.is o.gathers) in
     record {
       less = (c, o.connects.piped, o.connects.reaches.opens, item);
-      exact = λ none. (c, o.connects.piped, o.connects.reaches.opens, takes_exactly node (Opened (port_of (next_number old)) 0) one new item none);
+      exact = λ none. (c, o.connects.piped, o.connects.reaches.opens, takes_exactly node (Opened (port_at_node (next_connection_number old)) 0) one new item none);
     }
 
 pub open_meets : (name : List ℕ) (at node : ℕ) (old new : WorldState) (client : WorldClient) → position (is_named name) old.clients ≡ Some at → slice_get old.clients at ≡ Some client

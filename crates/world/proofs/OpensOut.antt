@@ -35,8 +35,8 @@ use Rattle.world_events.specs.declared.event.Event.TheVariants as events
 use Rattle.world_clients.specs.declared.connection_slot.ConnectionSlot.{ConnectionSlot}
 use Rattle.world_clients.specs.declared.world_client.WorldClient.{WorldClient}
 use Rattle.world.specs.Cannot.{CannotOpen, is_serving}
-use Rattle.world.specs.Opening.{OpensOne, OpensUnless, has_no_name_left, next_number, with_connection}
-use Rattle.world.specs.Found.{Named, core_named, port_of}
+use Rattle.world.specs.Opening.{OpensOne, OpensUnless, has_no_name_left, next_connection_number, with_connection}
+use Rattle.world.specs.Found.{Named, core_named, port_at_node}
 use Rattle.world_clients.specs.Clients.{is_named}
 use Rattle.world.specs.Gathering.{Gathers}
 use Rattle.world.specs.Trace.{WorldLosesNothing}
@@ -59,7 +59,7 @@ use Rattle.world.proofs.WaitsOn.{own_waits}
 
 -- the world then: the connection is its newest, and these bytes are in transit up on it
 pub record HasOpened (name : List ℕ) (state : ClientState) (a : Moment State Command Output) (ballot place : ℕ) (os : List ℕ) (log : List Command) (number : ℕ) (old after : WorldState) : Type 0 where
-  pub awaits : IsOpened a after.nodes ballot place os log (port_of number)
+  pub awaits : IsOpened a after.nodes ballot place os log (port_at_node number)
   pub i : ℕ
   pub at : ℕ
   pub core : Core
@@ -73,7 +73,7 @@ pub record HasOpened (name : List ℕ) (state : ClientState) (a : Moment State C
   pub nodes : NodesGo old.nodes after.nodes
 
 module _ (name : List ℕ) (before : Core) (a : Moment State Command Output) (ballot place : ℕ) (node : CountedCore) (os : List ℕ) (log : List Command) (old : WorldState)
-    (there : core_named name old.clients ≡ Some before) (can : CanOpen a old.nodes ballot place node os log (port_of (next_number old)))
+    (there : core_named name old.clients ≡ Some before) (can : CanOpen a old.nodes ballot place node os log (port_at_node (next_connection_number old)))
     (housed : SlotsAreValid (targets_of_clients old.clients) old.connections) where
   serving : is_serving (numbered_node old.nodes.nodes (suc place)) ≡ true
   serving =
@@ -92,10 +92,10 @@ module _ (name : List ℕ) (before : Core) (a : Moment State Command Output) (ba
 
   module _ (after : WorldState) (does : OpensOne true name (suc place) old after) where
     abbrev number : ℕ
-    number = next_number old
+    number = next_connection_number old
 
     abbrev item : Item
-    item = Opened (port_of number) 0
+    item = Opened (port_at_node number) 0
 
     abbrev c : Named name old
     c = does.0
@@ -113,7 +113,7 @@ module _ (name : List ℕ) (before : Core) (a : Moment State Command Output) (ba
     at = length c.client.piped.ways
 
     abbrev way : Way
-    way = record (new_way (suc place - 1) (port_of number)) { up = core.out }
+    way = record (new_way (suc place - 1) (port_at_node number)) { up = core.out }
 
     abbrev stands_at : ConnectionSlot
     stands_at = its_place c.at at (suc place) true
@@ -165,8 +165,8 @@ module _ (name : List ℕ) (before : Core) (a : Moment State Command Output) (ba
     passes : Passes [] (with_nodes taken mid) after
     passes = gathers_passes (suc place) (with_nodes taken mid) after gathers mid_housed
 
-    opened_by : (n : NodesState) → Come taken [] n → IsOpened a n ballot place os log (port_of number)
-    opened_by n comes = connections_open_first a old.nodes n ballot place node os log (port_of number) 0 can comes
+    opened_by : (n : NodesState) → Come taken [] n → IsOpened a n ballot place os log (port_at_node number)
+    opened_by n comes = connections_open_first a old.nodes n ballot place node os log (port_at_node number) 0 can comes
 
     pub has_opened : HasOpened name before.state a ballot place os log number old after
     has_opened =
@@ -193,7 +193,7 @@ module _ (name : List ℕ) (before : Core) (a : Moment State Command Output) (ba
   -- so a run continues from there
   pub record OpenedTo (more : List Event) (new : WorldState) : Type 0 where
     pub after : WorldState
-    pub has : HasOpened name before.state a ballot place os log (next_number old) old after
+    pub has : HasOpened name before.state a ballot place os log (next_connection_number old) old after
     pub rest : EventsHappen more after new
     pub whole : WorldLosesNothing after new
 

@@ -18,9 +18,9 @@ use Rattle.world_pipes.specs.declared.way.Way.{Way}
 use Rattle.world_pipes.specs.Piped.{Piped}
 use Rattle.world_clients.specs.declared.connection_slot.ConnectionSlot.{ConnectionSlot}
 use Rattle.world_clients.specs.declared.world_client.WorldClient.{WorldClient}
-use Rattle.world.specs.Found.{slot_numbered, port_of}
+use Rattle.world.specs.Found.{slot_numbered, port_at_node}
 use Rattle.world_clients.specs.Handing.{with_down}
-use Rattle.world.specs.Gathering.{GatheredWhere, Gathers, GathersAmong, IsGathered, is_open_at}
+use Rattle.world.specs.Gathering.{GatheredWhere, Gathers, GathersAmong, IsGathered, leads_open_to}
 use Rattle.world_clients.specs.Handing.{HandsOverBytes, is_told_open, bytes_put_out}
 use Rattle.world_clients.specs.NodesGoOn.{NodesGo}
 use Rattle.world_clients.specs.SlotsAreValid.{SlotsAreValid, targets_of_clients}
@@ -112,7 +112,7 @@ module _ (number : ℕ) (old new : WorldState) (a : IsGathered number old new) (
   place = a.c.slot
 
   abbrev port : Port
-  port = port_of number
+  port = port_at_node number
 
   abbrev bytes : List ℕ
   bytes = a.c.way.down ++ bytes_put_out port a.node
@@ -163,7 +163,7 @@ where_passes false number old new is housed positive = subst (Passes [] old) (sy
 pub among_passes : (count node : ℕ) (old new : WorldState) → GathersAmong true count node old new → SlotsAreValid (targets_of_clients old.clients) old.connections → Passes [] old new
 among_passes zero node old new is housed = subst (Passes [] old) (sym is) (passes_rest old housed)
 among_passes (suc before) node old new g housed =
-    let one = where_passes (is_open_at node (slot_numbered (suc before) old.connections)) (suc before) old g.0 g.1 housed (omega arith) in
+    let one = where_passes (leads_open_to node (slot_numbered (suc before) old.connections)) (suc before) old g.0 g.1 housed (omega arith) in
     passes_join [] [] old g.0 new one (among_passes before node g.0 new g.2 one.housed)
 
 pub gathers_passes : (node : ℕ) (old new : WorldState) → Gathers true node old new → SlotsAreValid (targets_of_clients old.clients) old.connections → Passes [] old new

@@ -25,7 +25,7 @@ use Rattle.world_nodes.specs.Nodes.{NodesState}
 use Rattle.world_events.specs.declared.event.Event.{Event}
 use Rattle.world_events.specs.declared.event.Event.TheVariants as events
 use Rattle.world_clients.specs.Clients.{is_named}
-use Rattle.world.specs.Found.{port_of}
+use Rattle.world.specs.Found.{port_at_node}
 use Rattle.world.specs.Gathering.{Gathers}
 use Rattle.world_clients.specs.Handing.{is_told_open, bytes_put_out}
 use Rattle.world.specs.Trace.{WorldLosesNothing}
@@ -67,7 +67,7 @@ master_stays n new none_comes = refl
 master_stays n new (hands at node port there more) = master_stays _ new more
 
 module _ (name : List ℕ) (i at number place : ℕ) (core : Core) (up : List ℕ) (w after : WorldState) (node : CountedCore) (positive : 0 < number)
-    (stands : slice_get w.nodes.nodes place ≡ Some node) (puts : PutsOutFirst (port_of number) (spelling session_present) node.core)
+    (stands : slice_get w.nodes.nodes place ≡ Some node) (puts : PutsOutFirst (port_at_node number) (spelling session_present) node.core)
     (gathers : Gathers true (suc place) w after) (housed : SlotsAreValid (targets_of_clients w.clients) w.connections) (s : IsNewest i at number (suc place) core up [] true w)
     (first : position (is_named name) w.clients ≡ Some i) where
   passes : Passes [] w after
@@ -77,11 +77,11 @@ module _ (name : List ℕ) (i at number place : ℕ) (core : Core) (up : List �
   put_first old goes same =
       record {
         up = up;
-        down = bytes_put_out (port_of number) (numbered_node w.nodes.nodes (suc place));
-        is_open = is_told_open (port_of number) (numbered_node w.nodes.nodes (suc place));
+        down = bytes_put_out (port_at_node number) (numbered_node w.nodes.nodes (suc place));
+        is_open = is_told_open (port_at_node number) (numbered_node w.nodes.nodes (suc place));
         newest = own_gathered i at number (suc place) core up positive [] w after (let e : 0 < suc place = omega arith in e) gathers housed s;
         begins = subst (λ (l : List ℕ). IsPrefixOf (spelling session_present) l)
-            (sym (ap (λ (o : Option CountedCore). bytes_put_out (port_of number) o) stands ∙ ap bytes_of puts.listed)) puts.first;
+            (sym (ap (λ (o : Option CountedCore). bytes_put_out (port_at_node number) o) stands ∙ ap bytes_of puts.listed)) puts.first;
         first = position_kept name after.clients w.clients (names_seen after.clients w.clients passes.clients) ∙ first;
         nodes = goes;
         master = master_stays w.nodes after.nodes passes.come ∙ same;
@@ -116,7 +116,7 @@ pub record BeforeLast (ks : List ℕ) (i at number place : ℕ) (core : Core) (u
   pub whole : WorldLosesNothing mid new
 
 module _ (name : List ℕ) (ks : List ℕ) (i at number place : ℕ) (core : Core) (up : List ℕ) (index last ballot : ℕ) (log : List Command) (more : List Event) (w new : WorldState)
-    (positive : 0 < number) (b : BeforeLast ks i at number place core up index more w new) (p : PutsOutAtLast place index (port_of number) (last_held last ballot log) b.mid.nodes)
+    (positive : 0 < number) (b : BeforeLast ks i at number place core up index more w new) (p : PutsOutAtLast place index (port_at_node number) (last_held last ballot log) b.mid.nodes)
     (first : position (is_named name) w.clients ≡ Some i) where
   abbrev message : Message Command
   message = last_held last ballot log
@@ -134,7 +134,7 @@ module _ (name : List ℕ) (ks : List ℕ) (i at number place : ℕ) (core : Cor
       let turned : CountedCore = record n.node { core = (node_step (Peer message) n.node.core).core } in
       let acted : NodesState = after_node_call place n.node (takes (Peer message)) b.mid.nodes in
       put_first name i at number place core up (with_nodes acted b.mid) after turned positive (get_set b.mid.nodes.nodes place n.node turned n.there)
-      (subst (λ (c : CountedCore). PutsOutFirst (port_of number) (spelling session_present) (node_step (Peer message) c.core).core)
+      (subst (λ (c : CountedCore). PutsOutFirst (port_at_node number) (spelling session_present) (node_step (Peer message) c.core).core)
       (same_Some p.node n.node (sym p.stands ∙ n.there)) p.puts)
       n.gathers b.passes.housed (newest_with i at number (suc place) core up [] true b.mid acted b.newest)
       (position_kept name b.mid.clients w.clients (names_seen b.mid.clients w.clients b.passes.clients) ∙ first)

@@ -13,9 +13,9 @@ use Rattle.world_nodes.specs.Running.{numbered_node}
 use Rattle.world_pipes.specs.declared.way.Way.{Way}
 use Rattle.world_clients.specs.declared.connection_slot.ConnectionSlot.{ConnectionSlot}
 use Rattle.world_clients.specs.declared.world_client.WorldClient.{WorldClient}
-use Rattle.world.specs.Found.{slot_numbered, port_of}
+use Rattle.world.specs.Found.{slot_numbered, port_at_node}
 use Rattle.world_clients.specs.Handing.{with_down}
-use Rattle.world.specs.Gathering.{GatheredWhere, Gathers, GathersAmong, IsGathered, is_open_at}
+use Rattle.world.specs.Gathering.{GatheredWhere, Gathers, GathersAmong, IsGathered, leads_open_to}
 use Rattle.world_clients.specs.Handing.{is_told_open, bytes_put_out}
 use Rattle.world_clients.specs.SlotsAreValid.{SlotsAreValid, targets_of_clients}
 use Rattle.world.specs.World.{WorldState}
@@ -42,7 +42,7 @@ newest_place i at node is_open = record { client = i; at = at; node = node; is_o
 -- ---- it is asked itself
 
 module _ (i at number node : ℕ) (core : Core) (up down : List ℕ) (is_open : Bool) (old new : WorldState) (s : IsNewest i at number node core up down is_open old) where
-  pub gathered_itself : 0 < number → (a : IsGathered number old new) → IsNewest i at number node core up (down ++ bytes_put_out (port_of number) (numbered_node old.nodes.nodes node)) (is_told_open (port_of number) (numbered_node old.nodes.nodes node)) new
+  pub gathered_itself : 0 < number → (a : IsGathered number old new) → IsNewest i at number node core up (down ++ bytes_put_out (port_at_node number) (numbered_node old.nodes.nodes node)) (is_told_open (port_at_node number) (numbered_node old.nodes.nodes node)) new
   gathered_itself positive a =
       record {
         client = later;
@@ -54,15 +54,15 @@ module _ (i at number node : ℕ) (core : Core) (up down : List ℕ) (is_open : 
         stands = ap (λ (j : ℕ). slice_get (set a.c.client.piped.ways j below) at) at_is ∙ get_set a.c.client.piped.ways at a.c.way below there;
         many = length-set a.c.client.piped.ways a.c.slot.at below ∙ ap (λ (c : WorldClient). length c.piped.ways) same_client ∙ s.many;
         up_is = ap (λ (w : Way). w.up) same_way ∙ s.up_is;
-        down_is = ap (λ (w : Way). w.down ++ bytes_put_out (port_of number) a.node) same_way
-            ∙ ap (λ (l : List ℕ). l ++ bytes_put_out (port_of number) a.node) s.down_is
-            ∙ ap (λ (o : Option CountedCore). down ++ bytes_put_out (port_of number) o) node_is;
+        down_is = ap (λ (w : Way). w.down ++ bytes_put_out (port_at_node number) a.node) same_way
+            ∙ ap (λ (l : List ℕ). l ++ bytes_put_out (port_at_node number) a.node) s.down_is
+            ∙ ap (λ (o : Option CountedCore). down ++ bytes_put_out (port_at_node number) o) node_is;
         place = ap (λ (w : WorldState). slice_get w.connections (number - 1)) a.is
-            ∙ get_set old.connections (number - 1) a.c.slot (record a.c.slot { is_open = is_told_open (port_of number) a.node }) found
-            ∙ ap (λ (p : ConnectionSlot). Some (let q : ConnectionSlot = record p { is_open = is_told_open (port_of number) a.node } in q)) place_is
-            ∙ ap (λ (o : Option CountedCore). Some (newest_place i at node (is_told_open (port_of number) o))) node_is;
+            ∙ get_set old.connections (number - 1) a.c.slot (record a.c.slot { is_open = is_told_open (port_at_node number) a.node }) found
+            ∙ ap (λ (p : ConnectionSlot). Some (let q : ConnectionSlot = record p { is_open = is_told_open (port_at_node number) a.node } in q)) place_is
+            ∙ ap (λ (o : Option CountedCore). Some (newest_place i at node (is_told_open (port_at_node number) o))) node_is;
         last = ap (λ (w : WorldState). length w.connections) a.is
-            ∙ length-set old.connections (number - 1) (record a.c.slot { is_open = is_told_open (port_of number) a.node }) ∙ s.last;
+            ∙ length-set old.connections (number - 1) (record a.c.slot { is_open = is_told_open (port_at_node number) a.node }) ∙ s.last;
       }
     where
       found : slice_get old.connections (number - 1) ≡ Some a.c.slot
@@ -93,10 +93,10 @@ module _ (i at number node : ℕ) (core : Core) (up down : List ℕ) (is_open : 
       same_way = same_Some a.c.way s.way (sym there ∙ ap (λ (c : WorldClient). slice_get c.piped.ways at) same_client ∙ s.stands)
 
       below : Way
-      below = record a.c.way { down = a.c.way.down ++ bytes_put_out (port_of number) a.node }
+      below = record a.c.way { down = a.c.way.down ++ bytes_put_out (port_at_node number) a.node }
 
       later : WorldClient
-      later = record a.c.client { piped = with_down a.c.slot.at a.c.way (a.c.way.down ++ bytes_put_out (port_of number) a.node) a.c.client.piped }
+      later = record a.c.client { piped = with_down a.c.slot.at a.c.way (a.c.way.down ++ bytes_put_out (port_at_node number) a.node) a.c.client.piped }
 
   -- ---- another is asked
 
@@ -112,14 +112,14 @@ module _ (i at number node : ℕ) (core : Core) (up down : List ℕ) (is_open : 
 
       place : slice_get new.connections (number - 1) ≡ Some (newest_place i at node is_open)
       place = ap (λ (w : WorldState). slice_get w.connections (number - 1)) a.is
-          ∙ get_set_other old.connections (other - 1) (number - 1) (record a.c.slot { is_open = is_told_open (port_of other) a.node }) elsewhere ∙ s.place
+          ∙ get_set_other old.connections (other - 1) (number - 1) (record a.c.slot { is_open = is_told_open (port_at_node other) a.node }) elsewhere ∙ s.place
 
       last : length new.connections ≡ number
       last = ap (λ (w : WorldState). length w.connections) a.is
-          ∙ length-set old.connections (other - 1) (record a.c.slot { is_open = is_told_open (port_of other) a.node }) ∙ s.last
+          ∙ length-set old.connections (other - 1) (record a.c.slot { is_open = is_told_open (port_at_node other) a.node }) ∙ s.last
 
       bytes : List ℕ
-      bytes = a.c.way.down ++ bytes_put_out (port_of other) a.node
+      bytes = a.c.way.down ++ bytes_put_out (port_at_node other) a.node
 
       later : WorldClient
       later = record a.c.client { piped = with_down a.c.slot.at a.c.way bytes a.c.client.piped }
@@ -183,16 +183,16 @@ module _ (i at number node : ℕ) (core : Core) (up : List ℕ) (positive : 0 < 
   older_asked zero to down is_open old new is low housed s = subst (IsNewest i at number node core up down is_open) (sym is) s
   older_asked (suc before) to down is_open old new g low housed s =
       older_asked before to down is_open g.0 new g.2 (omega (arith, low))
-      (where_passes (is_open_at to (slot_numbered (suc before) old.connections)) (suc before) old g.0 g.1 housed (omega arith)).housed
-      (one (is_open_at to (slot_numbered (suc before) old.connections)) g.1)
+      (where_passes (leads_open_to to (slot_numbered (suc before) old.connections)) (suc before) old g.0 g.1 housed (omega arith)).housed
+      (one (leads_open_to to (slot_numbered (suc before) old.connections)) g.1)
     where
       one : (b : Bool) → GatheredWhere true b (suc before) old g.0 → IsNewest i at number node core up down is_open g.0
       one true a = gathered_another i at number node core up down is_open old g.0 s (suc before) positive (omega arith) (λ same. omega (arith, same, low)) housed a
       one false is = subst (IsNewest i at number node core up down is_open) (sym is) s
 
   asks : (to : ℕ) (is_open b : Bool) (down : List ℕ) (old : WorldState) → IsNewest i at number node core up down is_open old → ((node == to) && is_open) ≡ b →
-      is_open_at to (slot_numbered number old.connections) ≡ b
-  asks to is_open b down old s e = ap (is_open_at to) (numbered_at number old.connections (Some (newest_place i at node is_open)) positive s.place) ∙ e
+      leads_open_to to (slot_numbered number old.connections) ≡ b
+  asks to is_open b down old s e = ap (leads_open_to to) (numbered_at number old.connections (Some (newest_place i at node is_open)) positive s.place) ∙ e
 
   -- all of another node
   pub elsewhere_gathered : (to : ℕ) (down : List ℕ) (is_open : Bool) (old new : WorldState) → (node ≡ to → ⊥) → Gathers true to old new →
@@ -206,8 +206,8 @@ module _ (i at number node : ℕ) (core : Core) (up : List ℕ) (positive : 0 < 
       by : (k : ℕ) → k ≡ number → GathersAmong true k (suc to) old new → IsNewest i at number node core up down is_open new
       by zero e h = absurd (omega (arith, e, positive))
       by (suc k) e h =
-          let shut : is_open_at (suc to) (slot_numbered (suc k) old.connections) ≡ false =
-          ap (λ (j : ℕ). is_open_at (suc to) (slot_numbered j old.connections)) e
+          let shut : leads_open_to (suc to) (slot_numbered (suc k) old.connections) ≡ false =
+          ap (λ (j : ℕ). leads_open_to (suc to) (slot_numbered j old.connections)) e
           ∙ asks (suc to) is_open false down old s (ap (λ (b : Bool). b && is_open) (ne_eqb node (suc to) apart)) in
           let still : h.0 ≡ old = subst (λ (b : Bool). GatheredWhere true b (suc k) old h.0) shut h.1 in
           older_asked k (suc to) down is_open h.0 new h.2 (omega (arith, e)) (subst (λ (w : WorldState). SlotsAreValid (targets_of_clients w.clients) w.connections) (sym still) housed)
@@ -216,7 +216,7 @@ module _ (i at number node : ℕ) (core : Core) (up : List ℕ) (positive : 0 < 
   -- all of its own
   pub own_gathered : (down : List ℕ) (old new : WorldState) → 0 < node → Gathers true node old new → SlotsAreValid (targets_of_clients old.clients) old.connections →
       IsNewest i at number node core up down true old →
-      IsNewest i at number node core up (down ++ bytes_put_out (port_of number) (numbered_node old.nodes.nodes node)) (is_told_open (port_of number) (numbered_node old.nodes.nodes node)) new
+      IsNewest i at number node core up (down ++ bytes_put_out (port_at_node number) (numbered_node old.nodes.nodes node)) (is_told_open (port_at_node number) (numbered_node old.nodes.nodes node)) new
   own_gathered down old new some g housed s = by number refl (among node some g)
     where
       among : (to : ℕ) → 0 < to → Gathers true to old new → GathersAmong true number to old new
@@ -224,13 +224,13 @@ module _ (i at number node : ℕ) (core : Core) (up : List ℕ) (positive : 0 < 
       among (suc to) low h = subst (λ (k : ℕ). GathersAmong true k (suc to) old new) s.last h
 
       by : (k : ℕ) → k ≡ number → GathersAmong true k node old new →
-          IsNewest i at number node core up (down ++ bytes_put_out (port_of number) (numbered_node old.nodes.nodes node)) (is_told_open (port_of number) (numbered_node old.nodes.nodes node)) new
+          IsNewest i at number node core up (down ++ bytes_put_out (port_at_node number) (numbered_node old.nodes.nodes node)) (is_told_open (port_at_node number) (numbered_node old.nodes.nodes node)) new
       by zero e h = absurd (omega (arith, e, positive))
       by (suc k) e h =
-          let up_there : is_open_at node (slot_numbered (suc k) old.connections) ≡ true =
-          ap (λ (j : ℕ). is_open_at node (slot_numbered j old.connections)) e
+          let up_there : leads_open_to node (slot_numbered (suc k) old.connections) ≡ true =
+          ap (λ (j : ℕ). leads_open_to node (slot_numbered j old.connections)) e
           ∙ asks node true true down old s (ap (λ (b : Bool). b && true) (eq-eqb node node refl)) in
           let a : IsGathered number old h.0 = subst (λ (j : ℕ). IsGathered j old h.0) e (subst (λ (b : Bool). GatheredWhere true b (suc k) old h.0) up_there h.1) in
-          older_asked k node (down ++ bytes_put_out (port_of number) (numbered_node old.nodes.nodes node)) (is_told_open (port_of number) (numbered_node old.nodes.nodes node)) h.0 new h.2 (omega (arith, e))
-          (where_passes (is_open_at node (slot_numbered (suc k) old.connections)) (suc k) old h.0 h.1 housed (omega arith)).housed
+          older_asked k node (down ++ bytes_put_out (port_at_node number) (numbered_node old.nodes.nodes node)) (is_told_open (port_at_node number) (numbered_node old.nodes.nodes node)) h.0 new h.2 (omega (arith, e))
+          (where_passes (leads_open_to node (slot_numbered (suc k) old.connections)) (suc k) old h.0 h.1 housed (omega arith)).housed
           (gathered_itself i at number node core up down true old h.0 s positive a)

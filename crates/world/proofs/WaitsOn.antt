@@ -32,7 +32,7 @@ use Rattle.world_nodes.specs.ExactSteps.{after_answer, after_node_call}
 use Rattle.world_nodes.specs.Running.{numbered_node}
 use Rattle.world_nodes.specs.Nodes.{NodesState}
 use Rattle.world_events.specs.declared.event.Event.TheVariants as events
-use Rattle.world.specs.Found.{port_of}
+use Rattle.world.specs.Found.{port_at_node}
 use Rattle.world.specs.Gathering.{Gathers}
 use Rattle.world_clients.specs.Handing.{is_more, is_told_open, bytes_put_out}
 use Rattle.world.specs.Trace.{WorldLosesNothing}
@@ -84,19 +84,19 @@ newest_with i at number node core up down is_open old nodes s =
 
 -- what its own node hands over while it waits is nothing
 pub own_waits : (i at number place : ℕ) (core : Core) (up : List ℕ) (x : ConnectionName) (old new : WorldState) (node : CountedCore) → 0 < number →
-    slice_get old.nodes.nodes place ≡ Some node → AwaitsAnswer (port_of number) x node.core → Gathers true (suc place) old new →
+    slice_get old.nodes.nodes place ≡ Some node → AwaitsAnswer (port_at_node number) x node.core → Gathers true (suc place) old new →
     SlotsAreValid (targets_of_clients old.clients) old.connections → IsNewest i at number (suc place) core up [] true old → IsNewest i at number (suc place) core up [] true new
 own_waits i at number place core up x old new node positive there w g housed s =
-    subst (λ (l : List ℕ). IsNewest i at number (suc place) core up l true new) (ap (bytes_put_out (port_of number)) there ∙ nothing_out (port_of number) x node w)
-    (subst (λ (b : Bool). IsNewest i at number (suc place) core up (bytes_put_out (port_of number) (numbered_node old.nodes.nodes (suc place))) b new)
-    (ap (is_told_open (port_of number)) there ∙ told_open (port_of number) x node w)
+    subst (λ (l : List ℕ). IsNewest i at number (suc place) core up l true new) (ap (bytes_put_out (port_at_node number)) there ∙ nothing_out (port_at_node number) x node w)
+    (subst (λ (b : Bool). IsNewest i at number (suc place) core up (bytes_put_out (port_at_node number) (numbered_node old.nodes.nodes (suc place))) b new)
+    (ap (is_told_open (port_at_node number)) there ∙ told_open (port_at_node number) x node w)
     (own_gathered i at number (suc place) core up positive [] old new (omega arith) g housed s))
 
 -- ---- while messages come
 
 pub record Waits (ballot place : ℕ) (x : ConnectionName) (i at number : ℕ) (core : Core) (up : List ℕ) (ks : List ℕ) (old new : WorldState) : Type 0 where
   pub passes : Passes ks old new
-  pub waits : StillWaits ballot place (port_of number) x new.nodes
+  pub waits : StillWaits ballot place (port_at_node number) x new.nodes
   pub newest : IsNewest i at number (suc place) core up [] true new
 
 module _ (ballot place : ℕ) (x : ConnectionName) (i at number : ℕ) (core : Core) (up : List ℕ) (positive : 0 < number) where
@@ -104,15 +104,15 @@ module _ (ballot place : ℕ) (x : ConnectionName) (i at number : ℕ) (core : C
   one_waits : (a : Moment State Command Output) (k to : ℕ) (m : Message Command) (c : Moment State Command Output) → Delivered rules ballot a (k ∷ []) c → (old new : WorldState)
       (node : CountedCore) → slice_get old.nodes.sent k ≡ Some (to + 1, m) → slice_get old.nodes.nodes to ≡ Some node → node.core.replica.state.stopped ≡ false →
       Gathers true (suc to) (with_nodes (after_node_call to node (takes (Peer m)) old.nodes) old) new → IsSeen a old.nodes → AreCalm ballot old.nodes →
-      SlotsAreValid (targets_of_clients old.clients) old.connections → StillWaits ballot place (port_of number) x old.nodes → IsNewest i at number (suc place) core up [] true old →
+      SlotsAreValid (targets_of_clients old.clients) old.connections → StillWaits ballot place (port_at_node number) x old.nodes → IsNewest i at number (suc place) core up [] true old →
       IsNewest i at number (suc place) core up [] true new
   one_waits a k to m c d old new node came there runs g seen calm housed w s =
-      by (cases_eq place to) (waits_on ballot place (port_of number) x a c (k ∷ []) d old.nodes after (comes_to_node k to node m came there runs none_comes) seen calm w)
+      by (cases_eq place to) (waits_on ballot place (port_at_node number) x a c (k ∷ []) d old.nodes after (comes_to_node k to node m came there runs none_comes) seen calm w)
     where
       after : NodesState
       after = after_node_call to node (takes (Peer m)) old.nodes
 
-      by : (place ≡ to) ⊎ (place ≡ to → ⊥) → StillWaits ballot place (port_of number) x after → IsNewest i at number (suc place) core up [] true new
+      by : (place ≡ to) ⊎ (place ≡ to → ⊥) → StillWaits ballot place (port_at_node number) x after → IsNewest i at number (suc place) core up [] true new
       by (inl same) v =
           own_waits i at number place core up x (with_nodes after old) new v.node positive v.stands v.waits
           (subst (λ (n : ℕ). Gathers true (suc n) (with_nodes after old) new) (sym same) g) housed (newest_with i at number (suc place) core up [] true old after s)
@@ -122,7 +122,7 @@ module _ (ballot place : ℕ) (x : ConnectionName) (i at number : ℕ) (core : C
 
   pub walk_waiting : (a b : Moment State Command Output) (ks : List ℕ) → Delivered rules ballot a ks b → (old new : WorldState) → EventsHappen (map events.Deliver ks) old new →
       WorldLosesNothing old new → IsSeen a old.nodes → AreCalm ballot old.nodes → SlotsAreValid (targets_of_clients old.clients) old.connections →
-      StillWaits ballot place (port_of number) x old.nodes → IsNewest i at number (suc place) core up [] true old → Waits ballot place x i at number core up ks old new
+      StillWaits ballot place (port_at_node number) x old.nodes → IsNewest i at number (suc place) core up [] true old → Waits ballot place x i at number core up ks old new
   walk_waiting a b ks all_came old new run none seen calm housed w s =
       subst (Waits ballot place x i at number core up [] old) (sym run) (record { passes = passes_rest old housed; waits = w; newest = s })
   walk_waiting a b ks (to_node {ks = rest} k to r m sent stands runs silent joined d) old new run none seen calm housed w s =
@@ -133,7 +133,7 @@ module _ (ballot place : ℕ) (x : ConnectionName) (i at number : ℕ) (core : C
       let one : Delivered rules ballot a (k ∷ []) c = to_node k to r m sent stands runs silent joined all_came in
       let z = deliveries_are_followed ballot a c (k ∷ []) one old.nodes f.after.nodes n.passes.come seen calm in
       let more = walk_waiting c b rest d f.after new f.rest f.whole z.seen z.calm n.passes.housed
-      (waits_on ballot place (port_of number) x a c (k ∷ []) one old.nodes f.after.nodes n.passes.come seen calm w)
+      (waits_on ballot place (port_at_node number) x a c (k ∷ []) one old.nodes f.after.nodes n.passes.come seen calm w)
       (one_waits a k to m c one old f.after n.node came n.there n.runs n.gathers seen calm housed w s) in
       record { passes = passes_join (k ∷ []) rest old f.after new n.passes more.passes; waits = more.waits; newest = more.newest }
   walk_waiting a b ks (to_master {ks = rest} k from asked sent d) old new run none seen calm housed w s =
@@ -144,7 +144,7 @@ module _ (ballot place : ℕ) (x : ConnectionName) (i at number : ℕ) (core : C
       let one : Delivered rules ballot a (k ∷ []) c = to_master k from asked sent all_came in
       let z = deliveries_are_followed ballot a c (k ∷ []) one old.nodes f.after.nodes n.come seen calm in
       let more = walk_waiting c b rest d f.after new f.rest f.whole z.seen z.calm n.housed
-      (waits_on ballot place (port_of number) x a c (k ∷ []) one old.nodes f.after.nodes n.come seen calm w)
+      (waits_on ballot place (port_at_node number) x a c (k ∷ []) one old.nodes f.after.nodes n.come seen calm w)
       (subst (IsNewest i at number (suc place) core up [] true) (sym (at_master_is k from asked old f.after came f.does))
       (newest_with i at number (suc place) core up [] true old (after_answer from asked old.nodes) s)) in
       record { passes = passes_join (k ∷ []) rest old f.after new n more.passes; waits = more.waits; newest = more.newest }

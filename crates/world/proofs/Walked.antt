@@ -7,7 +7,7 @@ use Rattle.std.proofs.lemmas.Option.{same_Some, slice_get_within}
 use Rattle.headline.proofs.of_packet_world.Lists.{same_or_other}
 use Rattle.world_clients.specs.declared.connection_slot.ConnectionSlot.{ConnectionSlot}
 use Rattle.world.specs.Found.{slot_numbered}
-use Rattle.world.specs.Gathering.{GatheredWhere, GathersAmong, is_open_at}
+use Rattle.world.specs.Gathering.{GatheredWhere, GathersAmong, leads_open_to}
 use Rattle.world_clients.specs.SlotsAreValid.{open_from}
 use Rattle.world.specs.Inside.Handing.{GathersAt, MayGatherOn, marked}
 use Rattle.world.specs.Inside.Steps.{IsTrace}
@@ -24,14 +24,14 @@ never true = refl
 never false = refl
 
 not_asked : (node number : ℕ) (w : WorldState) (p : ConnectionSlot) → slice_get w.connections number ≡ Some p → p.is_open ≡ false
-    → is_open_at node (slot_numbered (suc number) w.connections) ≡ false
+    → leads_open_to node (slot_numbered (suc number) w.connections) ≡ false
 not_asked node number w p at shut =
-    ap (is_open_at node)
+    ap (leads_open_to node)
     (numbered_at (suc number) w.connections (Some p) (omega arith) (ap (slice_get w.connections) (let same : suc number - 1 ≡ number = omega arith in same) ∙ at))
     ∙ ap (λ (b : Bool). (p.node == node) && b) shut
     ∙ never (p.node == node)
 
-passed : (node count number : ℕ) (initial now : WorldState) → is_open_at node (slot_numbered (suc number) now.connections) ≡ false
+passed : (node count number : ℕ) (initial now : WorldState) → leads_open_to node (slot_numbered (suc number) now.connections) ≡ false
     → IsGathering node count (suc number) initial now → IsGathering node count number initial now
 passed node count number initial now shut g =
     record {
@@ -103,7 +103,7 @@ walk_on node at initial now new w goes a =
       within = omega (arith, low, within, many);
       many = ap (λ (l : List ConnectionSlot). length (open_from 1 l)) (subst (λ (k : ℕ). take k new.connections ≡ take k now.connections) less a.others) ∙ r.before;
       gathering = gathering_on node (length initial.connections) (suc r.i) r.i initial now new (omega arith) (let e : r.i ≡ suc r.i - 1 = omega arith in e) g goes
-          (subst (λ (k : ℕ). GatheredWhere false (is_open_at node (slot_numbered k now.connections)) k now new) same a.gathers);
+          (subst (λ (k : ℕ). GatheredWhere false (leads_open_to node (slot_numbered k now.connections)) k now new) same a.gathers);
     }
 
 pub next_there : (node at next : ℕ) (initial now : WorldState) → 0 < at → next ≡ at - 1 → IsWalking node at initial now → next < length (open_from 1 now.connections)
@@ -135,9 +135,9 @@ gathers_at_none node at number place w stands found positive other =
       many = refl;
     }
   where
-    elsewhere : is_open_at node (slot_numbered number w.connections) ≡ false
+    elsewhere : leads_open_to node (slot_numbered number w.connections) ≡ false
     elsewhere =
-        ap (is_open_at node) (numbered_at number w.connections (Some place) positive found) ∙ ap (λ (b : Bool). b && place.is_open) (ne_eqb place.node node other)
+        ap (leads_open_to node) (numbered_at number w.connections (Some place) positive found) ∙ ap (λ (b : Bool). b && place.is_open) (ne_eqb place.node node other)
 
 -- it leads to the node, and this is known about its end
 pub gathers_at_one : (node at number : ℕ) (place : ConnectionSlot) (is_open : Bool) (old mid new : WorldState) → slice_get (open_from 1 old.connections) at ≡ Some number
@@ -155,8 +155,8 @@ gathers_at_one node at number place is_open old mid new stands found positive up
     after : new.connections ≡ set mid.connections (number - 1) (record place { is_open = is_open })
     after = ap (λ (w : WorldState). w.connections) is
 
-    asked : is_open_at node (slot_numbered number old.connections) ≡ true
+    asked : leads_open_to node (slot_numbered number old.connections) ≡ true
     asked =
-        ap (is_open_at node) (numbered_at number old.connections (Some place) positive found)
+        ap (leads_open_to node) (numbered_at number old.connections (Some place) positive found)
         ∙ ap (λ (b : Bool). b && place.is_open) (eq-eqb place.node node leads)
         ∙ up

@@ -24,7 +24,7 @@ use Rattle.world_events.specs.declared.event.Event.{Event}
 use Rattle.world_events.specs.declared.event.Event.TheVariants as events
 use Rattle.world_clients.specs.declared.world_client.WorldClient.{WorldClient}
 use Rattle.escaping_nodes.proofs.of_master.Counting.{get_there}
-use Rattle.world.specs.Escaping.{CanEscape, configuration_of, held_in}
+use Rattle.world.specs.Escaping.{CanEscape, configuration_of, log_length_of}
 use Rattle.world_clients.specs.Clients.{is_named}
 use Rattle.world_events.specs.EscapeEvents.{answer_events, client_events, leaving}
 use Rattle.world.specs.Inside.Escaping.{IsFetchedFrom, escaping_events, group_events, sent_then}
@@ -148,7 +148,7 @@ session_no P Q (Ok has) both = both.1
 -- ---- the member whose log is fetched
 
 pub fetched_here : (w : WorldState) (members : List ℕ) (place held : ℕ) → members ≡ w.nodes.master.members → place < length members →
-    position (is_running w.nodes.nodes) w.nodes.master.members ≡ Some place → held ≡ held_in (numbered_node w.nodes.nodes (get_or members place 0)) → held + 2 ≤ max_places →
+    position (is_running w.nodes.nodes) w.nodes.master.members ≡ Some place → held ≡ log_length_of (numbered_node w.nodes.nodes (get_or members place 0)) → held + 2 ≤ max_places →
     IsFetchedFrom w place (get_or members place 0)
 fetched_here w members place held same below first is room =
     record {
@@ -158,14 +158,14 @@ fetched_here w members place held same below first is room =
     }
 
 pub fetched_nowhere : (w : WorldState) (members : List ℕ) (place held : ℕ) → members ≡ w.nodes.master.members → place < length members →
-    position (is_running w.nodes.nodes) w.nodes.master.members ≡ Some place → held ≡ held_in (numbered_node w.nodes.nodes (get_or members place 0)) → max_places < held + 2 →
+    position (is_running w.nodes.nodes) w.nodes.master.members ≡ Some place → held ≡ log_length_of (numbered_node w.nodes.nodes (get_or members place 0)) → max_places < held + 2 →
     (other source : ℕ) → IsFetchedFrom w other source → ⊥
 fetched_nowhere w members place held same below first is full other source f =
     let here : other ≡ place = same_Some other place (sym f.first ∙ first) in
     let there : get_or members place 0 ≡ source =
     same_Some (get_or members place 0) source (sym (get_there members place (get_or members place 0) below (get_or_default members place 0 (get_or members place 0) below))
     ∙ ap (λ (l : List ℕ). slice_get l place) same ∙ ap (slice_get w.nodes.master.members) (sym here) ∙ f.asked) in
-    let room : held + 2 ≤ max_places = subst (λ (k : ℕ). k + 2 ≤ max_places) (sym (is ∙ ap (λ (m : ℕ). held_in (numbered_node w.nodes.nodes m)) there)) f.room in
+    let room : held + 2 ≤ max_places = subst (λ (k : ℕ). k + 2 ≤ max_places) (sym (is ∙ ap (λ (m : ℕ). log_length_of (numbered_node w.nodes.nodes m)) there)) f.room in
     omega (arith, room, full)
 
 -- ---- the list, piece by piece

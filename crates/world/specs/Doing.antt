@@ -12,7 +12,7 @@ use Rattle.world_nodes.specs.Steps.{ComesIn, CutsIn, ExpelsIn, GivesIn}
 use Rattle.world_pipes.specs.Piped.{CarriesDown, Piped}
 use Rattle.world_events.specs.declared.event.Event.{Event}
 use Rattle.world_events.specs.declared.event.Event.TheVariants as events
-use Rattle.world.specs.Found.{Connected, port_of, with_piped}
+use Rattle.world.specs.Found.{Connected, port_at_node, with_piped}
 use Rattle.world_clients.specs.Carrying.{with_less}
 use Rattle.world.specs.Gathering.{Gathers, TakesItem}
 use Rattle.world.specs.World.{WorldState}
@@ -67,7 +67,7 @@ DoesEvent whole (events.Crash node) old new = TakesItem whole node items.Crash o
 DoesEvent whole (events.Open name node) old new = OpensWhere whole name node old new
 DoesEvent whole (events.CarryUp number count) old new =
     (c : Connected number old)
-    × TakesItem whole c.slot.node (items.Bytes (port_of number) (take count c.way.up) 0)
+    × TakesItem whole c.slot.node (items.Bytes (port_at_node number) (take count c.way.up) 0)
     (with_piped c.slot.client c.client (with_less c.slot.at count c.way c.client.piped) old) new
 DoesEvent whole (events.CarryDown number count) old new =
     (c : Connected number old) × (piped : Piped) × CarriesDownWhere whole count c.client.piped piped
@@ -75,7 +75,8 @@ DoesEvent whole (events.CarryDown number count) old new =
 DoesEvent whole (events.Abandon name) old new = ClientDoes name LosesConnection old new
 DoesEvent whole (events.Disconnect name) old new = ClientDoes name (SendsDisconnect whole) old new
 DoesEvent whole (events.Notice number) old new =
-    (c : Connected number old) × TakesItem whole c.slot.node (items.Ended (port_of number)) old new
+    (c : Connected number old) × TakesItem whole c.slot.node
+    (items.Ended (port_at_node number)) old new
 DoesEvent whole (events.Publish name publication) old new =
     ClientDoes name (SendsCall (Call.Publishes publication) whole) old new
 DoesEvent whole (events.Subscribe name filter qos) old new =

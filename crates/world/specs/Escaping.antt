@@ -31,9 +31,9 @@ configuration_of [] = record { members = []; primary = 0 }
 configuration_of (first ∷ others) = record { members = first ∷ others; primary = first }
 
 -- how long the log of a node is: 0 if there is none
-abbrev pub held_in : Option CountedCore → ℕ
-held_in None = 0
-held_in (Some node) = places node.core.replica.state.log
+abbrev pub log_length_of : Option CountedCore → ℕ
+log_length_of None = 0
+log_length_of (Some node) = places node.core.replica.state.log
 
 -- The master gives the next ballot to these members, and each of them runs. The first member of the
 -- active configuration that runs, given by its index, has room for two more commands. The client
@@ -45,7 +45,7 @@ pub record CanEscape (members : List ℕ) (name : Client) (w : WorldState) : Typ
   pub first : position (is_running w.nodes.nodes) w.nodes.master.members ≡ Some index
   pub source : ℕ
   pub asked : slice_get w.nodes.master.members index ≡ Some source
-  pub room : held_in (numbered_node w.nodes.nodes source) + 2 ≤ max_places
+  pub room : log_length_of (numbered_node w.nodes.nodes source) + 2 ≤ max_places
   pub core : Core
   pub client : core_named name w.clients ≡ Some core
   pub session :

@@ -59,8 +59,8 @@ abbrev pub way_of : ℕ → WorldState → Option Way
 way_of number w = way_at (slot_numbered number w.connections) w.clients
 
 -- the port by which its node knows it
-abbrev pub port_of : ℕ → Port
-port_of number = record { 0 = number }
+abbrev pub port_at_node : ℕ → Port
+port_at_node number = record { 0 = number }
 
 -- A connection is found: its state, its client, and what is in transit on it.
 pub record Connected (number : ℕ) (w : WorldState) : Type 0 where

@@ -9,7 +9,7 @@ use Rattle.world_nodes.specs.Running.{numbered_node}
 use Rattle.world_nodes.specs.Nodes.{NodesState}
 use Rattle.world_nodes.specs.Steps.{TakesIn, nodes_with_loss}
 use Rattle.world_clients.specs.declared.connection_slot.ConnectionSlot.{ConnectionSlot}
-use Rattle.world.specs.Found.{Connected, slot_numbered, port_of, with_piped}
+use Rattle.world.specs.Found.{Connected, slot_numbered, port_at_node, with_piped}
 use Rattle.world_clients.specs.Handing.{with_down}
 use Rattle.world.specs.World.{WorldState}
 use Rattle.world_clients.specs.Handing.{bytes_put_out, is_told_open, HandsOverBytes}
@@ -23,19 +23,20 @@ pub record IsGathered (number : ℕ) (old new : WorldState) : Type 0 where
   pub node : Option CountedCore
   pub is_node : node ≡ numbered_node old.nodes.nodes c.slot.node
   pub between : NodesState
-  pub gives : HandsOverBytes node c.slot.node (port_of number) old.nodes between
+  pub gives : HandsOverBytes node c.slot.node (port_at_node number) old.nodes between
   pub is : new ≡ record (with_piped c.slot.client c.client
-      (with_down c.slot.at c.way (c.way.down ++ bytes_put_out (port_of number) node) c.client.piped)
+      (with_down c.slot.at c.way (c.way.down
+      ++ bytes_put_out (port_at_node number) node) c.client.piped)
       old) {
         nodes = between;
         connections = set old.connections (number - 1)
-            (record c.slot { is_open = is_told_open (port_of number) node });
+            (record c.slot { is_open = is_told_open (port_at_node number) node });
       }
 
 -- whether a connection leads to this node, and its end there is open
-abbrev pub is_open_at : ℕ → Option ConnectionSlot → Bool
-is_open_at node None = false
-is_open_at node (Some slot) = (slot.node == node) && slot.is_open
+abbrev pub leads_open_to : ℕ → Option ConnectionSlot → Bool
+leads_open_to node None = false
+leads_open_to node (Some slot) = (slot.node == node) && slot.is_open
 
 -- what a connection's node queued for it is gathered; if losses are allowed, the node may run out
 -- of memory instead: nothing goes down, its end stays as it was, and that is counted
@@ -57,7 +58,7 @@ abbrev pub GathersAmong : Bool → ℕ → ℕ → WorldState → WorldState →
 GathersAmong whole zero node old new = new ≡ old
 GathersAmong whole (suc before) node old new =
     (between : WorldState)
-    × GatheredWhere whole (is_open_at node (slot_numbered (suc before) old.connections))
+    × GatheredWhere whole (leads_open_to node (slot_numbered (suc before) old.connections))
     (suc before) old between
     × GathersAmong whole before node between new
 

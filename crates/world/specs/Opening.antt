@@ -8,19 +8,20 @@ use Rattle.world_base.specs.declared.item.Item.TheVariants as items
 use Rattle.world_nodes.specs.Running.{numbered_node}
 use Rattle.world_nodes.specs.Nodes.{NodesState}
 use Rattle.world_pipes.specs.Piped.{SendsConnect, Piped}
-use Rattle.world.specs.Found.{Named, port_of, with_piped}
+use Rattle.world.specs.Found.{Named, port_at_node, with_piped}
 use Rattle.world.specs.Gathering.{TakesItem}
 use Rattle.world.specs.World.{WorldState}
 use Rattle.world_clients.specs.Opening.{NoneOpens}
 
 -- the number of the next connection
-abbrev pub next_number : WorldState → ℕ
-next_number w = suc (length w.connections)
+abbrev pub next_connection_number : WorldState → ℕ
+next_connection_number w = suc (length w.connections)
 
 -- a client has a new connection to a node: its CONNECT is in transit on it, under this number
 abbrev pub ConnectsTo : ℕ → ℕ → Piped → Piped → Type 0
 ConnectsTo node number old new =
-    SendsConnect (node - 1) (port_of number) (keeper_step Call.Opens old.core.state) old (Ok tt) new
+    SendsConnect (node - 1) (port_at_node number) (keeper_step Call.Opens old.core.state) old
+    (Ok tt) new
 
 -- the world with that client, and a slot for its new connection, whose end is open
 abbrev pub with_connection : {name : List ℕ} {w : WorldState} → Named name w → Piped → ℕ →
@@ -39,15 +40,17 @@ with_connection {w = w} c piped node =
 -- the client's node takes the connection, and what the node queued then goes down
 abbrev pub OpensOne : Bool → List ℕ → ℕ → WorldState → WorldState → Type 0
 OpensOne whole name node old new =
-    (c : Named name old) × (piped : Piped) × ConnectsTo node (next_number old) c.client.piped piped
-    × TakesItem whole node (items.Opened (port_of (next_number old)) 0)
+    (c : Named name old) × (piped : Piped)
+    × ConnectsTo node (next_connection_number old) c.client.piped piped
+    × TakesItem whole node (items.Opened (port_at_node (next_connection_number old)) 0)
     (with_connection c piped node) new
 
 -- a client of a world opens no connection: no slot is added
 abbrev pub OpensNone : List ℕ → ℕ → WorldState → WorldState → Type 0
 OpensNone name node old new =
     (c : Named name old) × (piped : Piped) × (between : NodesState)
-    × NoneOpens node (port_of (next_number old)) old.nodes c.client.piped between piped
+    × NoneOpens node (port_at_node (next_connection_number old)) old.nodes c.client.piped between
+    piped
     × (new ≡ record (with_piped c.at c.client piped old) { nodes = between })
 
 -- Whether the names of the node's ballot are used up. Then the connection is closed at once,

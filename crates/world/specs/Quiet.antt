@@ -11,7 +11,7 @@ use Rattle.world_events.specs.declared.event.Event.{Event}
 use Rattle.world_events.specs.declared.event.Event.TheVariants as events
 use Rattle.world_clients.specs.declared.connection_slot.ConnectionSlot.{ConnectionSlot}
 use Rattle.world.specs.Opening.{has_no_name_left}
-use Rattle.world.specs.Found.{slot_numbered, port_of}
+use Rattle.world.specs.Found.{slot_numbered, port_at_node}
 use Rattle.world.specs.World.{WorldState}
 use Rattle.world_clients.specs.Handing.{HasNothingToHandOver}
 
@@ -28,7 +28,7 @@ ComesQuietly (Some (suc at, message)) n = IsQuietAt (suc at) (items.Peer message
 -- the end of a connection takes no memory at its node
 abbrev pub EndsQuietly : ℕ → Option ConnectionSlot → NodesState → Type 0
 EndsQuietly number None n = ⊥
-EndsQuietly number (Some slot) n = IsQuietAt slot.node (items.Ended (port_of number)) n
+EndsQuietly number (Some slot) n = IsQuietAt slot.node (items.Ended (port_at_node number)) n
 
 -- An event takes no memory if a client only loses its connection, if an Open finds no name left, if
 -- a message reaches the master that it ignores, and in one case more. In it a message, a tick, the

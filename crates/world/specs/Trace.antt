@@ -52,7 +52,7 @@ StaysReached old new =
     (nodes : ℕ) (config : Config) → AreReached nodes config old → AreReached nodes config new
 
 -- the list on which nodes agreed before is a prefix of the list on which they agree then
-abbrev pub AgreedGrows : NodesState → NodesState → Type 0
-AgreedGrows old new =
+abbrev pub AgreedListGrows : NodesState → NodesState → Type 0
+AgreedListGrows old new =
     (nodes : ℕ) (config : Config) (before : AreReached nodes config old) →
     (after : AreReached nodes config new) × IsPrefixOf before.list after.list

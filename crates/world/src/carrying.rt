@@ -4,7 +4,7 @@ ghost use Rattle.std.specs.Prelude.{◌≡◌, ◌<◌, ◌-◌, true, Some, sli
 ghost use Rattle.world.specs.Trace.{CountsOnce};
 ghost use Rattle.world.specs.Inside.Carrying.{CannotCarryUpOn, CarriesUpOnWhere};
 ghost use Rattle.world.specs.Inside.Steps.{IsTrace, Meets};
-ghost use Rattle.world.specs.Inside.Calling.{with_loss};
+ghost use Rattle.world.specs.Inside.Calling.{with_one_loss};
 
 use crate::world::World;
 use world_base::Port;
@@ -89,7 +89,7 @@ impl World {
 
     // Counts a loss unless there was memory.
     fn count_unless(&mut self, had_memory: bool)
-        ensures { self.new ≡ (if had_memory then self.old else with_loss self.old) }
+        ensures { self.new ≡ (if had_memory then self.old else with_one_loss self.old) }
     {
         if !had_memory {
             self.count_loss();

@@ -10,7 +10,7 @@ ghost use Rattle.world_events.specs.EscapeEvents.{connect_bytes};
 ghost use Rattle.world_pipes.specs.Piped.{is_holding};
 ghost use Rattle.world_clients.specs.declared.world_client.WorldClient.{WorldClient};
 ghost use Rattle.world_nodes.specs.Running.{is_running, numbered_node};
-ghost use Rattle.world.specs.Escaping.{CanEscape, LeadsClientOut, configuration_of, held_in};
+ghost use Rattle.world.specs.Escaping.{CanEscape, LeadsClientOut, configuration_of, log_length_of};
 ghost use Rattle.world.specs.Inside.Escaping.{IsFetchedFrom, escaping_events};
 
 use crate::world::World;
@@ -112,7 +112,7 @@ impl World {
 
     // Returns how many places the log of a node has; 0 if the node does not exist.
     fn held(&self, node: u8) -> u64
-        ensures { result ≡ held_in (numbered_node self.now.nodes.nodes node) }
+        ensures { result ≡ log_length_of (numbered_node self.now.nodes.nodes node) }
     {
         match self.nodes.node(node) {
             Some(core) => core.status().held,

@@ -2,7 +2,7 @@
 
 ghost use Rattle.std.specs.Prelude.{◌≡◌, ◌<◌, ◌-◌, true, Some, slice_get};
 ghost use Rattle.world.specs.Doing.{receiver_of};
-ghost use Rattle.world.specs.Found.{port_of};
+ghost use Rattle.world.specs.Found.{port_at_node};
 ghost use Rattle.world.specs.Inside.Steps.{IsTrace, Meets};
 ghost use Rattle.world.specs.Quiet.{IsQuietAt, EventTakesNoMemory};
 
@@ -124,7 +124,7 @@ impl World {
         ensures goes { IsTrace self.old self.new }
         ensures meets { Meets (Event.Notice number) self.old result self.new }
         ensures still { self.new.losses ≡ self.old.losses }
-        ensures quiet { IsQuietAt slot.node (Item.Ended (port_of number)) self.old.nodes →
+        ensures quiet { IsQuietAt slot.node (Item.Ended (port_at_node number)) self.old.nodes →
             self.new.nodes.losses ≡ self.old.nodes.losses }
     {
         self.nodes.ended(slot.node, Port(number))?;

@@ -5,7 +5,7 @@ ghost use Rattle.session_base.specs.declared.publication.Publication.{Publicatio
 ghost use Rattle.headline.specs.agreement.World.{can_open};
 ghost use Rattle.headline.specs.ballot_base.Losses.{greatest_count, one_more};
 ghost use Rattle.headline.specs.packet_world.World.{ClientsAreApart};
-ghost use Rattle.world.specs.Trace.{AgreedGrows, AreReached, CountsOnce, StaysReached, KeepsGroup};
+ghost use Rattle.world.specs.Trace.{AgreedListGrows, AreReached, CountsOnce, StaysReached, KeepsGroup};
 ghost use Rattle.world.specs.Asking.{EventAsks, RunAsks};
 ghost use Rattle.world.specs.Happening.{EventHappens, EventsHappen, WorldOpens};
 ghost use Rattle.world.specs.Cannot.{CannotHappen};
@@ -118,7 +118,7 @@ impl World {
         ensures reached { StaysReached self.old.nodes self.new.nodes }
 
         // What was agreed is a prefix of what is agreed after the event.
-        ensures grown { AgreedGrows self.old.nodes self.new.nodes }
+        ensures grown { AgreedListGrows self.old.nodes self.new.nodes }
 
         // What the event asks is done, or it cannot happen. Or a loss is counted, for an event that
         // can happen and takes memory: then nothing is done, or what the event asks, with losses,
@@ -154,7 +154,7 @@ impl World {
         ensures reached { StaysReached self.old.nodes self.new.nodes }
 
         // What was agreed is a prefix of what is agreed after them.
-        ensures grown { AgreedGrows self.old.nodes self.new.nodes }
+        ensures grown { AgreedListGrows self.old.nodes self.new.nodes }
 
         // Each event has happened, or could not.
         ensures runs { EventsHappen events.now self.old self.new }

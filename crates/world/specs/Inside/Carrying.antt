@@ -4,7 +4,7 @@ use Rattle.world_nodes.specs.Nodes.{NodesState}
 use Rattle.world_pipes.specs.Piped.{Piped}
 use Rattle.world_clients.specs.declared.connection_slot.ConnectionSlot.{ConnectionSlot}
 use Rattle.world_clients.specs.declared.world_client.WorldClient.{WorldClient}
-use Rattle.world.specs.Found.{port_of, with_piped}
+use Rattle.world.specs.Found.{port_at_node, with_piped}
 use Rattle.world.specs.World.{WorldState}
 use Rattle.world_clients.specs.Carrying.{CarriesUp, CanCarryUp, CannotCarryUp}
 
@@ -17,7 +17,7 @@ pub record CarriesUpOn (number : ℕ) (slot : ConnectionSlot) (count : ℕ)
   pub owned : slice_get old.clients slot.client ≡ Some client
   pub between : NodesState
   pub piped : Piped
-  pub carries : CarriesUp slot (port_of number) count old.nodes client.piped between piped
+  pub carries : CarriesUp slot (port_at_node number) count old.nodes client.piped between piped
   pub is : new ≡ record (with_piped slot.client client piped old) { nodes = between }
 
 -- if there is no memory for them, nothing happens

@@ -5,10 +5,10 @@ use Rattle.world_nodes.specs.Nodes.{NodesState}
 use Rattle.world_nodes.specs.Steps.{NodesLoseNothing}
 use Rattle.world_pipes.specs.Piped.{Piped}
 use Rattle.world_clients.specs.declared.world_client.WorldClient.{WorldClient}
-use Rattle.world.specs.Found.{port_of, with_piped}
+use Rattle.world.specs.Found.{port_at_node, with_piped}
 use Rattle.world.specs.Gathering.{Gathers}
 use Rattle.world_clients.specs.Opening.{NoneOpens}
-use Rattle.world.specs.Opening.{next_number}
+use Rattle.world.specs.Opening.{next_connection_number}
 use Rattle.world.specs.World.{WorldState}
 use Rattle.world_clients.specs.Opening.{HasNew}
 
@@ -19,7 +19,8 @@ pub record ConnectsAt (i node : ℕ) (old new : WorldState) : Type 0 where
   pub found : slice_get old.clients i ≡ Some client
   pub between : NodesState
   pub piped : Piped
-  pub reaches : HasNew node (port_of (next_number old)) old.nodes client.piped between piped
+  pub reaches : HasNew node (port_at_node (next_connection_number old)) old.nodes client.piped
+      between piped
   pub is : new ≡ record (with_piped i client piped old) {
     nodes = between;
     connections = old.connections
@@ -39,7 +40,8 @@ pub record OpensNoneAt (i node : ℕ) (old new : WorldState) : Type 0 where
   pub found : slice_get old.clients i ≡ Some client
   pub between : NodesState
   pub piped : Piped
-  pub none : NoneOpens node (port_of (next_number old)) old.nodes client.piped between piped
+  pub none : NoneOpens node (port_at_node (next_connection_number old)) old.nodes client.piped
+      between piped
   pub is : new ≡ record (with_piped i client piped old) { nodes = between }
 
 -- nothing happened at all, or the client has no connection

@@ -7,7 +7,7 @@ use Rattle.world_nodes.specs.Running.{is_running, numbered_node}
 use Rattle.world_events.specs.declared.event.Event.{Event}
 use Rattle.world_events.specs.declared.event.Event.TheVariants as events
 use Rattle.world_events.specs.EscapeEvents.{answer_events, client_events}
-use Rattle.world.specs.Escaping.{configuration_of, held_in}
+use Rattle.world.specs.Escaping.{configuration_of, log_length_of}
 use Rattle.world.specs.World.{WorldState}
 
 -- ---- the member of the active configuration whose log is fetched
@@ -16,7 +16,7 @@ use Rattle.world.specs.World.{WorldState}
 pub record IsFetchedFrom (w : WorldState) (index source : ℕ) : Type 0 where
   pub first : position (is_running w.nodes.nodes) w.nodes.master.members ≡ Some index
   pub asked : slice_get w.nodes.master.members index ≡ Some source
-  pub room : held_in (numbered_node w.nodes.nodes source) + 2 ≤ max_places
+  pub room : log_length_of (numbered_node w.nodes.nodes source) + 2 ≤ max_places
 
 -- ---- the events
 

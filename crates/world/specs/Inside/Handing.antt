@@ -7,9 +7,9 @@ use Rattle.world_nodes.specs.Steps.{nodes_with_loss}
 use Rattle.world_pipes.specs.declared.way.Way.{Way}
 use Rattle.world_clients.specs.declared.connection_slot.ConnectionSlot.{ConnectionSlot}
 use Rattle.world_clients.specs.declared.world_client.WorldClient.{WorldClient}
-use Rattle.world.specs.Found.{slot_numbered, port_of, with_piped}
+use Rattle.world.specs.Found.{slot_numbered, port_at_node, with_piped}
 use Rattle.world_clients.specs.Handing.{with_down, HandsOverBytes, is_told_open, bytes_put_out}
-use Rattle.world.specs.Gathering.{GatheredWhere, is_open_at}
+use Rattle.world.specs.Gathering.{GatheredWhere, leads_open_to}
 use Rattle.world_clients.specs.SlotsAreValid.{open_from}
 use Rattle.world.specs.World.{WorldState}
 
@@ -23,11 +23,11 @@ pub record GathersOn (number : ℕ) (slot : ConnectionSlot) (old : WorldState) (
   pub stands : slice_get client.piped.ways slot.at ≡ Some way
   pub between : NodesState
   pub gives : HandsOverBytes (numbered_node old.nodes.nodes slot.node) slot.node
-      (port_of number) old.nodes between
-  pub told : is_open ≡ is_told_open (port_of number) (numbered_node old.nodes.nodes slot.node)
+      (port_at_node number) old.nodes between
+  pub told : is_open ≡ is_told_open (port_at_node number) (numbered_node old.nodes.nodes slot.node)
   pub is : new ≡ record (with_piped slot.client client
       (with_down slot.at way
-      (way.down ++ bytes_put_out (port_of number) (numbered_node old.nodes.nodes slot.node))
+      (way.down ++ bytes_put_out (port_at_node number) (numbered_node old.nodes.nodes slot.node))
       client.piped)
       old)
       { nodes = between }
@@ -52,6 +52,6 @@ pub record GathersAt (node at : ℕ) (old new : WorldState) : Type 0 where
   pub number : ℕ
   pub stands : slice_get (open_from 1 old.connections) at ≡ Some number
   pub gathers : GatheredWhere false
-      (is_open_at node (slot_numbered number old.connections)) number old new
+      (leads_open_to node (slot_numbered number old.connections)) number old new
   pub others : take (number - 1) new.connections ≡ take (number - 1) old.connections
   pub many : length new.connections ≡ length old.connections

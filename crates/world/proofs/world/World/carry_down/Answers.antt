@@ -1,6 +1,6 @@
 use Rattle.std.proofs.Common.{◌≤◌, refl, arith}
 use Rattle.escaping_nodes.proofs.of_master.Counting.{get_there}
-use Rattle.world.specs.Inside.Calling.{with_loss}
+use Rattle.world.specs.Inside.Calling.{with_one_loss}
 use Rattle.world.specs.World.{WorldState}
 use Rattle.world.proofs.CallsCounted.{carrying_counted}
 use Rattle.world.proofs.ClientGoes.{client_goes_on, housed_still, same_piped}
@@ -78,7 +78,7 @@ returns-in-Ok-clause-goes c =
       connections = c.self.inside.connections.items;
       losses = c.self.inside.losses;
     } in old) in
-    let rises : old.losses ≤ (with_loss old).losses = omega arith in
+    let rises : old.losses ≤ (with_one_loss old).losses = omega arith in
     rw (← c.self.view_is)
     (carrying_counted old c.in-Some.slot.client c.index_mut.result.now c.carry_down_on.new.piped c.in-Ok.had c.count_unless.new.self found c.carry_down_on.ensures.goes rises
     c.count_unless.ensures)

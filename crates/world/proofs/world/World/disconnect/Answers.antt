@@ -6,7 +6,7 @@ use Rattle.world_clients.specs.declared.world_client.WorldClient.{WorldClient}
 use Rattle.escaping_nodes.proofs.of_master.Counting.{get_there}
 use Rattle.world.specs.Cannot.{HoldsNone}
 use Rattle.world.specs.ClientCalls.{SendsDisconnect, LosesLeaving}
-use Rattle.world.specs.Inside.Calling.{with_loss}
+use Rattle.world.specs.Inside.Calling.{with_one_loss}
 use Rattle.world.specs.World.{WorldState}
 use Rattle.world.proofs.CallsCounted.{call_counted}
 use Rattle.world.proofs.CallsMet.{client_meets, disconnect_meets, leave_outcome}
@@ -36,7 +36,7 @@ returns-clause-goes c =
       connections = c.self.inside.connections.items;
       losses = c.self.inside.losses;
     } in
-    let rises : old.losses ≤ (with_loss old).losses = omega arith in
+    let rises : old.losses ≤ (with_one_loss old).losses = omega arith in
     rw (← c.self.view_is)
     (call_counted old c.in-Some.at c.index_mut.result.now c.leave-done.new.piped c.leave-done.result c.called.result c.called.new.self found
     c.leave-done.ensures.goes rises c.called.ensures).goes

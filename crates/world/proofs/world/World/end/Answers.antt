@@ -1,7 +1,7 @@
 use Rattle.std.proofs.Common.{false, inl, refl}
 use Rattle.std.proofs.lemmas.Bool.{both_ways}
 use Rattle.world_base.specs.declared.item.Item.TheVariants.{Ended}
-use Rattle.world.specs.Found.{port_of}
+use Rattle.world.specs.Found.{port_at_node}
 use Rattle.world.specs.World.{WorldState}
 use Rattle.world.proofs.ItemsMet.{not_closed, noticed}
 use Rattle.world.proofs.StandsThere.{connected}
@@ -46,5 +46,5 @@ returns-clause-meets c =
 
 pub returns-clause-quiet : goal.returns-clause-quiet
 returns-clause-quiet c =
-    rw (← c.self.view_is) (λ quiet. item_quiet c.args.slot.node (Ended (port_of c.args.number)) c.self.inside.nodes c.ended.new.self c.gather.new.self.nodes quiet
+    rw (← c.self.view_is) (λ quiet. item_quiet c.args.slot.node (Ended (port_at_node c.args.number)) c.self.inside.nodes c.ended.new.self c.gather.new.self.nodes quiet
     c.in_ok-ended.ensures.quiet c.gather.ensures.quiet)

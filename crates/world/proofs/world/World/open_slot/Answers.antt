@@ -1,6 +1,6 @@
 use Rattle.std.proofs.Common.{◌≡◌, inl, inr, ◌<◌, ◌-◌, ℕ, List, [], ◌∷◌, ◌++◌, Bool, true, false, suc, length, refl, sym, ap, ◌∙◌, subst, arith}
 use Rattle.escaping_nodes.proofs.of_master.Counting.{get_there}
-use Rattle.world.specs.Found.{port_of}
+use Rattle.world.specs.Found.{port_at_node}
 use Rattle.world_clients.specs.SlotsAreValid.{open_from}
 use Rattle.world_clients.specs.Opening.{HearsOfOne, Reaches}
 use Rattle.world_clients.specs.declared.connection_slot.ConnectionSlot.{ConnectionSlot}
@@ -67,7 +67,7 @@ returns-then-not-open_pipe-clause-goes c =
     let few : c.args.client < length c.self.inside.clients.items = rw (← c.self.view_is) at c.requires.some in
     let found = get_there c.self.inside.clients.items c.args.client c.index_mut.result.now few c.index_mut.ensures.value in
     let counted : c.saturating_add-number.result ≡ suc (length c.self.inside.connections.items) = omega arith in
-    let none = subst (λ (b : Bool). Reaches b c.args.node (port_of c.saturating_add-number.result) c.self.inside.nodes c.index_mut.result.now.piped c.open_pipe.new.nodes c.open_pipe.new.piped)
+    let none = subst (λ (b : Bool). Reaches b c.args.node (port_at_node c.saturating_add-number.result) c.self.inside.nodes c.index_mut.result.now.piped c.open_pipe.new.nodes c.open_pipe.new.piped)
     c.if-not-open_pipe.true c.open_pipe.ensures.reaches in
     rw (← c.self.view_is, c.reserve.ensures.items)
     (refused_on (let old : WorldState = record {
@@ -76,14 +76,14 @@ returns-then-not-open_pipe-clause-goes c =
       connections = c.self.inside.connections.items;
       losses = c.self.inside.losses;
     } in old) c.args.client c.args.node c.index_mut.result.now c.open_pipe.new.nodes c.open_pipe.new.piped c.self.invariant.0 found c.open_pipe.ensures.nodes none.0
-    (subst (λ (k : ℕ). HearsOfOne false c.args.node (port_of k) c.self.inside.nodes c.open_pipe.new.nodes) counted none.1))
+    (subst (λ (k : ℕ). HearsOfOne false c.args.node (port_at_node k) c.self.inside.nodes c.open_pipe.new.nodes) counted none.1))
 
 pub invariant_of-self-2 : goal.invariant_of-self-2
 invariant_of-self-2 c =
     let few : c.args.client < length c.self.inside.clients.items = rw (← c.self.view_is) at c.requires.some in
     let found = get_there c.self.inside.clients.items c.args.client c.index_mut.result.now few c.index_mut.ensures.value in
     let counted : c.saturating_add-number.result ≡ suc (length c.self.inside.connections.items) = omega arith in
-    let one = subst (λ (b : Bool). Reaches b c.args.node (port_of c.saturating_add-number.result) c.self.inside.nodes c.index_mut.result.now.piped c.open_pipe.new.nodes c.open_pipe.new.piped)
+    let one = subst (λ (b : Bool). Reaches b c.args.node (port_at_node c.saturating_add-number.result) c.self.inside.nodes c.index_mut.result.now.piped c.open_pipe.new.nodes c.open_pipe.new.piped)
     c.if-not-open_pipe.false c.open_pipe.ensures.reaches in
     let place : ConnectionSlot = record { client = c.args.client; at = c.len-at.result; node = c.args.node; is_open = true } in (
       rw (c.push_reserved.ensures.items, c.reserve.ensures.items)
@@ -101,7 +101,7 @@ returns-clause-connects c =
     let few : c.args.client < length c.self.inside.clients.items = rw (← c.self.view_is) at c.requires.some in
     let found = get_there c.self.inside.clients.items c.args.client c.index_mut.result.now few c.index_mut.ensures.value in
     let counted : c.saturating_add-number.result ≡ suc (length c.self.inside.connections.items) = omega arith in
-    let one = subst (λ (b : Bool). Reaches b c.args.node (port_of c.saturating_add-number.result) c.self.inside.nodes c.index_mut.result.now.piped c.open_pipe.new.nodes c.open_pipe.new.piped)
+    let one = subst (λ (b : Bool). Reaches b c.args.node (port_at_node c.saturating_add-number.result) c.self.inside.nodes c.index_mut.result.now.piped c.open_pipe.new.nodes c.open_pipe.new.piped)
     c.if-not-open_pipe.false c.open_pipe.ensures.reaches in
     let old : WorldState = record {
       nodes = c.self.inside.nodes;
@@ -119,7 +119,7 @@ returns-clause-goes c =
     let few : c.args.client < length c.self.inside.clients.items = rw (← c.self.view_is) at c.requires.some in
     let found = get_there c.self.inside.clients.items c.args.client c.index_mut.result.now few c.index_mut.ensures.value in
     let counted : c.saturating_add-number.result ≡ suc (length c.self.inside.connections.items) = omega arith in
-    let one = subst (λ (b : Bool). Reaches b c.args.node (port_of c.saturating_add-number.result) c.self.inside.nodes c.index_mut.result.now.piped c.open_pipe.new.nodes c.open_pipe.new.piped)
+    let one = subst (λ (b : Bool). Reaches b c.args.node (port_at_node c.saturating_add-number.result) c.self.inside.nodes c.index_mut.result.now.piped c.open_pipe.new.nodes c.open_pipe.new.piped)
     c.if-not-open_pipe.false c.open_pipe.ensures.reaches in
     let old : WorldState = record {
       nodes = c.self.inside.nodes;
@@ -143,7 +143,7 @@ returns-then-not-open_pipe-clause-none c =
     let few : c.args.client < length c.self.inside.clients.items = rw (← c.self.view_is) at c.requires.some in
     let found = get_there c.self.inside.clients.items c.args.client c.index_mut.result.now few c.index_mut.ensures.value in
     let counted : c.saturating_add-number.result ≡ suc (length c.self.inside.connections.items) = omega arith in
-    let none = subst (λ (b : Bool). Reaches b c.args.node (port_of c.saturating_add-number.result) c.self.inside.nodes c.index_mut.result.now.piped c.open_pipe.new.nodes c.open_pipe.new.piped)
+    let none = subst (λ (b : Bool). Reaches b c.args.node (port_at_node c.saturating_add-number.result) c.self.inside.nodes c.index_mut.result.now.piped c.open_pipe.new.nodes c.open_pipe.new.piped)
     c.if-not-open_pipe.true c.open_pipe.ensures.reaches in
     rw (← c.self.view_is, c.reserve.ensures.items)
     (λ no. inr (opens_none c.args.node (let old : WorldState = record {

@@ -8,7 +8,7 @@ use Rattle.escaping_nodes.proofs.of_master.Counting.{get_there}
 use Rattle.escaping_client.specs.client_base.Steps.{Call}
 use Rattle.world.specs.ClientCalls.{SendsCall, LosesAsking}
 use Rattle.world.specs.Cannot.{RefusesCall}
-use Rattle.world.specs.Inside.Calling.{with_loss}
+use Rattle.world.specs.Inside.Calling.{with_one_loss}
 use Rattle.world.specs.World.{WorldState}
 use Rattle.world.proofs.AskedSo.{publish_asked}
 use Rattle.world.proofs.CallsMet.{asked_before, call_outcome, client_meets, publish_meets, refuses_publication, takes_publication}
@@ -39,7 +39,7 @@ returns-clause-asked c =
       connections = c.self.inside.connections.items;
       losses = c.self.inside.losses;
     } in
-    let rises : old.losses ≤ (with_loss old).losses = omega arith in
+    let rises : old.losses ≤ (with_one_loss old).losses = omega arith in
     rw (← c.self.view_is)
     (publish_asked c.args.client.now c.args.publication.now old c.in-Some.at c.index_mut.result.now c.publish_copy-done.new.piped c.called.new.self (sym first) found
     c.publish_copy-done.result c.called.result c.publish_copy-done.ensures.calls c.publish_copy-done.ensures.goes rises c.called.ensures)

@@ -8,7 +8,7 @@ use Rattle.escaping_nodes.proofs.of_master.Counting.{get_there}
 use Rattle.escaping_client.specs.client_base.Steps.{Call}
 use Rattle.world.specs.ClientCalls.{SendsCall, LosesAsking}
 use Rattle.world.specs.Cannot.{RefusesCall}
-use Rattle.world.specs.Inside.Calling.{with_loss}
+use Rattle.world.specs.Inside.Calling.{with_one_loss}
 use Rattle.world.specs.World.{WorldState}
 use Rattle.world.proofs.CallsCounted.{call_counted}
 use Rattle.world.proofs.CallsMet.{asked_before, call_outcome, client_meets, subscribe_meets, refuses_filter, takes_filter}
@@ -38,7 +38,7 @@ returns-clause-goes c =
       connections = c.self.inside.connections.items;
       losses = c.self.inside.losses;
     } in
-    let rises : old.losses ≤ (with_loss old).losses = omega arith in
+    let rises : old.losses ≤ (with_one_loss old).losses = omega arith in
     rw (← c.self.view_is)
     (call_counted old c.in-Some.at c.index_mut.result.now c.subscribe_copy-done.new.piped c.subscribe_copy-done.result c.called.result c.called.new.self found
     c.subscribe_copy-done.ensures.goes rises c.called.ensures).goes

@@ -9,7 +9,7 @@ use Rattle.escaping_nodes.proofs.of_master.Counting.{get_there}
 use Rattle.escaping_client.specs.client_base.Steps.{Call}
 use Rattle.world.specs.ClientCalls.{SendsCall, LosesAsking}
 use Rattle.world.specs.Cannot.{RefusesCall}
-use Rattle.world.specs.Inside.Calling.{with_loss}
+use Rattle.world.specs.Inside.Calling.{with_one_loss}
 use Rattle.world.specs.World.{WorldState}
 use Rattle.world.proofs.CallsCounted.{call_counted}
 use Rattle.world.proofs.CallsMet.{asked_before, call_outcome, client_meets, unsubscribe_meets, refuses_filter, takes_filter}
@@ -39,7 +39,7 @@ returns-clause-goes c =
       connections = c.self.inside.connections.items;
       losses = c.self.inside.losses;
     } in
-    let rises : old.losses ≤ (with_loss old).losses = omega arith in
+    let rises : old.losses ≤ (with_one_loss old).losses = omega arith in
     rw (← c.self.view_is)
     (call_counted old c.in-Some.at c.index_mut.result.now c.unsubscribe_copy-done.new.piped c.unsubscribe_copy-done.result c.called.result c.called.new.self found
     c.unsubscribe_copy-done.ensures.goes rises c.called.ensures).goes
