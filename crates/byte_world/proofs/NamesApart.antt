@@ -27,9 +27,9 @@ use Rattle.node_group.proofs.of_node_moves.LossyClosed.{lossy_names_are_of_the_b
 use Rattle.node_group.proofs.of_node_moves.LossyReads.{losses_read_in_order}
 use Rattle.node_group.proofs.of_node_moves.Views.{some_none}
 use Rattle.byte_world.specs.Apart.{HasName, NamesStayApart}
-use Rattle.node_group.specs.Group.{Group, after_outcome, moment_of, opening_cores, with_record}
+use Rattle.node_group.specs.Group.{Group, group_after_outcome, moment_of_nodes, opening_cores, with_record}
 use Rattle.node_group.specs.Putting.{recorded_in as recorded_exactly}
-use Rattle.node_group.specs.Steps.{GroupStep, GroupTrace, groups_of, keeping, put_in_step}
+use Rattle.node_group.specs.Steps.{GroupStep, GroupTrace, groups_on_trace, with_messages, put_in_step}
 use Rattle.node_group.specs.Losing.{WereSent, all_given, put_in_move, put_in_run, recorded_by, recorded_in}
 use Rattle.node_group.specs.Steps.GroupStep.{node_acts, node_loses, master_assigns as assigns, master_hears as hears_master, assigns_unheard, answers_unheard}
 use Rattle.node_group.specs.Steps.GroupTrace.{opened, then_went}
@@ -54,41 +54,41 @@ led_later : {moments more : List (Moment State Command Output)} {n ballot : ℕ}
     → Led more n ballot
 led_later kept led = record { moment = led.moment; among = kept led.moment led.among; primary = led.primary }
 
-record LedOn {config : Config} (g : Group) {earlier : List (Moment State Command Output)} (came : Moments rules config (moment_of g ∷ earlier)) (h : Group) (put : List (ℕ × Command)) : Type 0 where
-  further : Further came (moment_of h) put
-  led : AreLed g (moment_of g ∷ earlier) → AreLed h (moment_of h ∷ further.before)
+record LedOn {config : Config} (g : Group) {earlier : List (Moment State Command Output)} (came : Moments rules config (moment_of_nodes g ∷ earlier)) (h : Group) (put : List (ℕ × Command)) : Type 0 where
+  further : Further came (moment_of_nodes h) put
+  led : AreLed g (moment_of_nodes g ∷ earlier) → AreLed h (moment_of_nodes h ∷ further.before)
 
 move_led : {config : Config} (g : Group) (n : ℕ) (core : CoreState) (outcome : StepOutcome) (m : LossyMoves core outcome) (kept : Given) → slice_get g.nodes n ≡ Some core → WereSent g n (inputs_in m)
-    → Freezes m → Thinned kept outcome.messages → IsOrderly core → {earlier : List (Moment State Command Output)} (came : Moments rules config (moment_of g ∷ earlier))
-    → LedOn g came (after_outcome (with_record g (recorded_by g.archive m)) n (keeping kept outcome) (given_in m)) (put_in_move m)
+    → Freezes m → Thinned kept outcome.messages → IsOrderly core → {earlier : List (Moment State Command Output)} (came : Moments rules config (moment_of_nodes g ∷ earlier))
+    → LedOn g came (group_after_outcome (with_record g (recorded_by g.archive m)) n (with_messages kept outcome) (given_in m)) (put_in_move m)
 move_led {config = config} g n core outcome m kept at sent frozen t o {earlier = earlier} came =
     let f = (losses_happen g n core outcome m kept at sent frozen t config earlier came).further in
     record { further = f; led = λ before x k has. led_later f.kept (on before x k has (set_back g.nodes n k outcome.core has.core has.stands)) }
   where
-    here_now : AreLed g (moment_of g ∷ earlier) → (x : ConnectionName) (d : Connection) → listed_named x outcome.core ≡ Some d → (before : Option Connection) → listed_named x core ≡ before
-        → Led (moment_of g ∷ earlier) n x.ballot
+    here_now : AreLed g (moment_of_nodes g ∷ earlier) → (x : ConnectionName) (d : Connection) → listed_named x outcome.core ≡ Some d → (before : Option Connection) → listed_named x core ≡ before
+        → Led (moment_of_nodes g ∷ earlier) n x.ballot
     here_now before x d now None none = leads_now g n core x earlier at (lossy_names_are_of_the_ballot core outcome m o x d none now)
     here_now before x d now (Some c) was = before x n (record { core = core; stands = at; connection = c; listed = was })
 
-    on : AreLed g (moment_of g ∷ earlier) → (x : ConnectionName) (k : ℕ) (has : HasName x (after_outcome (with_record g (recorded_by g.archive m)) n (keeping kept outcome) (given_in m)) k)
-        → ((k ≡ n) × (has.core ≡ outcome.core)) ⊎ (slice_get g.nodes k ≡ Some has.core) → Led (moment_of g ∷ earlier) k x.ballot
+    on : AreLed g (moment_of_nodes g ∷ earlier) → (x : ConnectionName) (k : ℕ) (has : HasName x (group_after_outcome (with_record g (recorded_by g.archive m)) n (with_messages kept outcome) (given_in m)) k)
+        → ((k ≡ n) × (has.core ≡ outcome.core)) ⊎ (slice_get g.nodes k ≡ Some has.core) → Led (moment_of_nodes g ∷ earlier) k x.ballot
     on before x k has (inl (same, is)) =
-        subst (λ i. Led (moment_of g ∷ earlier) i x.ballot) (sym same)
+        subst (λ i. Led (moment_of_nodes g ∷ earlier) i x.ballot) (sym same)
         (here_now before x has.connection (ap (listed_named x) (sym is) ∙ has.listed) (listed_named x core) refl)
     on before x k has (inr stood) = before x k (record { core = has.core; stands = stood; connection = has.connection; listed = has.listed })
 
 run_led : {config : Config} (g : Group) (n : ℕ) (core : CoreState) (outcome : StepOutcome) (run : LossyRuns core outcome) (kept : Given) → IsOrderly core → slice_get g.nodes n ≡ Some core
-    → WereSent g n (all_inputs run) → AllFreeze run → Thinned kept outcome.messages → {earlier : List (Moment State Command Output)} (came : Moments rules config (moment_of g ∷ earlier))
-    → LedOn g came (after_outcome (with_record g (recorded_in g.archive run)) n (keeping kept outcome) (all_given run)) (put_in_run run)
+    → WereSent g n (all_inputs run) → AllFreeze run → Thinned kept outcome.messages → {earlier : List (Moment State Command Output)} (came : Moments rules config (moment_of_nodes g ∷ earlier))
+    → LedOn g came (group_after_outcome (with_record g (recorded_in g.archive run)) n (with_messages kept outcome) (all_given run)) (put_in_run run)
 run_led g n core outcome rests kept o at sent frozen t came =
     subst (λ (h : Group). LedOn g came h [])
-    (same_group g n core at ∙ ap (λ (l : Given). after_outcome g n (keeping l (without_messages core)) []) (sym (nothing_kept kept t))) (record { further = unchanged came; led = λ before. before })
+    (same_group g n core at ∙ ap (λ (l : Given). group_after_outcome g n (with_messages l (without_messages core)) []) (sym (nothing_kept kept t))) (record { further = unchanged came; led = λ before. before })
 run_led g n core outcome (goes_on {first = first} {next = next} m run) kept o at sent frozen t came =
     let k = kept_of_both first.messages next.messages kept t in
     let s = were_both g n (inputs_in m) (all_inputs run) sent in
-    let one : StepOutcome = keeping k.front first in
+    let one : StepOutcome = with_messages k.front first in
     let step = move_led g n core first m k.front at s.0 frozen.0 k.first o came in
-    let after : Group = after_outcome (with_record g (recorded_by g.archive m)) n one (given_in m) in
+    let after : Group = group_after_outcome (with_record g (recorded_by g.archive m)) n one (given_in m) in
     let rest = subst (λ (h : Group). LedOn after step.further.past h (put_in_run run)) (kept_turns (with_record g (recorded_in (recorded_by g.archive m) run)) n first next (given_in m) (all_given run) kept k)
     (run_led after n first.core next run k.rest (losses_read_in_order core first m o).0 (get_of_set g.nodes n core first.core at)
     (were_still g (recorded_by g.archive m) n one (given_in m) (all_inputs run) s.1) frozen.1 k.next step.further.past) in
@@ -102,11 +102,11 @@ nodes_led g h same kept before x n has =
     led_later kept (before x n (record { core = has.core; stands = ap (λ l. slice_get l n) (sym same) ∙ has.stands; connection = has.connection; listed = has.listed }))
 
 step_led : {nodes : ℕ} {config : Config} (g h : Group) → GroupTrace nodes config g → (step : GroupStep g h) → {earlier : List (Moment State Command Output)}
-    (came : Moments rules config (moment_of g ∷ earlier)) → LedOn g came h (put_in_step step)
+    (came : Moments rules config (moment_of_nodes g ∷ earlier)) → LedOn g came h (put_in_step step)
 step_led {nodes = nodes} {config = config} g h went (node_acts n core node_call outcome run at is first sent) came =
     subst (λ l. LedOn g came h l) (same_put run)
-    (subst (λ l. LedOn g came (after_outcome (with_record g (recorded_exactly g.archive run)) n outcome l) (put_in_run (losing_none run))) (same_given run)
-    (subst (λ us. LedOn g came (after_outcome (with_record g us) n outcome (all_given (losing_none run))) (put_in_run (losing_none run))) (same_recorded g.archive run)
+    (subst (λ l. LedOn g came (group_after_outcome (with_record g (recorded_exactly g.archive run)) n outcome l) (put_in_run (losing_none run))) (same_given run)
+    (subst (λ us. LedOn g came (group_after_outcome (with_record g us) n outcome (all_given (losing_none run))) (put_in_run (losing_none run))) (same_recorded g.archive run)
     (run_led g n core outcome (losing_none run) outcome.messages (each_got _ g.nodes n core (all_well nodes config g went).0 at).orderly at (sent_losing g n run sent)
     (frozen_losing g n run sent) (all_kept outcome.messages) came)))
 step_led {nodes = nodes} {config = config} g h went (node_loses n core item outcome kept by at runs sent thinned) came =
@@ -127,14 +127,14 @@ step_led {config = config} g h went (answers_unheard from ballot sent) {earlier 
 -- a past of the group, and in it each earlier group's nodes led the ballots of their names
 record SoFar {nodes : ℕ} {config : Config} {g : Group} (went : GroupTrace nodes config g) : Type 0 where
   earlier : List (Moment State Command Output)
-  past : Moments rules config (moment_of g ∷ earlier)
-  now : AreLed g (moment_of g ∷ earlier)
-  ever : (e : Group) → In e (groups_of went) → AreLed e (moment_of g ∷ earlier)
+  past : Moments rules config (moment_of_nodes g ∷ earlier)
+  now : AreLed g (moment_of_nodes g ∷ earlier)
+  ever : (e : Group) → In e (groups_on_trace went) → AreLed e (moment_of_nodes g ∷ earlier)
 
 names_so_far : {nodes : ℕ} {config : Config} {g : Group} (went : GroupTrace nodes config g) → SoFar went
 names_so_far {nodes = nodes} {config = config} {g = g} (opened can) =
     let of = groups_are_pasts nodes config g (opened can) in
-    record { earlier = of.earlier; past = of.past; now = none (moment_of g ∷ of.earlier); ever = λ e i. only e i (moment_of g ∷ of.earlier) }
+    record { earlier = of.earlier; past = of.past; now = none (moment_of_nodes g ∷ of.earlier); ever = λ e i. only e i (moment_of_nodes g ∷ of.earlier) }
   where
     none : (moments : List (Moment State Command Output)) → AreLed g moments
     none moments x n has =
@@ -150,7 +150,7 @@ names_so_far {g = h} (then_went {g = g} went step) =
     let now = s.led before.now in
     record { earlier = s.further.before; past = s.further.past; now = now; ever = λ e i. by e i now (λ j x n has. led_later s.further.kept (before.ever e j x n has)) }
   where
-    by : (e : Group) → In e (h ∷ groups_of went) → {moments : List (Moment State Command Output)} → AreLed h moments → (In e (groups_of went) → AreLed e moments) → AreLed e moments
+    by : (e : Group) → In e (h ∷ groups_on_trace went) → {moments : List (Moment State Command Output)} → AreLed h moments → (In e (groups_on_trace went) → AreLed e moments) → AreLed e moments
     by e here now before = now
     by e (there i) now before = before i
 
@@ -159,4 +159,4 @@ names_stay_apart nodes config g went x e h m n i j first other =
     let s = names_so_far went in
     let a = s.ever e i x m first in
     let b = s.ever h j x n other in
-    one_primary_a_ballot rules config (moment_of g) s.earlier s.past a.moment b.moment m n x.ballot a.among b.among a.primary b.primary
+    one_primary_a_ballot rules config (moment_of_nodes g) s.earlier s.past a.moment b.moment m n x.ballot a.among b.among a.primary b.primary

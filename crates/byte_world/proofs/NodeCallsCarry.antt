@@ -19,7 +19,7 @@ use Rattle.node_group.specs.node_moves.Moves.Runs.{rests, goes_on}
 use Rattle.node_group.proofs.of_node_moves.PartsOfMoves.{BeginsWith, IsBare, Part, begins_hearing, part_in, part_of}
 use Rattle.node_group.proofs.of_node_moves.PartsOfMoves.Part.{heard, bytes_in, bytes_out}
 use Rattle.node_group.proofs.of_node_moves.StepsMove.{node_calls_begin}
-use Rattle.node_group.specs.Group.{Group, after_outcome, replica_of, with_record}
+use Rattle.node_group.specs.Group.{Group, group_after_outcome, replica_of, with_record}
 use Rattle.node_group.specs.Putting.{recorded_by, recorded_in}
 use Rattle.node_group.specs.snapshots.World.{recorded}
 use Rattle.node_group.specs.broker_spec.declared.command.Command.{Command}
@@ -214,11 +214,11 @@ groups_do_each_node_call g n node_call core at sent =
     let r = node_calls_carry_their_bytes g n node_call core sent in
     record {
       does = record {
-        after = after_outcome (with_record g (recorded_in g.archive r.run)) n (done node_call core) (all_given r.run);
+        after = group_after_outcome (with_record g (recorded_in g.archive r.run)) n (done node_call core) (all_given r.run);
         step = node_acts n core node_call (done node_call core) r.run at refl r.first r.sent;
         is = refl;
         faithful = r.bytes;
       };
       given = all_given r.run;
-      is = ap (λ archive. after_outcome (with_record g archive) n (done node_call core) (all_given r.run)) (r.records g.archive);
+      is = ap (λ archive. group_after_outcome (with_record g archive) n (done node_call core) (all_given r.run)) (r.records g.archive);
     }

@@ -16,7 +16,7 @@ use Rattle.node_group.proofs.of_exactly_once.Takes.{same_name_self}
 use Rattle.node_group.specs.packet.declared.packet.Packet.{Packet}
 use Rattle.node_group.specs.node_moves.Ends.{commands_of}
 use Rattle.node_group.specs.Steps.{GroupTrace}
-use Rattle.node_group.specs.Order.{packets_of as packets_in_list}
+use Rattle.node_group.specs.Order.{packet_commands as packets_in_list}
 use Rattle.node_group.proofs.CarriedInOrder.{CarriedSo, IsAgreedSo, carried_so, carries_each}
 use Rattle.byte_world.specs.Carried.{trace_of}
 use Rattle.byte_world.specs.Kept.{NoConnectIsClean, NoneIsClean}

@@ -28,7 +28,7 @@ use Rattle.node_group.specs.node_moves.Puts.{spelled}
 use Rattle.node_group.proofs.of_node_moves.Kept.{left_true, live}
 use Rattle.node_group.proofs.of_node_moves.Views.{found_each, found_passes, some_none}
 use Rattle.node_group.specs.Group.{Group}
-use Rattle.node_group.specs.Steps.{GroupStep, GroupTrace, groups_of}
+use Rattle.node_group.specs.Steps.{GroupStep, GroupTrace, groups_on_trace}
 use Rattle.node_group.specs.Steps.GroupTrace.{then_went}
 use Rattle.node_group.specs.Streams.{bytes_named, came_up, comes_up, goes_down, went_down}
 use Rattle.byte_world.specs.Apart.{HasName}
@@ -45,7 +45,7 @@ pub record IsPlaced {nodes : ℕ} {config : Config} {g : Group} (went : GroupTra
   pub given : IsGiven core.last_name x
   pub ports : (d : NodesEnd) → In d core.connections → d.port.0 ≡ port.0 → d.name ≡ x
   pub earlier : Group
-  pub among : In earlier (groups_of went)
+  pub among : In earlier (groups_on_trace went)
   pub had : HasName x earlier n
 
 -- The packets that were written are those of the bytes that came up and of later ones: those in

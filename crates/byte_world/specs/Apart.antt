@@ -7,7 +7,7 @@ use Rattle.node_group.specs.world_base.declared.Connection.{Connection}
 use Rattle.node_group.specs.world_base.Core.{CoreState}
 use Rattle.node_group.specs.node_moves.Closed.{listed_named}
 use Rattle.node_group.specs.Group.{Group}
-use Rattle.node_group.specs.Steps.{GroupTrace, groups_of}
+use Rattle.node_group.specs.Steps.{GroupTrace, groups_on_trace}
 
 -- a node has a connection of this name, open or with bytes to hand over
 pub record HasName (x : ConnectionName) (g : Group) (n : ℕ) : Type 0 where
@@ -21,4 +21,5 @@ abbrev pub NamesStayApart : Type 0
 NamesStayApart =
     (nodes : ℕ) (config : Config) (g : Group) (went : GroupTrace nodes config g)
     (x : ConnectionName) (e h : Group) (m n : ℕ) →
-    In e (groups_of went) → In h (groups_of went) → HasName x e m → HasName x h n → m ≡ n
+    In e (groups_on_trace went) → In h (groups_on_trace went) → HasName x e m → HasName x h n → m
+    ≡ n

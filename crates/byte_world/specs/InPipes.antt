@@ -11,9 +11,9 @@ use Rattle.node_group.specs.exactly_once.Sides.{ClientConnection}
 use Rattle.node_group.specs.snapshots.Moments.{IsAgreed}
 use Rattle.node_group.specs.node_moves.Ends.{commands_of}
 use Rattle.node_group.specs.node_moves.Puts.{spelled}
-use Rattle.node_group.specs.Group.{moment_of}
-use Rattle.node_group.specs.Steps.{all_put, groups_of}
-use Rattle.node_group.specs.Order.{packets_of as packets_in_list}
+use Rattle.node_group.specs.Group.{moment_of_nodes}
+use Rattle.node_group.specs.Steps.{all_proposed, groups_on_trace}
+use Rattle.node_group.specs.Order.{packet_commands as packets_in_list}
 use Rattle.node_group.specs.Pasts.{HasPast}
 use Rattle.node_group.specs.Carried.{answers_to}
 use Rattle.byte_world.specs.Carried.{trace_of}
@@ -35,8 +35,9 @@ pub record IsInOrder (agreed : List Command) (κ : ClientConnection) (p : Pipe) 
 -- the group's steps on the way to the world
 pub record PipesAreInOrder {nodes : ℕ} {config : Config} {cs : List Client} {w : World}
     (trail : Reached nodes config cs w) : Type 0 where
-  pub of : HasPast config w.group (groups_of (trace_of trail)) (all_put (trace_of trail))
-  pub each : (agreed : List Command) → IsAgreed config (moment_of w.group ∷ of.earlier) agreed →
+  pub of : HasPast config w.group (groups_on_trace (trace_of trail)) (all_proposed (trace_of trail))
+  pub each : (agreed : List Command) →
+      IsAgreed config (moment_of_nodes w.group ∷ of.earlier) agreed →
       (i : ℕ) (c : ClientPipes) (j : ℕ) (κ : ClientConnection) (p : Pipe) →
       HasPipe w i c j κ p → IsInOrder agreed κ p
 

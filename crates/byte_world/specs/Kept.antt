@@ -10,8 +10,8 @@ use Rattle.node_group.specs.broker_spec.Connection.{ConnectionName}
 use Rattle.node_group.specs.broker_spec.Past.{session_of}
 use Rattle.node_group.specs.broker_spec.Place.{Client}
 use Rattle.node_group.specs.snapshots.Moments.{IsAgreed}
-use Rattle.node_group.specs.Group.{moment_of}
-use Rattle.node_group.specs.Steps.{all_put, groups_of}
+use Rattle.node_group.specs.Group.{moment_of_nodes}
+use Rattle.node_group.specs.Steps.{all_proposed, groups_on_trace}
 use Rattle.node_group.specs.Pasts.{HasPast}
 use Rattle.byte_world.specs.Carried.{trace_of}
 use Rattle.byte_world.specs.Steps.{Reached}
@@ -27,8 +27,9 @@ NoneIsClean list =
 -- asks for a clean session
 pub record AsksForNoneClean {nodes : ℕ} {config : Config} {cs : List Client} {w : World}
     (trail : Reached nodes config cs w) : Type 0 where
-  pub of : HasPast config w.group (groups_of (trace_of trail)) (all_put (trace_of trail))
-  pub none : (agreed : List Command) → IsAgreed config (moment_of w.group ∷ of.earlier) agreed →
+  pub of : HasPast config w.group (groups_on_trace (trace_of trail)) (all_proposed (trace_of trail))
+  pub none : (agreed : List Command) →
+      IsAgreed config (moment_of_nodes w.group ∷ of.earlier) agreed →
       NoneIsClean agreed
 
 -- in each world that can be reached no agreed list asks for a clean session

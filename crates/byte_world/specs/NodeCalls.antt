@@ -10,7 +10,7 @@ use Rattle.node_group.specs.world_base.Core.{CoreState, StepOutcome, rules}
 use Rattle.node_group.specs.node_moves.Hearing.{HearsAtFirst}
 use Rattle.node_group.specs.node_moves.Moves.{NodeCall, Runs, done}
 use Rattle.node_group.specs.node_moves.Moves.NodeCall.{takes}
-use Rattle.node_group.specs.Group.{Group, after_outcome, replica_of, with_record}
+use Rattle.node_group.specs.Group.{Group, group_after_outcome, replica_of, with_record}
 use Rattle.node_group.specs.Steps.{AllWasSent}
 use Rattle.node_group.specs.Putting.{recorded_in}
 use Rattle.node_group.specs.snapshots.World.{recorded}
@@ -54,7 +54,7 @@ pub record DoesNodeCall (g : Group) (n : ℕ) (node_call : NodeCall) (core : Cor
   pub does : DoesCall g (Some (n, node_call))
   pub given : List (Effect Command Output)
   pub is : does.after
-      ≡ after_outcome (with_record g (recorded_after g.archive core node_call)) n
+      ≡ group_after_outcome (with_record g (recorded_after g.archive core node_call)) n
       (done node_call core) given
 
 -- in any group, a node can do each call

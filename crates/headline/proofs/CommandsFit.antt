@@ -13,7 +13,7 @@ use Rattle.byte_world.specs.broker_spec.Connection.{ConnectionName, IsConnection
 use Rattle.byte_world.specs.exactly_once.StoryCommands.{command_of, is_packet_of}
 use Rattle.byte_world.specs.packet_world.Steps.{is_of_connection}
 use Rattle.byte_world.specs.node_moves.Ends.{commands_of}
-use Rattle.byte_world.specs.node_group.Order.{packets_of}
+use Rattle.byte_world.specs.node_group.Order.{packet_commands}
 use Rattle.headline.proofs.Fitting.{IsFitting}
 
 -- ---- of one connection
@@ -50,13 +50,13 @@ pub record IsWritten (agreed : List Command) (command : Command) : Type 0 where
   pub written : List Packet
   pub named : IsConnectionName name
   pub whole : Each IsPacket written
-  pub order : IsPrefixOf (packets_of name agreed) (commands_of name 0 written)
+  pub order : IsPrefixOf (packet_commands name agreed) (commands_of name 0 written)
   pub of : is_packet_of command name ≡ true
 
 fits_so : (agreed : List Command) (command : Command) → In command agreed → IsWritten agreed command → IsFitting command
 fits_so agreed command among w =
     of_passing IsFitting (λ (c : Command). is_packet_of c w.name) agreed command
-    (each_left IsFitting (packets_of w.name agreed) w.order.rest (subst (Each IsFitting) w.order.is (commands_fit w.name 0 w.written w.named w.whole))) among w.of
+    (each_left IsFitting (packet_commands w.name agreed) w.order.rest (subst (Each IsFitting) w.order.is (commands_fit w.name 0 w.written w.named w.whole))) among w.of
 
 -- a list is fitting if each of its packets is of such a connection
 pub list_fits : (agreed : List Command) → ((command : Command) → In command agreed → is_of_connection command ≡ true → IsWritten agreed command) → Each IsFitting agreed

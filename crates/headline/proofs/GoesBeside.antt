@@ -12,7 +12,7 @@ use Rattle.byte_world.specs.packet_world.World.{ClientsAreApart}
 use Rattle.byte_world.proofs.of_packet_world.Lists.{each_get, each_set}
 use Rattle.byte_world.proofs.of_packet_world.TakenOn.{map_set}
 use Rattle.byte_world.specs.world_base.Core.{rules}
-use Rattle.byte_world.specs.node_group.Group.{Group, moment_of}
+use Rattle.byte_world.specs.node_group.Group.{Group, moment_of_nodes}
 use Rattle.byte_world.specs.node_group.Steps.{GroupStep, GroupTrace}
 use Rattle.byte_world.specs.node_group.Steps.GroupTrace.{then_went}
 use Rattle.byte_world.specs.World.{ClientPipes, Pipe, World, with_client, with_pipe}
@@ -35,7 +35,7 @@ pub group_beside : {nodes : ℕ} {config : Config} {cs : List Client} → Client
     → GoesBeside nodes config cs w (then_went went step)
 group_beside {config = config} {cs = cs} apart w g went so step beside holds piped =
     let on = carried_on g w.group went so step in
-    let xs = has_agreed rules config (moment_of g) so.of.earlier so.of.past in
+    let xs = has_agreed rules config (moment_of_nodes g) so.of.earlier so.of.past in
     record {
       holds = holds;
       piped = piped;

@@ -26,7 +26,7 @@ use Rattle.byte_world.proofs.of_node_moves.EachKept.{IsKept, each_repeated, each
 use Rattle.byte_world.proofs.of_node_moves.Kept.{named, put_out_name}
 use Rattle.byte_world.proofs.of_node_moves.Views.{found_each, found_passes}
 use Rattle.byte_world.specs.node_group.Group.{Group, opening_cores}
-use Rattle.byte_world.specs.node_group.Steps.{GroupStep, GroupTrace, groups_of}
+use Rattle.byte_world.specs.node_group.Steps.{GroupStep, GroupTrace, groups_on_trace}
 use Rattle.byte_world.specs.node_group.Steps.GroupStep.{node_acts, node_loses, master_assigns, master_hears, assigns_unheard, answers_unheard}
 use Rattle.byte_world.specs.node_group.Steps.GroupTrace.{opened, then_went}
 use Rattle.byte_world.proofs.of_node_group.NamesInGroups.{each_got}
@@ -106,7 +106,7 @@ name_fits e x n has all =
     (found_each IsNamed (named x) has.core.connections has.connection (each_got AreNamed e.nodes n has.core all has.stands) has.listed)
 
 -- a name that a node had at any time
-pub names_fit : {nodes : ℕ} {config : Config} {g : Group} (went : GroupTrace nodes config g) (x : ConnectionName) (e : Group) (n : ℕ) → In e (groups_of went) → HasName x e n → IsConnectionName x
+pub names_fit : {nodes : ℕ} {config : Config} {g : Group} (went : GroupTrace nodes config g) (x : ConnectionName) (e : Group) (n : ℕ) → In e (groups_on_trace went) → HasName x e n → IsConnectionName x
 names_fit {g = g} (opened can) x e n here has = name_fits g x n has (all_named g (opened can))
 names_fit (opened can) x e n (there i) has = elim i [ ]
 names_fit {g = h} (then_went went step) x e n here has = name_fits h x n has (all_named h (then_went went step))

@@ -24,7 +24,7 @@ use Rattle.byte_world.specs.packet_world.World.{ClientsAreApart}
 use Rattle.byte_world.specs.packet_world.Steps.{is_call}
 use Rattle.byte_world.proofs.of_packet_world.Lists.{each_by, each_get, set_get}
 use Rattle.byte_world.specs.world_base.Core.{rules}
-use Rattle.byte_world.specs.node_group.Group.{moment_of}
+use Rattle.byte_world.specs.node_group.Group.{moment_of_nodes}
 use Rattle.byte_world.specs.node_group.Steps.{GroupTrace}
 use Rattle.byte_world.specs.Carried.{trace_of}
 use Rattle.byte_world.specs.Steps.{Reached, WorldStep}
@@ -98,7 +98,7 @@ packet_says : {nodes : ℕ} {config : Config} {cs : List Client} → ClientsAreA
     (c : ClientPipes) (κ : ClientConnection) (packet : Packet) → slice_get v.clients i ≡ Some c
     → own_publications (all_own (packet_handled packet (let side : Side = record { keeper = c.keeper; connection = κ } in side)).keeper) ≡ own_publications (all_own c.keeper)
 packet_says {config = config} apart v went s i c κ packet at =
-    let list = has_agreed rules config (moment_of v.group) s.so.of.earlier s.so.of.past in
+    let list = has_agreed rules config (moment_of_nodes v.group) s.so.of.earlier s.so.of.past in
     let h = lived_beside apart v went s list.0 list.1 i c at in
     let life = lived_is_life usual_limits h.story.keeper.client h.story h.lived in
     (handles_kept c.keeper κ packet (subst (λ (k : Keeper). AreNumbered (length k.earlier) k.own) h.keeper life.keeper.numbers.1)).said

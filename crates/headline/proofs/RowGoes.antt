@@ -20,7 +20,7 @@ use Rattle.byte_world.specs.world_base.Core.{CoreState}
 use Rattle.byte_world.specs.node_moves.Moves.{NodeCall, done}
 use Rattle.byte_world.specs.node_moves.Moves.NodeCall.{takes, gives}
 use Rattle.byte_world.specs.node_moves.Puts.{spelled}
-use Rattle.byte_world.specs.node_group.Group.{Group, after_outcome, with_record}
+use Rattle.byte_world.specs.node_group.Group.{Group, group_after_outcome, with_record}
 use Rattle.byte_world.specs.node_group.Putting.{recorded_in}
 use Rattle.byte_world.specs.node_group.Steps.{all_given}
 use Rattle.byte_world.specs.node_group.Steps.GroupStep.{node_acts}
@@ -47,7 +47,7 @@ turned g n node_call core later at sent is =
     let r = node_calls_carry_their_bytes g n node_call core sent in
     record {
       does = record {
-        after = after_outcome (with_record g (recorded_in g.archive r.run)) n (done node_call core) (all_given r.run);
+        after = group_after_outcome (with_record g (recorded_in g.archive r.run)) n (done node_call core) (all_given r.run);
         step = node_acts n core node_call (done node_call core) r.run at refl r.first r.sent;
         is = refl;
         faithful = r.bytes;

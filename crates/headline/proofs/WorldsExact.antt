@@ -19,7 +19,7 @@ use Rattle.byte_world.specs.packet_world.World.{ClientsAreApart, ClientEnds, sto
 use Rattle.byte_world.proofs.of_packet_world.Lists.{each_by, each_get}
 use Rattle.byte_world.proofs.of_packet_world.WorldsExact.{worlds_are_exact as worlds_beside_are_exact}
 use Rattle.byte_world.specs.world_base.Core.{rules}
-use Rattle.byte_world.specs.node_group.Group.{moment_of}
+use Rattle.byte_world.specs.node_group.Group.{moment_of_nodes}
 use Rattle.byte_world.specs.node_group.Steps.{GroupTrace}
 use Rattle.byte_world.proofs.of_node_group.Placed.{get_mapped}
 use Rattle.byte_world.specs.Carried.{trace_of}
@@ -101,7 +101,7 @@ promised apart w went s agreed is published i c state at said shown =
 pub worlds_are_exact : WorldsAreExact
 worlds_are_exact nodes config cs w apart trail =
     let s = goes_beside apart w trail in
-    let list = has_agreed rules config (moment_of w.group) s.so.of.earlier s.so.of.past in
+    let list = has_agreed rules config (moment_of_nodes w.group) s.so.of.earlier s.so.of.past in
     record {
       of = s.so.of;
       agreed = list.0;

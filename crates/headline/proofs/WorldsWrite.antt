@@ -18,7 +18,7 @@ use Rattle.byte_world.proofs.of_packet_world.Answers.{of_name}
 use Rattle.byte_world.proofs.of_packet_world.Lists.{each_get, stands_within, there_is}
 use Rattle.byte_world.specs.node_moves.Ends.{commands_of}
 use Rattle.byte_world.specs.node_group.Steps.{GroupTrace}
-use Rattle.byte_world.specs.node_group.Order.{packets_of as packets_in_list}
+use Rattle.byte_world.specs.node_group.Order.{packet_commands as packets_in_list}
 use Rattle.byte_world.proofs.of_node_group.Placed.{get_mapped}
 use Rattle.byte_world.specs.World.{ClientPipes, HasPipe, Pipe, World, packets_of}
 use Rattle.byte_world.proofs.WorldsHold.{Holds, IsKnown, IsUnheard}

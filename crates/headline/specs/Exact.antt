@@ -18,8 +18,8 @@ use Rattle.byte_world.specs.exactly_once.Sides.{ClientConnection}
 use Rattle.byte_world.specs.exactly_once.Story.{Story}
 use Rattle.byte_world.specs.snapshots.Moments.{IsAgreed}
 use Rattle.byte_world.specs.packet_world.World.{ClientsAreApart}
-use Rattle.byte_world.specs.node_group.Group.{moment_of}
-use Rattle.byte_world.specs.node_group.Steps.{all_put, groups_of}
+use Rattle.byte_world.specs.node_group.Group.{moment_of_nodes}
+use Rattle.byte_world.specs.node_group.Steps.{all_proposed, groups_on_trace}
 use Rattle.byte_world.specs.node_group.Pasts.{HasPast}
 use Rattle.byte_world.specs.World.{ClientPipes, HasPipe, Pipe, World}
 use Rattle.byte_world.specs.Carried.{trace_of}
@@ -65,13 +65,14 @@ pub record IsExactBy (agreed : List Command) (w : World) : Type 0 where
 -- which the nodes agree at its end, and the world is exact by that list.
 pub record IsExact {nodes : ℕ} {config : Config} {cs : List Client} {w : World}
     (trail : Reached nodes config cs w) : Type 0 where
-  pub of : HasPast config w.group (groups_of (trace_of trail)) (all_put (trace_of trail))
+  pub of : HasPast config w.group (groups_on_trace (trace_of trail)) (all_proposed (trace_of trail))
   pub agreed : List Command
-  pub is_agreed : IsAgreed config (moment_of w.group ∷ of.earlier) agreed
-  pub exact : (list : List Command) → IsAgreed config (moment_of w.group ∷ of.earlier) list →
+  pub is_agreed : IsAgreed config (moment_of_nodes w.group ∷ of.earlier) agreed
+  pub exact : (list : List Command) → IsAgreed config (moment_of_nodes w.group ∷ of.earlier) list →
       IsExactBy list w
   -- what a client shows, with what it was asked to publish in these steps, is as promised
-  pub promises : (list : List Command) → IsAgreed config (moment_of w.group ∷ of.earlier) list →
+  pub promises : (list : List Command) →
+      IsAgreed config (moment_of_nodes w.group ∷ of.earlier) list →
       (i : ℕ) (c : ClientPipes) (state : ClientState) →
       slice_get w.clients i ≡ Some c → IsShownBy c state →
       Promise c.connections (published_of i (published_on trail)) list state

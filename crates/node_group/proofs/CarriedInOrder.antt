@@ -26,14 +26,14 @@ use Rattle.node_moves.specs.ItemRuns.{came_with}
 use Rattle.node_moves.specs.LossyRuns.{bytes_on as bytes_losing}
 use Rattle.node_moves.proofs.Kept.{named}
 use Rattle.node_moves.proofs.ProposesInOrder.{commands_join, front_of}
-use Rattle.node_group.specs.Group.{Group, after_outcome, moment_of, opening_cores, opening_group, with_master, with_record}
-use Rattle.node_group.specs.Steps.{GroupStep, GroupTrace, all_put, after_assign, groups_of, put_in_run, put_in_step}
+use Rattle.node_group.specs.Group.{Group, group_after_outcome, moment_of_nodes, opening_cores, opening_group, with_master, with_record}
+use Rattle.node_group.specs.Steps.{GroupStep, GroupTrace, all_proposed, after_assign, groups_on_trace, put_in_run, put_in_step}
 use Rattle.node_group.specs.Steps.GroupStep.{node_acts, node_loses, master_assigns, master_hears, assigns_unheard, answers_unheard}
 use Rattle.node_group.specs.Steps.GroupTrace.{opened, then_went}
 use Rattle.node_group.specs.Losing.{WereSent}
 use Rattle.node_group.specs.Losing.{all_given as given_losing, put_in_run as put_losing}
 use Rattle.node_group.specs.Putting.{recorded_in}
-use Rattle.node_group.specs.Order.{packets_of}
+use Rattle.node_group.specs.Order.{packet_commands}
 use Rattle.node_group.specs.Pasts.{HasPast}
 use Rattle.node_group.proofs.GroupsArePasts.{goes_on, groups_are_pasts, seen_still}
 use Rattle.node_group.proofs.LosingNone.{first_still, frozen_losing, losing_none, same_bytes, same_given, same_put, same_recorded, sent_losing}
@@ -70,16 +70,16 @@ nodes_stay g h moments more xs ys same kept grown (inr held) =
       sent = down_later xs ys grown held.sent;
     })
 
-master_steps : {config : Config} (g h : Group) {earlier : List (Moment State Command Output)} (came : Moments rules config (moment_of g ∷ earlier)) → h.nodes ≡ g.nodes
-    → Further came (moment_of h) [] → Steps g came h [] (λ x. []) (λ x. [])
+master_steps : {config : Config} (g h : Group) {earlier : List (Moment State Command Output)} (came : Moments rules config (moment_of_nodes g ∷ earlier)) → h.nodes ≡ g.nodes
+    → Further came (moment_of_nodes h) [] → Steps g came h [] (λ x. []) (λ x. [])
 master_steps {config = config} g h {earlier = earlier} came same f =
-    let xs = has_agreed rules config (moment_of g) earlier came in
+    let xs = has_agreed rules config (moment_of_nodes g) earlier came in
     record {
       further = f;
       keeps_each = λ x written later put sent is each good ys after.
-          subst (λ (l : List (ℕ × Command)). Stands x written later h (moment_of h ∷ f.before) l (sent ++ []) ys) (sym (append-nil put))
-          (subst (λ (l : List ℕ). Stands x written later h (moment_of h ∷ f.before) put l ys) (sym (append-nil sent))
-          (nodes_stay g h (moment_of g ∷ earlier) (moment_of h ∷ f.before) xs.0 ys same f.kept (f.grows xs.0 ys xs.1 after) (good xs.0 xs.1)));
+          subst (λ (l : List (ℕ × Command)). Stands x written later h (moment_of_nodes h ∷ f.before) l (sent ++ []) ys) (sym (append-nil put))
+          (subst (λ (l : List ℕ). Stands x written later h (moment_of_nodes h ∷ f.before) put l ys) (sym (append-nil sent))
+          (nodes_stay g h (moment_of_nodes g ∷ earlier) (moment_of_nodes h ∷ f.before) xs.0 ys same f.kept (f.grows xs.0 ys xs.1 after) (good xs.0 xs.1)));
     }
 
 pub assigned_nodes : (g : Group) (config : Config) (why : Option AssignRefusal) → (with_master (after_assign g config why) (master_after g.master config why)).nodes ≡ g.nodes
@@ -88,13 +88,13 @@ assigned_nodes g config (Some why) = refl
 
 -- ---- each step
 
-group_steps : {config : Config} (g h : Group) (step : GroupStep g h) {earlier : List (Moment State Command Output)} (came : Moments rules config (moment_of g ∷ earlier)) → Each IsWell g.nodes
+group_steps : {config : Config} (g h : Group) (step : GroupStep g h) {earlier : List (Moment State Command Output)} (came : Moments rules config (moment_of_nodes g ∷ earlier)) → Each IsWell g.nodes
     → Steps g came h (put_in_step step) (λ x. comes_up x step) (λ x. goes_down x step)
 group_steps g h (node_acts n core node_call turn run at is first sent) came well =
     let mine = each_got IsWell g.nodes n core well at in
-    subst (λ (given : List (Effect Command Output)). Steps g came (after_outcome (with_record g (recorded_in g.archive run)) n turn given) (put_in_run run) (λ x. bytes_on x run)
+    subst (λ (given : List (Effect Command Output)). Steps g came (group_after_outcome (with_record g (recorded_in g.archive run)) n turn given) (put_in_run run) (λ x. bytes_on x run)
     (λ x. handed_in_run x run)) (same_given run)
-    (subst (λ (archive : List Command). Steps g came (after_outcome (with_record g archive) n turn (given_losing (losing_none run))) (put_in_run run) (λ x. bytes_on x run)
+    (subst (λ (archive : List Command). Steps g came (group_after_outcome (with_record g archive) n turn (given_losing (losing_none run))) (put_in_run run) (λ x. bytes_on x run)
     (λ x. handed_in_run x run)) (same_recorded g.archive run)
     (steps_as came (put_losing (losing_none run)) (put_in_run run) (λ x. bytes_losing x (losing_none run)) (λ x. bytes_on x run) (λ x. handed_losing x (losing_none run))
     (λ x. handed_in_run x run) (same_put run) (λ x. same_bytes x run) (λ x. same_handed x run)
@@ -123,13 +123,13 @@ no_connections (suc n) config =
 
 -- a past of the group, and the state of each connection by what is agreed at its end
 pub record CarriedSo {nodes : ℕ} {config : Config} {g : Group} (went : GroupTrace nodes config g) : Type 0 where
-  pub of : HasPast config g (groups_of went) (all_put went)
+  pub of : HasPast config g (groups_on_trace went) (all_proposed went)
   pub good : (x : ConnectionName) (written : List Packet) (later : List ℕ) → Joins written (came_up x went ++ later)
-      → Good config x written later g (moment_of g ∷ of.earlier) (all_put went) (went_down x went)
+      → Good config x written later g (moment_of_nodes g ∷ of.earlier) (all_proposed went) (went_down x went)
 
 -- what is agreed in it
 abbrev pub IsAgreedSo : {nodes : ℕ} {config : Config} {g : Group} {went : GroupTrace nodes config g} → CarriedSo went → List Command → Type 0
-IsAgreedSo {config = config} {g = g} so agreed = IsAgreed config (moment_of g ∷ so.of.earlier) agreed
+IsAgreedSo {config = config} {g = g} so agreed = IsAgreed config (moment_of_nodes g ∷ so.of.earlier) agreed
 
 -- it continues by a step, and what is agreed grows
 pub record CarriedOn {nodes : ℕ} {config : Config} {g h : Group} {went : GroupTrace nodes config g} (before : CarriedSo went) (step : GroupStep g h) : Type 0 where
@@ -151,9 +151,9 @@ carried_at_first nodes config can =
 
 pub carried_on : {nodes : ℕ} {config : Config} (g h : Group) (went : GroupTrace nodes config g) (before : CarriedSo went) (step : GroupStep g h) → CarriedOn before step
 carried_on {nodes = nodes} {config = config} g h went before step =
-    let is : IsPut before.of.past (all_put went) = record { proposed = before.of.proposed; taken = before.of.taken } in
+    let is : IsPut before.of.past (all_proposed went) = record { proposed = before.of.proposed; taken = before.of.taken } in
     let s = group_steps g h step before.of.past (all_well nodes config g went).0 in
-    let now = put_further (all_put went) s.further is in
+    let now = put_further (all_proposed went) s.further is in
     record {
       now = record {
         of = record {
@@ -161,10 +161,10 @@ carried_on {nodes = nodes} {config = config} g h went before step =
           past = s.further.past;
           proposed = now.proposed;
           taken = now.taken;
-          seen = (here, seen_still (groups_of went) s.further.kept before.of.seen);
+          seen = (here, seen_still (groups_on_trace went) s.further.kept before.of.seen);
         };
         good = λ x written later joined.
-            s.keeps_each x written later (all_put went) (went_down x went) is (all_well nodes config h (then_went went step)).1
+            s.keeps_each x written later (all_proposed went) (went_down x went) is (all_well nodes config h (then_went went step)).1
             (before.good x written (comes_up x step ++ later) (subst (Joins written) (append_assoc (came_up x went) (comes_up x step) later) joined));
       };
       grows = s.further.grows;
@@ -178,17 +178,17 @@ carried_so {g = h} (then_went {g = g} went step) = (carried_on g h went (carried
 -- ---- what it says
 
 carried : (x : ConnectionName) (written : List Packet) (later : List ℕ) (g : Group) (moments : List (Moment State Command Output)) (put : List (ℕ × Command)) (sent : List ℕ)
-    (agreed : List Command) → IsPrefixOf (packets_of x agreed) (packets_of x (commands_in put)) → Stands x written later g moments put sent agreed
+    (agreed : List Command) → IsPrefixOf (packet_commands x agreed) (packet_commands x (commands_in put)) → Stands x written later g moments put sent agreed
     → IsCarried x written sent agreed
 carried x written later g moments put sent agreed said (inl u) =
     record {
-      up = prefix_then (subst (IsPrefixOf (packets_of x agreed)) u.unsaid said) (record { rest = commands_of x 0 written; is = refl });
+      up = prefix_then (subst (IsPrefixOf (packet_commands x agreed)) u.unsaid said) (record { rest = commands_of x 0 written; is = refl });
       down = record { rest = answers_to x agreed; is = ap (λ l. l ++ answers_to x agreed) (sym u.unsent) };
     }
 carried x written later g moments put sent agreed said (inr held) =
     let front = front_of x held.core written held.read later held.end in
     record {
-      up = prefix_then (subst (IsPrefixOf (packets_of x agreed)) held.said said)
+      up = prefix_then (subst (IsPrefixOf (packet_commands x agreed)) held.said said)
           (record { rest = commands_of x (0 + length held.read) front.rest; is = ap (commands_of x 0) front.is ∙ commands_join x 0 held.read front.rest });
       down = down_front held.sent;
     }
@@ -196,8 +196,8 @@ carried x written later g moments put sent agreed said (inr held) =
 pub carries_each : {nodes : ℕ} {config : Config} (g : Group) (went : GroupTrace nodes config g) (so : CarriedSo went) (agreed : List Command) → IsAgreedSo so agreed → (x : ConnectionName)
     (written : List Packet) (later : List ℕ) → Joins written (came_up x went ++ later) → IsCarried x written (went_down x went) agreed
 carries_each {nodes = nodes} {config = config} g went so agreed is x written later joined =
-    carried x written later g (moment_of g ∷ so.of.earlier) (all_put went) (went_down x went) agreed
-    (in_agreed config g (groups_of went) (all_put went) so.of (all_well nodes config g went).1 x agreed is) (so.good x written later joined agreed is)
+    carried x written later g (moment_of_nodes g ∷ so.of.earlier) (all_proposed went) (went_down x went) agreed
+    (in_agreed config g (groups_on_trace went) (all_proposed went) so.of (all_well nodes config g went).1 x agreed is) (so.good x written later joined agreed is)
 
 -- ---- the law
 

@@ -31,7 +31,7 @@ use Rattle.node_moves.proofs.Views.{some_none}
 use Rattle.packet_world.proofs.of_broker_spec.ConnectionNames.{same_name}
 use Rattle.node_group.specs.Steps.{commands_put as exactly_put}
 use Rattle.node_group.specs.Losing.{commands_put}
-use Rattle.node_group.specs.Order.{packets_of}
+use Rattle.node_group.specs.Order.{packet_commands}
 
 -- ---- no open connection
 
@@ -39,23 +39,23 @@ not_there : (x : ConnectionName) (core : CoreState) (port : Port) (c : Connectio
 not_there x core port c o none at is = some_none c (sym (found_open x core port c o at is) ∙ none)
 
 one_other : (x : ConnectionName) (core : CoreState) (port : Port) (c : Connection) (command : Command) → IsOrderly core → open_named x core ≡ None → open_at port core ≡ Some c
-    → is_packet_of command x ≡ named x c → packets_of x (command ∷ []) ≡ []
+    → is_packet_of command x ≡ named x c → packet_commands x (command ∷ []) ≡ []
 one_other x core port c command o none at same = by (named x c) refl
   where
-    by : (b : Bool) → named x c ≡ b → packets_of x (command ∷ []) ≡ []
+    by : (b : Bool) → named x c ≡ b → packet_commands x (command ∷ []) ≡ []
     by true is = absurd (not_there x core port c o none at is)
     by false other = ap (λ (b : Bool). let l : List Command = if b then command ∷ [] else [] in l) (same ∙ other)
 
 -- nothing is put for it
 exactly_none_put : (x : ConnectionName) (core : CoreState) (outcome : StepOutcome) (m : Moves core outcome) → IsOrderly core → open_named x core ≡ None
-    → packets_of x (exactly_proposed m) ≡ []
+    → packet_commands x (exactly_proposed m) ≡ []
 exactly_none_put x core outcome (reads_first now port c connect rest at first is room) o none =
     one_other x core port c (commands.Connect c.name connect.client connect.clean) o none at refl
 exactly_none_put x core outcome (reads_later now port c packet rest at later is room) o none = one_other x core port c (commands.Packet c.name packet) o none at refl
 exactly_none_put x core outcome m o none = refl
 
 pub none_put : (x : ConnectionName) (core : CoreState) (outcome : StepOutcome) (m : LossyMoves core outcome) → IsOrderly core → open_named x core ≡ None
-    → packets_of x (proposal_of m) ≡ []
+    → packet_commands x (proposal_of m) ≡ []
 none_put x core outcome (exactly m) o none = exactly_none_put x core outcome m o none
 none_put x core outcome (first_losing now port c connect rest did at first is taken) o none =
     one_other x core port c (commands.Connect c.name connect.client connect.clean) o none at refl
@@ -85,21 +85,21 @@ none_came x core outcome m o none = refl
 
 -- ---- what is put are the packets that are proposed
 
-lost_or_not : (x : ConnectionName) (name : ConnectionName) (b : Bool) → packets_of x (if b then commands.Lost name ∷ [] else []) ≡ []
+lost_or_not : (x : ConnectionName) (name : ConnectionName) (b : Bool) → packet_commands x (if b then commands.Lost name ∷ [] else []) ≡ []
 lost_or_not x name true = refl
 lost_or_not x name false = refl
 
-expelled_or_not : (x : ConnectionName) (client : List ℕ) (b : Bool) → packets_of x (if b then commands.Expel client ∷ [] else []) ≡ []
+expelled_or_not : (x : ConnectionName) (client : List ℕ) (b : Bool) → packet_commands x (if b then commands.Expel client ∷ [] else []) ≡ []
 expelled_or_not x client true = refl
 expelled_or_not x client false = refl
 
-exactly_packets : (x : ConnectionName) (core : CoreState) (outcome : StepOutcome) (m : Moves core outcome) → packets_of x (exactly_put m) ≡ packets_of x (exactly_proposed m)
+exactly_packets : (x : ConnectionName) (core : CoreState) (outcome : StepOutcome) (m : Moves core outcome) → packet_commands x (exactly_put m) ≡ packet_commands x (exactly_proposed m)
 exactly_packets x core outcome (loses_one port c at asked) = lost_or_not x c.name (serves core)
 exactly_packets x core outcome (loses_next c at) = lost_or_not x c.name (serves core)
 exactly_packets x core outcome (expels_one client) = expelled_or_not x client (serves core)
 exactly_packets x core outcome m = refl
 
-pub packets_put : (x : ConnectionName) (core : CoreState) (outcome : StepOutcome) (m : LossyMoves core outcome) → packets_of x (commands_put m) ≡ packets_of x (proposal_of m)
+pub packets_put : (x : ConnectionName) (core : CoreState) (outcome : StepOutcome) (m : LossyMoves core outcome) → packet_commands x (commands_put m) ≡ packet_commands x (proposal_of m)
 packets_put x core outcome (exactly m) = exactly_packets x core outcome m
 packets_put x core outcome m = refl
 

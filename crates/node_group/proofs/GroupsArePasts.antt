@@ -13,8 +13,8 @@ use Rattle.packet_world.specs.snapshots.Steps.{world_after}
 use Rattle.packet_world.specs.snapshots.Steps.MayHappen.{master_assigns, master_hears, assignment_lost, answer_lost}
 use Rattle.packet_world.specs.snapshots.World.{World}
 use Rattle.node_moves.specs.world_base.Core.{rules}
-use Rattle.node_group.specs.Group.{Group, after_outcome, moment_of, opening_group, with_master, with_record}
-use Rattle.node_group.specs.Steps.{GroupStep, all_given, all_put, after_assign, groups_of, put_in_step}
+use Rattle.node_group.specs.Group.{Group, group_after_outcome, moment_of_nodes, opening_group, with_master, with_record}
+use Rattle.node_group.specs.Steps.{GroupStep, all_given, all_proposed, after_assign, groups_on_trace, put_in_step}
 use Rattle.node_group.specs.Steps.GroupStep.{node_acts, node_loses, master_assigns as assigns, master_hears as hears_master, assigns_unheard, answers_unheard}
 use Rattle.node_group.specs.Steps.GroupTrace.{opened, then_went}
 use Rattle.node_group.specs.Losing.{WereSent}
@@ -31,22 +31,22 @@ use Rattle.node_group.proofs.Thinning.{all_kept}
 abbrev at_moment : MasterState → World State Command Output → Moment State Command Output
 at_moment m w = record { master = m; world = w }
 
-opens_as : (nodes : ℕ) (config : Config) → moment_of (opening_group nodes config) ≡ opening_moment rules nodes config
+opens_as : (nodes : ℕ) (config : Config) → moment_of_nodes (opening_group nodes config) ≡ opening_moment rules nodes config
 opens_as nodes config =
     ap (λ l. at_moment (opening_master config) (let w : World State Command Output = record { nodes = l; sent = []; left = []; archive = [] } in w)) (opened_replicas nodes config)
 
 assigned_as : (g : Group) (config : Config) (why : Option AssignRefusal)
-    → at_moment (master_after g.master config why) (world_after g.master (moment_of g).world config why)
-    ≡ moment_of (with_master (after_assign g config why) (master_after g.master config why))
+    → at_moment (master_after g.master config why) (world_after g.master (moment_of_nodes g).world config why)
+    ≡ moment_of_nodes (with_master (after_assign g config why) (master_after g.master config why))
 assigned_as g config (Some why) = refl
 assigned_as g config None = refl
 
-pub goes_on : (config : Config) (g h : Group) (step : GroupStep g h) (earlier : List (Moment State Command Output)) (came : Moments rules config (moment_of g ∷ earlier))
-    → Further came (moment_of h) (put_in_step step)
+pub goes_on : (config : Config) (g h : Group) (step : GroupStep g h) (earlier : List (Moment State Command Output)) (came : Moments rules config (moment_of_nodes g ∷ earlier))
+    → Further came (moment_of_nodes h) (put_in_step step)
 goes_on config g h (node_acts n core node_call turn run at is first sent) earlier came =
-    subst (λ l. Further came (moment_of (after_outcome (with_record g (recorded_in g.archive run)) n turn (all_given run))) l) (same_put run)
-    (subst (λ l. Further came (moment_of (after_outcome (with_record g (recorded_in g.archive run)) n turn l)) (put_losing (losing_none run))) (same_given run)
-    (subst (λ us. Further came (moment_of (after_outcome (with_record g us) n turn (given_losing (losing_none run)))) (put_losing (losing_none run))) (same_recorded g.archive run)
+    subst (λ l. Further came (moment_of_nodes (group_after_outcome (with_record g (recorded_in g.archive run)) n turn (all_given run))) l) (same_put run)
+    (subst (λ l. Further came (moment_of_nodes (group_after_outcome (with_record g (recorded_in g.archive run)) n turn l)) (put_losing (losing_none run))) (same_given run)
+    (subst (λ us. Further came (moment_of_nodes (group_after_outcome (with_record g us) n turn (given_losing (losing_none run)))) (put_losing (losing_none run))) (same_recorded g.archive run)
     (runs_happen g n core turn (losing_none run) turn.messages at (sent_losing g n run sent) (frozen_losing g n run sent) (all_kept turn.messages) config earlier came)))
 goes_on config g h (node_loses n core item turn kept by at runs sent thinned) earlier came =
     runs_happen g n core turn by.run kept at (subst (WereSent g n) (sym by.hears) sent) by.freezes thinned config earlier came
@@ -59,9 +59,9 @@ goes_on config g h (assigns_unheard wanted) earlier came = (by_event came _ (ass
 goes_on config g h (answers_unheard from ballot sent) earlier came = (by_event came _ (answer_lost from ballot sent) [] 0 [] refl (λ x. refl) refl).further
 
 pub seen_still : {old new : List (Moment State Command Output)} (groups : List Group) → ((z : Moment State Command Output) → In z old → In z new)
-    → Each (λ h. In (moment_of h) old) groups → Each (λ h. In (moment_of h) new) groups
+    → Each (λ h. In (moment_of_nodes h) old) groups → Each (λ h. In (moment_of_nodes h) new) groups
 seen_still [] kept all = tt
-seen_still (h ∷ groups) kept all = (kept (moment_of h) all.0, seen_still groups kept all.1)
+seen_still (h ∷ groups) kept all = (kept (moment_of_nodes h) all.0, seen_still groups kept all.1)
 
 pub groups_are_pasts : GroupsArePasts
 groups_are_pasts nodes config g (opened can) = record { earlier = []; past = began nodes can (opens_as nodes config); proposed = refl; taken = λ x. refl; seen = (here, tt) }
@@ -73,6 +73,6 @@ groups_are_pasts nodes config h (then_went {g = g} went step) =
       past = further.past;
       proposed = further.proposed ∙ ap (λ l. l ++ put_in_step step) so_far.proposed;
       taken = λ x.
-          further.taken x ∙ ap (λ l. l ++ packets_in x (put_in_step step)) (so_far.taken x) ∙ sym (packets_join x (all_put went) (put_in_step step));
-      seen = (here, seen_still (groups_of went) further.kept so_far.seen);
+          further.taken x ∙ ap (λ l. l ++ packets_in x (put_in_step step)) (so_far.taken x) ∙ sym (packets_join x (all_proposed went) (put_in_step step));
+      seen = (here, seen_still (groups_on_trace went) further.kept so_far.seen);
     }

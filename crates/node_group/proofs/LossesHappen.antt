@@ -27,8 +27,8 @@ use Rattle.node_moves.specs.LossyRuns.{Freezes}
 use Rattle.node_moves.specs.LossyMoves.LossyMoves.{exactly, hears_losing, first_losing, later_losing, tells_losing, expels_losing, forgets, halts, fails, unheard, drops}
 use Rattle.node_moves.specs.Moves.{is_proposal}
 use Rattle.node_moves.proofs.LossyOutputs.{delivers_replica}
-use Rattle.node_group.specs.Group.{Group, after_outcome, moment_of, replica_of, with_record}
-use Rattle.node_group.specs.Steps.{InputWasSent, keeping}
+use Rattle.node_group.specs.Group.{Group, group_after_outcome, moment_of_nodes, replica_of, with_record}
+use Rattle.node_group.specs.Steps.{InputWasSent, with_messages}
 use Rattle.node_group.specs.Losing.{WereSent, put_in_move, recorded_by}
 use Rattle.node_group.proofs.LosingNone.{sent_by}
 use Rattle.node_group.proofs.MovesHappen.{Once, changed_state, heard_as_running, heard_as_stopped, may_take, moves_happen, no_step, none_put, one_step, one_stop, happens_without_messages, room_is, state_of}
@@ -41,8 +41,8 @@ use Rattle.node_group.proofs.Thinning.{Given, KeptOf, kept_of_told, loses_more, 
 -- a replica that has stopped stays as it is, or stops again
 stopped_happens : (g : Group) (n : ℕ) (core : CoreState) (turn : StepOutcome) (new : ReplicaState State Command) (given thin : Given) → slice_get g.nodes n ≡ Some core → replica_of turn.core ≡ new
     → messages turn.messages ≡ messages thin → outputs given ≡ outputs thin → Loses rules (replica_of core) (nothing_done Output (replica_of core)) new thin
-    → (config : Config) (earlier : List (Moment State Command Output)) (came : Moments rules config (moment_of g ∷ earlier))
-    → Once came (moment_of (after_outcome g n turn given)) [] n (outputs given)
+    → (config : Config) (earlier : List (Moment State Command Output)) (came : Moments rules config (moment_of_nodes g ∷ earlier))
+    → Once came (moment_of_nodes (group_after_outcome g n turn given)) [] n (outputs given)
 stopped_happens g n core turn new given thin at replica sent left (inl (is, t)) config earlier came =
     let empty = nothing_kept thin t in no_step g n core turn given config earlier came at (replica ∙ is) (sent ∙ ap messages empty) (left ∙ ap outputs empty)
 stopped_happens g n core turn new given thin at replica sent left (inr (inl (is, empty))) config earlier came =
@@ -52,7 +52,7 @@ stopped_happens g n core turn new given thin at replica sent left (inr (inr (is,
 
 drives_happen : (g : Group) (n : ℕ) (core : CoreState) (input : Input Command) (did : Account) (kept : Given) → slice_get g.nodes n ≡ Some core → is_proposal input ≡ false
     → InputWasSent g n input → Drives input core did → Thinned kept did.messages → (config : Config) (earlier : List (Moment State Command Output))
-    (came : Moments rules config (moment_of g ∷ earlier)) → Once came (moment_of (after_outcome g n (keeping kept (outcome_in did)) did.given)) [] n (outputs did.given)
+    (came : Moments rules config (moment_of_nodes g ∷ earlier)) → Once came (moment_of_nodes (group_after_outcome g n (with_messages kept (outcome_in did)) did.given)) [] n (outputs did.given)
 drives_happen g n core input did kept at other sent m t config earlier came = by (replica_of core).stopped refl
   where
     k : KeptOf kept did.given
@@ -69,13 +69,13 @@ drives_happen g n core input did kept at other sent m t config earlier came = by
         loses_more (replica_of core) new (outcome_of_input input (replica_of core)) did.given k.thin (steps_lose core.replica m.replica (outcome_of_input input (replica_of core)) did.given m.steps)
         k.thinned
 
-    by : (b : Bool) → (replica_of core).stopped ≡ b → Once came (moment_of (after_outcome g n (keeping kept (outcome_in did)) did.given)) [] n (outputs did.given)
+    by : (b : Bool) → (replica_of core).stopped ≡ b → Once came (moment_of_nodes (group_after_outcome g n (with_messages kept (outcome_in did)) did.given)) [] n (outputs did.given)
     by true e =
-        stopped_happens g n core (keeping kept (outcome_in did)) new did.given k.thin at replica k.sent k.left
+        stopped_happens g n core (with_messages kept (outcome_in did)) new did.given k.thin at replica k.sent k.left
         (subst (λ (o : Outcome State Command Output). Loses rules (replica_of core) o new k.thin) (heard_as_stopped (replica_of core) input e) lost) config earlier came
     by false e =
-        subst (λ l. Once came (moment_of (after_outcome g n (keeping kept (outcome_in did)) did.given)) l n (outputs did.given)) (none_put core input other)
-        (one_step g n core (keeping kept (outcome_in did)) input new did.given k.thin config earlier came at e (may_take g n input other sent) replica
+        subst (λ l. Once came (moment_of_nodes (group_after_outcome g n (with_messages kept (outcome_in did)) did.given)) l n (outputs did.given)) (none_put core input other)
+        (one_step g n core (with_messages kept (outcome_in did)) input new did.given k.thin config earlier came at e (may_take g n input other sent) replica
         (subst (λ (o : Outcome State Command Output). Loses rules (replica_of core) o new k.thin) (heard_as_running (replica_of core) input e) lost) k.sent k.left
         (none_taken (replica_of core) new input other))
 
@@ -87,10 +87,10 @@ left_true false b e = absurd cc
 
 -- after a change of connections
 takes_happen : (g : Group) (n : ℕ) (core between : CoreState) (command : Command) (did : Account) (kept : Given) → slice_get g.nodes n ≡ Some core → between.replica ≡ core.replica
-    → TakesCommand command between did → Thinned kept did.messages → (config : Config) (earlier : List (Moment State Command Output)) (came : Moments rules config (moment_of g ∷ earlier))
-    → Once came (moment_of (after_outcome g n (keeping kept (outcome_in did)) did.given)) (((replica_of core).joined, command) ∷ []) n (outputs did.given)
+    → TakesCommand command between did → Thinned kept did.messages → (config : Config) (earlier : List (Moment State Command Output)) (came : Moments rules config (moment_of_nodes g ∷ earlier))
+    → Once came (moment_of_nodes (group_after_outcome g n (with_messages kept (outcome_in did)) did.given)) (((replica_of core).joined, command) ∷ []) n (outputs did.given)
 takes_happen g n core between command did kept at same taken t config earlier came =
-    one_step g n core (keeping kept (outcome_in did)) (Proposes command) new did.given k.thin config earlier came at (serving_runs core serving) tt replica
+    one_step g n core (with_messages kept (outcome_in did)) (Proposes command) new did.given k.thin config earlier came at (serving_runs core serving) tt replica
     (inl (is, subst (λ (o : Outcome State Command Output). Thinned k.thin o.effects) outcome thinner))
     k.sent k.left (subst (λ (s : ReplicaState State Command). AreTaken (replica_of core) s (Proposes command)) (sym is) (proposal_taken core command serving (λ x is_one. fits)))
   where
@@ -133,8 +133,8 @@ takes_happen g n core between command did kept at same taken t config earlier ca
 -- ---- each move
 
 pub losses_happen : (g : Group) (n : ℕ) (core : CoreState) (turn : StepOutcome) (m : LossyMoves core turn) (kept : Given) → slice_get g.nodes n ≡ Some core → WereSent g n (inputs_in m)
-    → Freezes m → Thinned kept turn.messages → (config : Config) (earlier : List (Moment State Command Output)) (came : Moments rules config (moment_of g ∷ earlier))
-    → Once came (moment_of (after_outcome (with_record g (recorded_by g.archive m)) n (keeping kept turn) (given_in m))) (put_in_move m) n (outputs (given_in m))
+    → Freezes m → Thinned kept turn.messages → (config : Config) (earlier : List (Moment State Command Output)) (came : Moments rules config (moment_of_nodes g ∷ earlier))
+    → Once came (moment_of_nodes (group_after_outcome (with_record g (recorded_by g.archive m)) n (with_messages kept turn) (given_in m))) (put_in_move m) n (outputs (given_in m))
 losses_happen g n core turn (exactly m) kept at sent frozen t = moves_happen g n core turn m kept at (sent_by g n m sent frozen) t
 losses_happen g n core turn (hears_losing input did other drives) kept at sent frozen t = drives_happen g n core input did kept at other sent.0 drives t
 losses_happen g n core turn (first_losing now port c connect rest did is_at first is taken) kept at sent frozen t =
@@ -146,7 +146,7 @@ losses_happen g n core turn (tells_losing name did taken) kept at sent frozen t 
 losses_happen g n core turn (expels_losing client did taken) kept at sent frozen t = takes_happen g n core core (commands.Expel client) did kept at refl taken t
 losses_happen g n core turn forgets kept at sent frozen t = happens_without_messages g n core turn.core kept at refl t
 losses_happen g n core turn halts kept at sent frozen t =
-    λ config earlier came. one_stop g n core (keeping kept turn) [] config earlier came at refl (ap messages (nothing_kept kept t)) refl
+    λ config earlier came. one_stop g n core (with_messages kept turn) [] config earlier came at refl (ap messages (nothing_kept kept t)) refl
 losses_happen g n core turn (fails port) kept at sent frozen t = happens_without_messages g n core turn.core kept at (changed_state port failing core) t
 losses_happen g n core turn unheard kept at sent frozen t = happens_without_messages g n core turn.core kept at refl t
 losses_happen g n core turn (drops port piece) kept at sent frozen t = happens_without_messages g n core turn.core kept at (changed_state port closed core) t

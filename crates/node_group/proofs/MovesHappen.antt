@@ -61,8 +61,8 @@ use Rattle.node_moves.specs.ballot_base.Cutting.{can_cut, cut}
 use Rattle.packet_world.specs.snapshots.World.{recorded}
 use Rattle.std.specs.Prelude.{not}
 use Rattle.std.proofs.lemmas.Bool.{and_parts, ltb-true}
-use Rattle.node_group.specs.Group.{Group, after_outcome, moment_of, replica_of, with_record}
-use Rattle.node_group.specs.Steps.{InputWasSent, WasSent, keeping, put_in_move}
+use Rattle.node_group.specs.Group.{Group, group_after_outcome, moment_of_nodes, replica_of, with_record}
+use Rattle.node_group.specs.Steps.{InputWasSent, WasSent, with_messages, put_in_move}
 use Rattle.node_group.specs.Pasts.{packets_in}
 use Rattle.node_group.specs.Putting.{recorded_by}
 use Rattle.node_group.proofs.Packets.{AreTaken, HasRoomFor, none_taken, packets_join, proposal_taken}
@@ -121,7 +121,7 @@ with_world m w = record { master = m; world = w }
 after_is : (g : Group) (n : ℕ) (outcome : StepOutcome) (given effects : Given) (new : ReplicaState State Command) → replica_of outcome.core ≡ new
     → messages outcome.messages ≡ messages effects → outputs given ≡ outputs effects
     → with_world g.master (let w : World State Command Output = record { nodes = slice_set (map replica_of g.nodes) n new; sent = g.sent ++ messages effects; left = g.left ++ outputs effects; archive = g.archive } in w)
-    ≡ moment_of (after_outcome g n outcome given)
+    ≡ moment_of_nodes (group_after_outcome g n outcome given)
 after_is g n outcome given effects new replica sent left =
     ap (with_world g.master)
     (sym (same_world g.archive (set_mapped replica_of g.nodes n outcome.core ∙ ap (λ r. slice_set (map replica_of g.nodes) n r) replica)
@@ -131,7 +131,7 @@ after_is g n outcome given effects new replica sent left =
 
 -- a turn that leaves the replica as it is, and hands out nothing
 stays_as_it_is : (g : Group) (n : ℕ) (core : CoreState) (outcome : StepOutcome) (given : Given) → slice_get g.nodes n ≡ Some core → replica_of outcome.core ≡ replica_of core
-    → messages outcome.messages ≡ [] → outputs given ≡ [] → moment_of g ≡ moment_of (after_outcome g n outcome given)
+    → messages outcome.messages ≡ [] → outputs given ≡ [] → moment_of_nodes g ≡ moment_of_nodes (group_after_outcome g n outcome given)
 stays_as_it_is g n core outcome given at same none_sent none_left =
     ap (with_world g.master)
     (same_world g.archive
@@ -192,34 +192,34 @@ no_event config a b earlier came n same =
 
 -- the replica takes a step on this, perhaps with losses; these messages and these outputs are what it gave
 pub one_step : (g : Group) (n : ℕ) (core : CoreState) (outcome : StepOutcome) (input : Input Command) (new : ReplicaState State Command) (given thin : Given) (config : Config)
-    (earlier : List (Moment State Command Output)) (came : Moments rules config (moment_of g ∷ earlier)) → slice_get g.nodes n ≡ Some core
-    → (replica_of core).stopped ≡ false → MayTake (moment_of g).world n input → replica_of outcome.core ≡ new
+    (earlier : List (Moment State Command Output)) (came : Moments rules config (moment_of_nodes g ∷ earlier)) → slice_get g.nodes n ≡ Some core
+    → (replica_of core).stopped ≡ false → MayTake (moment_of_nodes g).world n input → replica_of outcome.core ≡ new
     → Loses rules (replica_of core) (replica_step rules (replica_of core) input) new thin → messages outcome.messages ≡ messages thin → outputs given ≡ outputs thin
-    → AreTaken (replica_of core) new input → Once came (moment_of (after_outcome g n outcome given)) (proposal_by (replica_of core) input) n (outputs given)
+    → AreTaken (replica_of core) new input → Once came (moment_of_nodes (group_after_outcome g n outcome given)) (proposal_by (replica_of core) input) n (outputs given)
 one_step g n core outcome input new given thin config earlier came at runs may replica lost sent left took =
     subst (λ z. Once came z (proposal_by (replica_of core) input) n (outputs given)) (after_is g n outcome given thin new replica sent left)
     (by_event came _ step (proposal_by (replica_of core) input) n (outputs given) refl took
     (ap (λ b. if b then outputs thin else []) (eq_same n) ∙ sym left))
   where
-    step : MayHappen rules g.master (moment_of g).world g.master (moved_world (moment_of g).world n new thin)
+    step : MayHappen rules g.master (moment_of_nodes g).world g.master (moved_world (moment_of_nodes g).world n new thin)
     step = node_goes (goes.takes n (replica_of core) input (get_mapped replica_of g.nodes n core at) runs may lost)
 
 -- a crash
 pub one_stop : (g : Group) (n : ℕ) (core : CoreState) (outcome : StepOutcome) (given : Given) (config : Config) (earlier : List (Moment State Command Output))
-    (came : Moments rules config (moment_of g ∷ earlier)) → slice_get g.nodes n ≡ Some core → replica_of outcome.core ≡ halted rules (replica_of core)
-    → messages outcome.messages ≡ [] → outputs given ≡ [] → Once came (moment_of (after_outcome g n outcome given)) [] n (outputs given)
+    (came : Moments rules config (moment_of_nodes g ∷ earlier)) → slice_get g.nodes n ≡ Some core → replica_of outcome.core ≡ halted rules (replica_of core)
+    → messages outcome.messages ≡ [] → outputs given ≡ [] → Once came (moment_of_nodes (group_after_outcome g n outcome given)) [] n (outputs given)
 one_stop g n core outcome given config earlier came at replica none_sent none_left =
     subst (λ z. Once came z [] n (outputs given)) (after_is g n outcome given [] (halted rules (replica_of core)) replica none_sent none_left)
     (by_event came _ step [] n (outputs given) refl (λ x. refl) (sym none_left))
   where
-    step : MayHappen rules g.master (moment_of g).world g.master (moved_world (moment_of g).world n (halted rules (replica_of core)) [])
+    step : MayHappen rules g.master (moment_of_nodes g).world g.master (moved_world (moment_of_nodes g).world n (halted rules (replica_of core)) [])
     step = node_goes (goes.stops n (replica_of core) (get_mapped replica_of g.nodes n core at))
 
 -- a cut, after which the record has the places that the replica applied
 pub one_cut : (g : Group) (n : ℕ) (core : CoreState) (config : Config) (earlier : List (Moment State Command Output))
-    (came : Moments rules config (moment_of g ∷ earlier)) → slice_get g.nodes n ≡ Some core → can_cut (replica_of core) ≡ true
+    (came : Moments rules config (moment_of_nodes g ∷ earlier)) → slice_get g.nodes n ≡ Some core → can_cut (replica_of core) ≡ true
     → rules.thawed (rules.frozen (replica_of core).machine) ≡ Some (replica_of core).machine
-    → Once came (moment_of (after_outcome (with_record g (recorded g.archive (replica_of core))) n (without_messages (with_cut core)) [])) [] n []
+    → Once came (moment_of_nodes (group_after_outcome (with_record g (recorded g.archive (replica_of core))) n (without_messages (with_cut core)) [])) [] n []
 one_cut g n core config earlier came at can reads =
     subst (λ z. Once came z [] n []) (after_is (with_record g (recorded g.archive (replica_of core))) n (without_messages (with_cut core)) [] [] (cut rules (replica_of core)) refl refl refl)
     (by_event came _ step [] n [] refl (λ x. refl) refl)
@@ -231,32 +231,32 @@ one_cut g n core config earlier came at can reads =
     parts : ((not (replica_of core).stopped) ≡ true) × (nat_lt (replica_of core).log.base (replica_of core).committed ≡ true)
     parts = and_parts (not (replica_of core).stopped) (nat_lt (replica_of core).log.base (replica_of core).committed) can
 
-    step : MayHappen rules g.master (moment_of g).world g.master
-        (record (moved_world (moment_of g).world n (cut rules (replica_of core)) []) { archive = recorded g.archive (replica_of core) })
+    step : MayHappen rules g.master (moment_of_nodes g).world g.master
+        (record (moved_world (moment_of_nodes g).world n (cut rules (replica_of core)) []) { archive = recorded g.archive (replica_of core) })
     step =
         node_goes (goes.cuts n (replica_of core) (get_mapped replica_of g.nodes n core at) (going (replica_of core).stopped parts.0)
         (ltb-true (replica_of core).log.base (replica_of core).committed parts.1) reads)
 
 -- nothing happens to the replica
 pub no_step : (g : Group) (n : ℕ) (core : CoreState) (outcome : StepOutcome) (given : Given) (config : Config) (earlier : List (Moment State Command Output))
-    (came : Moments rules config (moment_of g ∷ earlier)) → slice_get g.nodes n ≡ Some core → replica_of outcome.core ≡ replica_of core
-    → messages outcome.messages ≡ [] → outputs given ≡ [] → Once came (moment_of (after_outcome g n outcome given)) [] n (outputs given)
+    (came : Moments rules config (moment_of_nodes g ∷ earlier)) → slice_get g.nodes n ≡ Some core → replica_of outcome.core ≡ replica_of core
+    → messages outcome.messages ≡ [] → outputs given ≡ [] → Once came (moment_of_nodes (group_after_outcome g n outcome given)) [] n (outputs given)
 no_step g n core outcome given config earlier came at replica none_sent none_left =
-    subst (λ (l : List (ℕ × Output)). Once came (moment_of (after_outcome g n outcome given)) [] n l) (sym none_left)
-    (no_event config (moment_of g) _ earlier came n (stays_as_it_is g n core outcome given at replica none_sent none_left))
+    subst (λ (l : List (ℕ × Output)). Once came (moment_of_nodes (group_after_outcome g n outcome given)) [] n l) (sym none_left)
+    (no_event config (moment_of_nodes g) _ earlier came n (stays_as_it_is g n core outcome given at replica none_sent none_left))
 
 -- ---- moves
 
 -- what must hold for each move, of which these messages are kept
 abbrev Happens : Group → ℕ → (core : CoreState) (outcome : StepOutcome) → Moves core outcome → Given → Type 0
-Happens g n core outcome m kept = (config : Config) (earlier : List (Moment State Command Output)) (came : Moments rules config (moment_of g ∷ earlier))
-    → Once came (moment_of (after_outcome (with_record g (recorded_by g.archive m)) n (keeping kept outcome) (given_in m))) (put_in_move m) n (outputs (given_in m))
+Happens g n core outcome m kept = (config : Config) (earlier : List (Moment State Command Output)) (came : Moments rules config (moment_of_nodes g ∷ earlier))
+    → Once came (moment_of_nodes (group_after_outcome (with_record g (recorded_by g.archive m)) n (with_messages kept outcome) (given_in m))) (put_in_move m) n (outputs (given_in m))
 
 pub happens_without_messages : (g : Group) (n : ℕ) (core later : CoreState) (kept : Given) → slice_get g.nodes n ≡ Some core → replica_of later ≡ replica_of core → Thinned kept []
-    → (config : Config) (earlier : List (Moment State Command Output)) (came : Moments rules config (moment_of g ∷ earlier))
-    → Once came (moment_of (after_outcome g n (keeping kept (without_messages later)) [])) [] n []
+    → (config : Config) (earlier : List (Moment State Command Output)) (came : Moments rules config (moment_of_nodes g ∷ earlier))
+    → Once came (moment_of_nodes (group_after_outcome g n (with_messages kept (without_messages later)) [])) [] n []
 happens_without_messages g n core later kept at same t config earlier came =
-    no_step g n core (keeping kept (without_messages later)) [] config earlier came at same (ap messages (nothing_kept kept t)) refl
+    no_step g n core (with_messages kept (without_messages later)) [] config earlier came at same (ap messages (nothing_kept kept t)) refl
 
 pub state_of : (a b : CoreState) → a.replica ≡ b.replica → replica_of a ≡ replica_of b
 state_of a b same = ap (λ (r : CountedReplica State Command). r.state) same
@@ -270,25 +270,25 @@ serves_as a b same =
 
 -- a step of only the replica, of which these messages are kept
 moved_happens : (g : Group) (n : ℕ) (core between : CoreState) (input : Input Command) (kept : Given) → slice_get g.nodes n ≡ Some core
-    → (replica_of core).stopped ≡ false → MayTake (moment_of g).world n input → AreTaken (replica_of core) (replica_step rules (replica_of core) input).state input
+    → (replica_of core).stopped ≡ false → MayTake (moment_of_nodes g).world n input → AreTaken (replica_of core) (replica_step rules (replica_of core) input).state input
     → KeptOf kept (replica_step rules (replica_of core) input).effects → (config : Config) (earlier : List (Moment State Command Output))
-    (came : Moments rules config (moment_of g ∷ earlier))
-    → Once came (moment_of (after_outcome g n (keeping kept (after_replica_step (replica_step rules (replica_of core) input) between)) (replica_step rules (replica_of core) input).effects))
+    (came : Moments rules config (moment_of_nodes g ∷ earlier))
+    → Once came (moment_of_nodes (group_after_outcome g n (with_messages kept (after_replica_step (replica_step rules (replica_of core) input) between)) (replica_step rules (replica_of core) input).effects))
     (proposal_by (replica_of core) input) n (outputs (replica_step rules (replica_of core) input).effects)
 moved_happens g n core between input kept at runs may took k config earlier came =
-    one_step g n core (keeping kept (after_replica_step (replica_step rules (replica_of core) input) between)) input (replica_step rules (replica_of core) input).state
+    one_step g n core (with_messages kept (after_replica_step (replica_step rules (replica_of core) input) between)) input (replica_step rules (replica_of core) input).state
     (replica_step rules (replica_of core) input).effects k.thin config earlier came at runs may (moved_replica (replica_step rules (replica_of core) input) between)
     (inl (refl, k.thinned)) k.sent k.left took
 
 -- a command is put to the replica of a node that serves
 put_happens : (g : Group) (n : ℕ) (core between : CoreState) (command : Command) (kept : Given) → slice_get g.nodes n ≡ Some core → between.replica ≡ core.replica
     → serves core ≡ true → HasRoomFor core command → Thinned kept (proposes command between).messages → (config : Config) (earlier : List (Moment State Command Output))
-    (came : Moments rules config (moment_of g ∷ earlier))
-    → Once came (moment_of (after_outcome g n (keeping kept (proposes command between)) (proposed rules (replica_of core) command).effects)) (((replica_of core).joined, command) ∷ []) n
+    (came : Moments rules config (moment_of_nodes g ∷ earlier))
+    → Once came (moment_of_nodes (group_after_outcome g n (with_messages kept (proposes command between)) (proposed rules (replica_of core) command).effects)) (((replica_of core).joined, command) ∷ []) n
     (outputs (proposed rules (replica_of core) command).effects)
 unfolding proposes
 put_happens g n core between command kept at same serving room t config earlier came =
-    subst (λ (c : CoreState). Once came (moment_of (after_outcome g n (let u : StepOutcome = record { core = c; messages = kept } in u) (proposed rules (replica_of core) command).effects))
+    subst (λ (c : CoreState). Once came (moment_of_nodes (group_after_outcome g n (let u : StepOutcome = record { core = c; messages = kept } in u) (proposed rules (replica_of core) command).effects))
     (((replica_of core).joined, command) ∷ []) n (outputs (proposed rules (replica_of core) command).effects)) (sym is)
     (moved_happens g n core between (Proposes command) kept at (serving_runs core serving) tt (proposal_taken core command serving room)
     (kept_of_all (proposed rules (replica_of core) command).effects kept (by serving_between t)) config earlier came)
@@ -324,7 +324,7 @@ heard_as_stopped r input e = heard_stopped r.stopped r input e
 pub heard_as_running : (r : ReplicaState State Command) (input : Input Command) → r.stopped ≡ false → outcome_of_input input r ≡ replica_step rules r input
 heard_as_running r input e = heard_running r.stopped r input e
 
-pub may_take : (g : Group) (n : ℕ) (i : Input Command) → is_proposal i ≡ false → InputWasSent g n i → MayTake (moment_of g).world n i
+pub may_take : (g : Group) (n : ℕ) (i : Input Command) → is_proposal i ≡ false → InputWasSent g n i → MayTake (moment_of_nodes g).world n i
 may_take g n (Receives message) e s = s
 may_take g n (Proposes command) e s = absurd cc
 may_take g n Ticks e s = tt
@@ -336,24 +336,24 @@ none_put core Ticks e = refl
 
 heard_happens : (g : Group) (n : ℕ) (core : CoreState) (input : Input Command) (kept : Given) → slice_get g.nodes n ≡ Some core → is_proposal input ≡ false
     → InputWasSent g n input → Thinned kept (drives input core).messages → (config : Config) (earlier : List (Moment State Command Output))
-    (came : Moments rules config (moment_of g ∷ earlier))
-    → Once came (moment_of (after_outcome g n (keeping kept (drives input core)) (outcome_of_input input (replica_of core)).effects)) [] n (outputs (outcome_of_input input (replica_of core)).effects)
+    (came : Moments rules config (moment_of_nodes g ∷ earlier))
+    → Once came (moment_of_nodes (group_after_outcome g n (with_messages kept (drives input core)) (outcome_of_input input (replica_of core)).effects)) [] n (outputs (outcome_of_input input (replica_of core)).effects)
 unfolding drives
 heard_happens g n core input kept at other sent t config earlier came = by (replica_of core).stopped refl t
   where
     after : Outcome State Command Output → Type 0
-    after o = Thinned kept (after_replica_step o core).messages → Once came (moment_of (after_outcome g n (keeping kept (after_replica_step o core)) o.effects)) [] n (outputs o.effects)
+    after o = Thinned kept (after_replica_step o core).messages → Once came (moment_of_nodes (group_after_outcome g n (with_messages kept (after_replica_step o core)) o.effects)) [] n (outputs o.effects)
 
     by : (b : Bool) → (replica_of core).stopped ≡ b → after (outcome_of_input input (replica_of core))
     by true e =
         subst after (sym (heard_as_stopped (replica_of core) input e))
         (λ f.
-        no_step g n core (keeping kept (after_replica_step (nothing_done Output (replica_of core)) core)) [] config earlier came at
+        no_step g n core (with_messages kept (after_replica_step (nothing_done Output (replica_of core)) core)) [] config earlier came at
         (moved_replica (nothing_done Output (replica_of core)) core) (ap messages (nothing_kept kept f)) refl)
     by false e =
         subst after (sym (heard_as_running (replica_of core) input e))
         (λ f.
-        subst (λ l. Once came (moment_of (after_outcome g n (keeping kept (after_replica_step (replica_step rules (replica_of core) input) core)) (replica_step rules (replica_of core) input).effects)) l n
+        subst (λ l. Once came (moment_of_nodes (group_after_outcome g n (with_messages kept (after_replica_step (replica_step rules (replica_of core) input) core)) (replica_step rules (replica_of core) input).effects)) l n
         (outputs (replica_step rules (replica_of core) input).effects))
         (none_put core input other)
         (moved_happens g n core core input kept at e (may_take g n input other sent) (none_taken (replica_of core) (replica_step rules (replica_of core) input).state input other)
@@ -362,20 +362,20 @@ heard_happens g n core input kept at other sent t config earlier came = by (repl
 -- if the node does not serve, it is not reported that a connection is lost
 lost_unheard : (g : Group) (n : ℕ) (core between : CoreState) (command : Command) (kept : Given) → slice_get g.nodes n ≡ Some core → between.replica ≡ core.replica
     → serves core ≡ false → Thinned kept (proposes command between).messages → (config : Config) (earlier : List (Moment State Command Output))
-    (came : Moments rules config (moment_of g ∷ earlier)) → Once came (moment_of (after_outcome g n (keeping kept (proposes command between)) [])) [] n []
+    (came : Moments rules config (moment_of_nodes g ∷ earlier)) → Once came (moment_of_nodes (group_after_outcome g n (with_messages kept (proposes command between)) [])) [] n []
 unfolding proposes
 lost_unheard g n core between command kept at same none_served t config earlier came = by (serves between) (serves_as between core same ∙ none_served) t
   where
     by : (b : Bool) → b ≡ false → Thinned kept (let u : StepOutcome = if b then after_replica_step (proposed rules (replica_of between) command) between else without_messages between in u).messages
-        → Once came (moment_of (after_outcome g n (keeping kept (let u : StepOutcome = if b then after_replica_step (proposed rules (replica_of between) command) between else without_messages between in u)) [])) [] n []
+        → Once came (moment_of_nodes (group_after_outcome g n (with_messages kept (let u : StepOutcome = if b then after_replica_step (proposed rules (replica_of between) command) between else without_messages between in u)) [])) [] n []
     by true e f = absurd cc
     by false e f = happens_without_messages g n core between kept at (state_of between core same) f config earlier came
 
 -- if it serves, that is reported to the broker
 lost_happens : (g : Group) (n : ℕ) (core between : CoreState) (command : Command) (kept : Given) → slice_get g.nodes n ≡ Some core → between.replica ≡ core.replica
     → HasRoomFor core command → (b : Bool) → serves core ≡ b → Thinned kept (proposes command between).messages → (config : Config)
-    (earlier : List (Moment State Command Output)) (came : Moments rules config (moment_of g ∷ earlier))
-    → Once came (moment_of (after_outcome g n (keeping kept (proposes command between)) (if b then (proposed rules (replica_of core) command).effects else [])))
+    (earlier : List (Moment State Command Output)) (came : Moments rules config (moment_of_nodes g ∷ earlier))
+    → Once came (moment_of_nodes (group_after_outcome g n (with_messages kept (proposes command between)) (if b then (proposed rules (replica_of core) command).effects else [])))
     (map (λ put. ((replica_of core).joined, put)) (if b then command ∷ [] else [])) n (outputs (if b then (proposed rules (replica_of core) command).effects else []))
 lost_happens g n core between command kept at same room true e t = put_happens g n core between command kept at same e room t
 lost_happens g n core between command kept at same room false e t = lost_unheard g n core between command kept at same e t
@@ -397,10 +397,10 @@ expel_is_none core client x is = let e : is_packet_of (commands.Expel client) x 
 -- the log is cut
 cut_happens : (g : Group) (n : ℕ) (core : CoreState) (kept : Given) → slice_get g.nodes n ≡ Some core → can_cut (replica_of core) ≡ true
     → rules.thawed (rules.frozen (replica_of core).machine) ≡ Some (replica_of core).machine → Thinned kept []
-    → (config : Config) (earlier : List (Moment State Command Output)) (came : Moments rules config (moment_of g ∷ earlier))
-    → Once came (moment_of (after_outcome (with_record g (recorded g.archive (replica_of core))) n (keeping kept (without_messages (with_cut core))) [])) [] n []
+    → (config : Config) (earlier : List (Moment State Command Output)) (came : Moments rules config (moment_of_nodes g ∷ earlier))
+    → Once came (moment_of_nodes (group_after_outcome (with_record g (recorded g.archive (replica_of core))) n (with_messages kept (without_messages (with_cut core))) [])) [] n []
 cut_happens g n core kept at can reads t config earlier came =
-    subst (λ (l : Given). Once came (moment_of (after_outcome (with_record g (recorded g.archive (replica_of core))) n (keeping l (without_messages (with_cut core))) [])) [] n [])
+    subst (λ (l : Given). Once came (moment_of_nodes (group_after_outcome (with_record g (recorded g.archive (replica_of core))) n (with_messages l (without_messages (with_cut core))) [])) [] n [])
     (sym (nothing_kept kept t)) (one_cut g n core config earlier came at can reads)
 
 pub moves_happen : (g : Group) (n : ℕ) (core : CoreState) (outcome : StepOutcome) (m : Moves core outcome) (kept : Given) → slice_get g.nodes n ≡ Some core → WasSent g n m
@@ -425,6 +425,6 @@ moves_happen g n core outcome (expels_one client) kept at sent t =
     lost_happens g n core core (commands.Expel client) kept at refl (expel_is_none core client) (serves core) refl t
 moves_happen g n core outcome (cuts_log can) kept at sent t = cut_happens g n core kept at can sent t
 moves_happen g n core outcome crashes kept at sent t =
-    λ config earlier came. one_stop g n core (keeping kept outcome) [] config earlier came at refl (ap messages (nothing_kept kept t)) refl
+    λ config earlier came. one_stop g n core (with_messages kept outcome) [] config earlier came at refl (ap messages (nothing_kept kept t)) refl
 moves_happen g n core outcome settles kept at sent t = happens_without_messages g n core _ kept at (state_of (settled core) core (settles_keeps core)) t
 moves_happen g n core outcome (hands port) kept at sent t = happens_without_messages g n core _ kept at (state_of (hands_over port core) core (hands_keeps port core)) t

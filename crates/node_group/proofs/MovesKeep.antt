@@ -36,10 +36,10 @@ use Rattle.node_moves.proofs.LossyClosed.{lossy_names_are_of_the_ballot}
 use Rattle.node_moves.proofs.LossyReads.{losses_read_in_order}
 use Rattle.node_moves.proofs.LossyShuts.{sent_in}
 use Rattle.node_moves.proofs.ProposesInOrder.{commands_join}
-use Rattle.node_group.specs.Group.{Group, after_outcome, moment_of, replica_of, with_record}
-use Rattle.node_group.specs.Steps.{keeping}
+use Rattle.node_group.specs.Group.{Group, group_after_outcome, moment_of_nodes, replica_of, with_record}
+use Rattle.node_group.specs.Steps.{with_messages}
 use Rattle.node_group.specs.Losing.{commands_put, put_in_move, recorded_by}
-use Rattle.node_group.specs.Order.{packets_of}
+use Rattle.node_group.specs.Order.{packet_commands}
 use Rattle.node_group.proofs.MovesHappen.{Once}
 use Rattle.node_group.proofs.Placed.{get_mapped, get_of_set}
 use Rattle.node_group.specs.Carried.{answers_to}
@@ -59,7 +59,7 @@ nothing_before : {X : Type 0} (xs : List X) → IsPrefixOf xs [] → xs ≡ []
 nothing_before [] p = refl
 nothing_before (x ∷ xs) p = let e = p.is in cc
 
-none_answered : (x : ConnectionName) (agreed : List Command) (k : ℕ) → packets_of x agreed ≡ [] → answers_to x (take k agreed) ≡ []
+none_answered : (x : ConnectionName) (agreed : List Command) (k : ℕ) → packet_commands x agreed ≡ [] → answers_to x (take k agreed) ≡ []
 none_answered x agreed k none =
     nothing_before (answers_to x (take k agreed))
     (subst (IsPrefixOf (answers_to x (take k agreed))) (ap spelled (nothing_put usual_limits agreed x (counted_in usual_limits x agreed ∙ ap length none)))
@@ -83,37 +83,37 @@ LeadsStill core outcome = (x : ConnectionName) (c : Connection) → listed_named
     → is_active (replica_of core).role ≡ true
 
 -- what is known about a move of the node at an index of a group, of which these messages are kept
-pub record Known {config : Config} (g : Group) {earlier : List (Moment State Command Output)} (came : Moments rules config (moment_of g ∷ earlier)) (a : ℕ)
+pub record Known {config : Config} (g : Group) {earlier : List (Moment State Command Output)} (came : Moments rules config (moment_of_nodes g ∷ earlier)) (a : ℕ)
     {core : CoreState} {outcome : StepOutcome} (m : LossyMoves core outcome) (kept : List (Effect Command Output)) : Type 0 where
   pub at : slice_get g.nodes a ≡ Some core
   pub orderly : IsOrderly core
   pub leads : LeadsStill core outcome
-  pub once : Once came (moment_of (after_outcome (with_record g (recorded_by g.archive m)) a (keeping kept outcome) (given_in m))) (put_in_move m) a (outputs (given_in m))
+  pub once : Once came (moment_of_nodes (group_after_outcome (with_record g (recorded_by g.archive m)) a (with_messages kept outcome) (given_in m))) (put_in_move m) a (outputs (given_in m))
 
 -- and of one connection in it
-record Here {config : Config} {g : Group} {earlier : List (Moment State Command Output)} {came : Moments rules config (moment_of g ∷ earlier)} {a : ℕ}
+record Here {config : Config} {g : Group} {earlier : List (Moment State Command Output)} {came : Moments rules config (moment_of_nodes g ∷ earlier)} {a : ℕ}
     {core : CoreState} {outcome : StepOutcome} {m : LossyMoves core outcome} {kept : List (Effect Command Output)} (k : Known g came a m kept) (x : ConnectionName) (put : List (ℕ × Command)) (xs ys : List Command) : Type 0 where
   grown : IsPrefixOf xs ys
   sends : Sends x (replica_of core) (replica_of outcome.core) ys (spelled (sends_to x (outputs_of (given_in m))))
-  said : IsPrefixOf (packets_of x ys) (packets_of x (commands_in (put ++ put_in_move m)))
+  said : IsPrefixOf (packet_commands x ys) (packet_commands x (commands_in (put ++ put_in_move m)))
 
-abbrev After : {config : Config} {g : Group} {earlier : List (Moment State Command Output)} {came : Moments rules config (moment_of g ∷ earlier)} {a : ℕ}
+abbrev After : {config : Config} {g : Group} {earlier : List (Moment State Command Output)} {came : Moments rules config (moment_of_nodes g ∷ earlier)} {a : ℕ}
     {core : CoreState} {outcome : StepOutcome} {m : LossyMoves core outcome} {kept : List (Effect Command Output)} → Known g came a m kept → ConnectionName → List Packet → List ℕ → List (ℕ × Command) → List ℕ → List Command → Type 0
 After {g = g} {a = a} {outcome = outcome} {m = m} {kept = kept} k x written later put down ys =
-    Stands x written later (after_outcome (with_record g (recorded_by g.archive m)) a (keeping kept outcome) (given_in m)) (moment_of (after_outcome (with_record g (recorded_by g.archive m)) a (keeping kept outcome) (given_in m)) ∷ k.once.further.before) (put ++ put_in_move m)
+    Stands x written later (group_after_outcome (with_record g (recorded_by g.archive m)) a (with_messages kept outcome) (given_in m)) (moment_of_nodes (group_after_outcome (with_record g (recorded_by g.archive m)) a (with_messages kept outcome) (given_in m)) ∷ k.once.further.before) (put ++ put_in_move m)
     (down ++ handed_on x m) ys
 
 unrefused : (x : ConnectionName) {core : CoreState} {outcome : StepOutcome} (m : LossyMoves core outcome) → refusal_in x m ≡ [] → sent_in x m ≡ spelled (sends_to x (outputs_of (given_in m)))
 unrefused x m none = ap (λ l. spelled (l ++ sends_to x (outputs_of (given_in m)))) none
 
-nothing_more : (x : ConnectionName) (put : List (ℕ × Command)) {core : CoreState} {outcome : StepOutcome} (m : LossyMoves core outcome) → packets_of x (proposal_of m) ≡ []
-    → packets_of x (commands_in (put ++ put_in_move m)) ≡ packets_of x (commands_in put)
+nothing_more : (x : ConnectionName) (put : List (ℕ × Command)) {core : CoreState} {outcome : StepOutcome} (m : LossyMoves core outcome) → packet_commands x (proposal_of m) ≡ []
+    → packet_commands x (commands_in (put ++ put_in_move m)) ≡ packet_commands x (commands_in put)
 nothing_more x put {core = core} {outcome = outcome} m none =
-    packets_more x put m ∙ ap (λ l. packets_of x (commands_in put) ++ l) (packets_put x core outcome m ∙ none) ∙ append-nil (packets_of x (commands_in put))
+    packets_more x put m ∙ ap (λ l. packet_commands x (commands_in put) ++ l) (packets_put x core outcome m ∙ none) ∙ append-nil (packet_commands x (commands_in put))
 
 -- ---- no node had it
 
-untouched_keeps : {config : Config} {g : Group} {earlier : List (Moment State Command Output)} {came : Moments rules config (moment_of g ∷ earlier)} {a : ℕ}
+untouched_keeps : {config : Config} {g : Group} {earlier : List (Moment State Command Output)} {came : Moments rules config (moment_of_nodes g ∷ earlier)} {a : ℕ}
     {core : CoreState} {outcome : StepOutcome} {m : LossyMoves core outcome} {kept : List (Effect Command Output)} (k : Known g came a m kept) (x : ConnectionName) (written : List Packet) (later : List ℕ) (put : List (ℕ × Command)) (down : List ℕ)
     (xs ys : List Command) → Here k x put xs ys → Untouched x written (came_on x m ++ later) g put down → After k x written later put down ys
 untouched_keeps {g = g} {earlier = earlier} {a = a} {core = core} {outcome = outcome} {m = m} {kept = kept} k x written later put down xs ys h u =
@@ -122,7 +122,7 @@ untouched_keeps {g = g} {earlier = earlier} {a = a} {core = core} {outcome = out
     none : listed_named x core ≡ None
     none = u.nowhere a core k.at
 
-    unsaid : packets_of x (proposal_of m) ≡ []
+    unsaid : packet_commands x (proposal_of m) ≡ []
     unsaid = none_put x core outcome m k.orderly (unlisted_shut x core none)
 
     quiet : came_on x m ++ later ≡ later
@@ -152,7 +152,7 @@ untouched_keeps {g = g} {earlier = earlier} {a = a} {core = core} {outcome = out
         on (inl (same, f)) = absurd (apart same)
         on (inr f) = f
 
-    silent : packets_of x (commands_in (put ++ put_in_move m)) ≡ []
+    silent : packet_commands x (commands_in (put ++ put_in_move m)) ≡ []
     silent = nothing_more x put m unsaid ∙ u.unsaid
 
     opened : (d : Connection) → listed_named x outcome.core ≡ Some d → handed_on x m ≡ [] → live d ≡ true → d.pending ≡ [] → After k x written later put down ys
@@ -169,11 +169,11 @@ untouched_keeps {g = g} {earlier = earlier} {a = a} {core = core} {outcome = out
           given = listed_given x outcome.core d read.0 there;
           read = r.more;
           end = r.end;
-          said = packets_more x put m ∙ ap (λ l. l ++ packets_of x (commands_put m)) u.unsaid ∙ packets_put x core outcome m ∙ r.proposed;
+          said = packets_more x put m ∙ ap (λ l. l ++ packet_commands x (commands_put m)) u.unsaid ∙ packets_put x core outcome m ∙ r.proposed;
           others = elsewhere d there;
           sent = subst (Down x (replica_of outcome.core) (down ++ handed_on x m) ys) (sym there)
               (shows (replica_of outcome.core).committed lives h.sends.inside (rw (u.unsent, no_bytes, empty) (sym
-              (none_answered x ys (replica_of outcome.core).committed (nothing_before (packets_of x ys) (subst (IsPrefixOf (packets_of x ys)) silent h.said))))) (λ e. refl));
+              (none_answered x ys (replica_of outcome.core).committed (nothing_before (packet_commands x ys) (subst (IsPrefixOf (packet_commands x ys)) silent h.said))))) (λ e. refl));
         })
 
     by : (p : Option Connection) → listed_named x outcome.core ≡ p → Flows (handed_on x m) (sent_in x m) None p → After k x written later put down ys
@@ -188,9 +188,9 @@ untouched_keeps {g = g} {earlier = earlier} {a = a} {core = core} {outcome = out
 
 -- ---- the node that has it
 
-held_here : {config : Config} {g : Group} {earlier : List (Moment State Command Output)} {came : Moments rules config (moment_of g ∷ earlier)} {a : ℕ}
+held_here : {config : Config} {g : Group} {earlier : List (Moment State Command Output)} {came : Moments rules config (moment_of_nodes g ∷ earlier)} {a : ℕ}
     {core : CoreState} {outcome : StepOutcome} {m : LossyMoves core outcome} {kept : List (Effect Command Output)} (k : Known g came a m kept) (x : ConnectionName) (written : List Packet) (later : List ℕ) (put : List (ℕ × Command)) (down : List ℕ)
-    (xs ys : List Command) → Here k x put xs ys → (held : Held x written (came_on x m ++ later) g (moment_of g ∷ earlier) put down xs) → held.n ≡ a → held.core ≡ core
+    (xs ys : List Command) → Here k x put xs ys → (held : Held x written (came_on x m ++ later) g (moment_of_nodes g ∷ earlier) put down xs) → held.n ≡ a → held.core ≡ core
     → After k x written later put down ys
 held_here {g = g} {earlier = earlier} {a = a} {core = core} {outcome = outcome} {m = m} {kept = kept} k x written later put down xs ys h held here_so same =
     inr (record {
@@ -201,7 +201,7 @@ held_here {g = g} {earlier = earlier} {a = a} {core = core} {outcome = outcome} 
       given = stays_given x core outcome m k.orderly given;
       read = held.read ++ r.more;
       end = r.end;
-      said = packets_more x put m ∙ ap (λ l. l ++ packets_of x (commands_put m)) held.said
+      said = packets_more x put m ∙ ap (λ l. l ++ packet_commands x (commands_put m)) held.said
           ∙ ap (λ l. commands_of x 0 held.read ++ l) (packets_put x core outcome m ∙ r.proposed ∙ ap (λ n. commands_of x n r.more) (from_none (length held.read)))
           ∙ sym (commands_join x 0 held.read r.more);
       others = elsewhere;
@@ -240,9 +240,9 @@ held_here {g = g} {earlier = earlier} {a = a} {core = core} {outcome = outcome} 
 
 -- ---- another node has it
 
-held_there : {config : Config} {g : Group} {earlier : List (Moment State Command Output)} {came : Moments rules config (moment_of g ∷ earlier)} {a : ℕ}
+held_there : {config : Config} {g : Group} {earlier : List (Moment State Command Output)} {came : Moments rules config (moment_of_nodes g ∷ earlier)} {a : ℕ}
     {core : CoreState} {outcome : StepOutcome} {m : LossyMoves core outcome} {kept : List (Effect Command Output)} (k : Known g came a m kept) (x : ConnectionName) (written : List Packet) (later : List ℕ) (put : List (ℕ × Command)) (down : List ℕ)
-    (xs ys : List Command) → Here k x put xs ys → (held : Held x written (came_on x m ++ later) g (moment_of g ∷ earlier) put down xs) → (a ≡ held.n → ⊥)
+    (xs ys : List Command) → Here k x put xs ys → (held : Held x written (came_on x m ++ later) g (moment_of_nodes g ∷ earlier) put down xs) → (a ≡ held.n → ⊥)
     → After k x written later put down ys
 held_there {config = config} {g = g} {earlier = earlier} {came = came} {a = a} {core = core} {outcome = outcome} {m = m} {kept = kept} k x written later put down xs ys h held apart =
     by (listed_named x outcome.core) refl (subst (λ (o : Option Connection). Flows (handed_on x m) (sent_in x m) o (listed_named x outcome.core)) none (move_flows x core outcome m k.orderly))
@@ -279,16 +279,16 @@ held_there {config = config} {g = g} {earlier = earlier} {came = came} {a = a} {
         })
     by (Some d) there f =
         let now = leads_now g a core x earlier k.at (lossy_names_are_of_the_ballot core outcome m k.orderly x d none there) in
-        absurd (apart (one_primary_a_ballot rules config (moment_of g) earlier came now.moment held.led.moment a held.n x.ballot now.among held.led.among now.primary held.led.primary))
+        absurd (apart (one_primary_a_ballot rules config (moment_of_nodes g) earlier came now.moment held.led.moment a held.n x.ballot now.among held.led.among now.primary held.led.primary))
 
 -- ---- the move
 
-pub move_keeps : {config : Config} {g : Group} {earlier : List (Moment State Command Output)} {came : Moments rules config (moment_of g ∷ earlier)} {a : ℕ}
+pub move_keeps : {config : Config} {g : Group} {earlier : List (Moment State Command Output)} {came : Moments rules config (moment_of_nodes g ∷ earlier)} {a : ℕ}
     {core : CoreState} {outcome : StepOutcome} {m : LossyMoves core outcome} {kept : List (Effect Command Output)} (k : Known g came a m kept) (x : ConnectionName) (written : List Packet) (later : List ℕ) (put : List (ℕ × Command)) (down : List ℕ)
-    (xs ys : List Command) → IsAgreed config (moment_of g ∷ earlier) xs → IsAgreed config (moment_of (after_outcome (with_record g (recorded_by g.archive m)) a (keeping kept outcome) (given_in m)) ∷ k.once.further.before) ys
-    → IsPrefixOf (packets_of x ys) (packets_of x (commands_in (put ++ put_in_move m)))
-    → Stands x written (came_on x m ++ later) g (moment_of g ∷ earlier) put down xs
-    → Stands x written later (after_outcome (with_record g (recorded_by g.archive m)) a (keeping kept outcome) (given_in m)) (moment_of (after_outcome (with_record g (recorded_by g.archive m)) a (keeping kept outcome) (given_in m)) ∷ k.once.further.before) (put ++ put_in_move m) (down ++ handed_on x m) ys
+    (xs ys : List Command) → IsAgreed config (moment_of_nodes g ∷ earlier) xs → IsAgreed config (moment_of_nodes (group_after_outcome (with_record g (recorded_by g.archive m)) a (with_messages kept outcome) (given_in m)) ∷ k.once.further.before) ys
+    → IsPrefixOf (packet_commands x ys) (packet_commands x (commands_in (put ++ put_in_move m)))
+    → Stands x written (came_on x m ++ later) g (moment_of_nodes g ∷ earlier) put down xs
+    → Stands x written later (group_after_outcome (with_record g (recorded_by g.archive m)) a (with_messages kept outcome) (given_in m)) (moment_of_nodes (group_after_outcome (with_record g (recorded_by g.archive m)) a (with_messages kept outcome) (given_in m)) ∷ k.once.further.before) (put ++ put_in_move m) (down ++ handed_on x m) ys
 move_keeps {config = config} {g = g} {earlier = earlier} {came = came} {a = a} {core = core} {outcome = outcome} {m = m} {kept = kept} k x written later put down xs ys before after said stands = by stands
   where
     h : Here k x put xs ys
@@ -300,10 +300,10 @@ move_keeps {config = config} {g = g} {earlier = earlier} {came = came} {a = a} {
       said = said;
     }
 
-    on : (held : Held x written (came_on x m ++ later) g (moment_of g ∷ earlier) put down xs) → (held.n ≡ a) ⊎ (held.n ≡ a → ⊥) → After k x written later put down ys
+    on : (held : Held x written (came_on x m ++ later) g (moment_of_nodes g ∷ earlier) put down xs) → (held.n ≡ a) ⊎ (held.n ≡ a → ⊥) → After k x written later put down ys
     on held (inl same) = held_here k x written later put down xs ys h held same (same_core held.core core (sym held.stands ∙ ap (slice_get g.nodes) same ∙ k.at))
     on held (inr apart) = held_there k x written later put down xs ys h held (λ e. apart (sym e))
 
-    by : Stands x written (came_on x m ++ later) g (moment_of g ∷ earlier) put down xs → After k x written later put down ys
+    by : Stands x written (came_on x m ++ later) g (moment_of_nodes g ∷ earlier) put down xs → After k x written later put down ys
     by (inl u) = untouched_keeps k x written later put down xs ys h u
     by (inr held) = on held (same_or_other held.n a)

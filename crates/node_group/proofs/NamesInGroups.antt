@@ -28,7 +28,7 @@ use Rattle.node_moves.proofs.Shut.{all}
 use Rattle.node_moves.proofs.Views.{each_filtered, found_each, view}
 use Rattle.node_group.specs.Ballots.{IsInItsBallot, PutsInTheBallotOfTheName}
 use Rattle.node_group.specs.Group.{Group, opening_cores, with_master}
-use Rattle.node_group.specs.Steps.{GroupStep, GroupTrace, all_put, after_assign, put_in_step}
+use Rattle.node_group.specs.Steps.{GroupStep, GroupTrace, all_proposed, after_assign, put_in_step}
 use Rattle.node_group.specs.Steps.GroupStep.{node_acts, node_loses, master_assigns as assigns, master_hears as hears_master, assigns_unheard, answers_unheard}
 use Rattle.node_group.specs.Steps.GroupTrace.{opened, then_went}
 use Rattle.node_group.proofs.LosingNone.{first_still, losing_none, same_put}
@@ -128,12 +128,12 @@ steps_well g h (hears_master from ballot sent) well = record { nodes = well; put
 steps_well g h (assigns_unheard config) well = record { nodes = well; puts = tt }
 steps_well g h (answers_unheard from ballot sent) well = record { nodes = well; puts = tt }
 
-pub all_well : (nodes : ℕ) (config : Config) (g : Group) (went : GroupTrace nodes config g) → Each IsWell g.nodes × Each IsInItsBallot (all_put went)
+pub all_well : (nodes : ℕ) (config : Config) (g : Group) (went : GroupTrace nodes config g) → Each IsWell g.nodes × Each IsInItsBallot (all_proposed went)
 all_well nodes config g (opened can) = (opening_well nodes config, tt)
 all_well nodes config h (then_went {g = g} went step) =
     let before = all_well nodes config g went in
     let now = steps_well g h step before.0 in
-    (now.nodes, each_append IsInItsBallot (all_put went) (put_in_step step) before.1 now.puts)
+    (now.nodes, each_append IsInItsBallot (all_proposed went) (put_in_step step) before.1 now.puts)
 
 pub puts_in_the_ballot_of_the_name : PutsInTheBallotOfTheName
 puts_in_the_ballot_of_the_name nodes config g went = (all_well nodes config g went).1

@@ -21,9 +21,9 @@ use Rattle.packet_world.proofs.of_snapshots.Orders.{keeps_the_order, node_at}
 use Rattle.packet_world.proofs.of_agreement.Orders.NamesInLists.{filter_prefix}
 use Rattle.node_moves.specs.world_base.Core.{rules}
 use Rattle.node_group.specs.Ballots.{IsInItsBallot}
-use Rattle.node_group.specs.Group.{Group, moment_of, replica_of}
-use Rattle.node_group.specs.Steps.{all_put, groups_of}
-use Rattle.node_group.specs.Order.{GroupsKeepTheOrder, packets_of}
+use Rattle.node_group.specs.Group.{Group, moment_of_nodes, replica_of}
+use Rattle.node_group.specs.Steps.{all_proposed, groups_on_trace}
+use Rattle.node_group.specs.Order.{GroupsKeepTheOrder, packet_commands}
 use Rattle.node_group.specs.Pasts.{HasPast, packets_in}
 use Rattle.node_group.proofs.GroupsArePasts.{groups_are_pasts}
 use Rattle.node_group.proofs.NamesInGroups.{puts_in_the_ballot_of_the_name}
@@ -41,23 +41,23 @@ of_each (one ∷ rows) row each (there i) = of_each rows row each.1 i
 of_each [] row each i = elim i [ ]
 
 -- the packets among the commands of rows
-packets_of_rows : (x : ConnectionName) (rows : List (ℕ × Command)) → packets_of x (commands_of rows) ≡ commands_of (packets_in x rows)
+packets_of_rows : (x : ConnectionName) (rows : List (ℕ × Command)) → packet_commands x (commands_of rows) ≡ commands_of (packets_in x rows)
 packets_of_rows x [] = refl
 packets_of_rows x (row ∷ rows) = by (is_packet_of row.1 x) (packets_of_rows x rows)
   where
-    by : (b : Bool) → packets_of x (commands_of rows) ≡ commands_of (packets_in x rows)
-        → (if b then row.1 ∷ packets_of x (commands_of rows) else packets_of x (commands_of rows))
+    by : (b : Bool) → packet_commands x (commands_of rows) ≡ commands_of (packets_in x rows)
+        → (if b then row.1 ∷ packet_commands x (commands_of rows) else packet_commands x (commands_of rows))
         ≡ commands_of (if b then row ∷ packets_in x rows else packets_in x rows)
     by true same = ap (λ l. row.1 ∷ l) same
     by false same = same
 
 in_log : (config : Config) (g : Group) (groups : List Group) (put : List (ℕ × Command)) → HasPast config g groups put → Each IsInItsBallot put → (x : ConnectionName) (n : ℕ)
-    (r : ReplicaState State Command) → slice_get (moment_of g).world.nodes n ≡ Some r → IsPrefixOf (packets_of x (whole_log g.archive r.log)) (packets_of x (commands_of put))
+    (r : ReplicaState State Command) → slice_get (moment_of_nodes g).world.nodes n ≡ Some r → IsPrefixOf (packet_commands x (whole_log g.archive r.log)) (packet_commands x (commands_of put))
 in_log config g groups put of each x n r stands =
-    subst (IsPrefixOf (packets_of x (whole_log g.archive r.log))) ordered
-    ((keeps_the_order rules config (moment_of g) of.earlier of.past).1 (λ (command : Command). is_packet_of command x) x.ballot own n r stands)
+    subst (IsPrefixOf (packet_commands x (whole_log g.archive r.log))) ordered
+    ((keeps_the_order rules config (moment_of_nodes g) of.earlier of.past).1 (λ (command : Command). is_packet_of command x) x.ballot own n r stands)
   where
-    ordered : packets_of x (commands_of (taken_of of.past)) ≡ packets_of x (commands_of put)
+    ordered : packet_commands x (commands_of (taken_of of.past)) ≡ packet_commands x (commands_of put)
     ordered = packets_of_rows x (taken_of of.past) ∙ ap commands_of (of.taken x) ∙ sym (packets_of_rows x put)
 
     own : IsOfBallot rules.start_of (λ (command : Command). is_packet_of command x) x.ballot (taken_of of.past)
@@ -66,16 +66,16 @@ in_log config g groups put of each x n r stands =
           starts = λ b. refl;
           only = λ row i named.
               sym (of_each put row each
-              (subst (In row) of.proposed (part_in row (taken_of of.past) (proposals_of of.past) (keeps_the_order rules config (moment_of g) of.earlier of.past).0 i)) x named);
+              (subst (In row) of.proposed (part_in row (taken_of of.past) (proposals_of of.past) (keeps_the_order rules config (moment_of_nodes g) of.earlier of.past).0 i)) x named);
         }
 
 pub in_agreed : (config : Config) (g : Group) (groups : List Group) (put : List (ℕ × Command)) (of : HasPast config g groups put) → Each IsInItsBallot put → (x : ConnectionName)
-    (xs : List Command) → IsAgreed config (moment_of g ∷ of.earlier) xs → IsPrefixOf (packets_of x xs) (packets_of x (commands_of put))
+    (xs : List Command) → IsAgreed config (moment_of_nodes g ∷ of.earlier) xs → IsPrefixOf (packet_commands x xs) (packet_commands x (commands_of put))
 in_agreed config g groups put of each x xs is =
-    let holds = (nodes_agree rules config (moment_of g) of.earlier xs of.past is).1 in
-    let at = node_at (whole g.archive) (moment_of g).world.nodes holds.node holds.replica holds.stands in
+    let holds = (nodes_agree rules config (moment_of_nodes g) of.earlier xs of.past is).1 in
+    let at = node_at (whole g.archive) (moment_of_nodes g).world.nodes holds.node holds.replica holds.stands in
     prefix_then (filter_prefix (λ (command : Command). is_packet_of command x) xs holds.replica.log holds.held)
-    (subst (λ (l : List Command). IsPrefixOf (packets_of x l) (packets_of x (commands_of put))) (ap (λ (w : WholeState State Command). w.log) at.2)
+    (subst (λ (l : List Command). IsPrefixOf (packet_commands x l) (packet_commands x (commands_of put))) (ap (λ (w : WholeState State Command). w.log) at.2)
     (in_log config g groups put of each x holds.node at.0 at.1))
 
 pub groups_keep_the_order : GroupsKeepTheOrder
@@ -84,6 +84,6 @@ groups_keep_the_order nodes config g went =
     let each = puts_in_the_ballot_of_the_name nodes config g went in
     record {
       of = of;
-      logs = λ x n core at. in_log config g (groups_of went) (all_put went) of each x n (replica_of core) (get_mapped replica_of g.nodes n core at);
-      agreed = λ x xs is. in_agreed config g (groups_of went) (all_put went) of each x xs is;
+      logs = λ x n core at. in_log config g (groups_on_trace went) (all_proposed went) of each x n (replica_of core) (get_mapped replica_of g.nodes n core at);
+      agreed = λ x xs is. in_agreed config g (groups_on_trace went) (all_proposed went) of each x xs is;
     }

@@ -17,8 +17,8 @@ use Rattle.node_moves.specs.LossyParts.{given_in, inputs_in}
 use Rattle.node_moves.specs.LossyRuns.{AllFreeze, LossyRuns, all_inputs}
 use Rattle.node_moves.specs.LossyRuns.LossyRuns.{rests, goes_on}
 use Rattle.node_moves.specs.Moves.{and_then}
-use Rattle.node_group.specs.Group.{Group, after_outcome, moment_of, with_record}
-use Rattle.node_group.specs.Steps.{InputWasSent, keeping}
+use Rattle.node_group.specs.Group.{Group, group_after_outcome, moment_of_nodes, with_record}
+use Rattle.node_group.specs.Steps.{InputWasSent, with_messages}
 use Rattle.node_group.specs.Losing.{WereSent, all_given, put_in_move, put_in_run, recorded_by, recorded_in}
 use Rattle.node_group.proofs.LossesHappen.{losses_happen}
 use Rattle.node_group.proofs.MovesHappen.{Further, happens_without_messages}
@@ -34,13 +34,13 @@ use Rattle.packet_world.proofs.of_snapshots.Effects.{messages-append, outputs-ap
 -- ---- what was sent stays sent
 
 input_still : (g : Group) (archive : List Command) (n : ℕ) (outcome : StepOutcome) (given : List (Effect Command Output)) (input : Input Command) → InputWasSent g n input
-    → InputWasSent (after_outcome (with_record g archive) n outcome given) n input
+    → InputWasSent (group_after_outcome (with_record g archive) n outcome given) n input
 input_still g archive n outcome given (Receives message) i = in_left (messages outcome.messages) i
 input_still g archive n outcome given (Proposes command) i = tt
 input_still g archive n outcome given Ticks i = tt
 
 pub were_still : (g : Group) (archive : List Command) (n : ℕ) (outcome : StepOutcome) (given : Given) (inputs : List (Input Command)) → WereSent g n inputs
-    → WereSent (after_outcome (with_record g archive) n outcome given) n inputs
+    → WereSent (group_after_outcome (with_record g archive) n outcome given) n inputs
 were_still g archive n outcome given [] sent = tt
 were_still g archive n outcome given (input ∷ inputs) sent = (input_still g archive n outcome given input sent.0, were_still g archive n outcome given inputs sent.1)
 
@@ -56,7 +56,7 @@ same_group : (g : Group) {nodes later_nodes : List CoreState} {sent later_sent :
 same_group g a b c = rw (a, b, c) refl
 
 pub two_turns : (g : Group) (n : ℕ) (first next : StepOutcome) (given more : List (Effect Command Output))
-    → after_outcome (after_outcome g n first given) n next more ≡ after_outcome g n (and_then first next) (given ++ more)
+    → group_after_outcome (group_after_outcome g n first given) n next more ≡ group_after_outcome g n (and_then first next) (given ++ more)
 two_turns g n first next given more =
     same_group g (set_twice g.nodes n first.core next.core)
     (append_assoc g.sent (messages first.messages) (messages next.messages) ∙ ap (λ l. g.sent ++ l) (sym (messages-append first.messages next.messages)))
@@ -82,23 +82,23 @@ both {config = config} {b = b} came put more first next =
 
 -- of what a node hands out in the first turn these messages are kept, and of the next those
 pub kept_turns : (g : Group) (n : ℕ) (first next : StepOutcome) (given more kept : Given) (k : KeptOfBoth kept first.messages next.messages)
-    → after_outcome (after_outcome g n (keeping k.front first) given) n (keeping k.rest next) more ≡ after_outcome g n (keeping kept (and_then first next)) (given ++ more)
+    → group_after_outcome (group_after_outcome g n (with_messages k.front first) given) n (with_messages k.rest next) more ≡ group_after_outcome g n (with_messages kept (and_then first next)) (given ++ more)
 kept_turns g n first next given more kept k =
-    two_turns g n (keeping k.front first) (keeping k.rest next) given more
-    ∙ ap (λ (l : Given). after_outcome g n (keeping l (and_then first next)) (given ++ more)) (sym k.is)
+    two_turns g n (with_messages k.front first) (with_messages k.rest next) given more
+    ∙ ap (λ (l : Given). group_after_outcome g n (with_messages l (and_then first next)) (given ++ more)) (sym k.is)
 
 pub runs_happen : (g : Group) (n : ℕ) (core : CoreState) (outcome : StepOutcome) (run : LossyRuns core outcome) (kept : Given) → slice_get g.nodes n ≡ Some core → WereSent g n (all_inputs run)
-    → AllFreeze run → Thinned kept outcome.messages → (config : Config) (earlier : List (Moment State Command Output)) (came : Moments rules config (moment_of g ∷ earlier))
-    → Further came (moment_of (after_outcome (with_record g (recorded_in g.archive run)) n (keeping kept outcome) (all_given run))) (put_in_run run)
+    → AllFreeze run → Thinned kept outcome.messages → (config : Config) (earlier : List (Moment State Command Output)) (came : Moments rules config (moment_of_nodes g ∷ earlier))
+    → Further came (moment_of_nodes (group_after_outcome (with_record g (recorded_in g.archive run)) n (with_messages kept outcome) (all_given run))) (put_in_run run)
 runs_happen g n core outcome rests kept at sent frozen t config earlier came = (happens_without_messages g n core core kept at refl t config earlier came).further
 runs_happen g n core outcome (goes_on {first = first} {next = next} m run) kept at sent frozen t config earlier came =
     let k = kept_of_both first.messages next.messages kept t in
     let s = were_both g n (inputs_in m) (all_inputs run) sent in
     let step = (losses_happen g n core first m k.front at s.0 frozen.0 k.first config earlier came).further in
-    let one : StepOutcome = keeping k.front first in
-    let after : Group = after_outcome (with_record g (recorded_by g.archive m)) n one (given_in m) in
+    let one : StepOutcome = with_messages k.front first in
+    let after : Group = group_after_outcome (with_record g (recorded_by g.archive m)) n one (given_in m) in
     let rest = runs_happen after n first.core next run k.rest (get_of_set g.nodes n core first.core at)
     (were_still g (recorded_by g.archive m) n one (given_in m) (all_inputs run) s.1) frozen.1 k.next config step.before step.past in
     both came (put_in_move m) (put_in_run run) step
-    (subst (λ (h : Group). Further step.past (moment_of h) (put_in_run run))
+    (subst (λ (h : Group). Further step.past (moment_of_nodes h) (put_in_run run))
     (kept_turns (with_record g (recorded_in (recorded_by g.archive m) run)) n first next (given_in m) (all_given run) kept k) rest)

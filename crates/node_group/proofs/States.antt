@@ -28,9 +28,9 @@ use Rattle.node_moves.specs.Names.{IsNextName}
 use Rattle.node_moves.proofs.Kept.{left_true, live, named}
 use Rattle.node_moves.proofs.NamesInOrder.{next_precedes}
 use Rattle.node_moves.proofs.Views.{and_no, found_each, found_passes, some_none}
-use Rattle.node_group.specs.Group.{Group, moment_of, replica_of}
+use Rattle.node_group.specs.Group.{Group, moment_of_nodes, replica_of}
 use Rattle.node_group.specs.Losing.{commands_put, put_in_move}
-use Rattle.node_group.specs.Order.{packets_of}
+use Rattle.node_group.specs.Order.{packet_commands}
 use Rattle.node_group.proofs.Placed.{get_mapped}
 use Rattle.node_group.proofs.Downward.{Down}
 
@@ -43,7 +43,7 @@ pub record Led (moments : List (Moment State Command Output)) (n ballot : ℕ) :
 -- no node has the connection, and none had it
 pub record Untouched (x : ConnectionName) (written : List Packet) (later : List ℕ) (g : Group) (put : List (ℕ × Command)) (down : List ℕ) : Type 0 where
   pub nowhere : (n : ℕ) (core : CoreState) → slice_get g.nodes n ≡ Some core → listed_named x core ≡ None
-  pub unsaid : packets_of x (commands_in put) ≡ []
+  pub unsaid : packet_commands x (commands_in put) ≡ []
   pub piped : IsPiped written [] (stream_of []) later
   pub unsent : down ≡ []
 
@@ -57,7 +57,7 @@ pub record Held (x : ConnectionName) (written : List Packet) (later : List ℕ) 
   pub given : IsGiven core.last_name x
   pub read : List Packet
   pub end : IsEnd x core written read later
-  pub said : packets_of x (commands_in put) ≡ commands_of x 0 read
+  pub said : packet_commands x (commands_in put) ≡ commands_of x 0 read
   pub others : (m : ℕ) (other : CoreState) → slice_get g.nodes m ≡ Some other → (m ≡ n → ⊥) → listed_named x other ≡ None
   pub sent : Down x (replica_of core) down agreed (listed_named x core)
 
@@ -87,9 +87,9 @@ rows_of ballot (command ∷ commands) = ap (λ l. command ∷ l) (rows_of ballot
 
 -- the packets after a move are those before and those of the move
 pub packets_more : (x : ConnectionName) (put : List (ℕ × Command)) {core : CoreState} {outcome : StepOutcome} (m : LossyMoves core outcome)
-    → packets_of x (commands_in (put ++ put_in_move m)) ≡ packets_of x (commands_in put) ++ packets_of x (commands_put m)
+    → packet_commands x (commands_in (put ++ put_in_move m)) ≡ packet_commands x (commands_in put) ++ packet_commands x (commands_put m)
 packets_more x put {core = core} m =
-    ap (packets_of x) (rows_joined put (put_in_move m) ∙ ap (λ l. commands_in put ++ l) (rows_of (replica_of core).joined (commands_put m)))
+    ap (packet_commands x) (rows_joined put (put_in_move m) ∙ ap (λ l. commands_in put ++ l) (rows_of (replica_of core).joined (commands_put m)))
     ∙ filter-append (λ (command : Command). is_packet_of command x) (commands_in put) (commands_put m)
 
 -- ---- a name that is new
@@ -106,14 +106,14 @@ still_to_come core x o next = subst (Precedes core.last_name) (sym (next_is core
 
 -- the node leads its ballot
 pub leads_now : (g : Group) (n : ℕ) (core : CoreState) (x : ConnectionName) (earlier : List (Moment State Command Output)) → slice_get g.nodes n ≡ Some core → IsNextName core x
-    → Led (moment_of g ∷ earlier) n x.ballot
+    → Led (moment_of_nodes g ∷ earlier) n x.ballot
 leads_now g n core x earlier at next =
     record {
-      moment = moment_of g;
+      moment = moment_of_nodes g;
       among = here;
       primary = record {
         replica = whole g.archive (replica_of core);
-        stands = get_whole (whole g.archive) (moment_of g).world.nodes n (replica_of core) (get_mapped replica_of g.nodes n core at);
+        stands = get_whole (whole g.archive) (moment_of_nodes g).world.nodes n (replica_of core) (get_mapped replica_of g.nodes n core at);
         active = left_true (is_active (replica_of core).role) _ next.leads;
         joined = sym next.ballot;
       };

@@ -6,7 +6,7 @@ use Rattle.packet_world.specs.broker_spec.declared.command.Command.{Command}
 use Rattle.packet_world.specs.broker_spec.Connection.{ConnectionName}
 use Rattle.packet_world.specs.exactly_once.StoryCommands.{is_packet_of}
 use Rattle.node_group.specs.Group.{Group}
-use Rattle.node_group.specs.Steps.{GroupTrace, all_put}
+use Rattle.node_group.specs.Steps.{GroupTrace, all_proposed}
 
 -- a packet of a connection, its CONNECT too, with the ballot that the connection's name has
 abbrev pub IsInItsBallot : ℕ × Command → Type 0
@@ -16,4 +16,4 @@ IsInItsBallot put = (x : ConnectionName) → is_packet_of put.1 x ≡ true → x
 abbrev pub PutsInTheBallotOfTheName : Type 0
 PutsInTheBallotOfTheName =
     (nodes : ℕ) (config : Config) (g : Group) (went : GroupTrace nodes config g) →
-    Each IsInItsBallot (all_put went)
+    Each IsInItsBallot (all_proposed went)

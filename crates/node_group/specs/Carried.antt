@@ -12,9 +12,9 @@ use Rattle.packet_world.specs.exactly_once.Sends.{put_to}
 use Rattle.packet_world.specs.snapshots.Moments.{IsAgreed}
 use Rattle.node_moves.specs.Ends.{commands_of}
 use Rattle.node_moves.specs.Puts.{spelled}
-use Rattle.node_group.specs.Group.{Group, moment_of}
-use Rattle.node_group.specs.Steps.{GroupTrace, all_put, groups_of}
-use Rattle.node_group.specs.Order.{packets_of}
+use Rattle.node_group.specs.Group.{Group, moment_of_nodes}
+use Rattle.node_group.specs.Steps.{GroupTrace, all_proposed, groups_on_trace}
+use Rattle.node_group.specs.Order.{packet_commands}
 use Rattle.node_group.specs.Pasts.{HasPast}
 use Rattle.node_group.specs.Streams.{came_up, went_down}
 
@@ -26,15 +26,15 @@ answers_to x agreed = spelled (put_to usual_limits (past_of usual_limits agreed)
 -- order. What went down on it is a prefix of the spellings of the answers that name it.
 pub record IsCarried (x : ConnectionName) (written : List Packet) (handed : List ℕ)
     (agreed : List Command) : Type 0 where
-  pub up : IsPrefixOf (packets_of x agreed) (commands_of x 0 written)
+  pub up : IsPrefixOf (packet_commands x agreed) (commands_of x 0 written)
   pub down : IsPrefixOf handed (answers_to x agreed)
 
 -- Each list on which the nodes agree carries each connection on which packets are written, when a
 -- prefix of their bytes arrived on it.
 pub record Carries {nodes : ℕ} {config : Config} {g : Group}
     (went : GroupTrace nodes config g) : Type 0 where
-  pub of : HasPast config g (groups_of went) (all_put went)
-  pub each : (agreed : List Command) → IsAgreed config (moment_of g ∷ of.earlier) agreed →
+  pub of : HasPast config g (groups_on_trace went) (all_proposed went)
+  pub each : (agreed : List Command) → IsAgreed config (moment_of_nodes g ∷ of.earlier) agreed →
       (x : ConnectionName)
       → (written : List Packet) (later : List ℕ) → Joins written (came_up x went ++ later) →
       IsCarried x written (went_down x went) agreed

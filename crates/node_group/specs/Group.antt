@@ -45,8 +45,8 @@ opening_group nodes config =
 -- ---- after what happens
 
 -- after this outcome of a step of the node at index n, in which its replica gave this
-abbrev pub after_outcome : Group → ℕ → StepOutcome → List (Effect Command Output) → Group
-after_outcome g n outcome given =
+abbrev pub group_after_outcome : Group → ℕ → StepOutcome → List (Effect Command Output) → Group
+group_after_outcome g n outcome given =
     record g {
       nodes = slice_set g.nodes n outcome.core;
       sent = g.sent ++ messages outcome.messages;
@@ -73,8 +73,8 @@ abbrev pub replica_of : CoreState → ReplicaState State Command
 replica_of core = core.replica.state
 
 -- the group without the connections of its nodes
-abbrev pub moment_of : Group → Moment State Command Output
-moment_of g =
+abbrev pub moment_of_nodes : Group → Moment State Command Output
+moment_of_nodes g =
     record {
       master = g.master;
       world = record {

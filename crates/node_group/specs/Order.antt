@@ -9,13 +9,13 @@ use Rattle.packet_world.specs.snapshots.Moments.{IsAgreed}
 use Rattle.packet_world.specs.snapshots.Whole.{whole_log}
 use Rattle.packet_world.specs.agreement.Proposals.{commands_of}
 use Rattle.node_moves.specs.world_base.Core.{CoreState}
-use Rattle.node_group.specs.Group.{Group, moment_of, replica_of}
-use Rattle.node_group.specs.Steps.{GroupTrace, all_put, groups_of}
+use Rattle.node_group.specs.Group.{Group, moment_of_nodes, replica_of}
+use Rattle.node_group.specs.Steps.{GroupTrace, all_proposed, groups_on_trace}
 use Rattle.node_group.specs.Pasts.{HasPast}
 
 -- the packets of a connection among commands
-abbrev pub packets_of : ConnectionName → List Command → List Command
-packets_of x commands = filter (λ (command : Command). is_packet_of command x) commands
+abbrev pub packet_commands : ConnectionName → List Command → List Command
+packet_commands x commands = filter (λ (command : Command). is_packet_of command x) commands
 
 -- the whole log of each node, and the agreed list, has of each connection a prefix of the packets
 -- that were proposed for it, in order
@@ -23,14 +23,14 @@ pub record KeepsOrder (config : Config) (g : Group) (groups : List Group)
     (put : List (ℕ × Command)) : Type 0 where
   pub of : HasPast config g groups put
   pub logs : (x : ConnectionName) (n : ℕ) (core : CoreState) → slice_get g.nodes n ≡ Some core →
-      IsPrefixOf (packets_of x (whole_log g.archive (replica_of core).log))
-      (packets_of x (commands_of put))
+      IsPrefixOf (packet_commands x (whole_log g.archive (replica_of core).log))
+      (packet_commands x (commands_of put))
   pub agreed : (x : ConnectionName) (xs : List Command) →
-      IsAgreed config (moment_of g ∷ of.earlier) xs →
-      IsPrefixOf (packets_of x xs) (packets_of x (commands_of put))
+      IsAgreed config (moment_of_nodes g ∷ of.earlier) xs →
+      IsPrefixOf (packet_commands x xs) (packet_commands x (commands_of put))
 
 -- each run of a group keeps the order of each connection's packets
 abbrev pub GroupsKeepTheOrder : Type 0
 GroupsKeepTheOrder =
     (nodes : ℕ) (config : Config) (g : Group) (went : GroupTrace nodes config g) →
-    KeepsOrder config g (groups_of went) (all_put went)
+    KeepsOrder config g (groups_on_trace went) (all_proposed went)

@@ -10,8 +10,8 @@ use Rattle.packet_world.specs.exactly_once.StoryCommands.{is_packet_of}
 use Rattle.packet_world.specs.snapshots.Moments.{Moment, Moments}
 use Rattle.packet_world.specs.snapshots.Proposals.{proposals_of, taken_of}
 use Rattle.node_moves.specs.world_base.Core.{rules}
-use Rattle.node_group.specs.Group.{Group, moment_of}
-use Rattle.node_group.specs.Steps.{GroupTrace, all_put, groups_of}
+use Rattle.node_group.specs.Group.{Group, moment_of_nodes}
+use Rattle.node_group.specs.Steps.{GroupTrace, all_proposed, groups_on_trace}
 
 -- the packets of a connection among commands, each with a ballot
 abbrev pub packets_in : ConnectionName → List (ℕ × Command) → List (ℕ × Command)
@@ -23,13 +23,13 @@ packets_in x rows = filter (λ (row : ℕ × Command). is_packet_of row.1 x) row
 pub record HasPast (config : Config) (g : Group) (groups : List Group)
     (put : List (ℕ × Command)) : Type 0 where
   pub earlier : List (Moment State Command Output)
-  pub past : Moments rules config (moment_of g ∷ earlier)
+  pub past : Moments rules config (moment_of_nodes g ∷ earlier)
   pub proposed : proposals_of past ≡ put
   pub taken : (x : ConnectionName) → packets_in x (taken_of past) ≡ packets_in x put
-  pub seen : Each (λ (h : Group). In (moment_of h) (moment_of g ∷ earlier)) groups
+  pub seen : Each (λ (h : Group). In (moment_of_nodes h) (moment_of_nodes g ∷ earlier)) groups
 
 -- each run of a group has a past (`HasPast`)
 abbrev pub GroupsArePasts : Type 0
 GroupsArePasts =
     (nodes : ℕ) (config : Config) (g : Group) (went : GroupTrace nodes config g) →
-    HasPast config g (groups_of went) (all_put went)
+    HasPast config g (groups_on_trace went) (all_proposed went)

@@ -16,7 +16,7 @@ use Rattle.node_moves.specs.world_base.LossyStep.{RunsOn}
 use Rattle.node_moves.specs.Hearing.{HearsAtFirst}
 use Rattle.node_moves.specs.ItemRuns.{IsRunOn, heard_with}
 use Rattle.node_moves.specs.Moves.{NodeCall, Runs, done}
-use Rattle.node_group.specs.Group.{Group, after_outcome, opening_group, told_by_master, with_master, with_record}
+use Rattle.node_group.specs.Group.{Group, group_after_outcome, opening_group, told_by_master, with_master, with_record}
 use Rattle.node_group.specs.Losing.{WereSent}
 use Rattle.node_group.specs.Losing.{all_given as given_losing, put_in_run as put_losing, recorded_in as recorded_losing}
 use Rattle.node_group.specs.Putting.{recorded_in}
@@ -28,8 +28,8 @@ after_assign g config (Some why) = g
 after_assign g config None = told_by_master g (assigned Command g.master config)
 
 -- the effects of a node, if only these messages are not lost
-abbrev pub keeping : List (Effect Command Output) → StepOutcome → StepOutcome
-keeping kept outcome = record outcome { messages = kept }
+abbrev pub with_messages : List (Effect Command Output) → StepOutcome → StepOutcome
+with_messages kept outcome = record outcome { messages = kept }
 
 -- one step of a group: of one of its nodes, or of its master
 pub data GroupStep (g : Group) : Group → Type 0 where
@@ -39,15 +39,15 @@ pub data GroupStep (g : Group) : Group → Type 0 where
       (run : Runs core outcome) → slice_get g.nodes n ≡ Some core →
       outcome ≡ done node_call core → HearsAtFirst run → AllWasSent g n run →
       GroupStep g
-      (after_outcome (with_record g (recorded_in g.archive run)) n outcome (all_given run))
+      (group_after_outcome (with_record g (recorded_in g.archive run)) n outcome (all_given run))
   -- a node takes an item with losses, by these moves; what comes with it was sent, and some of its
   -- messages may be missing
   node_loses : (n : ℕ) (core : CoreState) (item : Item) (outcome : StepOutcome)
       (kept : List (Effect Command Output)) (by : IsRunOn item core outcome) →
       slice_get g.nodes n ≡ Some core → RunsOn item core outcome.core outcome.messages →
       WereSent g n (heard_with item) → Thinned kept outcome.messages →
-      GroupStep g (after_outcome (with_record g (recorded_losing g.archive by.run)) n
-      (keeping kept outcome) (given_losing by.run))
+      GroupStep g (group_after_outcome (with_record g (recorded_losing g.archive by.run)) n
+      (with_messages kept outcome) (given_losing by.run))
   -- an administrator asks for another configuration
   master_assigns : (config : Config) →
       GroupStep g (with_master (after_assign g config (refusal g.master config))
@@ -83,13 +83,13 @@ put_in_step (assigns_unheard config) = []
 put_in_step (answers_unheard from ballot sent) = []
 
 -- the commands that were proposed in all steps, each with its ballot, the oldest first
-abbrev pub all_put : {nodes : ℕ} {config : Config} {g : Group} → GroupTrace nodes config g →
+abbrev pub all_proposed : {nodes : ℕ} {config : Config} {g : Group} → GroupTrace nodes config g →
     List (ℕ × Command)
-all_put (opened can) = []
-all_put (then_went went step) = all_put went ++ put_in_step step
+all_proposed (opened can) = []
+all_proposed (then_went went step) = all_proposed went ++ put_in_step step
 
 -- the group as it opened and after each step, the newest first
-abbrev pub groups_of : {nodes : ℕ} {config : Config} {g : Group} → GroupTrace nodes config g →
+abbrev pub groups_on_trace : {nodes : ℕ} {config : Config} {g : Group} → GroupTrace nodes config g →
     List Group
-groups_of {g = g} (opened can) = g ∷ []
-groups_of {g = g} (then_went went step) = g ∷ groups_of went
+groups_on_trace {g = g} (opened can) = g ∷ []
+groups_on_trace {g = g} (then_went went step) = g ∷ groups_on_trace went

@@ -10,8 +10,8 @@ use Rattle.headline.specs.broker_spec.declared.command.Command.{Command}
 use Rattle.headline.specs.broker_spec.declared.command.Output.{Output}
 use Rattle.headline.specs.broker_base.State.{State}
 use Rattle.world_base.specs.Core.{rules}
-use Rattle.headline.specs.node_group.Group.{Group, moment_of}
-use Rattle.headline.specs.node_group.Steps.{GroupTrace, all_put, groups_of, put_in_step}
+use Rattle.headline.specs.node_group.Group.{Group, moment_of_nodes}
+use Rattle.headline.specs.node_group.Steps.{GroupTrace, all_proposed, groups_on_trace, put_in_step}
 use Rattle.headline.specs.node_group.Steps.GroupTrace.{then_went}
 use Rattle.headline.specs.node_group.Order.{KeepsOrder}
 use Rattle.headline.specs.node_group.Pasts.{HasPast, packets_in}
@@ -28,21 +28,21 @@ use Rattle.world.proofs.OneAgreed.{one_agreed}
 -- A group that continued from another: its past continues from the past of that one.
 record LeadsOn (nodes : ℕ) (config : Config) (g : Group) (earlier : List (Moment State Command Output)) (h : Group) : Type 0 where
   pub went : GroupTrace nodes config h
-  pub of : HasPast config h (groups_of went) (all_put went)
-  pub grows : (xs ys : List Command) → IsAgreed config (moment_of g ∷ earlier) xs → IsAgreed config (moment_of h ∷ of.earlier) ys → IsPrefixOf xs ys
+  pub of : HasPast config h (groups_on_trace went) (all_proposed went)
+  pub grows : (xs ys : List Command) → IsAgreed config (moment_of_nodes g ∷ earlier) xs → IsAgreed config (moment_of_nodes h ∷ of.earlier) ys → IsPrefixOf xs ys
 
-leads_on : (nodes : ℕ) (config : Config) (g h : Group) (went : GroupTrace nodes config g) (of : HasPast config g (groups_of went) (all_put went)) → StepsOfGroup g h
+leads_on : (nodes : ℕ) (config : Config) (g h : Group) (went : GroupTrace nodes config g) (of : HasPast config g (groups_on_trace went) (all_proposed went)) → StepsOfGroup g h
     → LeadsOn nodes config g of.earlier h
 leads_on nodes config g h went of rests =
     record {
       went = went;
       of = of;
-      grows = λ xs ys before after. subst (λ (l : List Command). IsPrefixOf xs l) (one_agreed config (moment_of g ∷ of.earlier) xs ys before after) (prefix_same xs);
+      grows = λ xs ys before after. subst (λ (l : List Command). IsPrefixOf xs l) (one_agreed config (moment_of_nodes g ∷ of.earlier) xs ys before after) (prefix_same xs);
     }
 leads_on nodes config g k went of (goes_on {h = h} goes step) =
     let so_far = leads_on nodes config g h went of goes in
     let further = past_goes_on config h k step so_far.of.earlier so_far.of.past in
-    let between = has_agreed rules config (moment_of h) so_far.of.earlier so_far.of.past in
+    let between = has_agreed rules config (moment_of_nodes h) so_far.of.earlier so_far.of.past in
     record {
       went = then_went so_far.went step;
       of = record {
@@ -50,8 +50,8 @@ leads_on nodes config g k went of (goes_on {h = h} goes step) =
         past = further.past;
         proposed = further.proposed ∙ ap (λ l. l ++ put_in_step step) so_far.of.proposed;
         taken = λ x.
-            further.taken x ∙ ap (λ l. l ++ packets_in x (put_in_step step)) (so_far.of.taken x) ∙ sym (packets_join x (all_put so_far.went) (put_in_step step));
-        seen = (here, seen_still (groups_of so_far.went) further.kept so_far.of.seen);
+            further.taken x ∙ ap (λ l. l ++ packets_in x (put_in_step step)) (so_far.of.taken x) ∙ sym (packets_join x (all_proposed so_far.went) (put_in_step step));
+        seen = (here, seen_still (groups_on_trace so_far.went) further.kept so_far.of.seen);
       };
       grows = λ xs ys before after. prefix_then (so_far.grows xs between.0 before between.1) (further.grows between.0 ys between.1 after);
     }
@@ -60,13 +60,13 @@ pub agreed_grows : (old new : NodesState) → NodesGo old new → AgreedListGrow
 agreed_grows old new go nodes config before =
     let to = go before.group before.stands in
     let on = leads_on nodes config before.group to.after before.went before.order.of to.goes in
-    let order : KeepsOrder config to.after (groups_of on.went) (all_put on.went) = record {
+    let order : KeepsOrder config to.after (groups_on_trace on.went) (all_proposed on.went) = record {
       of = on.of;
       logs = (groups_keep_the_order nodes config to.after on.went).logs;
-      agreed = λ x xs is. in_agreed config to.after (groups_of on.went) (all_put on.went) on.of (puts_in_the_ballot_of_the_name nodes config to.after on.went) x xs is;
+      agreed = λ x xs is. in_agreed config to.after (groups_on_trace on.went) (all_proposed on.went) on.of (puts_in_the_ballot_of_the_name nodes config to.after on.went) x xs is;
     } in
-    let list = has_agreed rules config (moment_of to.after) on.of.earlier on.of.past in
-    let agree = nodes_agree rules config (moment_of to.after) on.of.earlier list.0 on.of.past list.1 in (
+    let list = has_agreed rules config (moment_of_nodes to.after) on.of.earlier on.of.past in
+    let agree = nodes_agree rules config (moment_of_nodes to.after) on.of.earlier list.0 on.of.past list.1 in (
       record {
         group = to.after;
         went = on.went;

@@ -17,7 +17,7 @@ use Rattle.ways_out.specs.Deliveries.{NodeIs}
 use Rattle.ways_out.specs.Following.{IsRunning}
 use Rattle.ways_out.specs.Laws.{CanBeLed}
 use Rattle.escaping_nodes.proofs.NodesFollow.{replica_at}
-use Rattle.headline.specs.node_group.Group.{Group, moment_of, replica_of}
+use Rattle.headline.specs.node_group.Group.{Group, moment_of_nodes, replica_of}
 use Rattle.headline.specs.snapshots.Moments.{Moment, Moments, whole_moment}
 use Rattle.headline.specs.snapshots.Whole.{whole, whole_log}
 use Rattle.headline.proofs.of_snapshots.Fronts.{whole_long}
@@ -33,7 +33,7 @@ use Rattle.world.specs.Escaping.{CanEscape, configuration_of, log_length_of}
 use Rattle.world.specs.World.{WorldState}
 
 -- nodes that a group corresponds to are seen as its moment
-pub seen_as : (g : Group) (n : NodesState) → NodesStandFor g n → IsSeen (moment_of g) n
+pub seen_as : (g : Group) (n : NodesState) → NodesStandFor g n → IsSeen (moment_of_nodes g) n
 seen_as g n s = record { master = s.master; nodes = ap (map replica_of) s.nodes; sent = s.sent; archive = s.archive }
 
 -- ---- tests on lists
@@ -70,10 +70,10 @@ runs_here nodes (suc at) e = by (slice_get nodes at) refl e
 
 -- ---- what a way out asks for
 
-module _ (config : Config) (g : Group) (past : List (Moment State Command Output)) (came : Moments rules config (moment_of g ∷ past)) (w : WorldState) (s : NodesStandFor g w.nodes)
+module _ (config : Config) (g : Group) (past : List (Moment State Command Output)) (came : Moments rules config (moment_of_nodes g ∷ past)) (w : WorldState) (s : NodesStandFor g w.nodes)
     (members : List ℕ) (name : Client) (can : CanEscape members name w) where
   abbrev a : Moment State Command Output
-  a = moment_of g
+  a = moment_of_nodes g
 
   seen : IsSeen a w.nodes
   seen = seen_as g w.nodes s

@@ -14,7 +14,7 @@ use Rattle.escaping_client.specs.client_base.State.{is_open}
 use Rattle.escaping_nodes.specs.Answered.{begun}
 use Rattle.escaping_nodes.specs.Opened.{CanOpen}
 use Rattle.ways_out.specs.Deliveries.{asked_and_answered}
-use Rattle.headline.specs.node_group.Group.{Group, moment_of}
+use Rattle.headline.specs.node_group.Group.{Group, moment_of_nodes}
 use Rattle.headline.specs.snapshots.Moments.{Moment, Moments}
 use Rattle.headline.specs.byte_world.Carried.{trace_of}
 use Rattle.escaping_client.specs.lists.Lists.{IsPrefixOf}
@@ -62,7 +62,7 @@ module _ (name : Client) (w : WorldState) (housed : SlotsAreValid (targets_of_cl
   abbrev past : List (Moment State Command Output)
   past = r.exact.of.earlier
 
-  came : Moments rules config (moment_of g ∷ past)
+  came : Moments rules config (moment_of_nodes g ∷ past)
   came = r.exact.of.past
 
   abbrev ballot : ℕ
@@ -140,7 +140,7 @@ module _ (name : Client) (w : WorldState) (housed : SlotsAreValid (targets_of_cl
       answered : AnsweredTo name h.i h.at number p.index h.core v.nodes last_event new
       answered =
           let c = connect_spelled can.core.state.client fits.client left.before.state.keep_alive h.up (left.keep_alive ∙ fits.keep_alive) written in
-          answers_out name v h.i h.at number p.index h.core h.up (omega arith) h.newest h.housed h.first config b (l.way.goes.between ++ moment_of g ∷ past) l.way.goes.came ballot os
+          answers_out name v h.i h.at number p.index h.core h.up (omega arith) h.newest h.housed h.first config b (l.way.goes.between ++ moment_of_nodes g ∷ past) l.way.goes.came ballot os
           list h.awaits (long config g past came w r.stands.nodes (first ∷ os) name can) (keeps can.core.state.client left.before.state.keep_alive) can.session c.0 refl
           bytes c.1 (omega arith) p.apart p.out p.each last_event new (subst (λ (k : ℕ). EventsHappen (asking k) v new) sent_is run) none
 

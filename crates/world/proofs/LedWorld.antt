@@ -17,7 +17,7 @@ use Rattle.ways_out.specs.CutLaws.{LeadsOut}
 use Rattle.ways_out.specs.Deliveries.{way_out}
 use Rattle.escaping_nodes.proofs.LedOut.{assigned_seen, low_before, way_of}
 use Rattle.escaping_nodes.proofs.NodesFollow.{deliveries_are_followed}
-use Rattle.headline.specs.node_group.Group.{Group, moment_of}
+use Rattle.headline.specs.node_group.Group.{Group, moment_of_nodes}
 use Rattle.headline.specs.snapshots.Moments.{Moment, Moments}
 use Rattle.world_base.specs.Core.{rules}
 use Rattle.world_nodes.specs.Asking.{whole_log_of}
@@ -45,7 +45,7 @@ use Rattle.world.proofs.PassesOn.{seen_of}
 -- the world then, and the events after it
 pub record LedTo (config : Config) (g : Group) (past : List (Moment State Command Output)) (members : List ℕ) (index : ℕ) (log : List Command) (more : List Event)
     (w new : WorldState) : Type 0 where
-  pub way : LeadsOut rules config (moment_of g ∷ past) (moment_of g) (configuration_of members) index log
+  pub way : LeadsOut rules config (moment_of_nodes g ∷ past) (moment_of_nodes g) (configuration_of members) index log
   pub mid : WorldState
   pub followed : AreFollowed (g.master.given + 1) way.last (after_giving (configuration_of members) w.nodes) mid.nodes
   pub nodes : NodesGo w.nodes mid.nodes
@@ -62,7 +62,7 @@ group_events w members index =
     events.Assign (configuration_of members)
     ∷ map events.Deliver (way_out (length w.nodes.sent) (length w.nodes.master.members) index (length (configuration_of members).members - 1))
 
-module _ (config : Config) (g : Group) (past : List (Moment State Command Output)) (came : Moments rules config (moment_of g ∷ past)) (w : WorldState) (s : NodesStandFor g w.nodes)
+module _ (config : Config) (g : Group) (past : List (Moment State Command Output)) (came : Moments rules config (moment_of_nodes g ∷ past)) (w : WorldState) (s : NodesStandFor g w.nodes)
     (housed : SlotsAreValid (targets_of_clients w.clients) w.connections) (members : List ℕ) (name : Client) (can : CanEscape members name w) (more : List Event) (new : WorldState) where
   abbrev conf : Config
   conf = configuration_of members
@@ -70,10 +70,10 @@ module _ (config : Config) (g : Group) (past : List (Moment State Command Output
   abbrev numbers : List ℕ
   numbers = way_out (length w.nodes.sent) (length w.nodes.master.members) can.index (length conf.members - 1)
 
-  way : LeadsOut rules config (moment_of g ∷ past) (moment_of g) conf can.index (whole_log_of w.nodes can.source)
-  way = way_of config (moment_of g) past came conf can.index can.source (whole_log_of w.nodes can.source) (can_be_led config g past came w s members name can)
+  way : LeadsOut rules config (moment_of_nodes g ∷ past) (moment_of_nodes g) conf can.index (whole_log_of w.nodes can.source)
+  way = way_of config (moment_of_nodes g) past came conf can.index can.source (whole_log_of w.nodes can.source) (can_be_led config g past came w s members name can)
 
-  seen : IsSeen (moment_of g) w.nodes
+  seen : IsSeen (moment_of_nodes g) w.nodes
   seen = seen_as g w.nodes s
 
   same : way_out (length g.sent) (length g.master.members) can.index (length conf.members - 1) ≡ numbers
@@ -89,14 +89,14 @@ module _ (config : Config) (g : Group) (past : List (Moment State Command Output
       let whole : WorldLosesNothing given new = subst (λ (v : WorldState). WorldLosesNothing v new) is f.whole in
       let on = goes_apart w (after_giving conf w.nodes) (omega arith) (goes_by None refl (λ h t. (gives_exactly w.nodes conf can.granted h t).0)) in
       let t = in_two (map events.Deliver numbers) more given new rest whole in
-      let calm : AreCalm (g.master.given + 1) given.nodes = λ at node there. inr (low_before config (moment_of g) past came w.nodes seen at node there) in
-      let first_seen : IsSeen (assigned_moment conf (moment_of g)) given.nodes = assigned_seen (moment_of g) w.nodes conf seen in
-      let delivered = subst (λ (ks : List ℕ). Delivered rules (g.master.given + 1) (assigned_moment conf (moment_of g)) ks way.last) same way.delivered in
-      let p = walk (g.master.given + 1) (assigned_moment conf (moment_of g)) way.last numbers delivered given t.mid t.first t.whole_first first_seen calm housed in
+      let calm : AreCalm (g.master.given + 1) given.nodes = λ at node there. inr (low_before config (moment_of_nodes g) past came w.nodes seen at node there) in
+      let first_seen : IsSeen (assigned_moment conf (moment_of_nodes g)) given.nodes = assigned_seen (moment_of_nodes g) w.nodes conf seen in
+      let delivered = subst (λ (ks : List ℕ). Delivered rules (g.master.given + 1) (assigned_moment conf (moment_of_nodes g)) ks way.last) same way.delivered in
+      let p = walk (g.master.given + 1) (assigned_moment conf (moment_of_nodes g)) way.last numbers delivered given t.mid t.first t.whole_first first_seen calm housed in
       record {
         way = way;
         mid = t.mid;
-        followed = deliveries_are_followed (g.master.given + 1) (assigned_moment conf (moment_of g)) way.last numbers delivered given.nodes t.mid.nodes p.come first_seen calm;
+        followed = deliveries_are_followed (g.master.given + 1) (assigned_moment conf (moment_of_nodes g)) way.last numbers delivered given.nodes t.mid.nodes p.come first_seen calm;
         nodes = nodes_go_join w.nodes given.nodes t.mid.nodes on.nodes.goes p.nodes;
         world = world_goes_join w given t.mid on.goes p.world;
         housed = p.housed;

@@ -20,7 +20,7 @@ use Rattle.ways_out.specs.Following.{Follows, Serves}
 use Rattle.escaping_nodes.proofs.LedOut.{low_before}
 use Rattle.ways_out.proofs.RisingMembers.{rising_apart}
 use Rattle.ways_out.proofs.Rows.{others_first}
-use Rattle.headline.specs.node_group.Group.{moment_of, replica_of}
+use Rattle.headline.specs.node_group.Group.{moment_of_nodes, replica_of}
 use Rattle.headline.specs.snapshots.Moments.{Moment, Moments, whole_moment}
 use Rattle.headline.specs.snapshots.Whole.{whole}
 use Rattle.headline.specs.byte_world.World.{World}
@@ -72,7 +72,7 @@ module _ (first : ℕ) (os : List ℕ) (lawful : is_lawful (first ∷ os) first 
 -- ---- the new primary
 
 module _ (config : Config) {nodes : ℕ} {cs : List Client} (m : World) (trail : Reached nodes config cs m) (w : WorldState) (s : WorldStandsFor m w)
-    (past : List (Moment State Command Output)) (came : Moments rules config (moment_of m.group ∷ past)) (first : ℕ) (os : List ℕ) (name : Client)
+    (past : List (Moment State Command Output)) (came : Moments rules config (moment_of_nodes m.group ∷ past)) (first : ℕ) (os : List ℕ) (name : Client)
     (can : CanEscape (first ∷ os) name w) (more : List Event) (new : WorldState)
     (l : LedTo config m.group past (first ∷ os) can.index (whole_log_of w.nodes can.source) more w new)
     (lawful : is_lawful (first ∷ os) first ≡ true) (given : w.nodes.master.given < max_ballot) where
@@ -133,7 +133,7 @@ module _ (config : Config) {nodes : ℕ} {cs : List Client} (m : World) (trail :
       let in_model : slice_get m.group.nodes r.at ≡ Some r.node.core =
       ap (λ (xs : List CoreState). slice_get xs r.at) s.nodes.nodes ∙ get_mapped (λ (c : CountedCore). c.core) w.nodes.nodes r.at r.node r.stands in
       let within = (nodes_are_orderly nodes config cs m trail r.at r.node.core in_model).within in
-      let joined = low_before config (moment_of m.group) past came w.nodes (seen_as m.group w.nodes s.nodes) r.at r.node r.stands in
+      let joined = low_before config (moment_of_nodes m.group) past came w.nodes (seen_as m.group w.nodes s.nodes) r.at r.node r.stands in
       omega (arith, kept, within, joined)
 
   to : ModelStepsTo [] m l.mid

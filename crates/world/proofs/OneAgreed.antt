@@ -4,7 +4,7 @@ use Rattle.std.proofs.lemmas.List.{append-nil, length-append}
 use Rattle.escaping_client.specs.lists.Lists.{IsPrefixOf}
 use Rattle.escaping_client.proofs.of_lists.Prefixes.{prefix_length}
 use Rattle.headline.specs.ballot_base.declared.config.Config.{Config}
-use Rattle.headline.specs.node_group.Group.{moment_of}
+use Rattle.headline.specs.node_group.Group.{moment_of_nodes}
 use Rattle.headline.specs.snapshots.Moments.{IsAgreed, Moment, whole_moment}
 use Rattle.headline.specs.agreement.Moments.{IsChosen, WasActive}
 use Rattle.headline.specs.broker_spec.declared.command.Command.{Command}
@@ -37,9 +37,9 @@ one_agreed config past xs ys x y =
 
 pub reached_agree : (n : NodesState) (list : List Command) → AgreeOn n list → (nodes : ℕ) (config : Config) (r : AreReached nodes config n) → list ≡ r.list
 reached_agree n list agree nodes config r =
-    one_agreed config (moment_of r.group ∷ r.order.of.earlier) list r.list (agree config r.group r.order.of.earlier r.stands r.order.of.past) r.agreed
+    one_agreed config (moment_of_nodes r.group ∷ r.order.of.earlier) list r.list (agree config r.group r.order.of.earlier r.stands r.order.of.past) r.agreed
 
 pub exact_by : (w : WorldState) (list : List Command) → AgreeOn w.nodes list → (nodes : ℕ) (config : Config) (clients : List Client) (r : IsReached nodes config clients w)
     → list ≡ r.exact.agreed
 exact_by w list agree nodes config clients r =
-    one_agreed config (moment_of r.world.group ∷ r.exact.of.earlier) list r.exact.agreed (agree config r.world.group r.exact.of.earlier r.stands.nodes r.exact.of.past) r.exact.is_agreed
+    one_agreed config (moment_of_nodes r.world.group ∷ r.exact.of.earlier) list r.exact.agreed (agree config r.world.group r.exact.of.earlier r.stands.nodes r.exact.of.past) r.exact.is_agreed

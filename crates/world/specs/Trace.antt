@@ -7,8 +7,8 @@ use Rattle.headline.specs.snapshots.Agreeing.{Agrees, Holds, LeftInOrder}
 use Rattle.headline.specs.snapshots.Moments.{IsAgreed}
 use Rattle.headline.specs.broker_spec.declared.command.Command.{Command}
 use Rattle.world_base.specs.Core.{rules}
-use Rattle.headline.specs.node_group.Group.{Group, moment_of}
-use Rattle.headline.specs.node_group.Steps.{GroupTrace, all_put, groups_of}
+use Rattle.headline.specs.node_group.Group.{Group, moment_of_nodes}
+use Rattle.headline.specs.node_group.Steps.{GroupTrace, all_proposed, groups_on_trace}
 use Rattle.headline.specs.node_group.Order.{KeepsOrder}
 use Rattle.world_nodes.specs.Nodes.{NodesState, NodesStandFor}
 use Rattle.world.specs.World.{WorldState}
@@ -39,12 +39,13 @@ pub record AreReached (nodes : ℕ) (config : Config) (new : NodesState) : Type 
   pub group : Group
   pub went : GroupTrace nodes config group
   pub stands : NodesStandFor group new
-  pub order : KeepsOrder config group (groups_of went) (all_put went)
+  pub order : KeepsOrder config group (groups_on_trace went) (all_proposed went)
   pub list : List Command
-  pub agreed : IsAgreed config (moment_of group ∷ order.of.earlier) list
-  pub agrees : Agrees rules (moment_of group).master (moment_of group).world list
-  pub holds : Holds (moment_of group).master (moment_of group).world list
-  pub leaves : LeftInOrder rules (moment_of group ∷ order.of.earlier) (moment_of group).world list
+  pub agreed : IsAgreed config (moment_of_nodes group ∷ order.of.earlier) list
+  pub agrees : Agrees rules (moment_of_nodes group).master (moment_of_nodes group).world list
+  pub holds : Holds (moment_of_nodes group).master (moment_of_nodes group).world list
+  pub leaves : LeftInOrder rules (moment_of_nodes group ∷ order.of.earlier)
+      (moment_of_nodes group).world list
 
 -- nodes that can be reached can still be reached after it
 abbrev pub StaysReached : NodesState → NodesState → Type 0

@@ -16,7 +16,7 @@ use Rattle.world_base.specs.Core.{CoreState, CountedCore}
 use Rattle.world_base.specs.Step.{node_step}
 use Rattle.byte_world.specs.node_moves.Moves.{NodeCall, done}
 use Rattle.byte_world.specs.node_moves.Moves.NodeCall.{takes}
-use Rattle.byte_world.specs.node_group.Group.{Group, after_outcome, with_record}
+use Rattle.byte_world.specs.node_group.Group.{Group, group_after_outcome, with_record}
 use Rattle.byte_world.specs.node_group.Putting.{recorded_in}
 use Rattle.byte_world.specs.node_group.Steps.{all_given}
 use Rattle.byte_world.specs.node_group.Steps.GroupStep.{node_acts}
@@ -42,7 +42,7 @@ acts old at node node_call there sent g s =
     let found : slice_get g.nodes at ≡ Some node.core = ap (λ (l : List CoreState). slice_get l at) s.nodes ∙ get_mapped core_in old.nodes at node there in
     record {
       does = record {
-        after = after_outcome (with_record g (recorded_in g.archive r.run)) at turn (all_given r.run);
+        after = group_after_outcome (with_record g (recorded_in g.archive r.run)) at turn (all_given r.run);
         step = node_acts at node.core node_call turn r.run found refl r.first r.sent;
         is = refl;
         faithful = r.bytes;

@@ -11,8 +11,8 @@ use Rattle.world_base.specs.Core.{CoreState, CountedCore, StepOutcome}
 use Rattle.byte_world.specs.node_moves.ItemRuns.{IsRunOn, heard_with, is_cut}
 use Rattle.byte_world.specs.node_moves.Moves.NodeCall.{takes}
 use Rattle.byte_world.proofs.of_node_moves.LossesAreMoves.{losses_are_moves}
-use Rattle.byte_world.specs.node_group.Group.{Group, after_outcome, with_record}
-use Rattle.byte_world.specs.node_group.Steps.{keeping}
+use Rattle.byte_world.specs.node_group.Group.{Group, group_after_outcome, with_record}
+use Rattle.byte_world.specs.node_group.Steps.{with_messages}
 use Rattle.byte_world.specs.node_group.Steps.GroupStep.{node_loses}
 use Rattle.byte_world.specs.node_group.Losing.{WereSent, all_given, recorded_in}
 use Rattle.byte_world.specs.NodeCalls.{NodeCallWasSent}
@@ -41,7 +41,7 @@ loses_so old at core new item more archive whole losses there t sent records g s
     let found : slice_get g.nodes at ≡ Some core.core = ap (λ (l : List CoreState). slice_get l at) s.nodes ∙ get_mapped core_in old.nodes at core there in
     record {
       does = record {
-        after = after_outcome (with_record g (recorded_in g.archive by.run)) at (keeping t.kept (turn_of t)) (all_given by.run);
+        after = group_after_outcome (with_record g (recorded_in g.archive by.run)) at (with_messages t.kept (turn_of t)) (all_given by.run);
         step = node_loses at core.core item (turn_of t) t.kept by found t.runs (sent g s) t.thinned;
         is = refl;
         faithful = tt;

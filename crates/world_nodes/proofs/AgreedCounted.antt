@@ -10,7 +10,7 @@ use Rattle.master.specs.agreement.MasterState.{MasterState}
 use Rattle.byte_world.specs.broker_spec.declared.command.Command.{Command}
 use Rattle.byte_world.specs.broker_base.State.{State}
 use Rattle.world_base.specs.Core.{CoreState, CountedCore, rules}
-use Rattle.byte_world.specs.node_group.Group.{Group, moment_of, replica_of}
+use Rattle.byte_world.specs.node_group.Group.{Group, moment_of_nodes, replica_of}
 use Rattle.byte_world.proofs.of_node_group.Placed.{get_mapped}
 use Rattle.master.specs.Inside.{HasCounted, HoldsAt, IsShort, ToldIn, held_by, least_but_one}
 use Rattle.master.proofs.Counting.{get_past, get_there}
@@ -25,7 +25,7 @@ use Rattle.world_nodes.proofs.Acts.{core_in}
 -- what the members acknowledged is counted
 pub members_low : (n : NodesState) (told next : ToldIn) → HaveCounted n told next → (m : ℕ) → In m n.master.members → m < 16
 members_low n told next c m i =
-    let lawful = group_lawful rules c.counts.config (moment_of c.group) c.counts.past c.counts.came in
+    let lawful = group_lawful rules c.counts.config (moment_of_nodes c.group) c.counts.past c.counts.came in
     (rising_above 0 c.group.master.members m lawful.active (subst (λ (k : MasterState). In m k.members) (sym c.stands.master) i)).1
 
 -- of several members, the second least of the numbers that they acknowledged
@@ -34,7 +34,7 @@ pub several_agree : (n : NodesState) (told next : ToldIn) → HaveCounted n told
 several_agree n told next c range several config g earlier stands came list agreed =
     let same : n.master ≡ g.master = sym stands.master in
     ap (λ (m : MasterState). least_but_one told.held (2 ^ 64 - 1) (2 ^ 64 - 1) m.members) same
-    ∙ counted_as_seen rules config (moment_of g) earlier list told (2 ^ 64 - 1) came agreed
+    ∙ counted_as_seen rules config (moment_of_nodes g) earlier list told (2 ^ 64 - 1) came agreed
     (c.counts.active ∙ ap (λ (m : MasterState). m.active) (c.stands.master ∙ same))
     (subst (λ (l : List (ℕ × Message Command)). HasCounted l told) (c.stands.sent ∙ sym stands.sent) c.counts.counted)
     (λ m. (let low = range m in omega (arith, low)))
@@ -48,13 +48,13 @@ same_nodes n g stands = ap (λ (l : List CoreState). map replica_of l) (sym stan
 pub sole_agrees : (n : NodesState) (m : ℕ) → n.master.members ≡ m ∷ [] → AgreeOnSoMany n (held_at n.nodes m)
 sole_agrees n m sole config g earlier stands came list agreed =
     ap (λ (l : List (ReplicaState State Command)). held_by (slice_get l (m - 1))) (same_nodes n g stands)
-    ∙ sole_as_seen rules config (moment_of g) earlier list came agreed m (ap (λ (k : MasterState). k.members) stands.master ∙ sole)
+    ∙ sole_as_seen rules config (moment_of_nodes g) earlier list came agreed m (ap (λ (k : MasterState). k.members) stands.master ∙ sole)
 
 -- some member's log has this many
 pub some_agrees : (n : NodesState) (count : ℕ) (list : List Command) → AgreeOnSoMany n count
     → ((m : ℕ) → In m n.master.members → IsShort (slice_get (replicas_of n.nodes) (m - 1)) count) → AgreeOn n list
 some_agrees n count list many short config g earlier stands came =
-    absurd (some_as_seen rules config (moment_of g) earlier count came (λ xs is. many config g earlier stands came xs is)
+    absurd (some_as_seen rules config (moment_of_nodes g) earlier count came (λ xs is. many config g earlier stands came xs is)
     (λ m i. subst (λ (l : List (ReplicaState State Command)). IsShort (slice_get l (m - 1)) count) (same_nodes n g stands)
     (short m (subst (λ (k : MasterState). In m k.members) stands.master i))))
 
@@ -77,7 +77,7 @@ pub recorded_agrees : (n : NodesState) (count at base : ℕ) (read : List Comman
     → AgreeOn n (take count read ++ [])
 unfolding holds_in
 recorded_agrees n count at base read many h same low seen config g earlier stands came =
-    agreed_read rules config (moment_of g) earlier count at base read came (λ xs is. many config g earlier stands came xs is)
+    agreed_read rules config (moment_of_nodes g) earlier count at base read came (λ xs is. many config g earlier stands came xs is)
     (holds_in n g count at stands h) same low (seen ∙ sym stands.archive)
 
 -- .. or the log of that member continues at the end of the record
@@ -86,7 +86,7 @@ pub front_agrees : (n : NodesState) (count at base : ℕ) (read rest : List Comm
     → rest ≡ h.replica.log.rest → AgreeOn n (take base read ++ take (count - base) rest)
 unfolding holds_in
 front_agrees n count at base read rest many h same high seen kept config g earlier stands came =
-    agreed_read_on rules config (moment_of g) earlier count at base read rest came (λ xs is. many config g earlier stands came xs is)
+    agreed_read_on rules config (moment_of_nodes g) earlier count at base read rest came (λ xs is. many config g earlier stands came xs is)
     (holds_in n g count at stands h) same high (seen ∙ sym stands.archive) kept
 
 -- the record has all places below the base of a node's log
@@ -94,7 +94,7 @@ pub within_at : (n : NodesState) (told next : ToldIn) → HaveCounted n told nex
     → slice_get (replicas_of n.nodes) at ≡ Some r → r.log.base ≤ length n.archive
 within_at n told next c at r stands =
     subst (λ (l : List Command). r.log.base ≤ length l) c.stands.archive
-    (within_of rules c.counts.config (moment_of c.group) c.counts.past c.counts.came at r
+    (within_of rules c.counts.config (moment_of_nodes c.group) c.counts.past c.counts.came at r
     (ap (λ (l : List (ReplicaState State Command)). slice_get l at) (sym (same_nodes n c.group c.stands)) ∙ stands))
 
 -- ---- logs of nodes

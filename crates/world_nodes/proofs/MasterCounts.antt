@@ -11,7 +11,7 @@ use Rattle.master.specs.agreement.MasterState.AssignRefusal.{bad_members, ballot
 use Rattle.master.specs.agreement.MasterState.{AssignRefusal, MasterState, activating, assigning, is_granted, refusal}
 use Rattle.byte_world.specs.broker_spec.declared.command.Command.{Command}
 use Rattle.world_base.specs.Core.{rules}
-use Rattle.byte_world.specs.node_group.Group.{Group, moment_of, with_master}
+use Rattle.byte_world.specs.node_group.Group.{Group, moment_of_nodes, with_master}
 use Rattle.master.specs.declared.error.AssignError.{AssignError}
 use Rattle.master.specs.declared.error.AssignError.TheVariants.{BadMembers, BallotsSpent}
 use Rattle.master.specs.Inside.{ToldIn}
@@ -47,7 +47,7 @@ gives_counting old config state body more true losses t next next' c none state_
         archive = s.archive;
         sent = s.sent ∙ sym (kept ∙ ap (λ (b : Body Command). old.sent ++ (config.primary, record { from = 0; body = b }) ∷ []) body_is);
       };
-      counts = group_gives rules (moment_of g) (moment_of (group_giving config g)) config t next next' c.counts
+      counts = group_gives rules (moment_of_nodes g) (moment_of_nodes (group_giving config g)) config t next next' c.counts
           (ap (λ (m : MasterState). refusal m config) c.stands.master ∙ none) refl (inl refl) (ballot ∙ ap (λ (m : MasterState). m.given + 1) (sym c.stands.master)) untold;
     }
 gives_counting old config state body more false losses t next next' c none state_is body_is kept lost ballot untold =
@@ -61,7 +61,7 @@ gives_counting old config state body more false losses t next next' c none state
         archive = c.stands.archive;
         sent = c.stands.sent ∙ sym lost;
       };
-      counts = group_gives rules (moment_of g) (moment_of h) config t next next' c.counts
+      counts = group_gives rules (moment_of_nodes g) (moment_of_nodes h) config t next next' c.counts
           (ap (λ (m : MasterState). refusal m config) c.stands.master ∙ none) refl (inr refl) (ballot ∙ ap (λ (m : MasterState). m.given + 1) (sym c.stands.master)) untold;
     }
 
@@ -97,7 +97,7 @@ answers_counting old from ballot state body more true losses t next t' next' c s
         archive = s.archive;
         sent = s.sent ∙ sym (kept ∙ ap (λ (b : Body Command). old.sent ++ (from, record { from = 0; body = b }) ∷ []) body_is);
       };
-      counts = group_answers rules (moment_of g) (moment_of (group_answer from ballot g)) from ballot t next t' next' c.counts
+      counts = group_answers rules (moment_of_nodes g) (moment_of_nodes (group_answer from ballot g)) from ballot t next t' next' c.counts
           (subst (λ (l : Sent). In (0, record { from = from; body = Activate ballot }) l) (sym c.stands.sent) sent) refl (inl refl)
           (turns_in g old state ballot t next t' next' c.stands state_is turns);
     }
@@ -112,7 +112,7 @@ answers_counting old from ballot state body more false losses t next t' next' c 
         archive = c.stands.archive;
         sent = c.stands.sent ∙ sym lost;
       };
-      counts = group_answers rules (moment_of g) (moment_of h) from ballot t next t' next' c.counts
+      counts = group_answers rules (moment_of_nodes g) (moment_of_nodes h) from ballot t next t' next' c.counts
           (subst (λ (l : Sent). In (0, record { from = from; body = Activate ballot }) l) (sym c.stands.sent) sent) refl (inr refl)
           (turns_in g old state ballot t next t' next' c.stands state_is turns);
     }

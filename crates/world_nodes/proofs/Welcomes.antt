@@ -14,7 +14,7 @@ use Rattle.master.specs.Inside.{ToldIn}
 use Rattle.master.specs.snapshots.Laws.{IsCutRight}
 use Rattle.master.proofs.of_snapshots.PastsAgree.{logs_are_cut_right}
 use Rattle.world_base.specs.Core.{CoreState, CountedCore, rules}
-use Rattle.byte_world.specs.node_group.Group.{moment_of, replica_of}
+use Rattle.byte_world.specs.node_group.Group.{moment_of_nodes, replica_of}
 use Rattle.byte_world.proofs.of_node_group.Placed.{get_mapped}
 use Rattle.world_nodes.specs.Asking.{first_connection, is_welcome, whole_log_in, whole_log_of, welcomes_back}
 use Rattle.world_nodes.specs.Running.{numbered_node}
@@ -38,11 +38,11 @@ done_more s commands i command before after below same held is =
 cut_right : (n : NodesState) (told next : ToldIn) → HaveCounted n told next → (node : ℕ) (core : CountedCore) → numbered_node n.nodes node ≡ Some core →
     IsCutRight rules n.archive core.core.replica.state
 cut_right n told next c node core there =
-    let found : slice_get (moment_of c.group).world.nodes (node - 1) ≡ Some (replica_of core.core) =
+    let found : slice_get (moment_of_nodes c.group).world.nodes (node - 1) ≡ Some (replica_of core.core) =
     get_mapped replica_of c.group.nodes (node - 1) core.core
     (ap (λ (l : List CoreState). slice_get l (node - 1)) c.stands.nodes ∙ get_mapped core_in n.nodes (node - 1) core (at_place n.nodes node core there)) in
     subst (λ (l : List Command). IsCutRight rules l core.core.replica.state) c.stands.archive
-    (logs_are_cut_right rules c.counts.config (moment_of c.group) c.counts.past c.counts.came (node - 1) (replica_of core.core) found)
+    (logs_are_cut_right rules c.counts.config (moment_of_nodes c.group) c.counts.past c.counts.came (node - 1) (replica_of core.core) found)
 
 -- the machine at its base
 at_base : (archive : List Command) (r : ReplicaState State Command) → IsCutRight rules archive r → (base : ℕ) (bytes : List ℕ) (machine : State) → base ≡ r.log.base →

@@ -6,7 +6,7 @@ use Rattle.byte_world.specs.broker_spec.declared.command.Command.{Command}
 use Rattle.byte_world.specs.broker_spec.declared.command.Output.{Output}
 use Rattle.byte_world.specs.broker_base.State.{State}
 use Rattle.world_base.specs.Core.{rules}
-use Rattle.byte_world.specs.node_group.Group.{Group, moment_of}
+use Rattle.byte_world.specs.node_group.Group.{Group, moment_of_nodes}
 use Rattle.world_nodes.specs.Nodes.{NodesState, NodesStandFor}
 
 -- whatever the history of a group that corresponds to the nodes, this is its agreed list
@@ -14,12 +14,13 @@ abbrev pub AgreeOn : NodesState → List Command → Type 0
 AgreeOn n list =
     (config : Config) (g : Group) (earlier : List (Moment State Command Output)) →
     NodesStandFor g n →
-    Moments rules config (moment_of g ∷ earlier) → IsAgreed config (moment_of g ∷ earlier) list
+    Moments rules config (moment_of_nodes g ∷ earlier) →
+    IsAgreed config (moment_of_nodes g ∷ earlier) list
 
 -- the list on which the nodes agree has this many commands
 abbrev pub AgreeOnSoMany : NodesState → ℕ → Type 0
 AgreeOnSoMany n count =
     (config : Config) (g : Group) (earlier : List (Moment State Command Output)) →
     NodesStandFor g n →
-    Moments rules config (moment_of g ∷ earlier) →
-    (list : List Command) → IsAgreed config (moment_of g ∷ earlier) list → count ≡ length list
+    Moments rules config (moment_of_nodes g ∷ earlier) →
+    (list : List Command) → IsAgreed config (moment_of_nodes g ∷ earlier) list → count ≡ length list

@@ -18,7 +18,7 @@ use Rattle.world_base.specs.Losses.{DoesNothing, ItemTakesNoMemory}
 use Rattle.world_base.specs.LossyStep.{RunsOn}
 use Rattle.world_base.specs.Step.{node_step}
 use Rattle.master.specs.Inside.{IsGroup, ToldIn, held_by}
-use Rattle.byte_world.specs.node_group.Group.{Group, moment_of, replica_of}
+use Rattle.byte_world.specs.node_group.Group.{Group, moment_of_nodes, replica_of}
 use Rattle.world_nodes.specs.Running.{running}
 use Rattle.world_nodes.specs.Nodes.{NodesState, NodesStandFor, cores_of}
 
@@ -75,7 +75,7 @@ pub record TookItem (old : CountedCore) (item : Item) (new : CountedCore)
 pub record HaveCounted (n : NodesState) (told next : ToldIn) : Type 0 where
   pub group : Group
   pub stands : NodesStandFor group n
-  pub counts : IsGroup rules (moment_of group) told next
+  pub counts : IsGroup rules (moment_of_nodes group) told next
 
 -- the replicas of nodes
 abbrev pub replicas_of : List CountedCore → List (ReplicaState State Command)
