@@ -19,8 +19,8 @@ use Rattle.node_group.specs.world_base.Effects.{without_messages}
 use Rattle.node_group.specs.node_moves.Closed.{listed_named}
 use Rattle.node_group.specs.node_moves.Ends.{IsOrderly}
 use Rattle.node_group.specs.node_moves.LossyMoves.{LossyMoves}
-use Rattle.node_group.specs.node_moves.LossyParts.{given_in, inputs_in}
-use Rattle.node_group.specs.node_moves.LossyRuns.{AllFreeze, Freezes, LossyRuns, all_inputs}
+use Rattle.node_group.specs.node_moves.LossyParts.{move_effects, inputs_in}
+use Rattle.node_group.specs.node_moves.LossyRuns.{AllFreeze, CutsThaw, LossyRuns, all_inputs}
 use Rattle.node_group.specs.node_moves.LossyRuns.LossyRuns.{rests, goes_on}
 use Rattle.node_group.proofs.of_node_moves.Kept.{named}
 use Rattle.node_group.proofs.of_node_moves.LossyClosed.{lossy_names_are_of_the_ballot}
@@ -59,8 +59,8 @@ record LedOn {config : Config} (g : Group) {earlier : List (Moment State Command
   led : AreLed g (moment_of_nodes g ∷ earlier) → AreLed h (moment_of_nodes h ∷ further.before)
 
 move_led : {config : Config} (g : Group) (n : ℕ) (core : CoreState) (outcome : StepOutcome) (m : LossyMoves core outcome) (kept : Given) → slice_get g.nodes n ≡ Some core → WereSent g n (inputs_in m)
-    → Freezes m → Thinned kept outcome.messages → IsOrderly core → {earlier : List (Moment State Command Output)} (came : Moments rules config (moment_of_nodes g ∷ earlier))
-    → LedOn g came (group_after_outcome (with_record g (recorded_by g.archive m)) n (with_messages kept outcome) (given_in m)) (put_in_move m)
+    → CutsThaw m → Thinned kept outcome.messages → IsOrderly core → {earlier : List (Moment State Command Output)} (came : Moments rules config (moment_of_nodes g ∷ earlier))
+    → LedOn g came (group_after_outcome (with_record g (recorded_by g.archive m)) n (with_messages kept outcome) (move_effects m)) (put_in_move m)
 move_led {config = config} g n core outcome m kept at sent frozen t o {earlier = earlier} came =
     let f = (losses_happen g n core outcome m kept at sent frozen t config earlier came).further in
     record { further = f; led = λ before x k has. led_later f.kept (on before x k has (set_back g.nodes n k outcome.core has.core has.stands)) }
@@ -70,7 +70,7 @@ move_led {config = config} g n core outcome m kept at sent frozen t o {earlier =
     here_now before x d now None none = leads_now g n core x earlier at (lossy_names_are_of_the_ballot core outcome m o x d none now)
     here_now before x d now (Some c) was = before x n (record { core = core; stands = at; connection = c; listed = was })
 
-    on : AreLed g (moment_of_nodes g ∷ earlier) → (x : ConnectionName) (k : ℕ) (has : HasName x (group_after_outcome (with_record g (recorded_by g.archive m)) n (with_messages kept outcome) (given_in m)) k)
+    on : AreLed g (moment_of_nodes g ∷ earlier) → (x : ConnectionName) (k : ℕ) (has : HasName x (group_after_outcome (with_record g (recorded_by g.archive m)) n (with_messages kept outcome) (move_effects m)) k)
         → ((k ≡ n) × (has.core ≡ outcome.core)) ⊎ (slice_get g.nodes k ≡ Some has.core) → Led (moment_of_nodes g ∷ earlier) k x.ballot
     on before x k has (inl (same, is)) =
         subst (λ i. Led (moment_of_nodes g ∷ earlier) i x.ballot) (sym same)
@@ -88,10 +88,10 @@ run_led g n core outcome (goes_on {first = first} {next = next} m run) kept o at
     let s = were_both g n (inputs_in m) (all_inputs run) sent in
     let one : StepOutcome = with_messages k.front first in
     let step = move_led g n core first m k.front at s.0 frozen.0 k.first o came in
-    let after : Group = group_after_outcome (with_record g (recorded_by g.archive m)) n one (given_in m) in
-    let rest = subst (λ (h : Group). LedOn after step.further.past h (put_in_run run)) (kept_turns (with_record g (recorded_in (recorded_by g.archive m) run)) n first next (given_in m) (all_given run) kept k)
+    let after : Group = group_after_outcome (with_record g (recorded_by g.archive m)) n one (move_effects m) in
+    let rest = subst (λ (h : Group). LedOn after step.further.past h (put_in_run run)) (kept_turns (with_record g (recorded_in (recorded_by g.archive m) run)) n first next (move_effects m) (all_given run) kept k)
     (run_led after n first.core next run k.rest (losses_read_in_order core first m o).0 (get_of_set g.nodes n core first.core at)
-    (were_still g (recorded_by g.archive m) n one (given_in m) (all_inputs run) s.1) frozen.1 k.next step.further.past) in
+    (were_still g (recorded_by g.archive m) n one (move_effects m) (all_inputs run) s.1) frozen.1 k.next step.further.past) in
     record { further = both came (put_in_move m) (put_in_run run) step.further rest.further; led = λ before. rest.led (step.led before) }
 
 -- ---- groups

@@ -14,7 +14,7 @@ use Rattle.node_group.proofs.of_packet_world.Lists.{each_get}
 use Rattle.node_group.specs.exactly_once.StoryCommands.{is_packet_of}
 use Rattle.node_group.proofs.of_exactly_once.Takes.{same_name_self}
 use Rattle.node_group.specs.packet.declared.packet.Packet.{Packet}
-use Rattle.node_group.specs.node_moves.Ends.{commands_of}
+use Rattle.node_group.specs.node_moves.Ends.{packet_commands_from}
 use Rattle.node_group.specs.Steps.{GroupTrace}
 use Rattle.node_group.specs.Order.{packet_commands as packets_in_list}
 use Rattle.node_group.proofs.CarriedInOrder.{CarriedSo, IsAgreedSo, carried_so, carries_each}
@@ -41,21 +41,21 @@ in_first x y ys (there i) = inr i
 
 -- after the first packet of a connection there is no Connect
 none_later : (x : ConnectionName) (n : ℕ) (packets : List Packet) (y : ConnectionName) (c : Client) (clean : Bool) →
-    In (commands.Connect y c clean) (commands_of x (suc n) packets) → ⊥
+    In (commands.Connect y c clean) (packet_commands_from x (suc n) packets) → ⊥
 none_later x n [] y c clean i = elim i [ ]
 none_later x n (packet ∷ packets) y c clean i = by (none_later x (suc n) packets y c clean) (in_first _ _ _ i)
   where
-    by : (In (commands.Connect y c clean) (commands_of x (suc (suc n)) packets) → ⊥) →
-        (commands.Connect y c clean ≡ commands.Packet x packet) ⊎ In (commands.Connect y c clean) (commands_of x (suc (suc n)) packets) → ⊥
+    by : (In (commands.Connect y c clean) (packet_commands_from x (suc (suc n)) packets) → ⊥) →
+        (commands.Connect y c clean ≡ commands.Packet x packet) ⊎ In (commands.Connect y c clean) (packet_commands_from x (suc (suc n)) packets) → ⊥
     by rest (inl e) = cc
     by rest (inr j) = rest j
 
 -- and the first one is not clean
 first_kept : (x : ConnectionName) (d : Client) (more : List Written) (y : ConnectionName) (c : Client) (clean : Bool) →
-    In (commands.Connect y c clean) (commands_of x 0 (packets_of (opening_connect d ∷ more))) → clean ≡ false
+    In (commands.Connect y c clean) (packet_commands_from x 0 (packets_of (opening_connect d ∷ more))) → clean ≡ false
 first_kept x d more y c clean i = by (in_first _ _ _ i)
   where
-    by : (commands.Connect y c clean ≡ commands.Connect x d false) ⊎ In (commands.Connect y c clean) (commands_of x 1 (packets_of more)) → clean ≡ false
+    by : (commands.Connect y c clean ≡ commands.Connect x d false) ⊎ In (commands.Connect y c clean) (packet_commands_from x 1 (packets_of more)) → clean ≡ false
     by (inl e) = cc
     by (inr j) = absurd (none_later x 0 (packets_of more) y c clean j)
 
@@ -69,17 +69,17 @@ module _ {nodes : ℕ} {config : Config} (w : World) (went : GroupTrace nodes co
   of_known : (x : ConnectionName) (c : Client) (clean : Bool) → In (commands.Connect x c clean) agreed → IsKnown w x → clean ≡ false
   of_known x c clean among k = by (each_get BeginsKept k.c.connections k.j k.κ (each_get AllBeginKept w.clients k.i k.c begin k.has.client) k.has.connection)
     where
-      front : IsPrefixOf (packets_in_list k.κ.name agreed) (commands_of k.κ.name 0 (packets_of k.κ.written))
+      front : IsPrefixOf (packets_in_list k.κ.name agreed) (packet_commands_from k.κ.name 0 (packets_of k.κ.written))
       front = (in_order w went holds so agreed is k.i k.c k.j k.κ k.p k.has).up
 
-      written : In (commands.Connect x c clean) (commands_of k.κ.name 0 (packets_of k.κ.written))
+      written : In (commands.Connect x c clean) (packet_commands_from k.κ.name 0 (packets_of k.κ.written))
       written = subst (λ (l : List Command). In (commands.Connect x c clean) l) (sym front.is)
           (in_left front.rest (passing (λ (command : Command). is_packet_of command k.κ.name) agreed (commands.Connect x c clean) among
           (ap (is_packet_of (commands.Connect x c clean)) k.name ∙ same_name_self x)))
 
       by : BeginsKept k.κ → clean ≡ false
       by b = first_kept k.κ.name b.client b.more x c clean
-          (subst (λ (l : List Written). In (commands.Connect x c clean) (commands_of k.κ.name 0 (packets_of l))) b.written written)
+          (subst (λ (l : List Written). In (commands.Connect x c clean) (packet_commands_from k.κ.name 0 (packets_of l))) b.written written)
 
   -- and there is no other
   of_unheard : (x : ConnectionName) (c : Client) (clean : Bool) → In (commands.Connect x c clean) agreed → IsUnheard went x → ⊥

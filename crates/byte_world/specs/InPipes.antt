@@ -9,7 +9,7 @@ use Rattle.node_group.specs.broker_spec.Place.{Client}
 use Rattle.node_group.specs.lists.Lists.{Each, IsPrefixOf}
 use Rattle.node_group.specs.exactly_once.Sides.{ClientConnection}
 use Rattle.node_group.specs.snapshots.Moments.{IsAgreed}
-use Rattle.node_group.specs.node_moves.Ends.{commands_of}
+use Rattle.node_group.specs.node_moves.Ends.{packet_commands_from}
 use Rattle.node_group.specs.node_moves.Puts.{spelled}
 use Rattle.node_group.specs.Group.{moment_of_nodes}
 use Rattle.node_group.specs.Steps.{all_proposed, groups_on_trace}
@@ -24,7 +24,8 @@ use Rattle.byte_world.specs.Steps.{Reached}
 -- The packets that its client handled, spelled, with the bytes that came to it after them and those
 -- in transit to it, are a prefix of the spelled answers to it, and no fault was found in them.
 pub record IsInOrder (agreed : List Command) (κ : ClientConnection) (p : Pipe) : Type 0 where
-  pub up : IsPrefixOf (packets_in_list κ.name agreed) (commands_of κ.name 0 (packets_of κ.written))
+  pub up : IsPrefixOf (packets_in_list κ.name agreed)
+      (packet_commands_from κ.name 0 (packets_of κ.written))
   pub handled : List Packet
   pub counted : length handled ≡ κ.handled
   pub whole : Each IsPacket handled

@@ -12,7 +12,7 @@ use Rattle.byte_world.specs.broker_spec.declared.command.Command.TheVariants as 
 use Rattle.byte_world.specs.broker_spec.Connection.{ConnectionName, IsConnectionName}
 use Rattle.byte_world.specs.exactly_once.StoryCommands.{command_of, is_packet_of}
 use Rattle.byte_world.specs.packet_world.Steps.{is_of_connection}
-use Rattle.byte_world.specs.node_moves.Ends.{commands_of}
+use Rattle.byte_world.specs.node_moves.Ends.{packet_commands_from}
 use Rattle.byte_world.specs.node_group.Order.{packet_commands}
 use Rattle.headline.proofs.Fitting.{IsFitting}
 
@@ -23,7 +23,7 @@ command_fits x zero (packets.Connect connect) named fits = (named, fits.0.1)
 command_fits x zero packet named fits = (named, fits.0, (fits.1, fits.2))
 command_fits x (suc n) packet named fits = (named, fits.0, (fits.1, fits.2))
 
-pub commands_fit : (x : ConnectionName) (n : ℕ) (written : List Packet) → IsConnectionName x → Each IsPacket written → Each IsFitting (commands_of x n written)
+pub commands_fit : (x : ConnectionName) (n : ℕ) (written : List Packet) → IsConnectionName x → Each IsPacket written → Each IsFitting (packet_commands_from x n written)
 commands_fit x n [] named fits = tt
 commands_fit x n (packet ∷ written) named fits = (command_fits x n packet named fits.0, commands_fit x (suc n) written named fits.1)
 
@@ -50,7 +50,7 @@ pub record IsWritten (agreed : List Command) (command : Command) : Type 0 where
   pub written : List Packet
   pub named : IsConnectionName name
   pub whole : Each IsPacket written
-  pub order : IsPrefixOf (packet_commands name agreed) (commands_of name 0 written)
+  pub order : IsPrefixOf (packet_commands name agreed) (packet_commands_from name 0 written)
   pub of : is_packet_of command name ≡ true
 
 fits_so : (agreed : List Command) (command : Command) → In command agreed → IsWritten agreed command → IsFitting command

@@ -16,7 +16,7 @@ use Rattle.byte_world.specs.packet_world.Exact.{commands_from}
 use Rattle.byte_world.specs.packet_world.Steps.{is_of_connection}
 use Rattle.byte_world.proofs.of_packet_world.Answers.{of_name}
 use Rattle.byte_world.proofs.of_packet_world.Lists.{each_get, stands_within, there_is}
-use Rattle.byte_world.specs.node_moves.Ends.{commands_of}
+use Rattle.byte_world.specs.node_moves.Ends.{packet_commands_from}
 use Rattle.byte_world.specs.node_group.Steps.{GroupTrace}
 use Rattle.byte_world.specs.node_group.Order.{packet_commands as packets_in_list}
 use Rattle.byte_world.proofs.of_node_group.Placed.{get_mapped}
@@ -39,7 +39,7 @@ HasAllPipes c = length c.pipes ≡ length c.connections
 
 -- ---- commands
 
-same_commands : (x : ConnectionName) (n : ℕ) (written : List Written) → commands_of x n (packets_of written) ≡ commands_from x n written
+same_commands : (x : ConnectionName) (n : ℕ) (written : List Written) → packet_commands_from x n (packets_of written) ≡ commands_from x n written
 same_commands x n [] = refl
 same_commands x n (w ∷ written) = ap (λ l. command_of x n w.packet ∷ l) (same_commands x (suc n) written)
 
@@ -89,7 +89,7 @@ module _ {nodes : ℕ} {config : Config} (w : World) (went : GroupTrace nodes co
 
   -- the list has a prefix of what was written on it
   pub order_at : (i : ℕ) (c : ClientPipes) (j : ℕ) (κ : ClientConnection) (p : Pipe) → HasPipe w i c j κ p
-      → IsPrefixOf (packets_in_list κ.name agreed) (commands_of κ.name 0 (packets_of κ.written))
+      → IsPrefixOf (packets_in_list κ.name agreed) (packet_commands_from κ.name 0 (packets_of κ.written))
   order_at i c j κ p has = let h = holds.each i c j κ p has in (carries_each w.group went so agreed is κ.name (packets_of κ.written) h.up.later h.up.joined).up
 
   -- a packet in the list is of a connection of a client

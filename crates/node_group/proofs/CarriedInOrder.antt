@@ -20,7 +20,7 @@ use Rattle.packet_world.specs.agreement.Proposals.{commands_of as commands_in}
 use Rattle.packet_world.specs.agreement.World.{can_open}
 use Rattle.packet_world.proofs.of_snapshots.PastsAgree.{has_agreed}
 use Rattle.node_moves.specs.world_base.Core.{CoreState, opening_core, rules}
-use Rattle.node_moves.specs.Ends.{commands_of}
+use Rattle.node_moves.specs.Ends.{packet_commands_from}
 use Rattle.node_moves.specs.RunProposals.{bytes_on}
 use Rattle.node_moves.specs.ItemRuns.{came_with}
 use Rattle.node_moves.specs.LossyRuns.{bytes_on as bytes_losing}
@@ -182,14 +182,14 @@ carried : (x : ConnectionName) (written : List Packet) (later : List ℕ) (g : G
     → IsCarried x written sent agreed
 carried x written later g moments put sent agreed said (inl u) =
     record {
-      up = prefix_then (subst (IsPrefixOf (packet_commands x agreed)) u.unsaid said) (record { rest = commands_of x 0 written; is = refl });
+      up = prefix_then (subst (IsPrefixOf (packet_commands x agreed)) u.unsaid said) (record { rest = packet_commands_from x 0 written; is = refl });
       down = record { rest = answers_to x agreed; is = ap (λ l. l ++ answers_to x agreed) (sym u.unsent) };
     }
 carried x written later g moments put sent agreed said (inr held) =
     let front = front_of x held.core written held.read later held.end in
     record {
       up = prefix_then (subst (IsPrefixOf (packet_commands x agreed)) held.said said)
-          (record { rest = commands_of x (0 + length held.read) front.rest; is = ap (commands_of x 0) front.is ∙ commands_join x 0 held.read front.rest });
+          (record { rest = packet_commands_from x (0 + length held.read) front.rest; is = ap (packet_commands_from x 0) front.is ∙ commands_join x 0 held.read front.rest });
       down = down_front held.sent;
     }
 

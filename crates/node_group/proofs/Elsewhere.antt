@@ -17,10 +17,10 @@ use Rattle.node_moves.specs.world_base.Core.{CoreState, StepOutcome, serves}
 use Rattle.node_moves.specs.world_base.Reading.{open_at}
 use Rattle.node_moves.specs.Closed.{exact_refusal}
 use Rattle.node_moves.specs.Ends.{IsEnd, IsGiven, IsOrderly, open_named, piece_on}
-use Rattle.node_moves.specs.Ends.{came_on as exactly_came, proposal_of as exactly_proposed}
+use Rattle.node_moves.specs.Ends.{came_on as exactly_came, move_proposal as exactly_proposed}
 use Rattle.node_moves.specs.Ends.IsEnd.{not_yet, is_open, is_over}
 use Rattle.node_moves.specs.LossyMoves.{LossyMoves}
-use Rattle.node_moves.specs.LossyParts.{came_on, proposal_of, refusal_in}
+use Rattle.node_moves.specs.LossyParts.{came_on, move_proposal, refusal_in}
 use Rattle.node_moves.specs.LossyMoves.LossyMoves.{exactly, first_losing, later_losing, drops}
 use Rattle.node_moves.specs.Moves.{Moves}
 use Rattle.node_moves.specs.Moves.Moves.{holds, reads_first, reads_later, refuses, loses_one, loses_next, expels_one}
@@ -55,7 +55,7 @@ exactly_none_put x core outcome (reads_later now port c packet rest at later is 
 exactly_none_put x core outcome m o none = refl
 
 pub none_put : (x : ConnectionName) (core : CoreState) (outcome : StepOutcome) (m : LossyMoves core outcome) → IsOrderly core → open_named x core ≡ None
-    → packet_commands x (proposal_of m) ≡ []
+    → packet_commands x (move_proposal m) ≡ []
 none_put x core outcome (exactly m) o none = exactly_none_put x core outcome m o none
 none_put x core outcome (first_losing now port c connect rest did at first is taken) o none =
     one_other x core port c (commands.Connect c.name connect.client connect.clean) o none at refl
@@ -99,7 +99,7 @@ exactly_packets x core outcome (loses_next c at) = lost_or_not x c.name (serves 
 exactly_packets x core outcome (expels_one client) = expelled_or_not x client (serves core)
 exactly_packets x core outcome m = refl
 
-pub packets_put : (x : ConnectionName) (core : CoreState) (outcome : StepOutcome) (m : LossyMoves core outcome) → packet_commands x (commands_put m) ≡ packet_commands x (proposal_of m)
+pub packets_put : (x : ConnectionName) (core : CoreState) (outcome : StepOutcome) (m : LossyMoves core outcome) → packet_commands x (commands_put m) ≡ packet_commands x (move_proposal m)
 packets_put x core outcome (exactly m) = exactly_packets x core outcome m
 packets_put x core outcome m = refl
 

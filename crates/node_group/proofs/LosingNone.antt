@@ -7,14 +7,14 @@ use Rattle.node_moves.specs.Ends.{came_on}
 use Rattle.node_moves.specs.RunProposals.{bytes_on}
 use Rattle.node_moves.specs.Hearing.{HearsAtFirst, IsCalm}
 use Rattle.node_moves.specs.LossyParts.{inputs_of}
-use Rattle.node_moves.specs.LossyRuns.{AllFreeze, Freezes, LossyRuns, all_inputs}
+use Rattle.node_moves.specs.LossyRuns.{AllFreeze, CutsThaw, LossyRuns, all_inputs}
 use Rattle.node_moves.specs.LossyRuns.{HearsAtFirst as FirstLosing, HearsNothing as CalmLosing, bytes_on as bytes_losing}
 use Rattle.node_moves.specs.LossyMoves.LossyMoves.{exactly}
 use Rattle.node_moves.specs.LossyRuns.LossyRuns.{rests as rests_losing, goes_on as goes_losing}
 use Rattle.node_moves.specs.Moves.{Moves, Runs}
 use Rattle.node_moves.specs.Moves.Moves.{hears, cuts_log}
 use Rattle.node_moves.specs.Moves.Runs.{rests, goes_on}
-use Rattle.node_moves.specs.Puts.{given_in}
+use Rattle.node_moves.specs.Puts.{move_effects}
 use Rattle.node_group.specs.Group.{Group}
 use Rattle.node_group.specs.Steps.{AllWasSent, WasSent, all_given, put_in_move, put_in_run}
 use Rattle.node_group.specs.Losing.{WereSent}
@@ -29,7 +29,7 @@ losing_none (goes_on m run) = goes_losing (exactly m) (losing_none run)
 
 pub same_given : {core : CoreState} {outcome : StepOutcome} (run : Runs core outcome) → given_losing (losing_none run) ≡ all_given run
 same_given rests = refl
-same_given (goes_on m run) = ap (λ l. given_in m ++ l) (same_given run)
+same_given (goes_on m run) = ap (λ l. move_effects m ++ l) (same_given run)
 
 pub same_put : {core : CoreState} {outcome : StepOutcome} (run : Runs core outcome) → put_losing (losing_none run) ≡ put_in_run run
 same_put rests = refl
@@ -56,12 +56,12 @@ sent_in_move : (g : Group) (n : ℕ) {core : CoreState} {outcome : StepOutcome} 
 sent_in_move g n (hears input other) sent = (sent, tt)
 sent_in_move g n m sent = tt
 
-pub sent_by : (g : Group) (n : ℕ) {core : CoreState} {outcome : StepOutcome} (m : Moves core outcome) → WereSent g n (inputs_of m) → Freezes (exactly m) → WasSent g n m
+pub sent_by : (g : Group) (n : ℕ) {core : CoreState} {outcome : StepOutcome} (m : Moves core outcome) → WereSent g n (inputs_of m) → CutsThaw (exactly m) → WasSent g n m
 sent_by g n (hears input other) sent frozen = sent.0
 sent_by g n (cuts_log can) sent frozen = frozen
 sent_by g n m sent frozen = tt
 
-freezes_by : (g : Group) (n : ℕ) {core : CoreState} {outcome : StepOutcome} (m : Moves core outcome) → WasSent g n m → Freezes (exactly m)
+freezes_by : (g : Group) (n : ℕ) {core : CoreState} {outcome : StepOutcome} (m : Moves core outcome) → WasSent g n m → CutsThaw (exactly m)
 freezes_by g n (cuts_log can) sent = sent
 freezes_by g n m sent = tt
 

@@ -56,7 +56,7 @@ use Rattle.node_moves.specs.world_base.Reading.{refused}
 use Rattle.node_moves.specs.world_base.Step.{with_next_connection, settled, with_cut}
 use Rattle.node_moves.specs.Moves.{Moves, is_proposal}
 use Rattle.node_moves.specs.Moves.Moves.{hears, opens_one, holds, reads_first, reads_later, closes, refuses, loses_one, loses_next, expels_one, cuts_log, crashes, settles, hands}
-use Rattle.node_moves.specs.Puts.{given_in}
+use Rattle.node_moves.specs.Puts.{move_effects}
 use Rattle.node_moves.specs.ballot_base.Cutting.{can_cut, cut}
 use Rattle.packet_world.specs.snapshots.World.{recorded}
 use Rattle.std.specs.Prelude.{not}
@@ -250,7 +250,7 @@ no_step g n core outcome given config earlier came at replica none_sent none_lef
 -- what must hold for each move, of which these messages are kept
 abbrev Happens : Group → ℕ → (core : CoreState) (outcome : StepOutcome) → Moves core outcome → Given → Type 0
 Happens g n core outcome m kept = (config : Config) (earlier : List (Moment State Command Output)) (came : Moments rules config (moment_of_nodes g ∷ earlier))
-    → Once came (moment_of_nodes (group_after_outcome (with_record g (recorded_by g.archive m)) n (with_messages kept outcome) (given_in m))) (put_in_move m) n (outputs (given_in m))
+    → Once came (moment_of_nodes (group_after_outcome (with_record g (recorded_by g.archive m)) n (with_messages kept outcome) (move_effects m))) (put_in_move m) n (outputs (move_effects m))
 
 pub happens_without_messages : (g : Group) (n : ℕ) (core later : CoreState) (kept : Given) → slice_get g.nodes n ≡ Some core → replica_of later ≡ replica_of core → Thinned kept []
     → (config : Config) (earlier : List (Moment State Command Output)) (came : Moments rules config (moment_of_nodes g ∷ earlier))

@@ -24,11 +24,11 @@ use Rattle.packet_world.proofs.Lists.{same_or_other}
 use Rattle.node_moves.specs.world_base.declared.Connection.{Connection}
 use Rattle.node_moves.specs.world_base.Core.{CoreState, StepOutcome, rules}
 use Rattle.node_moves.specs.Closed.{listed_named}
-use Rattle.node_moves.specs.Ends.{IsEnd, IsGiven, IsOrderly, commands_of, open_named, stream_of}
+use Rattle.node_moves.specs.Ends.{IsEnd, IsGiven, IsOrderly, packet_commands_from, open_named, stream_of}
 use Rattle.node_moves.specs.Ends.IsEnd.{not_yet}
 use Rattle.node_moves.specs.LossyLaws.{ReadsOn}
 use Rattle.node_moves.specs.LossyMoves.{LossyMoves}
-use Rattle.node_moves.specs.LossyParts.{came_on, given_in, proposal_of, refusal_in}
+use Rattle.node_moves.specs.LossyParts.{came_on, move_effects, move_proposal, refusal_in}
 use Rattle.node_moves.specs.Puts.{outputs_of, spelled}
 use Rattle.node_moves.proofs.Kept.{live}
 use Rattle.node_moves.proofs.NamesInOrder.{not_both}
@@ -88,25 +88,25 @@ pub record Known {config : Config} (g : Group) {earlier : List (Moment State Com
   pub at : slice_get g.nodes a ≡ Some core
   pub orderly : IsOrderly core
   pub leads : LeadsStill core outcome
-  pub once : Once came (moment_of_nodes (group_after_outcome (with_record g (recorded_by g.archive m)) a (with_messages kept outcome) (given_in m))) (put_in_move m) a (outputs (given_in m))
+  pub once : Once came (moment_of_nodes (group_after_outcome (with_record g (recorded_by g.archive m)) a (with_messages kept outcome) (move_effects m))) (put_in_move m) a (outputs (move_effects m))
 
 -- and of one connection in it
 record Here {config : Config} {g : Group} {earlier : List (Moment State Command Output)} {came : Moments rules config (moment_of_nodes g ∷ earlier)} {a : ℕ}
     {core : CoreState} {outcome : StepOutcome} {m : LossyMoves core outcome} {kept : List (Effect Command Output)} (k : Known g came a m kept) (x : ConnectionName) (put : List (ℕ × Command)) (xs ys : List Command) : Type 0 where
   grown : IsPrefixOf xs ys
-  sends : Sends x (replica_of core) (replica_of outcome.core) ys (spelled (sends_to x (outputs_of (given_in m))))
+  sends : Sends x (replica_of core) (replica_of outcome.core) ys (spelled (sends_to x (outputs_of (move_effects m))))
   said : IsPrefixOf (packet_commands x ys) (packet_commands x (commands_in (put ++ put_in_move m)))
 
 abbrev After : {config : Config} {g : Group} {earlier : List (Moment State Command Output)} {came : Moments rules config (moment_of_nodes g ∷ earlier)} {a : ℕ}
     {core : CoreState} {outcome : StepOutcome} {m : LossyMoves core outcome} {kept : List (Effect Command Output)} → Known g came a m kept → ConnectionName → List Packet → List ℕ → List (ℕ × Command) → List ℕ → List Command → Type 0
 After {g = g} {a = a} {outcome = outcome} {m = m} {kept = kept} k x written later put down ys =
-    Stands x written later (group_after_outcome (with_record g (recorded_by g.archive m)) a (with_messages kept outcome) (given_in m)) (moment_of_nodes (group_after_outcome (with_record g (recorded_by g.archive m)) a (with_messages kept outcome) (given_in m)) ∷ k.once.further.before) (put ++ put_in_move m)
+    Stands x written later (group_after_outcome (with_record g (recorded_by g.archive m)) a (with_messages kept outcome) (move_effects m)) (moment_of_nodes (group_after_outcome (with_record g (recorded_by g.archive m)) a (with_messages kept outcome) (move_effects m)) ∷ k.once.further.before) (put ++ put_in_move m)
     (down ++ handed_on x m) ys
 
-unrefused : (x : ConnectionName) {core : CoreState} {outcome : StepOutcome} (m : LossyMoves core outcome) → refusal_in x m ≡ [] → sent_in x m ≡ spelled (sends_to x (outputs_of (given_in m)))
-unrefused x m none = ap (λ l. spelled (l ++ sends_to x (outputs_of (given_in m)))) none
+unrefused : (x : ConnectionName) {core : CoreState} {outcome : StepOutcome} (m : LossyMoves core outcome) → refusal_in x m ≡ [] → sent_in x m ≡ spelled (sends_to x (outputs_of (move_effects m)))
+unrefused x m none = ap (λ l. spelled (l ++ sends_to x (outputs_of (move_effects m)))) none
 
-nothing_more : (x : ConnectionName) (put : List (ℕ × Command)) {core : CoreState} {outcome : StepOutcome} (m : LossyMoves core outcome) → packet_commands x (proposal_of m) ≡ []
+nothing_more : (x : ConnectionName) (put : List (ℕ × Command)) {core : CoreState} {outcome : StepOutcome} (m : LossyMoves core outcome) → packet_commands x (move_proposal m) ≡ []
     → packet_commands x (commands_in (put ++ put_in_move m)) ≡ packet_commands x (commands_in put)
 nothing_more x put {core = core} {outcome = outcome} m none =
     packets_more x put m ∙ ap (λ l. packet_commands x (commands_in put) ++ l) (packets_put x core outcome m ∙ none) ∙ append-nil (packet_commands x (commands_in put))
@@ -122,7 +122,7 @@ untouched_keeps {g = g} {earlier = earlier} {a = a} {core = core} {outcome = out
     none : listed_named x core ≡ None
     none = u.nowhere a core k.at
 
-    unsaid : packet_commands x (proposal_of m) ≡ []
+    unsaid : packet_commands x (move_proposal m) ≡ []
     unsaid = none_put x core outcome m k.orderly (unlisted_shut x core none)
 
     quiet : came_on x m ++ later ≡ later
@@ -202,7 +202,7 @@ held_here {g = g} {earlier = earlier} {a = a} {core = core} {outcome = outcome} 
       read = held.read ++ r.more;
       end = r.end;
       said = packets_more x put m ∙ ap (λ l. l ++ packet_commands x (commands_put m)) held.said
-          ∙ ap (λ l. commands_of x 0 held.read ++ l) (packets_put x core outcome m ∙ r.proposed ∙ ap (λ n. commands_of x n r.more) (from_none (length held.read)))
+          ∙ ap (λ l. packet_commands_from x 0 held.read ++ l) (packets_put x core outcome m ∙ r.proposed ∙ ap (λ n. packet_commands_from x n r.more) (from_none (length held.read)))
           ∙ sym (commands_join x 0 held.read r.more);
       others = elsewhere;
       sent = down_on (replica_of core) (replica_of outcome.core) xs ys down h.grown h.sends (k.leads x) stays_away
@@ -285,16 +285,16 @@ held_there {config = config} {g = g} {earlier = earlier} {came = came} {a = a} {
 
 pub move_keeps : {config : Config} {g : Group} {earlier : List (Moment State Command Output)} {came : Moments rules config (moment_of_nodes g ∷ earlier)} {a : ℕ}
     {core : CoreState} {outcome : StepOutcome} {m : LossyMoves core outcome} {kept : List (Effect Command Output)} (k : Known g came a m kept) (x : ConnectionName) (written : List Packet) (later : List ℕ) (put : List (ℕ × Command)) (down : List ℕ)
-    (xs ys : List Command) → IsAgreed config (moment_of_nodes g ∷ earlier) xs → IsAgreed config (moment_of_nodes (group_after_outcome (with_record g (recorded_by g.archive m)) a (with_messages kept outcome) (given_in m)) ∷ k.once.further.before) ys
+    (xs ys : List Command) → IsAgreed config (moment_of_nodes g ∷ earlier) xs → IsAgreed config (moment_of_nodes (group_after_outcome (with_record g (recorded_by g.archive m)) a (with_messages kept outcome) (move_effects m)) ∷ k.once.further.before) ys
     → IsPrefixOf (packet_commands x ys) (packet_commands x (commands_in (put ++ put_in_move m)))
     → Stands x written (came_on x m ++ later) g (moment_of_nodes g ∷ earlier) put down xs
-    → Stands x written later (group_after_outcome (with_record g (recorded_by g.archive m)) a (with_messages kept outcome) (given_in m)) (moment_of_nodes (group_after_outcome (with_record g (recorded_by g.archive m)) a (with_messages kept outcome) (given_in m)) ∷ k.once.further.before) (put ++ put_in_move m) (down ++ handed_on x m) ys
+    → Stands x written later (group_after_outcome (with_record g (recorded_by g.archive m)) a (with_messages kept outcome) (move_effects m)) (moment_of_nodes (group_after_outcome (with_record g (recorded_by g.archive m)) a (with_messages kept outcome) (move_effects m)) ∷ k.once.further.before) (put ++ put_in_move m) (down ++ handed_on x m) ys
 move_keeps {config = config} {g = g} {earlier = earlier} {came = came} {a = a} {core = core} {outcome = outcome} {m = m} {kept = kept} k x written later put down xs ys before after said stands = by stands
   where
     h : Here k x put xs ys
     h = record {
       grown = k.once.further.grows xs ys before after;
-      sends = gives_answers_to x g.archive (recorded_by g.archive m) (replica_of core) (replica_of outcome.core) ys (given_in m)
+      sends = gives_answers_to x g.archive (recorded_by g.archive m) (replica_of core) (replica_of outcome.core) ys (move_effects m)
           (k.once.gives ys after (replica_of core) (replica_of outcome.core) (get_mapped replica_of g.nodes a core k.at)
           (get_mapped replica_of (slice_set g.nodes a outcome.core) a outcome.core (get_of_set g.nodes a core outcome.core k.at)));
       said = said;

@@ -19,7 +19,7 @@ use Rattle.node_moves.specs.Ends.{IsOrderly}
 use Rattle.node_moves.specs.Keeping.{AreOfTheBallot}
 use Rattle.node_moves.specs.LossyNames.{AreWhereItServes}
 use Rattle.node_moves.specs.LossyMoves.{LossyMoves}
-use Rattle.node_moves.specs.LossyParts.{proposal_of}
+use Rattle.node_moves.specs.LossyParts.{move_proposal}
 use Rattle.node_moves.specs.LossyRuns.{HearsAtFirst, HearsNothing, LossyRuns}
 use Rattle.node_moves.specs.LossyMoves.LossyMoves.{exactly, first_losing, later_losing, tells_losing, expels_losing}
 use Rattle.node_moves.specs.LossyRuns.LossyRuns.{rests, goes_on}
@@ -47,7 +47,7 @@ none_of_an_expel core client true = (λ x is. absurd (both_ways (is_packet_of (c
 none_of_an_expel core client false = tt
 
 -- what is proposed is put by a node that serves
-proposed_in : (core : CoreState) (outcome : StepOutcome) (m : LossyMoves core outcome) (command : Command) → IsOrderly core → AreWhereItServes core → serves core ≡ true → proposal_of m ≡ command ∷ []
+proposed_in : (core : CoreState) (outcome : StepOutcome) (m : LossyMoves core outcome) (command : Command) → IsOrderly core → AreWhereItServes core → serves core ≡ true → move_proposal m ≡ command ∷ []
     → IsInItsBallot ((replica_of core).joined, command)
 proposed_in core outcome m command o of serving is x named =
     lossy_names_keep_their_ballot.proposes core outcome m o of serving x command (subst (In command) (sym is) here) named

@@ -13,7 +13,7 @@ use Rattle.packet_world.specs.snapshots.Moments.{Moment, Moments}
 use Rattle.packet_world.specs.snapshots.Proposals.{proposals_of, taken_of}
 use Rattle.packet_world.specs.snapshots.World.{messages, outputs}
 use Rattle.node_moves.specs.world_base.Core.{CoreState, StepOutcome, rules}
-use Rattle.node_moves.specs.LossyParts.{given_in, inputs_in}
+use Rattle.node_moves.specs.LossyParts.{move_effects, inputs_in}
 use Rattle.node_moves.specs.LossyRuns.{AllFreeze, LossyRuns, all_inputs}
 use Rattle.node_moves.specs.LossyRuns.LossyRuns.{rests, goes_on}
 use Rattle.node_moves.specs.Moves.{and_then}
@@ -96,9 +96,9 @@ runs_happen g n core outcome (goes_on {first = first} {next = next} m run) kept 
     let s = were_both g n (inputs_in m) (all_inputs run) sent in
     let step = (losses_happen g n core first m k.front at s.0 frozen.0 k.first config earlier came).further in
     let one : StepOutcome = with_messages k.front first in
-    let after : Group = group_after_outcome (with_record g (recorded_by g.archive m)) n one (given_in m) in
+    let after : Group = group_after_outcome (with_record g (recorded_by g.archive m)) n one (move_effects m) in
     let rest = runs_happen after n first.core next run k.rest (get_of_set g.nodes n core first.core at)
-    (were_still g (recorded_by g.archive m) n one (given_in m) (all_inputs run) s.1) frozen.1 k.next config step.before step.past in
+    (were_still g (recorded_by g.archive m) n one (move_effects m) (all_inputs run) s.1) frozen.1 k.next config step.before step.past in
     both came (put_in_move m) (put_in_run run) step
     (subst (λ (h : Group). Further step.past (moment_of_nodes h) (put_in_run run))
-    (kept_turns (with_record g (recorded_in (recorded_by g.archive m) run)) n first next (given_in m) (all_given run) kept k) rest)
+    (kept_turns (with_record g (recorded_in (recorded_by g.archive m) run)) n first next (move_effects m) (all_given run) kept k) rest)

@@ -21,8 +21,8 @@ use Rattle.node_moves.specs.world_base.Effects.{without_messages}
 use Rattle.node_moves.specs.Ends.{IsOrderly}
 use Rattle.node_moves.specs.Keeping.{AreOfTheBallot}
 use Rattle.node_moves.specs.LossyMoves.{LossyMoves}
-use Rattle.node_moves.specs.LossyParts.{came_on, given_in, hears_in, inputs_in}
-use Rattle.node_moves.specs.LossyRuns.{AllFreeze, Freezes, HearsAtFirst, HearsNothing, LossyRuns, all_inputs, bytes_on}
+use Rattle.node_moves.specs.LossyParts.{came_on, move_effects, hears_in, inputs_in}
+use Rattle.node_moves.specs.LossyRuns.{AllFreeze, CutsThaw, HearsAtFirst, HearsNothing, LossyRuns, all_inputs, bytes_on}
 use Rattle.node_moves.specs.LossyRuns.LossyRuns.{rests, goes_on}
 use Rattle.node_moves.specs.Moves.{and_then}
 use Rattle.node_moves.proofs.Kept.{left_true}
@@ -98,8 +98,8 @@ said_first {config = config} h {more = more} f x put is each ys after =
     in_agreed config h [] (put ++ more) (record { earlier = f.before; past = f.past; proposed = now.proposed; taken = now.taken; seen = tt }) each x ys after
 
 move_steps : {config : Config} (g : Group) (n : ℕ) (core : CoreState) (outcome : StepOutcome) (m : LossyMoves core outcome) (kept : Given) → slice_get g.nodes n ≡ Some core → WereSent g n (inputs_in m)
-    → Freezes m → Thinned kept outcome.messages → IsOrderly core → LeadsStill core outcome → {earlier : List (Moment State Command Output)} (came : Moments rules config (moment_of_nodes g ∷ earlier))
-    → Steps g came (group_after_outcome (with_record g (recorded_by g.archive m)) n (with_messages kept outcome) (given_in m)) (put_in_move m) (λ x. came_on x m) (λ x. handed_on x m)
+    → CutsThaw m → Thinned kept outcome.messages → IsOrderly core → LeadsStill core outcome → {earlier : List (Moment State Command Output)} (came : Moments rules config (moment_of_nodes g ∷ earlier))
+    → Steps g came (group_after_outcome (with_record g (recorded_by g.archive m)) n (with_messages kept outcome) (move_effects m)) (put_in_move m) (λ x. came_on x m) (λ x. handed_on x m)
 move_steps {config = config} g n core outcome m kept at sent_so frozen t o leads {earlier = earlier} came =
     let known : Known g came n m kept = record { at = at; orderly = o; leads = leads; once = losses_happen g n core outcome m kept at sent_so frozen t config earlier came } in
     let xs = has_agreed rules config (moment_of_nodes g) earlier came in
@@ -107,7 +107,7 @@ move_steps {config = config} g n core outcome m kept at sent_so frozen t o leads
       further = known.once.further;
       keeps_each = λ x written later put sent is each good ys after.
           move_keeps known x written later put sent xs.0 ys xs.1 after
-          (said_first (group_after_outcome (with_record g (recorded_by g.archive m)) n (with_messages kept outcome) (given_in m)) known.once.further x put is each ys after) (good xs.0 xs.1);
+          (said_first (group_after_outcome (with_record g (recorded_by g.archive m)) n (with_messages kept outcome) (move_effects m)) known.once.further x put is each ys after) (good xs.0 xs.1);
     }
 
 -- ---- one after another
@@ -154,17 +154,17 @@ first_leads core outcome of x c there lives e = left_true (is_active (replica_of
 -- one move, and a run after it
 move_and_run : {config : Config} (g : Group) (n : ℕ) (core : CoreState) (first next : StepOutcome) (m : LossyMoves core first) (run : LossyRuns first.core next) (kept : Given)
     (k : KeptOfBoth kept first.messages next.messages) {earlier : List (Moment State Command Output)} (came : Moments rules config (moment_of_nodes g ∷ earlier))
-    → (step : Steps g came (group_after_outcome (with_record g (recorded_by g.archive m)) n (with_messages k.front first) (given_in m)) (put_in_move m) (λ x. came_on x m) (λ x. handed_on x m))
-    → Steps (group_after_outcome (with_record g (recorded_by g.archive m)) n (with_messages k.front first) (given_in m)) step.further.past
-    (group_after_outcome (with_record (group_after_outcome (with_record g (recorded_by g.archive m)) n (with_messages k.front first) (given_in m)) (recorded_in (recorded_by g.archive m) run)) n
+    → (step : Steps g came (group_after_outcome (with_record g (recorded_by g.archive m)) n (with_messages k.front first) (move_effects m)) (put_in_move m) (λ x. came_on x m) (λ x. handed_on x m))
+    → Steps (group_after_outcome (with_record g (recorded_by g.archive m)) n (with_messages k.front first) (move_effects m)) step.further.past
+    (group_after_outcome (with_record (group_after_outcome (with_record g (recorded_by g.archive m)) n (with_messages k.front first) (move_effects m)) (recorded_in (recorded_by g.archive m) run)) n
     (with_messages k.rest next) (all_given run)) (put_in_run run) (λ x. bytes_on x run) (λ x. handed_losing x run)
-    → Steps g came (group_after_outcome (with_record g (recorded_in (recorded_by g.archive m) run)) n (with_messages kept (and_then first next)) (given_in m ++ all_given run))
+    → Steps g came (group_after_outcome (with_record g (recorded_in (recorded_by g.archive m) run)) n (with_messages kept (and_then first next)) (move_effects m ++ all_given run))
     (put_in_move m ++ put_in_run run) (λ x. came_on x m ++ bytes_on x run) (λ x. handed_on x m ++ handed_losing x run)
 move_and_run g n core first next m run kept k came step rest =
     both_steps came (put_in_move m) (put_in_run run) (λ x. came_on x m) (λ x. bytes_on x run) (λ x. handed_on x m) (λ x. handed_losing x run) step
-    (subst (λ (h : Group). Steps (group_after_outcome (with_record g (recorded_by g.archive m)) n (with_messages k.front first) (given_in m)) step.further.past h (put_in_run run)
+    (subst (λ (h : Group). Steps (group_after_outcome (with_record g (recorded_by g.archive m)) n (with_messages k.front first) (move_effects m)) step.further.past h (put_in_run run)
     (λ x. bytes_on x run) (λ x. handed_losing x run))
-    (kept_turns (with_record g (recorded_in (recorded_by g.archive m) run)) n first next (given_in m) (all_given run) kept k) rest)
+    (kept_turns (with_record g (recorded_in (recorded_by g.archive m) run)) n first next (move_effects m) (all_given run) kept k) rest)
 
 no_move : {config : Config} (g : Group) (n : ℕ) (core : CoreState) (kept : Given) → slice_get g.nodes n ≡ Some core → Thinned kept []
     → {earlier : List (Moment State Command Output)} (came : Moments rules config (moment_of_nodes g ∷ earlier))
@@ -183,8 +183,8 @@ calm_steps g n core outcome (goes_on {first = first} {next = next} m run) kept c
     let one : StepOutcome = with_messages k.front first in
     let step = move_steps g n core first m k.front at s.0 frozen.0 k.first o (calm_leads core first m calm.0) came in
     move_and_run g n core first next m run kept k came step
-    (calm_steps (group_after_outcome (with_record g (recorded_by g.archive m)) n one (given_in m)) n first.core next run k.rest calm.1 (losses_read_in_order core first m o).0 (get_of_set g.nodes n core first.core at)
-    (were_still g (recorded_by g.archive m) n one (given_in m) (all_inputs run) s.1) frozen.1 k.next step.further.past)
+    (calm_steps (group_after_outcome (with_record g (recorded_by g.archive m)) n one (move_effects m)) n first.core next run k.rest calm.1 (losses_read_in_order core first m o).0 (get_of_set g.nodes n core first.core at)
+    (were_still g (recorded_by g.archive m) n one (move_effects m) (all_inputs run) s.1) frozen.1 k.next step.further.past)
 
 pub run_steps : {config : Config} (g : Group) (n : ℕ) (core : CoreState) (outcome : StepOutcome) (run : LossyRuns core outcome) (kept : Given) → HearsAtFirst run → IsOrderly core → AreOfTheBallot core
     → slice_get g.nodes n ≡ Some core → WereSent g n (all_inputs run) → AllFreeze run → Thinned kept outcome.messages
@@ -197,5 +197,5 @@ run_steps g n core outcome (goes_on {first = first} {next = next} m run) kept ca
     let one : StepOutcome = with_messages k.front first in
     let step = move_steps g n core first m k.front at s.0 frozen.0 k.first o (first_leads core first of) came in
     move_and_run g n core first next m run kept k came step
-    (calm_steps (group_after_outcome (with_record g (recorded_by g.archive m)) n one (given_in m)) n first.core next run k.rest calm (losses_read_in_order core first m o).0 (get_of_set g.nodes n core first.core at)
-    (were_still g (recorded_by g.archive m) n one (given_in m) (all_inputs run) s.1) frozen.1 k.next step.further.past)
+    (calm_steps (group_after_outcome (with_record g (recorded_by g.archive m)) n one (move_effects m)) n first.core next run k.rest calm (losses_read_in_order core first m o).0 (get_of_set g.nodes n core first.core at)
+    (were_still g (recorded_by g.archive m) n one (move_effects m) (all_inputs run) s.1) frozen.1 k.next step.further.past)

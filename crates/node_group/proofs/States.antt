@@ -22,7 +22,7 @@ use Rattle.node_moves.specs.world_base.declared.Connection.{Connection}
 use Rattle.node_moves.specs.world_base.Core.{CoreState, StepOutcome}
 use Rattle.node_moves.specs.world_base.Step.{next_name}
 use Rattle.node_moves.specs.Closed.{listed_named}
-use Rattle.node_moves.specs.Ends.{IsEnd, IsGiven, IsOrderly, Precedes, commands_of, open_named, stream_of}
+use Rattle.node_moves.specs.Ends.{IsEnd, IsGiven, IsOrderly, Precedes, packet_commands_from, open_named, stream_of}
 use Rattle.node_moves.specs.LossyMoves.{LossyMoves}
 use Rattle.node_moves.specs.Names.{IsNextName}
 use Rattle.node_moves.proofs.Kept.{left_true, live, named}
@@ -57,7 +57,7 @@ pub record Held (x : ConnectionName) (written : List Packet) (later : List ℕ) 
   pub given : IsGiven core.last_name x
   pub read : List Packet
   pub end : IsEnd x core written read later
-  pub said : packet_commands x (commands_in put) ≡ commands_of x 0 read
+  pub said : packet_commands x (commands_in put) ≡ packet_commands_from x 0 read
   pub others : (m : ℕ) (other : CoreState) → slice_get g.nodes m ≡ Some other → (m ≡ n → ⊥) → listed_named x other ≡ None
   pub sent : Down x (replica_of core) down agreed (listed_named x core)
 

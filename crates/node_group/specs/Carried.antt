@@ -10,7 +10,7 @@ use Rattle.packet_world.specs.lists.Lists.{IsPrefixOf}
 use Rattle.node_moves.specs.cutter.Pipe.{Joins}
 use Rattle.packet_world.specs.exactly_once.Sends.{put_to}
 use Rattle.packet_world.specs.snapshots.Moments.{IsAgreed}
-use Rattle.node_moves.specs.Ends.{commands_of}
+use Rattle.node_moves.specs.Ends.{packet_commands_from}
 use Rattle.node_moves.specs.Puts.{spelled}
 use Rattle.node_group.specs.Group.{Group, moment_of_nodes}
 use Rattle.node_group.specs.Steps.{GroupTrace, all_proposed, groups_on_trace}
@@ -26,7 +26,7 @@ answers_to x agreed = spelled (put_to usual_limits (past_of usual_limits agreed)
 -- order. What went down on it is a prefix of the spellings of the answers that name it.
 pub record IsCarried (x : ConnectionName) (written : List Packet) (handed : List ℕ)
     (agreed : List Command) : Type 0 where
-  pub up : IsPrefixOf (packet_commands x agreed) (commands_of x 0 written)
+  pub up : IsPrefixOf (packet_commands x agreed) (packet_commands_from x 0 written)
   pub down : IsPrefixOf handed (answers_to x agreed)
 
 -- Each list on which the nodes agree carries each connection on which packets are written, when a

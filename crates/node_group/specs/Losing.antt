@@ -7,7 +7,7 @@ use Rattle.packet_world.specs.broker_spec.declared.command.Command.{Command}
 use Rattle.packet_world.specs.broker_spec.declared.command.Output.{Output}
 use Rattle.node_moves.specs.world_base.Core.{CoreState, StepOutcome}
 use Rattle.node_moves.specs.LossyMoves.{LossyMoves}
-use Rattle.node_moves.specs.LossyParts.{given_in, proposal_of}
+use Rattle.node_moves.specs.LossyParts.{move_effects, move_proposal}
 use Rattle.node_moves.specs.LossyRuns.{LossyRuns}
 use Rattle.node_moves.specs.LossyMoves.LossyMoves.{exactly}
 use Rattle.node_moves.specs.LossyRuns.LossyRuns.{rests, goes_on}
@@ -38,13 +38,13 @@ recorded_in archive (goes_on m run) = recorded_in (recorded_by archive m) run
 abbrev pub all_given : {core : CoreState} {outcome : StepOutcome} → LossyRuns core outcome →
     List (Effect Command Output)
 all_given rests = []
-all_given (goes_on m run) = given_in m ++ all_given run
+all_given (goes_on m run) = move_effects m ++ all_given run
 
 -- the commands that a node proposes to its replica in a move
 abbrev pub commands_put : {core : CoreState} {outcome : StepOutcome} → LossyMoves core outcome →
     List Command
 commands_put (exactly m) = exactly_put m
-commands_put m = proposal_of m
+commands_put m = move_proposal m
 
 -- what a node proposes in a move, each with the ballot that it has joined then
 abbrev pub put_in_move : {core : CoreState} {outcome : StepOutcome} → LossyMoves core outcome →

@@ -13,7 +13,7 @@ use Rattle.packet_world.specs.snapshots.World.{recorded}
 use Rattle.node_moves.specs.Moves.{Moves, Runs}
 use Rattle.node_moves.specs.Moves.Runs.{rests, goes_on}
 use Rattle.node_moves.specs.Moves.Moves.{hears, cuts_log, reads_first, reads_later, loses_one, loses_next, expels_one}
-use Rattle.node_moves.specs.Puts.{given_in}
+use Rattle.node_moves.specs.Puts.{move_effects}
 use Rattle.node_group.specs.Group.{Group, replica_of}
 
 -- what a node receives from others was sent to it
@@ -55,7 +55,7 @@ recorded_in archive (goes_on m run) = recorded_in (recorded_by archive m) run
 abbrev pub all_given : {core : CoreState} {outcome : StepOutcome} → Runs core outcome →
     List (Effect Command Output)
 all_given rests = []
-all_given (goes_on m run) = given_in m ++ all_given run
+all_given (goes_on m run) = move_effects m ++ all_given run
 
 -- the commands that a node proposes to its replica in a move
 abbrev pub commands_put : {core : CoreState} {outcome : StepOutcome} → Moves core outcome →

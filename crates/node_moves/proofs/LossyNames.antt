@@ -26,7 +26,7 @@ use Rattle.node_moves.specs.Ends.{IsOrderly}
 use Rattle.node_moves.specs.Keeping.{AreOfTheBallot, moves_replica}
 use Rattle.node_moves.specs.LossyNames.{AreWhereItServes, LossyNamesKeepTheirBallot}
 use Rattle.node_moves.specs.LossyMoves.{LossyMoves, halting}
-use Rattle.node_moves.specs.LossyParts.{hears_in, proposal_of}
+use Rattle.node_moves.specs.LossyParts.{hears_in, move_proposal}
 use Rattle.node_moves.specs.LossyMoves.LossyMoves.{exactly, hears_losing, first_losing, later_losing, tells_losing, expels_losing, forgets, halts, fails, unheard, drops}
 use Rattle.node_moves.specs.Moves.{Moves, is_proposal}
 use Rattle.node_moves.specs.Moves.Moves.{hears, opens_one, holds, reads_first, reads_later, closes, refuses, loses_one, loses_next, expels_one, cuts_log, crashes, settles, hands}
@@ -186,7 +186,7 @@ first_keeps core turn (drops port piece) o of = calm_keeps core turn (drops port
 -- ---- what is proposed
 
 proposes_of : (core : CoreState) (turn : StepOutcome) (m : LossyMoves core turn) → IsOrderly core → AreOfTheBallot core → (x : ConnectionName) (command : Command)
-    → In command (proposal_of m) → is_packet_of command x ≡ true → x.ballot ≡ core.replica.state.joined
+    → In command (move_proposal m) → is_packet_of command x ≡ true → x.ballot ≡ core.replica.state.joined
 proposes_of core turn (exactly m) o of x command i named' = names_keep_their_ballot.proposes core turn m o of x command i named'
 proposes_of core turn (first_losing now port c connect rest did at first is taken) o of x command i named' =
     proposed_of core port c x o of at (only_one x (commands.Connect c.name connect.client connect.clean) command i named')

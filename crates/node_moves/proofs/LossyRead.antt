@@ -14,12 +14,12 @@ use Rattle.world_base.specs.node_connections.ConnectionChanges.{noted_proposed, 
 use Rattle.world_base.specs.Core.{CoreState, StepOutcome, rules}
 use Rattle.world_base.specs.Lossy.{Account, TakesCommand}
 use Rattle.world_base.specs.Reading.{changes}
-use Rattle.node_moves.specs.Ends.{IsEnd, IsOrderly, commands_of}
+use Rattle.node_moves.specs.Ends.{IsEnd, IsOrderly, packet_commands_from}
 use Rattle.node_moves.specs.Ends.IsEnd.{not_yet}
 use Rattle.node_moves.specs.LossyLaws.{LossesAreTaken, LossesProposeInOrder, ReadsOn}
 use Rattle.node_moves.specs.LossyMoves.{LossyMoves}
-use Rattle.node_moves.specs.LossyParts.{came_on, proposal_of}
-use Rattle.node_moves.specs.LossyRuns.{LossyRuns, bytes_on, proposals_of}
+use Rattle.node_moves.specs.LossyParts.{came_on, move_proposal}
+use Rattle.node_moves.specs.LossyRuns.{LossyRuns, bytes_on, run_proposals}
 use Rattle.node_moves.specs.LossyMoves.LossyMoves.{exactly, hears_losing, first_losing, later_losing, tells_losing, expels_losing, forgets, halts, fails, unheard, drops}
 use Rattle.node_moves.specs.LossyRuns.LossyRuns.{rests, goes_on}
 use Rattle.node_moves.proofs.LossyOutputs.{delivers_replica}
@@ -34,7 +34,7 @@ use Rattle.node_moves.proofs.Taken.{reads_are_taken}
 record ReadsThrough (x : ConnectionName) {core : CoreState} {outcome : StepOutcome} (run : LossyRuns core outcome) (written read : List Packet) (later : List ℕ) : Type 0 where
   more : List Packet
   end : IsEnd x outcome.core written (read ++ more) later
-  proposed : filter (λ command. is_packet_of command x) (proposals_of run) ≡ commands_of x (length read) more
+  proposed : filter (λ command. is_packet_of command x) (run_proposals run) ≡ packet_commands_from x (length read) more
 
 one_then : (x : ConnectionName) {core : CoreState} {first next : StepOutcome} (m : LossyMoves core first) (run : LossyRuns first.core next) (written read : List Packet) (between later : List ℕ)
     → (one : ReadsOn x m written read between) → ReadsThrough x run written (read ++ one.more) later → ReadsThrough x (goes_on m run) written read later
@@ -42,10 +42,10 @@ one_then x {next = next} m run written read between later one two =
     record {
       more = one.more ++ two.more;
       end = subst (λ (ps : List Packet). IsEnd x next.core written ps later) (append_assoc read one.more two.more) two.end;
-      proposed = filter-append (λ command. is_packet_of command x) (proposal_of m) (proposals_of run)
-          ∙ ap (λ (l : List Command). l ++ filter (λ command. is_packet_of command x) (proposals_of run)) one.proposed
-          ∙ ap (λ (l : List Command). commands_of x (length read) one.more ++ l) two.proposed
-          ∙ ap (λ (n : ℕ). commands_of x (length read) one.more ++ commands_of x n two.more) (length-append read one.more)
+      proposed = filter-append (λ command. is_packet_of command x) (move_proposal m) (run_proposals run)
+          ∙ ap (λ (l : List Command). l ++ filter (λ command. is_packet_of command x) (run_proposals run)) one.proposed
+          ∙ ap (λ (l : List Command). packet_commands_from x (length read) one.more ++ l) two.proposed
+          ∙ ap (λ (n : ℕ). packet_commands_from x (length read) one.more ++ packet_commands_from x n two.more) (length-append read one.more)
           ∙ sym (commands_join x (length read) one.more two.more);
     }
 

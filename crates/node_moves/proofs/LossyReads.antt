@@ -22,12 +22,12 @@ use Rattle.world_base.specs.Core.{CoreState, StepOutcome, rules}
 use Rattle.world_base.specs.Lossy.{Account, Drives, TakesCommand}
 use Rattle.world_base.specs.Reading.{changes, open_at}
 use Rattle.world_base.specs.Effects.{outcome_of_input}
-use Rattle.node_moves.specs.Ends.{IsEnd, IsGiven, IsOrderly, commands_of, is_nothing, open_named, piece_on}
+use Rattle.node_moves.specs.Ends.{IsEnd, IsGiven, IsOrderly, packet_commands_from, is_nothing, open_named, piece_on}
 use Rattle.node_moves.specs.Ends.IsEnd.{is_over}
 use Rattle.node_moves.specs.LossyLaws.{LossesReadInOrder, ReadsOn}
 use Rattle.node_moves.specs.Moves.{Moves}
 use Rattle.node_moves.specs.LossyMoves.{LossyMoves}
-use Rattle.node_moves.specs.LossyParts.{came_on, proposal_of}
+use Rattle.node_moves.specs.LossyParts.{came_on, move_proposal}
 use Rattle.node_moves.specs.LossyMoves.LossyMoves.{exactly, hears_losing, first_losing, later_losing, tells_losing, expels_losing, forgets, halts, fails, unheard, drops}
 use Rattle.node_moves.proofs.Kept.{Stays, changed_orderly, closed_is_mild, heard_up, kept_same, left_true, live, named, named_kept, stays_at, stays_failed, stays_joined}
 use Rattle.node_moves.proofs.LossyOutputs.{failing_is_mild, stays_delivers}
@@ -69,7 +69,7 @@ stays_takes command core did t o =
 -- ---- moves that read nothing
 
 none_more : (x : ConnectionName) {core : CoreState} {outcome : StepOutcome} (m : LossyMoves core outcome) (written read : List Packet) (later : List ℕ)
-    → IsEnd x outcome.core written read later → filter (λ command. is_packet_of command x) (proposal_of m) ≡ [] → ReadsOn x m written read later
+    → IsEnd x outcome.core written read later → filter (λ command. is_packet_of command x) (move_proposal m) ≡ [] → ReadsOn x m written read later
 none_more x {outcome = outcome} m written read later end none =
     record { more = []; end = subst (λ (ps : List Packet). IsEnd x outcome.core written ps later) (sym (append-nil read)) end; proposed = none }
 
@@ -79,7 +79,7 @@ ReadsAll {core = core} {outcome = outcome} m = IsOrderly outcome.core
     → ReadsOn x m written read later)
 
 stays_reads : {core : CoreState} {outcome : StepOutcome} (m : LossyMoves core outcome) → Stays core outcome.core → ((x : ConnectionName) → came_on x m ≡ [])
-    → ((x : ConnectionName) → filter (λ command. is_packet_of command x) (proposal_of m) ≡ []) → ReadsAll m
+    → ((x : ConnectionName) → filter (λ command. is_packet_of command x) (move_proposal m) ≡ []) → ReadsAll m
 stays_reads {core = core} {outcome = outcome} m s no_bytes none = (
   s.orderly,
   λ x written read in_transit later end same.
@@ -121,7 +121,7 @@ first_reads now core port c connect rest did at first reads taken o =
     s = stays_takes command between did taken (changed_orderly core between (is_open_at port) (λ d. noted_proposed connect.keep_alive (left_with now rest d)) o h.are h.same h.up h.name)
 
     with_name : (x : ConnectionName) (read : List Packet) (b : Bool) → named x c ≡ b → (more : List Packet) → more ≡ (if b then packets.Connect connect ∷ [] else [])
-        → (b ≡ true → is_first c.stage ≡ is_nothing read) → filter (λ z. is_packet_of z x) (command ∷ []) ≡ commands_of x (length read) more
+        → (b ≡ true → is_first c.stage ≡ is_nothing read) → filter (λ z. is_packet_of z x) (command ∷ []) ≡ packet_commands_from x (length read) more
     with_name x read true e more is nothing = rw (e, is) (first_command x c connect read e (sym first ∙ nothing refl))
     with_name x read false e more is nothing = rw (e, is) refl
 
@@ -150,7 +150,7 @@ later_reads now core port c packet rest did at later reads taken o =
     s = stays_takes command between did taken (changed_orderly core between (is_open_at port) (left_with now rest) o h.are h.same h.up h.name)
 
     with_name : (x : ConnectionName) (read : List Packet) (b : Bool) → named x c ≡ b → (more : List Packet) → more ≡ (if b then packet ∷ [] else [])
-        → (b ≡ true → is_first c.stage ≡ is_nothing read) → filter (λ z. is_packet_of z x) (command ∷ []) ≡ commands_of x (length read) more
+        → (b ≡ true → is_first c.stage ≡ is_nothing read) → filter (λ z. is_packet_of z x) (command ∷ []) ≡ packet_commands_from x (length read) more
     with_name x read true e more is nothing = rw (e, is) (later_command x c packet read e (sym later ∙ nothing refl))
     with_name x read false e more is nothing = rw (e, is) refl
 

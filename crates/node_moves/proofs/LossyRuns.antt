@@ -30,7 +30,7 @@ use Rattle.world_base.specs.Reading.{changes, open_at, refused}
 use Rattle.world_base.specs.Effects.{without_messages}
 use Rattle.node_moves.specs.LossyMoves.{LossyMoves, with_loss, halting, outcome_in}
 use Rattle.node_moves.specs.LossyParts.{came_on, hears_in, inputs_in, is_handing}
-use Rattle.node_moves.specs.LossyRuns.{AllFreeze, CutsNothing, Freezes, HandsNothing, HearsAtFirst, HearsNothing, LossyRuns, all_inputs, bytes_on, cuts_in, exactly_cuts}
+use Rattle.node_moves.specs.LossyRuns.{AllFreeze, CutsNothing, CutsThaw, HandsNothing, HearsAtFirst, HearsNothing, LossyRuns, all_inputs, bytes_on, cuts_in, exactly_cuts}
 use Rattle.node_moves.specs.LossyMoves.LossyMoves.{exactly, hears_losing, first_losing, later_losing, tells_losing, expels_losing, forgets, halts, fails, unheard, drops}
 use Rattle.node_moves.specs.LossyRuns.LossyRuns.{rests, goes_on}
 use Rattle.node_moves.specs.Keeping.{moves_replica}
@@ -253,7 +253,7 @@ pub calm_cuts_none : {core : CoreState} {outcome : StepOutcome} (run : LossyRuns
 calm_cuts_none rests calm = tt
 calm_cuts_none (goes_on m run) calm = (still_cuts m calm.0, calm_cuts_none run calm.1)
 
-still_freezes : {core : CoreState} {outcome : StepOutcome} (m : LossyMoves core outcome) → hears_in m ≡ false → Freezes m
+still_freezes : {core : CoreState} {outcome : StepOutcome} (m : LossyMoves core outcome) → hears_in m ≡ false → CutsThaw m
 still_freezes (exactly (hears input other)) calm = tt
 still_freezes (exactly (opens_one port)) calm = tt
 still_freezes (exactly (holds port piece)) calm = tt
@@ -308,7 +308,7 @@ first_calm may_cut bytes none (goes_on m run, still) =
     }
 
 pub first_move : {core : CoreState} {one next : StepOutcome} (m : LossyMoves core one) (may_cut : Bool) (bytes : ConnectionName → List ℕ) → is_handing m ≡ false
-    → ((x : ConnectionName) → came_on x m ≡ bytes x) → (may_cut ≡ false → cuts_in m ≡ false) → Freezes m → Calm one.core next → First core (and_then one next) (inputs_in m) may_cut bytes
+    → ((x : ConnectionName) → came_on x m ≡ bytes x) → (may_cut ≡ false → cuts_in m ≡ false) → CutsThaw m → Calm one.core next → First core (and_then one next) (inputs_in m) may_cut bytes
 first_move m may_cut bytes no_hand came no_cut frozen (run, still) =
     record {
       run = goes_on m run;

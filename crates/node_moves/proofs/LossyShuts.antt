@@ -17,7 +17,7 @@ use Rattle.node_moves.specs.Closed.{listed_named}
 use Rattle.node_moves.specs.Ends.{IsOrderly, open_named}
 use Rattle.node_moves.specs.LossyLaws.{LossesPutInOrder}
 use Rattle.node_moves.specs.LossyMoves.{LossyMoves}
-use Rattle.node_moves.specs.LossyParts.{given_in, refusal_in}
+use Rattle.node_moves.specs.LossyParts.{move_effects, refusal_in}
 use Rattle.node_moves.specs.LossyMoves.LossyMoves.{exactly, hears_losing, first_losing, later_losing, tells_losing, expels_losing, forgets, halts, fails, unheard, drops}
 use Rattle.node_moves.specs.Puts.{outputs_of, spelled}
 use Rattle.node_moves.proofs.Kept.{heard_up, left_true, live, named}
@@ -35,7 +35,7 @@ use Rattle.node_moves.proofs.Views.{found_passes, same_some, some_none, view_of_
 
 -- what a move queues for a name
 abbrev pub sent_in : ConnectionName → {core : CoreState} {outcome : StepOutcome} → LossyMoves core outcome → List ℕ
-sent_in x m = spelled (refusal_in x m ++ sends_to x (outputs_of (given_in m)))
+sent_in x m = spelled (refusal_in x m ++ sends_to x (outputs_of (move_effects m)))
 
 -- ---- the replica
 

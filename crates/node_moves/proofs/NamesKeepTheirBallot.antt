@@ -21,7 +21,7 @@ use Rattle.world_base.specs.Reading.{open_at}
 use Rattle.world_base.specs.Step.{crashed, settled, with_cut}
 use Rattle.world_base.specs.Effects.{drives, outcome_of_input}
 use Rattle.node_moves.specs.Closed.{listed_named}
-use Rattle.node_moves.specs.Ends.{IsOrderly, proposal_of}
+use Rattle.node_moves.specs.Ends.{IsOrderly, move_proposal}
 use Rattle.node_moves.specs.Keeping.{AreOfTheBallot, NamesKeepTheirBallot}
 use Rattle.node_moves.specs.Moves.{Moves}
 use Rattle.node_moves.specs.Moves.Moves.{hears, opens_one, holds, reads_first, reads_later, closes, refuses, loses_one, loses_next, expels_one, cuts_log, crashes, settles, hands}
@@ -112,7 +112,7 @@ only_one x z command here is = is
 only_one x z command (there i) is = elim i [ ]
 
 proposes_of : (core : CoreState) (outcome : StepOutcome) (m : Moves core outcome) → IsOrderly core → AreOfTheBallot core → (x : ConnectionName) (command : Command)
-    → In command (proposal_of m) → is_packet_of command x ≡ true → x.ballot ≡ core.replica.state.joined
+    → In command (move_proposal m) → is_packet_of command x ≡ true → x.ballot ≡ core.replica.state.joined
 proposes_of core outcome (reads_first now port c connect rest at first is room) o of x command i named' =
     proposed_of core port c x o of at (only_one x (commands.Connect c.name connect.client connect.clean) command i named')
 proposes_of core outcome (reads_later now port c packet rest at later is room) o of x command i named' =

@@ -22,7 +22,7 @@ use Rattle.node_moves.specs.Closed.IsExactlyClosedBy.{was_closed, closes_now}
 use Rattle.node_moves.specs.Ends.{IsOrderly}
 use Rattle.node_moves.specs.Moves.{Moves}
 use Rattle.node_moves.specs.Moves.Moves.{hears, opens_one, holds, reads_first, reads_later, closes, refuses, loses_one, loses_next, expels_one, cuts_log, crashes, settles, hands}
-use Rattle.node_moves.specs.Puts.{given_in, outputs_of, spelled}
+use Rattle.node_moves.specs.Puts.{move_effects, outputs_of, spelled}
 use Rattle.node_moves.proofs.Views.{one_changed, one_mapped, same_some, view, view_of_changed, view_of_others}
 use Rattle.node_moves.proofs.Kept.{live, named, named_kept, stays_failed}
 use Rattle.node_moves.proofs.Shut.{Shuts, all, found_filtered, found_mapped, listed_open, shuts_closed, shuts_joined, shuts_same, shuts_tested}
@@ -40,7 +40,7 @@ open_if false e = refl
 
 -- what a move queues for a name
 abbrev pub sent_in : ConnectionName → {core : CoreState} {outcome : StepOutcome} → Moves core outcome → List ℕ
-sent_in x m = spelled (exact_refusal x m ++ sends_to x (outputs_of (given_in m)))
+sent_in x m = spelled (exact_refusal x m ++ sends_to x (outputs_of (move_effects m)))
 
 -- from what happens to a connection to how it came to be closed
 closed_by : (x : ConnectionName) (core : CoreState) (outcome : StepOutcome) (m : Moves core outcome) (d : Connection) (o p : Option Connection) → Shuts (sent_in x m) o p

@@ -13,19 +13,19 @@ use Rattle.exactly_once.specs.StoryCommands.{is_packet_of, command_of}
 use Rattle.world_base.specs.Core.{CoreState, StepOutcome, opening_core}
 use Rattle.node_moves.specs.Moves.{Moves, Runs}
 use Rattle.node_moves.specs.Moves.Runs.{rests, goes_on}
-use Rattle.node_moves.specs.Ends.{Precedes, IsOrderly, IsEnd, proposal_of, came_on, commands_of}
+use Rattle.node_moves.specs.Ends.{Precedes, IsOrderly, IsEnd, move_proposal, came_on, packet_commands_from}
 use Rattle.node_moves.specs.ReadsInOrder.{ReadsOn}
-use Rattle.node_moves.specs.RunProposals.{NodesProposeInOrder, proposals_of, bytes_on}
+use Rattle.node_moves.specs.RunProposals.{NodesProposeInOrder, run_proposals, bytes_on}
 use Rattle.node_moves.specs.Ends.IsEnd.{not_yet, is_open, is_over}
 use Rattle.node_moves.proofs.ReadsInOrder.{nodes_read_in_order}
 
-pub commands_join : (x : ConnectionName) (n : ℕ) (ps qs : List Packet) → commands_of x n (ps ++ qs) ≡ commands_of x n ps ++ commands_of x (n + length ps) qs
-commands_join x n [] qs = ap (λ (k : ℕ). commands_of x k qs) (plus_none n)
+pub commands_join : (x : ConnectionName) (n : ℕ) (ps qs : List Packet) → packet_commands_from x n (ps ++ qs) ≡ packet_commands_from x n ps ++ packet_commands_from x (n + length ps) qs
+commands_join x n [] qs = ap (λ (k : ℕ). packet_commands_from x k qs) (plus_none n)
   where
     plus_none : (n : ℕ) → n ≡ n + 0
     plus_none n = omega arith
 commands_join x n (p ∷ ps) qs =
-    ap (λ l. command_of x n p ∷ l) (commands_join x (suc n) ps qs ∙ ap (λ (k : ℕ). commands_of x (suc n) ps ++ commands_of x k qs) (moved_on n (length ps)))
+    ap (λ l. command_of x n p ∷ l) (commands_join x (suc n) ps qs ∙ ap (λ (k : ℕ). packet_commands_from x (suc n) ps ++ packet_commands_from x k qs) (moved_on n (length ps)))
   where
     moved_on : (n k : ℕ) → suc n + k ≡ n + suc k
     moved_on n k = omega arith
@@ -34,7 +34,7 @@ commands_join x n (p ∷ ps) qs =
 record ReadsThrough (x : ConnectionName) {core : CoreState} {outcome : StepOutcome} (run : Runs core outcome) (written read : List Packet) (later : List ℕ) : Type 0 where
   more : List Packet
   end : IsEnd x outcome.core written (read ++ more) later
-  proposed : filter (λ command. is_packet_of command x) (proposals_of run) ≡ commands_of x (length read) more
+  proposed : filter (λ command. is_packet_of command x) (run_proposals run) ≡ packet_commands_from x (length read) more
 
 one_then : (x : ConnectionName) {core : CoreState} {first next : StepOutcome} (m : Moves core first) (run : Runs first.core next) (written read : List Packet) (between later : List ℕ)
     → (one : ReadsOn x m written read between) → ReadsThrough x run written (read ++ one.more) later → ReadsThrough x (goes_on m run) written read later
@@ -42,10 +42,10 @@ one_then x {next = next} m run written read between later one two =
     record {
       more = one.more ++ two.more;
       end = subst (λ (ps : List Packet). IsEnd x next.core written ps later) (append_assoc read one.more two.more) two.end;
-      proposed = filter-append (λ command. is_packet_of command x) (proposal_of m) (proposals_of run)
-          ∙ ap (λ (l : List Command). l ++ filter (λ command. is_packet_of command x) (proposals_of run)) one.proposed
-          ∙ ap (λ (l : List Command). commands_of x (length read) one.more ++ l) two.proposed
-          ∙ ap (λ (n : ℕ). commands_of x (length read) one.more ++ commands_of x n two.more) (length-append read one.more)
+      proposed = filter-append (λ command. is_packet_of command x) (move_proposal m) (run_proposals run)
+          ∙ ap (λ (l : List Command). l ++ filter (λ command. is_packet_of command x) (run_proposals run)) one.proposed
+          ∙ ap (λ (l : List Command). packet_commands_from x (length read) one.more ++ l) two.proposed
+          ∙ ap (λ (n : ℕ). packet_commands_from x (length read) one.more ++ packet_commands_from x n two.more) (length-append read one.more)
           ∙ sym (commands_join x (length read) one.more two.more);
     }
 

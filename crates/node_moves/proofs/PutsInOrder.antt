@@ -30,7 +30,7 @@ use Rattle.world_base.specs.Effects.{without_messages, after_replica_step, with_
 use Rattle.node_moves.specs.Ends.{AtMostOne, IsOrderly, open_named}
 use Rattle.node_moves.specs.Moves.{Moves}
 use Rattle.node_moves.specs.Moves.Moves.{hears, opens_one, holds, reads_first, reads_later, closes, refuses, loses_one, loses_next, expels_one, cuts_log, crashes, settles, hands}
-use Rattle.node_moves.specs.Puts.{PutsInOrder, given_in, is_handing, outputs_of, spelled}
+use Rattle.node_moves.specs.Puts.{PutsInOrder, move_effects, is_handing, outputs_of, spelled}
 use Rattle.node_moves.proofs.Opening.{open_stays}
 use Rattle.node_moves.proofs.Views.{view, if_live, found_passes, same_some, some_none, none_changes, view_of_others, view_of_changed, view_filtered}
 use Rattle.node_moves.proofs.Kept.{live, named, named_kept, left_true, stays_handled, all_closed, unlisted_dead, changed_orderly, failing_over, put_out_name, same_of_failed, stays_failed, heard_up}
@@ -297,7 +297,7 @@ opened_puts x port core c o there =
     (subst (Puts [] (Some c)) (sym (open_stays x port core c o there)) (put (sym (append-nil c.pending))))
 
 all_puts : (core : CoreState) (turn : StepOutcome) (m : Moves core turn) → IsOrderly core → is_handing m ≡ false → (x : ConnectionName) (c : Connection) → open_named x core ≡ Some c
-    → Puts (bytes_for x (given_in m)) (open_named x core) (open_named x turn.core)
+    → Puts (bytes_for x (move_effects m)) (open_named x core) (open_named x turn.core)
 all_puts core turn (hears input other) o no_hand x c there = driven_puts x input core o
 all_puts core turn (opens_one port) o no_hand x c there = opened_puts x port core c o there
 all_puts core turn (holds port piece) o no_hand x c there = at_puts x port (holding piece) core o (λ d. refl) (λ d. refl)
@@ -327,4 +327,4 @@ all_puts core turn (hands port) o no_hand x c there = absurd cc
 
 pub puts_in_order : PutsInOrder
 puts_in_order core turn m o no_hand x c d there later =
-    puts_open (bytes_for x (given_in m)) (open_named x core) (open_named x turn.core) c d (all_puts core turn m o no_hand x c there) there later
+    puts_open (bytes_for x (move_effects m)) (open_named x core) (open_named x turn.core) c d (all_puts core turn m o no_hand x c there) there later

@@ -23,7 +23,7 @@ use Rattle.world_base.specs.Step.{with_next_connection}
 use Rattle.world_base.specs.Effects.{without_messages, proposes, has_room}
 use Rattle.node_moves.specs.Moves.{Moves}
 use Rattle.node_moves.specs.Moves.Moves.{hears, opens_one, holds, reads_first, reads_later, closes, refuses, loses_one, loses_next, expels_one, cuts_log, crashes, settles, hands}
-use Rattle.node_moves.specs.Ends.{Precedes, IsGiven, IsOrderly, IsEnd, open_named, proposal_of, came_on, piece_on, stream_of, is_nothing, commands_of}
+use Rattle.node_moves.specs.Ends.{Precedes, IsGiven, IsOrderly, IsEnd, open_named, move_proposal, came_on, piece_on, stream_of, is_nothing, packet_commands_from}
 use Rattle.node_moves.specs.ReadsInOrder.{ReadsOn, NodesReadInOrder}
 use Rattle.node_moves.specs.Ends.IsEnd.{not_yet, is_open, is_over}
 use Rattle.node_moves.proofs.StepsMove.{twice}
@@ -62,7 +62,7 @@ end_kept x core later written read in_transit (is_over given is front) kept same
 
 -- nothing more is read
 none_more : (x : ConnectionName) {core : CoreState} {outcome : StepOutcome} (m : Moves core outcome) (written read : List Packet) (later : List ℕ)
-    → IsEnd x outcome.core written read later → filter (λ command. is_packet_of command x) (proposal_of m) ≡ [] → ReadsOn x m written read later
+    → IsEnd x outcome.core written read later → filter (λ command. is_packet_of command x) (move_proposal m) ≡ [] → ReadsOn x m written read later
 none_more x {outcome = outcome} m written read later end none =
     record { more = []; end = subst (λ (ps : List Packet). IsEnd x outcome.core written ps later) (sym (append-nil read)) end; proposed = none }
 
@@ -73,7 +73,7 @@ ReadsAll {core = core} {outcome = outcome} m = IsOrderly outcome.core
     → ReadsOn x m written read later)
 
 stays_reads : {core : CoreState} {outcome : StepOutcome} (m : Moves core outcome) → Stays core outcome.core → ((x : ConnectionName) → came_on x m ≡ [])
-    → ((x : ConnectionName) → filter (λ command. is_packet_of command x) (proposal_of m) ≡ []) → ReadsAll m
+    → ((x : ConnectionName) → filter (λ command. is_packet_of command x) (move_proposal m) ≡ []) → ReadsAll m
 stays_reads {core = core} {outcome = outcome} m s no_bytes none = (
   s.orderly,
   λ x written read in_transit later end same.
@@ -183,12 +183,12 @@ read_then x core between later port c f written read in_transit rest packet o h 
 )
 
 pub first_command : (x : ConnectionName) (c : Connection) (connect : Connect) (read : List Packet) → named x c ≡ true → true ≡ is_nothing read
-    → commands.Connect c.name connect.client connect.clean ∷ [] ≡ commands_of x (length read) (packets.Connect connect ∷ [])
+    → commands.Connect c.name connect.client connect.clean ∷ [] ≡ packet_commands_from x (length read) (packets.Connect connect ∷ [])
 first_command x c connect [] is nothing = ap (λ (y : ConnectionName). let one : Command = commands.Connect y connect.client connect.clean in one ∷ []) (same_name c.name x is)
 first_command x c connect (p ∷ read) is nothing = absurd cc
 
 pub later_command : (x : ConnectionName) (c : Connection) (packet : Packet) (read : List Packet) → named x c ≡ true → false ≡ is_nothing read
-    → commands.Packet c.name packet ∷ [] ≡ commands_of x (length read) (packet ∷ [])
+    → commands.Packet c.name packet ∷ [] ≡ packet_commands_from x (length read) (packet ∷ [])
 later_command x c packet [] is nothing = absurd cc
 later_command x c packet (p ∷ read) is nothing = ap (λ (y : ConnectionName). let one : Command = commands.Packet y packet in one ∷ []) (same_name c.name x is)
 
@@ -237,7 +237,7 @@ first_reads now core port c connect rest at first reads room o =
     s = stays_proposed command between (changed_orderly core between (is_open_at port) (λ d. noted_proposed connect.keep_alive (left_with now rest d)) o h.are h.same h.up h.name)
 
     with_name : (x : ConnectionName) (read : List Packet) (b : Bool) → named x c ≡ b → (more : List Packet) → more ≡ (if b then packets.Connect connect ∷ [] else [])
-        → (b ≡ true → is_first c.stage ≡ is_nothing read) → filter (λ z. is_packet_of z x) (command ∷ []) ≡ commands_of x (length read) more
+        → (b ≡ true → is_first c.stage ≡ is_nothing read) → filter (λ z. is_packet_of z x) (command ∷ []) ≡ packet_commands_from x (length read) more
     with_name x read true e more is nothing = rw (e, is) (first_command x c connect read e (sym first ∙ nothing refl))
     with_name x read false e more is nothing = rw (e, is) refl
 
@@ -265,7 +265,7 @@ later_reads now core port c packet rest at later reads room o =
     s = stays_proposed command between (changed_orderly core between (is_open_at port) (left_with now rest) o h.are h.same h.up h.name)
 
     with_name : (x : ConnectionName) (read : List Packet) (b : Bool) → named x c ≡ b → (more : List Packet) → more ≡ (if b then packet ∷ [] else [])
-        → (b ≡ true → is_first c.stage ≡ is_nothing read) → filter (λ z. is_packet_of z x) (command ∷ []) ≡ commands_of x (length read) more
+        → (b ≡ true → is_first c.stage ≡ is_nothing read) → filter (λ z. is_packet_of z x) (command ∷ []) ≡ packet_commands_from x (length read) more
     with_name x read true e more is nothing = rw (e, is) (later_command x c packet read e (sym later ∙ nothing refl))
     with_name x read false e more is nothing = rw (e, is) refl
 

@@ -13,7 +13,7 @@ use Rattle.world_base.specs.Core.{CoreState, StepOutcome}
 use Rattle.node_moves.specs.Ends.{IsOrderly, open_named}
 use Rattle.node_moves.specs.Moves.{Moves}
 use Rattle.node_moves.specs.Moves.Moves.{refuses}
-use Rattle.node_moves.specs.Puts.{given_in, outputs_of, spelled}
+use Rattle.node_moves.specs.Puts.{move_effects, outputs_of, spelled}
 
 -- the connection of a name: open, or closed with bytes that are still to be handed over
 abbrev pub listed_named : ConnectionName → CoreState → Option Connection
@@ -36,7 +36,7 @@ pub data IsExactlyClosedBy (x : ConnectionName) {core : CoreState} {outcome : St
   -- it was open, and got no more in this move than a prefix of what is sent to it
   closes_now : (c : Connection) (front : List ℕ) → open_named x core ≡ Some c →
       d.pending ≡ c.pending ++ front →
-      IsPrefixOf front (spelled (exact_refusal x m ++ sends_to x (outputs_of (given_in m)))) →
+      IsPrefixOf front (spelled (exact_refusal x m ++ sends_to x (outputs_of (move_effects m)))) →
       IsExactlyClosedBy x m d
 
 -- each connection that is closed after a move was closed in one of the ways of `IsExactlyClosedBy`

@@ -46,24 +46,24 @@ pub record IsOrderly (core : CoreState) : Type 0 where
 -- ---- what a move does to one connection
 
 -- the command that it proposes
-abbrev pub proposal_of : {core : CoreState} {outcome : StepOutcome} → Moves core outcome →
+abbrev pub move_proposal : {core : CoreState} {outcome : StepOutcome} → Moves core outcome →
     List Command
-proposal_of (hears input is) = []
-proposal_of (opens_one port) = []
-proposal_of (holds port piece) = []
-proposal_of (reads_first now port c connect rest at first is room) =
+move_proposal (hears input is) = []
+move_proposal (opens_one port) = []
+move_proposal (holds port piece) = []
+move_proposal (reads_first now port c connect rest at first is room) =
     commands.Connect c.name connect.client connect.clean ∷ []
-proposal_of (reads_later now port c packet rest at later is room) =
+move_proposal (reads_later now port c packet rest at later is room) =
     commands.Packet c.name packet ∷ []
-proposal_of (closes port) = []
-proposal_of (refuses port c code at first is) = []
-proposal_of (loses_one port c at proposed) = commands.Lost c.name ∷ []
-proposal_of (loses_next c at) = commands.Lost c.name ∷ []
-proposal_of (expels_one client) = commands.Expel client ∷ []
-proposal_of (cuts_log can) = []
-proposal_of crashes = []
-proposal_of settles = []
-proposal_of (hands port) = []
+move_proposal (closes port) = []
+move_proposal (refuses port c code at first is) = []
+move_proposal (loses_one port c at proposed) = commands.Lost c.name ∷ []
+move_proposal (loses_next c at) = commands.Lost c.name ∷ []
+move_proposal (expels_one client) = commands.Expel client ∷ []
+move_proposal (cuts_log can) = []
+move_proposal crashes = []
+move_proposal settles = []
+move_proposal (hands port) = []
 
 -- the bytes that come on the connection of a name
 abbrev pub piece_on : ConnectionName → List ℕ → Option Connection → List ℕ
@@ -100,6 +100,6 @@ pub data IsEnd (x : ConnectionName) (core : CoreState) (written read : List Pack
       IsEnd x core written read in_transit
 
 -- the commands of a connection's packets from this number on
-abbrev pub commands_of : ConnectionName → ℕ → List Packet → List Command
-commands_of x n [] = []
-commands_of x n (p ∷ more) = command_of x n p ∷ commands_of x (suc n) more
+abbrev pub packet_commands_from : ConnectionName → ℕ → List Packet → List Command
+packet_commands_from x n [] = []
+packet_commands_from x n (p ∷ more) = command_of x n p ∷ packet_commands_from x (suc n) more

@@ -12,7 +12,7 @@ use Rattle.world_base.specs.Core.{CoreState, StepOutcome, opening_core, serves}
 use Rattle.world_base.specs.Step.{crashed, settled, with_cut}
 use Rattle.world_base.specs.Effects.{drives}
 use Rattle.node_moves.specs.Closed.{listed_named}
-use Rattle.node_moves.specs.Ends.{IsOrderly, proposal_of}
+use Rattle.node_moves.specs.Ends.{IsOrderly, move_proposal}
 use Rattle.node_moves.specs.Moves.{Moves}
 use Rattle.node_moves.specs.Moves.Moves.{hears, cuts_log, crashes}
 
@@ -45,5 +45,5 @@ pub record NamesKeepTheirBallot : Type 0 where
   pub proposes : (core : CoreState) (outcome : StepOutcome) (m : Moves core outcome) →
       IsOrderly core →
       AreOfTheBallot core → (x : ConnectionName) (command : Command) →
-      In command (proposal_of m) → is_packet_of command x ≡ true →
+      In command (move_proposal m) → is_packet_of command x ≡ true →
       x.ballot ≡ core.replica.state.joined

@@ -12,11 +12,11 @@ use Rattle.world_base.specs.declared.Connection.{Connection}
 use Rattle.world_base.specs.node_connections.Connections.{is_closed}
 use Rattle.world_base.specs.Core.{CoreState, StepOutcome, opening_core}
 use Rattle.node_moves.specs.Closed.{listed_named}
-use Rattle.node_moves.specs.Ends.{IsEnd, IsOrderly, commands_of, open_named}
+use Rattle.node_moves.specs.Ends.{IsEnd, IsOrderly, packet_commands_from, open_named}
 use Rattle.node_moves.specs.RunProposals.{Proposes}
 use Rattle.node_moves.specs.LossyMoves.{LossyMoves}
-use Rattle.node_moves.specs.LossyParts.{came_on, given_in, is_handing, is_read, proposal_of, refusal_in}
-use Rattle.node_moves.specs.LossyRuns.{LossyRuns, bytes_on, proposals_of}
+use Rattle.node_moves.specs.LossyParts.{came_on, move_effects, is_handing, is_read, move_proposal, refusal_in}
+use Rattle.node_moves.specs.LossyRuns.{LossyRuns, bytes_on, run_proposals}
 use Rattle.node_moves.specs.Puts.{outputs_of, spelled}
 
 -- ---- what is read
@@ -27,8 +27,8 @@ pub record ReadsOn (x : ConnectionName) {core : CoreState} {outcome : StepOutcom
     (m : LossyMoves core outcome) (written read : List Packet) (later : List ℕ) : Type 0 where
   pub more : List Packet
   pub end : IsEnd x outcome.core written (read ++ more) later
-  pub proposed : filter (λ command. is_packet_of command x) (proposal_of m)
-      ≡ commands_of x (length read) more
+  pub proposed : filter (λ command. is_packet_of command x) (move_proposal m)
+      ≡ packet_commands_from x (length read) more
 
 -- in each move a node reads on in order on each connection; none is skipped while it is open
 abbrev pub LossesReadInOrder : Type 0
@@ -47,14 +47,14 @@ LossesProposeInOrder =
     (run : LossyRuns (opening_core id config) outcome) (x : ConnectionName)
     (written : List Packet) (later : List ℕ) → 0 < x.count →
     Joins written (bytes_on x run ++ later) →
-    Proposes x outcome.core (proposals_of run) written later
+    Proposes x outcome.core (run_proposals run) written later
 
 -- each packet that is read is in the log at once, after everything that was there
 abbrev pub LossesAreTaken : Type 0
 LossesAreTaken =
     (core : CoreState) (outcome : StepOutcome) (m : LossyMoves core outcome) → is_read m ≡ true →
     outcome.core.replica.state.log
-    ≡ record core.replica.state.log { rest = core.replica.state.log.rest ++ proposal_of m }
+    ≡ record core.replica.state.log { rest = core.replica.state.log.rest ++ move_proposal m }
 
 -- ---- what is sent
 
@@ -66,7 +66,7 @@ LossesPutInOrder =
     is_handing m ≡ false →
     (x : ConnectionName) (c d : Connection) → open_named x core ≡ Some c →
     open_named x outcome.core ≡ Some d →
-    d.pending ≡ c.pending ++ spelled (sends_to x (outputs_of (given_in m)))
+    d.pending ≡ c.pending ++ spelled (sends_to x (outputs_of (move_effects m)))
 
 -- a connection that is closed after a move was closed before, with the same bytes to hand over, or
 -- was open, and got a prefix of what is sent to it
@@ -78,7 +78,7 @@ pub data IsClosedBy (x : ConnectionName) {core : CoreState} {outcome : StepOutco
   -- it was open before
   closes_now : (c : Connection) (front : List ℕ) → open_named x core ≡ Some c →
       d.pending ≡ c.pending ++ front →
-      IsPrefixOf front (spelled (refusal_in x m ++ sends_to x (outputs_of (given_in m)))) →
+      IsPrefixOf front (spelled (refusal_in x m ++ sends_to x (outputs_of (move_effects m)))) →
       IsClosedBy x m d
 
 -- each connection that is closed after a move was closed in one of the ways of `IsClosedBy`

@@ -10,7 +10,7 @@ use Rattle.node_moves.specs.Closed.{listed_named}
 use Rattle.node_moves.specs.Ends.{IsOrderly}
 use Rattle.node_moves.specs.Keeping.{AreOfTheBallot}
 use Rattle.node_moves.specs.LossyMoves.{LossyMoves}
-use Rattle.node_moves.specs.LossyParts.{hears_in, proposal_of}
+use Rattle.node_moves.specs.LossyParts.{hears_in, move_proposal}
 use Rattle.node_moves.specs.Names.{IsNextName}
 
 -- a connection that is new after a move has the next name of the ballot that the node leads
@@ -37,5 +37,5 @@ pub record LossyNamesKeepTheirBallot : Type 0 where
   pub proposes : (core : CoreState) (outcome : StepOutcome) (m : LossyMoves core outcome) →
       IsOrderly core →
       AreWhereItServes core → serves core ≡ true → (x : ConnectionName) (command : Command) →
-      In command (proposal_of m) → is_packet_of command x ≡ true →
+      In command (move_proposal m) → is_packet_of command x ≡ true →
       x.ballot ≡ core.replica.state.joined

@@ -11,46 +11,46 @@ use Rattle.exactly_once.specs.broker_spec.declared.command.Output.{Output}
 use Rattle.world_base.specs.Core.{CoreState, StepOutcome}
 use Rattle.world_base.specs.Reading.{open_at}
 use Rattle.node_moves.specs.Closed.{exact_refusal}
-use Rattle.node_moves.specs.Ends.{came_on as exact_came, piece_on, proposal_of as exact_proposal}
+use Rattle.node_moves.specs.Ends.{came_on as exact_came, piece_on, move_proposal as exact_proposal}
 use Rattle.node_moves.specs.RunProposals.{is_read as exact_read}
 use Rattle.node_moves.specs.Keeping.{moves_replica}
 use Rattle.node_moves.specs.Moves.{Moves}
 use Rattle.node_moves.specs.Moves.Moves.{hears}
-use Rattle.node_moves.specs.Puts.{given_in as exact_given, is_handing as exact_handing}
+use Rattle.node_moves.specs.Puts.{move_effects as exact_given, is_handing as exact_handing}
 use Rattle.node_moves.specs.LossyMoves.{LossyMoves}
 use Rattle.node_moves.specs.LossyMoves.LossyMoves.{exactly, hears_losing, first_losing, later_losing, tells_losing, expels_losing, forgets, halts, fails, unheard, drops}
 
 -- the effects of its replica in a move
-abbrev pub given_in : {core : CoreState} {outcome : StepOutcome} → LossyMoves core outcome →
+abbrev pub move_effects : {core : CoreState} {outcome : StepOutcome} → LossyMoves core outcome →
     List (Effect Command Output)
-given_in (exactly m) = exact_given m
-given_in (hears_losing input did other drives) = did.given
-given_in (first_losing now port c connect rest did at first is taken) = did.given
-given_in (later_losing now port c packet rest did at later is taken) = did.given
-given_in (tells_losing name did taken) = did.given
-given_in (expels_losing client did taken) = did.given
-given_in forgets = []
-given_in halts = []
-given_in (fails port) = []
-given_in unheard = []
-given_in (drops port piece) = []
+move_effects (exactly m) = exact_given m
+move_effects (hears_losing input did other drives) = did.given
+move_effects (first_losing now port c connect rest did at first is taken) = did.given
+move_effects (later_losing now port c packet rest did at later is taken) = did.given
+move_effects (tells_losing name did taken) = did.given
+move_effects (expels_losing client did taken) = did.given
+move_effects forgets = []
+move_effects halts = []
+move_effects (fails port) = []
+move_effects unheard = []
+move_effects (drops port piece) = []
 
 -- the command that it proposes
-abbrev pub proposal_of : {core : CoreState} {outcome : StepOutcome} → LossyMoves core outcome →
+abbrev pub move_proposal : {core : CoreState} {outcome : StepOutcome} → LossyMoves core outcome →
     List Command
-proposal_of (exactly m) = exact_proposal m
-proposal_of (hears_losing input did other drives) = []
-proposal_of (first_losing now port c connect rest did at first is taken) =
+move_proposal (exactly m) = exact_proposal m
+move_proposal (hears_losing input did other drives) = []
+move_proposal (first_losing now port c connect rest did at first is taken) =
     commands.Connect c.name connect.client connect.clean ∷ []
-proposal_of (later_losing now port c packet rest did at later is taken) =
+move_proposal (later_losing now port c packet rest did at later is taken) =
     commands.Packet c.name packet ∷ []
-proposal_of (tells_losing name did taken) = commands.Lost name ∷ []
-proposal_of (expels_losing client did taken) = commands.Expel client ∷ []
-proposal_of forgets = []
-proposal_of halts = []
-proposal_of (fails port) = []
-proposal_of unheard = []
-proposal_of (drops port piece) = []
+move_proposal (tells_losing name did taken) = commands.Lost name ∷ []
+move_proposal (expels_losing client did taken) = commands.Expel client ∷ []
+move_proposal forgets = []
+move_proposal halts = []
+move_proposal (fails port) = []
+move_proposal unheard = []
+move_proposal (drops port piece) = []
 
 -- the bytes that come on the connection of a name
 abbrev pub came_on : ConnectionName → {core : CoreState} {outcome : StepOutcome} →

@@ -6,7 +6,7 @@ use Rattle.exactly_once.specs.broker_spec.Connection.{ConnectionName}
 use Rattle.world_base.specs.Core.{CoreState, StepOutcome, rules}
 use Rattle.world_base.specs.Effects.{without_messages}
 use Rattle.node_moves.specs.LossyMoves.{LossyMoves}
-use Rattle.node_moves.specs.LossyParts.{came_on, hears_in, inputs_in, is_handing, proposal_of}
+use Rattle.node_moves.specs.LossyParts.{came_on, hears_in, inputs_in, is_handing, move_proposal}
 use Rattle.node_moves.specs.LossyMoves.LossyMoves.{exactly}
 use Rattle.node_moves.specs.Moves.{Moves, and_then}
 use Rattle.node_moves.specs.Moves.Moves.{cuts_log}
@@ -31,10 +31,10 @@ HearsAtFirst rests = Unit {0}
 HearsAtFirst (goes_on m run) = HearsNothing run
 
 -- the commands that a node proposes in a run, in order
-abbrev pub proposals_of : {core : CoreState} {outcome : StepOutcome} → LossyRuns core outcome →
+abbrev pub run_proposals : {core : CoreState} {outcome : StepOutcome} → LossyRuns core outcome →
     List Command
-proposals_of rests = []
-proposals_of (goes_on m run) = proposal_of m ++ proposals_of run
+run_proposals rests = []
+run_proposals (goes_on m run) = move_proposal m ++ run_proposals run
 
 -- the bytes that come on the connection of a name in it, in order
 abbrev pub bytes_on : ConnectionName → {core : CoreState} {outcome : StepOutcome} →
@@ -72,12 +72,12 @@ CutsNothing rests = Unit {0}
 CutsNothing (goes_on m run) = (cuts_in m ≡ false) × CutsNothing run
 
 -- the bytes to which a log is cut thaw to its machine
-abbrev pub Freezes : {core : CoreState} {outcome : StepOutcome} → LossyMoves core outcome → Type 0
-Freezes {core = core} (exactly (cuts_log can)) =
+abbrev pub CutsThaw : {core : CoreState} {outcome : StepOutcome} → LossyMoves core outcome → Type 0
+CutsThaw {core = core} (exactly (cuts_log can)) =
     rules.thawed (rules.frozen core.replica.state.machine) ≡ Some core.replica.state.machine
-Freezes _ = Unit {0}
+CutsThaw _ = Unit {0}
 
 -- what is frozen in each move of a run can be read
 abbrev pub AllFreeze : {core : CoreState} {outcome : StepOutcome} → LossyRuns core outcome → Type 0
 AllFreeze rests = Unit {0}
-AllFreeze (goes_on m run) = Freezes m × AllFreeze run
+AllFreeze (goes_on m run) = CutsThaw m × AllFreeze run

@@ -18,21 +18,21 @@ use Rattle.node_moves.specs.Moves.Moves.{hears, reads_first, reads_later, loses_
 use Rattle.node_moves.specs.Ends.{IsOrderly, open_named}
 
 -- the effects of its replica in a move
-abbrev pub given_in : {core : CoreState} {outcome : StepOutcome} → Moves core outcome →
+abbrev pub move_effects : {core : CoreState} {outcome : StepOutcome} → Moves core outcome →
     List (Effect Command Output)
-given_in {core = core} (hears input is) = (outcome_of_input input core.replica.state).effects
-given_in {core = core} (reads_first now port c connect rest at first is room) =
+move_effects {core = core} (hears input is) = (outcome_of_input input core.replica.state).effects
+move_effects {core = core} (reads_first now port c connect rest at first is room) =
     (proposed rules core.replica.state
     (commands.Connect c.name connect.client connect.clean)).effects
-given_in {core = core} (reads_later now port c packet rest at later is room) =
+move_effects {core = core} (reads_later now port c packet rest at later is room) =
     (proposed rules core.replica.state (commands.Packet c.name packet)).effects
-given_in {core = core} (loses_one port c at asked) =
+move_effects {core = core} (loses_one port c at asked) =
     if serves core then (proposed rules core.replica.state (commands.Lost c.name)).effects else []
-given_in {core = core} (loses_next c at) =
+move_effects {core = core} (loses_next c at) =
     if serves core then (proposed rules core.replica.state (commands.Lost c.name)).effects else []
-given_in {core = core} (expels_one client) =
+move_effects {core = core} (expels_one client) =
     if serves core then (proposed rules core.replica.state (commands.Expel client)).effects else []
-given_in _ = []
+move_effects _ = []
 
 -- the broker's outputs among it
 abbrev pub outputs_of : List (Effect Command Output) → List Output
@@ -59,4 +59,4 @@ PutsInOrder =
     is_handing m ≡ false →
     (x : ConnectionName) (c d : Connection) → open_named x core ≡ Some c →
     open_named x outcome.core ≡ Some d →
-    d.pending ≡ c.pending ++ spelled (sends_to x (outputs_of (given_in m)))
+    d.pending ≡ c.pending ++ spelled (sends_to x (outputs_of (move_effects m)))

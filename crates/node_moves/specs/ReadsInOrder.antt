@@ -5,15 +5,15 @@ use Rattle.exactly_once.specs.broker_spec.Connection.{ConnectionName}
 use Rattle.exactly_once.specs.StoryCommands.{is_packet_of}
 use Rattle.world_base.specs.Core.{CoreState, StepOutcome}
 use Rattle.node_moves.specs.Moves.{Moves}
-use Rattle.node_moves.specs.Ends.{IsOrderly, proposal_of, came_on, IsEnd, commands_of}
+use Rattle.node_moves.specs.Ends.{IsOrderly, move_proposal, came_on, IsEnd, packet_commands_from}
 
 -- In a move the next written packets are read. Each is proposed under the name, and nothing else.
 pub record ReadsOn (x : ConnectionName) {core : CoreState} {outcome : StepOutcome}
     (m : Moves core outcome) (written read : List Packet) (later : List ℕ) : Type 0 where
   pub more : List Packet
   pub end : IsEnd x outcome.core written (read ++ more) later
-  pub proposed : filter (λ command. is_packet_of command x) (proposal_of m)
-      ≡ commands_of x (length read) more
+  pub proposed : filter (λ command. is_packet_of command x) (move_proposal m)
+      ≡ packet_commands_from x (length read) more
 
 -- in each move a node reads on in order on each connection, and its connections stay in order
 abbrev pub NodesReadInOrder : Type 0

@@ -12,13 +12,13 @@ use Rattle.world_base.specs.Core.{CoreState, StepOutcome, opening_core}
 use Rattle.node_moves.specs.Moves.Moves.{reads_first, reads_later}
 use Rattle.node_moves.specs.Moves.{Moves, Runs}
 use Rattle.node_moves.specs.Moves.Runs.{rests, goes_on}
-use Rattle.node_moves.specs.Ends.{proposal_of, came_on, IsEnd, commands_of}
+use Rattle.node_moves.specs.Ends.{move_proposal, came_on, IsEnd, packet_commands_from}
 
 -- the commands that it proposes in a run, in order
-abbrev pub proposals_of : {core : CoreState} {outcome : StepOutcome} → Runs core outcome →
+abbrev pub run_proposals : {core : CoreState} {outcome : StepOutcome} → Runs core outcome →
     List Command
-proposals_of rests = []
-proposals_of (goes_on m run) = proposal_of m ++ proposals_of run
+run_proposals rests = []
+run_proposals (goes_on m run) = move_proposal m ++ run_proposals run
 
 -- the bytes that come on the connection of a name in it, in order
 abbrev pub bytes_on : ConnectionName → {core : CoreState} {outcome : StepOutcome} →
@@ -34,7 +34,8 @@ pub record Proposes (x : ConnectionName) (core : CoreState) (proposals : List Co
   pub read : List Packet
   pub end : IsEnd x core written read later
   pub prefix : IsPrefixOf read written
-  pub proposed : filter (λ command. is_packet_of command x) proposals ≡ commands_of x 0 read
+  pub proposed : filter (λ command. is_packet_of command x) proposals
+      ≡ packet_commands_from x 0 read
 
 -- a node proposes in order in each run from its opening on, under each name that a connection can
 -- have
@@ -44,7 +45,7 @@ NodesProposeInOrder =
     (x : ConnectionName)
     (written : List Packet) (later : List ℕ) → 0 < x.count →
     Joins written (bytes_on x run ++ later) →
-    Proposes x outcome.core (proposals_of run) written later
+    Proposes x outcome.core (run_proposals run) written later
 
 -- whether a move reads a packet
 abbrev pub is_read : {core : CoreState} {outcome : StepOutcome} → Moves core outcome → Bool
@@ -58,4 +59,4 @@ abbrev pub ReadsAreTaken : Type 0
 ReadsAreTaken =
     (core : CoreState) (outcome : StepOutcome) (m : Moves core outcome) → is_read m ≡ true →
     outcome.core.replica.state.log
-    ≡ record core.replica.state.log { rest = core.replica.state.log.rest ++ proposal_of m }
+    ≡ record core.replica.state.log { rest = core.replica.state.log.rest ++ move_proposal m }
