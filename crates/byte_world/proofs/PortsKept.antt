@@ -27,11 +27,11 @@ use Rattle.node_group.specs.ballot_base.Cutting.{can_cut}
 use Rattle.node_group.specs.world_base.declared.item.Item.TheVariants.{Peer, Tick, Opened, Bytes, Ended, Expel, Cut, Crash}
 use Rattle.node_group.specs.world_base.declared.Port.{Port}
 use Rattle.node_group.specs.node_connections.Connections.{fresh, is_at, is_first, is_listed, is_open_at, is_open_named, is_proposed}
-use Rattle.node_group.specs.node_connections.ConnectionChanges.{noted_proposed, changed, closed, failing, handed, holding, left_with, max_pending, put_out, putting}
+use Rattle.node_group.specs.node_connections.ConnectionChanges.{noted_proposed, changed_where, closed_connection, failing, nothing_pending, with_unread, left_with, max_pending, with_queued, putting}
 use Rattle.node_group.specs.world_base.Core.{CoreState, StepOutcome, serves}
 use Rattle.node_group.specs.world_base.Handing.{hands_over, left_by, listed_at}
 use Rattle.node_group.specs.world_base.KeepAlive.{ends_if, ends_silent, lowest_silent}
-use Rattle.node_group.specs.world_base.Reading.{takes_first_packet, changes, port_closed, loses, loses_open, open_at, reads, reads_next, reads_of, refused, proposes_packet, unread_of}
+use Rattle.node_group.specs.world_base.Reading.{takes_first_packet, changes, port_closed, loses, loses_open, open_at, reads, reads_next, reads_of, connect_refused, proposes_packet, unread_of}
 use Rattle.node_group.specs.world_base.Step.{acts_on, next_name, with_next_connection, does_item, cuts, with_cut}
 use Rattle.node_group.specs.world_base.Effects.{changes_named, drives, has_room, outcome_of_input, proposes, without_messages, repeated, with_effect}
 use Rattle.node_group.specs.node_moves.Moves.{NodeCall, done}
@@ -46,10 +46,10 @@ pub record IsLater (c d : Connection) : Type 0 where
   pub name : d.name ≡ c.name
   pub lives : live d ≡ true → live c ≡ true
 
-pub is_shut : (c : Connection) → IsLater c (closed c)
+pub is_shut : (c : Connection) → IsLater c (closed_connection c)
 is_shut c = record { port = refl; name = refl; lives = λ e. absurd cc }
 
-pub is_put_out : (bytes : List ℕ) (c : Connection) → IsLater c (put_out bytes c)
+pub is_put_out : (bytes : List ℕ) (c : Connection) → IsLater c (with_queued bytes c)
 is_put_out bytes c = record { port = port (nat_le (length c.pending + length bytes) max_pending); name = put_out_name bytes c; lives = lives (nat_le (length c.pending + length bytes) max_pending) }
   where
     port : (b : Bool) → (let d : Connection = if b then putting bytes c else failing c in d).port ≡ c.port
@@ -69,14 +69,14 @@ module _ (P : Connection → Type 0) (follows : IsFollowed P) where
   AllOf core = Each P core.connections
 
   pub kept : IsKept P
-  kept = record { shut = λ c. follows c (closed c) (is_shut c); put = λ bytes c. follows c (put_out bytes c) (is_put_out bytes c) }
+  kept = record { shut = λ c. follows c (closed_connection c) (is_shut c); put = λ bytes c. follows c (with_queued bytes c) (is_put_out bytes c) }
 
   pub each_changed : (test : Connection → Bool) (f : Connection → Connection) (cs : List Connection) → ((c : Connection) → test c ≡ true → IsLater c (f c)) → Each P cs
-      → Each P (changed test f cs)
+      → Each P (changed_where test f cs)
   each_changed test f [] later all = tt
   each_changed test f (c ∷ cs) later all = by (test c) refl (each_changed test f cs later all.1)
     where
-      by : (b : Bool) → test c ≡ b → Each P (changed test f cs) → Each P (if b then f c ∷ cs else c ∷ changed test f cs)
+      by : (b : Bool) → test c ≡ b → Each P (changed_where test f cs) → Each P (if b then f c ∷ cs else c ∷ changed_where test f cs)
       by true e rest = (follows c (f c) (later c e) all.0, all.1)
       by false e rest = (all.0, rest)
 
@@ -84,8 +84,8 @@ module _ (P : Connection → Type 0) (follows : IsFollowed P) where
   unfolding changes
   each_at port f core later all = each_changed (is_open_at port) f core.connections later all
 
-  pub shut_at : (port : Port) (core : CoreState) → AllOf core → AllOf (changes port closed core)
-  shut_at port core all = each_at port closed core (λ c e. is_shut c) all
+  pub shut_at : (port : Port) (core : CoreState) → AllOf core → AllOf (changes port closed_connection core)
+  shut_at port core all = each_at port closed_connection core (λ c e. is_shut c) all
 
   -- ---- the replica
 
@@ -94,8 +94,8 @@ module _ (P : Connection → Type 0) (follows : IsFollowed P) where
   each_named name f core later all = each_changed (is_open_named name) f core.connections (λ c e. later c) all
 
   each_handled : (core : CoreState) (e : Effect Command Output) → AllOf core → AllOf (with_effect core e)
-  each_handled core (Out place (outputs.Send name packet)) all = each_named name (put_out (spelling packet)) core (is_put_out (spelling packet)) all
-  each_handled core (Out place (outputs.Close name)) all = each_named name closed core is_shut all
+  each_handled core (Out place (outputs.Send name packet)) all = each_named name (with_queued (spelling packet)) core (is_put_out (spelling packet)) all
+  each_handled core (Out place (outputs.Close name)) all = each_named name closed_connection core is_shut all
   each_handled core (To receiver message) all = all
 
   each_delivered : (core : CoreState) (effects : List (Effect Command Output)) → AllOf core → AllOf (fold with_effect core effects)
@@ -112,8 +112,8 @@ module _ (P : Connection → Type 0) (follows : IsFollowed P) where
   lost_one : (port : Port) (c : Connection) (core : CoreState) → AllOf core → AllOf (loses port c core).core
   lost_one port c core all = by (is_proposed c.stage)
     where
-      by : (b : Bool) → AllOf (let t : StepOutcome = if b then proposes (commands.Lost c.name) (changes port closed core) else without_messages (changes port closed core) in t).core
-      by true = each_proposed P kept (commands.Lost c.name) (changes port closed core) (shut_at port core all)
+      by : (b : Bool) → AllOf (let t : StepOutcome = if b then proposes (commands.Lost c.name) (changes port closed_connection core) else without_messages (changes port closed_connection core) in t).core
+      by true = each_proposed P kept (commands.Lost c.name) (changes port closed_connection core) (shut_at port core all)
       by false = shut_at port core all
 
   lost_open : (port : Port) (core : CoreState) (o : Option Connection) → AllOf core → AllOf (loses_open port core o).core
@@ -135,7 +135,7 @@ module _ (P : Connection → Type 0) (follows : IsFollowed P) where
   -- ---- packets
 
   proposed_or_shut : (port : Port) (command : Command) (core : CoreState) (b : Bool) → AllOf core
-      → AllOf (let t : StepOutcome = if b then proposes command core else without_messages (changes port closed core) in t).core
+      → AllOf (let t : StepOutcome = if b then proposes command core else without_messages (changes port closed_connection core) in t).core
   proposed_or_shut port command core true all = each_proposed P kept command core all
   proposed_or_shut port command core false all = shut_at port core all
 
@@ -162,8 +162,8 @@ module _ (P : Connection → Type 0) (follows : IsFollowed P) where
   read_refused : (now : ℕ) (port : Port) (c : Connection) (core : CoreState) (code : RefusalCode) → AllOf core → AllOf (reads now port c core (Err (stops.Refused code))).core
   read_refused now port c core code all = by (is_first c.stage)
     where
-      by : (b : Bool) → AllOf (let t : StepOutcome = if b then without_messages (changes port (refused code) core) else loses port c core in t).core
-      by true = each_at port (refused code) core (λ d e. record { port = refl; name = refl; lives = λ f. absurd cc }) all
+      by : (b : Bool) → AllOf (let t : StepOutcome = if b then without_messages (changes port (connect_refused code) core) else loses port c core in t).core
+      by true = each_at port (connect_refused code) core (λ d e. record { port = refl; name = refl; lives = λ f. absurd cc }) all
       by false = lost_one port c core all
 
   read_front : (now : ℕ) (port : Port) (c : Connection) (core : CoreState) (front : Result (Packet × List ℕ) Stop) → AllOf core → AllOf (reads now port c core front).core
@@ -218,8 +218,8 @@ module _ (P : Connection → Type 0) (follows : IsFollowed P) where
       each_time (ends_silent now) (each_silent now) (length (drives Ticks core).core.connections) (drives Ticks core).core (each_driven Ticks core all)
   each_taken (Opened port now) core new all = each_opened port core new all
   each_taken (Bytes port piece now) core new all =
-      each_time (reads_next now port) (each_read now port) (unread_of (open_at port (changes port (holding piece) core))) (changes port (holding piece) core)
-      (each_at port (holding piece) core (λ d e. record { port = refl; name = refl; lives = λ f. f }) all)
+      each_time (reads_next now port) (each_read now port) (unread_of (open_at port (changes port (with_unread piece) core))) (changes port (with_unread piece) core)
+      (each_at port (with_unread piece) core (λ d e. record { port = refl; name = refl; lives = λ f. f }) all)
   each_taken (Ended port) core new all = each_ended port core all
   each_taken (Expel client) core new all = each_proposed P kept (commands.Expel client) core all
   each_taken Cut core new all = each_cut core all
@@ -228,8 +228,8 @@ module _ (P : Connection → Type 0) (follows : IsFollowed P) where
   each_left : (port : Port) (core : CoreState) (o : Option Connection) → AllOf core → AllOf (left_by port core o)
   each_left port core None all = all
   each_left port core (Some c) all =
-      each_filtered P is_listed (changed (is_at port) handed core.connections)
-      (each_changed (is_at port) handed core.connections (λ d e. record { port = refl; name = refl; lives = λ f. f }) all)
+      each_filtered P is_listed (changed_where (is_at port) nothing_pending core.connections)
+      (each_changed (is_at port) nothing_pending core.connections (λ d e. record { port = refl; name = refl; lives = λ f. f }) all)
 
   each_handed : (port : Port) (core : CoreState) → AllOf core → AllOf (hands_over port core)
   unfolding hands_over

@@ -20,7 +20,7 @@ use Rattle.node_group.specs.world_base.LossyStep.Cuts.{nothing_to_cut, cuts_log,
 use Rattle.node_group.specs.world_base.declared.item.Item.TheVariants.{Peer, Tick, Opened, Bytes, Ended, Expel, Cut, Crash}
 use Rattle.node_group.specs.world_base.declared.Port.{Port}
 use Rattle.node_group.specs.node_connections.Connections.{has_failed, is_at}
-use Rattle.node_group.specs.node_connections.ConnectionChanges.{noted_proposed, closed, failing, holding, left_with, put_out}
+use Rattle.node_group.specs.node_connections.ConnectionChanges.{noted_proposed, closed_connection, failing, with_unread, left_with, with_queued}
 use Rattle.node_group.specs.world_base.Core.{CoreState}
 use Rattle.node_group.specs.world_base.Failing.{closes_failed}
 use Rattle.node_group.specs.world_base.Lossy.{Account, HandlesAll, Drives, Repeated, Performs, TakesCommand, Then, without_effects}
@@ -33,7 +33,7 @@ use Rattle.node_group.specs.world_base.LossyReading.EndsConnection.{none_open, u
 use Rattle.node_group.specs.world_base.LossyReading.EndsSilent.{none_silent, ends_one}
 use Rattle.node_group.specs.world_base.LossyReading.LosesFailed.{none_failed, tells_one}
 use Rattle.node_group.specs.world_base.LossyReading.ReadsNext.{waits, first, later, refuses, ends}
-use Rattle.node_group.specs.world_base.Reading.{changes, open_at, refused, unread_of}
+use Rattle.node_group.specs.world_base.Reading.{changes, open_at, connect_refused, unread_of}
 use Rattle.node_group.specs.world_base.Step.{with_next_connection}
 use Rattle.node_group.proofs.of_node_moves.EachKept.{each_settled}
 use Rattle.node_group.proofs.of_node_moves.Kept.{failing_over, left_true, live}
@@ -66,9 +66,9 @@ module _ (P : Connection → Type 0) (follows : IsFollowed P) where
   -- ---- the replica
 
   serves_kept : (output : Output) (core new : CoreState) → Performs output core new → All core → All new
-  serves_kept (outputs.Send name packet) core new (inl is) all = subst All (sym is) (each_named P follows name (put_out (spelling packet)) core (is_put_out (spelling packet)) all)
+  serves_kept (outputs.Send name packet) core new (inl is) all = subst All (sym is) (each_named P follows name (with_queued (spelling packet)) core (is_put_out (spelling packet)) all)
   serves_kept (outputs.Send name packet) core new (inr is) all = subst All (sym is) (each_named P follows name failing core fails_later all)
-  serves_kept (outputs.Close name) core new is all = subst All (sym is) (each_named P follows name closed core is_shut all)
+  serves_kept (outputs.Close name) core new is all = subst All (sym is) (each_named P follows name closed_connection core is_shut all)
 
   delivers_kept : (given : List (Effect Command Output)) (core new : CoreState) (messages : List (Effect Command Output)) → HandlesAll given core new messages → All core → All new
   delivers_kept _ core _ _ nothing all = all
@@ -96,8 +96,8 @@ module _ (P : Connection → Type 0) (follows : IsFollowed P) where
 
   ends_kept : (port : Port) → Keeps (EndsConnection port)
   ends_kept port core did (none_open none is) all = becomes core did is all
-  ends_kept port core did (unproposed c found other is) all = becomes (changes port closed core) did is (shut_at P follows port core all)
-  ends_kept port core did (proposed c found heard proposes) all = proposes_kept (commands.Lost c.name) (changes port closed core) did proposes (shut_at P follows port core all)
+  ends_kept port core did (unproposed c found other is) all = becomes (changes port closed_connection core) did is (shut_at P follows port core all)
+  ends_kept port core did (proposed c found heard proposes) all = proposes_kept (commands.Lost c.name) (changes port closed_connection core) did proposes (shut_at P follows port core all)
 
   silent_kept : (now : ℕ) → Keeps (EndsSilent now)
   silent_kept now core did (none_silent none is) all = becomes core did is all
@@ -106,12 +106,12 @@ module _ (P : Connection → Type 0) (follows : IsFollowed P) where
   failed_kept : Keeps LosesFailed
   failed_kept core did (none_failed none is) all = becomes core did is all
   failed_kept core did (tells_one c found proposes) all =
-      proposes_kept (commands.Lost c.name) (closes_failed core) did proposes (each_changed P follows has_failed closed core.connections (λ d e. is_shut d) all)
+      proposes_kept (commands.Lost c.name) (closes_failed core) did proposes (each_changed P follows has_failed closed_connection core.connections (λ d e. is_shut d) all)
 
   -- ---- packets
 
   closes_kept : (port : Port) → Keeps (ClosesConnection port)
-  closes_kept port core did is all = becomes (changes port closed core) did is (shut_at P follows port core all)
+  closes_kept port core did is all = becomes (changes port closed_connection core) did is (shut_at P follows port core all)
 
   shuts_kept : (port : Port) → Keeps (Shuts port)
   shuts_kept port core did (inl is) all = closes_kept port core did is all
@@ -137,8 +137,8 @@ module _ (P : Connection → Type 0) (follows : IsFollowed P) where
   reads_kept now port core did (later c packet rest found after_first is runs) all =
       asks_kept (commands.Packet c.name packet) (Shuts port) (shuts_kept port) (changes port (left_with now rest) core) did runs (left_kept now port rest core all)
   reads_kept now port core did (refuses c code found awaits is runs) all =
-      becomes (changes port (refused code) core) did runs
-      (each_at P follows port (refused code) core (λ d e. record { port = refl; name = refl; lives = λ f. absurd cc }) all)
+      becomes (changes port (connect_refused code) core) did runs
+      (each_at P follows port (connect_refused code) core (λ d e. record { port = refl; name = refl; lives = λ f. absurd cc }) all)
   reads_kept now port core did (ends may runs) all = ends_kept port core did runs all
 
   -- ---- an item
@@ -150,7 +150,7 @@ module _ (P : Connection → Type 0) (follows : IsFollowed P) where
 
   holds_kept : (port : Port) (piece : List ℕ) → Keeps (HoldsBytes port piece)
   holds_kept port piece core did (inl is) all =
-      becomes (changes port (holding piece) core) did is (each_at P follows port (holding piece) core (λ c e. stays_later c (holding piece c) refl refl refl) all)
+      becomes (changes port (with_unread piece) core) did is (each_at P follows port (with_unread piece) core (λ c e. stays_later c (with_unread piece c) refl refl refl) all)
   holds_kept port piece core did (inr runs) all = ends_kept port core did runs all
 
   opens_kept : (port : Port) (core : CoreState) (did : Account) → (All core → All (with_next_connection port core)) → AcceptsConnection port core did → All core → All did.core

@@ -28,10 +28,10 @@ use Rattle.node_moves.specs.world_base.declared.Connection.{Connection}
 use Rattle.node_moves.specs.world_base.declared.item.Item.TheVariants.{Bytes}
 use Rattle.node_moves.specs.world_base.declared.Port.{Port}
 use Rattle.node_moves.specs.node_connections.Connections.{is_at, is_first, is_open_at, is_open_named, is_closed, is_proposed}
-use Rattle.node_moves.specs.node_connections.ConnectionChanges.{noted_proposed, changed, closed, holding, left_with, max_pending}
+use Rattle.node_moves.specs.node_connections.ConnectionChanges.{noted_proposed, changed_where, closed_connection, with_unread, left_with, max_pending}
 use Rattle.node_moves.specs.world_base.Core.{CoreState, StepOutcome, rules, serves}
 use Rattle.node_moves.specs.world_base.Handing.{listed_at}
-use Rattle.node_moves.specs.world_base.Reading.{takes_first_packet, changes, loses, open_at, reads, reads_all, reads_next, reads_of, refused, proposes_packet, unread_of}
+use Rattle.node_moves.specs.world_base.Reading.{takes_first_packet, changes, loses, open_at, reads, reads_all, reads_next, reads_of, connect_refused, proposes_packet, unread_of}
 use Rattle.node_moves.specs.world_base.Step.{node_step}
 use Rattle.node_moves.specs.world_base.Effects.{has_room, after_replica_step, proposes, without_messages, repeated, with_effect}
 use Rattle.node_moves.proofs.Views.{found_passes}
@@ -50,7 +50,7 @@ module _ (at : Port) (front : List ℕ) (some : 0 < length front) where
   plain : (f : Connection → Connection) → ((d : Connection) → (f d).port ≡ d.port) → ((d : Connection) → (f d).pending ≡ d.pending) → Keeps at front some f
   plain f port pending = record { port_of = port; front_of = λ d first. subst (λ l. IsPrefixOf front l) (sym (pending d)) first }
 
-  refused_keeps : (code : RefusalCode) → Keeps at front some (refused code)
+  refused_keeps : (code : RefusalCode) → Keeps at front some (connect_refused code)
   refused_keeps code =
       record { port_of = λ d. refl; front_of = λ d first. prefix_then first (record { rest = spelling (packets.Connack (connacks.Refused code)); is = refl }) }
 
@@ -61,31 +61,31 @@ module _ (at : Port) (front : List ℕ) (some : 0 < length front) where
   keeps_lost : (port : Port) (c : Connection) (core : CoreState) → HasFront core → HasFront (loses port c core).core
   keeps_lost port c core z = by (is_proposed c.stage)
     where
-      now : HasFront (changes port closed core)
-      now = keeps_change port closed core (closed_keeps at front some) z
+      now : HasFront (changes port closed_connection core)
+      now = keeps_change port closed_connection core (closed_keeps at front some) z
 
-      by : (b : Bool) → HasFront (let t : StepOutcome = if b then proposes (commands.Lost c.name) (changes port closed core) else without_messages (changes port closed core) in t).core
-      by true = front_proposed at front some (commands.Lost c.name) (changes port closed core) now
+      by : (b : Bool) → HasFront (let t : StepOutcome = if b then proposes (commands.Lost c.name) (changes port closed_connection core) else without_messages (changes port closed_connection core) in t).core
+      by true = front_proposed at front some (commands.Lost c.name) (changes port closed_connection core) now
       by false = now
 
   keeps_proposed : (port : Port) (command : Command) (core : CoreState) → HasFront core → (b : Bool) →
-      HasFront (let t : StepOutcome = if b then proposes command core else without_messages (changes port closed core) in t).core
+      HasFront (let t : StepOutcome = if b then proposes command core else without_messages (changes port closed_connection core) in t).core
   keeps_proposed port command core z true = front_proposed at front some command core z
-  keeps_proposed port command core z false = keeps_change port closed core (closed_keeps at front some) z
+  keeps_proposed port command core z false = keeps_change port closed_connection core (closed_keeps at front some) z
 
   keeps_begun : (port : Port) (x : ConnectionName) (packet : Packet) (core : CoreState) → HasFront core → HasFront (takes_first_packet port x packet core).core
   keeps_begun port x (packets.Connect connect) core z =
       let k = changes port (noted_proposed connect.keep_alive) core in
       keeps_proposed port (commands.Connect x connect.client connect.clean) k (keeps_change port (noted_proposed connect.keep_alive) core (plain (noted_proposed connect.keep_alive) (λ d. refl) (λ d. refl)) z) (has_room k)
-  keeps_begun port x _ core z = keeps_change port closed core (closed_keeps at front some) z
+  keeps_begun port x _ core z = keeps_change port closed_connection core (closed_keeps at front some) z
 
   keeps_read : (now : ℕ) (port : Port) (c : Connection) (core : CoreState) (v : Result (Packet × List ℕ) Stop) → HasFront core → HasFront (reads now port c core v).core
   keeps_read now port c core (Err stops.More) z = z
   keeps_read now port c core (Err (stops.Malformed kind)) z = keeps_lost port c core z
   keeps_read now port c core (Err (stops.Refused code)) z = by (is_first c.stage)
     where
-      by : (b : Bool) → HasFront (let t : StepOutcome = if b then without_messages (changes port (refused code) core) else loses port c core in t).core
-      by true = keeps_change port (refused code) core (refused_keeps code) z
+      by : (b : Bool) → HasFront (let t : StepOutcome = if b then without_messages (changes port (connect_refused code) core) else loses port c core in t).core
+      by true = keeps_change port (connect_refused code) core (refused_keeps code) z
       by false = keeps_lost port c core z
   keeps_read now port c core (Ok (packet, rest)) z = by (is_first c.stage)
     where
@@ -126,7 +126,7 @@ module _ (core : CoreState) (port : Port) (now : ℕ) (piece : List ℕ) (c : Co
   command = commands.Connect c.name connect.client connect.clean
 
   abbrev with_change : (Connection → Connection) → CoreState
-  with_change f = record core { connections = changed (is_open_at port) f core.connections }
+  with_change f = record core { connections = changed_where (is_open_at port) f core.connections }
 
   abbrev now_asked : Connection → Connection
   now_asked = asked_now now connect.keep_alive
@@ -138,33 +138,33 @@ module _ (core : CoreState) (port : Port) (now : ℕ) (piece : List ℕ) (c : Co
   is_open : is_open_at port c ≡ true
   is_open = found_passes (is_open_at port) core.connections c opened
 
-  then_listed : find (is_at port) (changed (is_open_at port) now_asked core.connections) ≡ Some (now_asked c)
+  then_listed : find (is_at port) (changed_where (is_open_at port) now_asked core.connections) ≡ Some (now_asked c)
   then_listed = found_both (is_open_at port) (is_at port) now_asked core.connections c is_open (found_passes (is_at port) core.connections c listed)
       (found_passes (is_at port) core.connections c listed) listed opened
 
-  then_named : find (is_open_named c.name) (changed (is_open_at port) now_asked core.connections) ≡ Some (now_asked c)
+  then_named : find (is_open_named c.name) (changed_where (is_open_at port) now_asked core.connections) ≡ Some (now_asked c)
   then_named = found_both (is_open_at port) (is_open_named c.name) now_asked core.connections c is_open (found_passes (is_open_named c.name) core.connections c named)
       (and_parts (not (is_closed c.stage)) _ (found_passes (is_open_named c.name) core.connections c named)).1 named opened
 
-  found : open_at port (with_change (holding piece)) ≡ Some (holding piece c)
-  found = find_changed (is_open_at port) (holding piece) core.connections c (λ d e. e) opened
+  found : open_at port (with_change (with_unread piece)) ≡ Some (with_unread piece c)
+  found = find_changed (is_open_at port) (with_unread piece) core.connections c (λ d e. e) opened
 
   asked_is : ◌≡◌ {A = CoreState} (record core {
-    connections = changed (is_open_at port) (noted_proposed connect.keep_alive)
-        (changed (is_open_at port) (left_with now []) (changed (is_open_at port) (holding piece) core.connections));
+    connections = changed_where (is_open_at port) (noted_proposed connect.keep_alive)
+        (changed_where (is_open_at port) (left_with now []) (changed_where (is_open_at port) (with_unread piece) core.connections));
   }) (with_change now_asked)
   asked_is = ap (λ (l : List Connection). let k : CoreState = record core { connections = l } in k)
-      (changed_twice (is_open_at port) (noted_proposed connect.keep_alive) (left_with now []) (changed (is_open_at port) (holding piece) core.connections) (λ d e. e)
-      ∙ changed_twice (is_open_at port) (λ (d : Connection). noted_proposed connect.keep_alive (left_with now [] d)) (holding piece) core.connections (λ d e. e))
+      (changed_twice (is_open_at port) (noted_proposed connect.keep_alive) (left_with now []) (changed_where (is_open_at port) (with_unread piece) core.connections) (λ d e. e)
+      ∙ changed_twice (is_open_at port) (λ (d : Connection). noted_proposed connect.keep_alive (left_with now [] d)) (with_unread piece) core.connections (λ d e. e))
 
-  first_read : reads_next now port (with_change (holding piece)) ≡ proposes command (with_change now_asked)
+  first_read : reads_next now port (with_change (with_unread piece)) ≡ proposes command (with_change now_asked)
   unfolding reads_next changes
   first_read =
-      ap (reads_of now port (with_change (holding piece))) found
-      ∙ ap (reads now port (holding piece c) (with_change (holding piece))) (ap (λ (l : List ℕ). verdict (l ++ piece)) unread ∙ whole)
+      ap (reads_of now port (with_change (with_unread piece))) found
+      ∙ ap (reads now port (with_unread piece c) (with_change (with_unread piece))) (ap (λ (l : List ℕ). verdict (l ++ piece)) unread ∙ whole)
       ∙ rest
     where
-      rest : reads now port (holding piece c) (with_change (holding piece)) (Ok (packets.Connect connect, [])) ≡ proposes command (with_change now_asked)
+      rest : reads now port (with_unread piece c) (with_change (with_unread piece)) (Ok (packets.Connect connect, [])) ≡ proposes command (with_change now_asked)
       rest = rw (awaits, room) (ap (proposes command) asked_is)
 
   -- and answered
@@ -177,20 +177,20 @@ module _ (core : CoreState) (port : Port) (now : ℕ) (piece : List ℕ) (c : Co
       (front_delivered port (spelling packet) some (with_effect (with_replica (proposal_at core command).state (with_change now_asked)) (Out place (outputs.Send c.name packet))) (map (Out place) others ++ more)
       (first_put port c.name packet (with_replica (proposal_at core command).state (with_change now_asked)) (now_asked c) some short then_listed then_named none)))
 
-  all_read : FrontOf port (spelling packet) some (reads_all now port (with_change (holding piece))).core.connections
+  all_read : FrontOf port (spelling packet) some (reads_all now port (with_change (with_unread piece))).core.connections
   all_read =
-      subst (λ (o : Option Connection). FrontOf port (spelling packet) some (repeated (unread_of o) (reads_next now port) (with_change (holding piece))).core.connections) (sym found)
-      (subst (λ (l : List ℕ). FrontOf port (spelling packet) some (repeated (length (l ++ piece)) (reads_next now port) (with_change (holding piece))).core.connections) (sym unread)
+      subst (λ (o : Option Connection). FrontOf port (spelling packet) some (repeated (unread_of o) (reads_next now port) (with_change (with_unread piece))).core.connections) (sym found)
+      (subst (λ (l : List ℕ). FrontOf port (spelling packet) some (repeated (length (l ++ piece)) (reads_next now port) (with_change (with_unread piece))).core.connections) (sym unread)
       (by piece whole))
     where
-      by : (p : List ℕ) → verdict p ≡ Ok (packets.Connect connect, []) → FrontOf port (spelling packet) some (repeated (length p) (reads_next now port) (with_change (holding piece))).core.connections
+      by : (p : List ℕ) → verdict p ≡ Ok (packets.Connect connect, []) → FrontOf port (spelling packet) some (repeated (length p) (reads_next now port) (with_change (with_unread piece))).core.connections
       by [] e = absurd (two_kinds (packets.Connect connect, []) stops.More (sym e ∙ is_more))
-      by (b ∷ bs) e = keeps_from port (spelling packet) some (length bs) now port (with_change (holding piece))
+      by (b ∷ bs) e = keeps_from port (spelling packet) some (length bs) now port (with_change (with_unread piece))
           (subst (λ (t : StepOutcome). FrontOf port (spelling packet) some t.core.connections) (sym first_read) answered)
 
   put_out_first : PutsOutFirst port (spelling packet) (node_step (Bytes port piece now) core).core
   unfolding changes
-  put_out_first = by (front_acted port (spelling packet) some (reads_all now port (with_change (holding piece))).core all_read)
+  put_out_first = by (front_acted port (spelling packet) some (reads_all now port (with_change (with_unread piece))).core all_read)
     where
       by : FrontOf port (spelling packet) some (node_step (Bytes port piece now) core).core.connections → PutsOutFirst port (spelling packet) (node_step (Bytes port piece now) core).core
       by z = record { connection = z.c; listed = z.found; first = z.first }

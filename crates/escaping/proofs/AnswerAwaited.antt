@@ -9,7 +9,7 @@ use Rattle.node_moves.specs.world_base.declared.Connection.{Connection}
 use Rattle.node_moves.specs.world_base.declared.item.Item.TheVariants.{Peer}
 use Rattle.node_moves.specs.world_base.declared.Port.{Port}
 use Rattle.node_moves.specs.node_connections.Connections.{fresh, is_at, is_listed, is_open_at, is_open_named, is_closed}
-use Rattle.node_moves.specs.node_connections.ConnectionChanges.{changed, closed, handed}
+use Rattle.node_moves.specs.node_connections.ConnectionChanges.{changed_where, closed_connection, nothing_pending}
 use Rattle.node_moves.specs.world_base.Core.{CoreState, StepOutcome, serves}
 use Rattle.node_moves.specs.world_base.Failing.{loses_all_failed}
 use Rattle.node_moves.specs.world_base.Handing.{hands_over, left_by, listed_at}
@@ -44,19 +44,19 @@ found_kept test keep (d ∷ cs) c kept found = by (test d) refl (keep d) refl fo
 
 -- and after a change that keeps the test, and leaves it as it is
 found_changed : (test which : Connection → Bool) (change : Connection → Connection) (cs : List Connection) (c : Connection) → ((d : Connection) → test (change d) ≡ test d) →
-    change c ≡ c → find test cs ≡ Some c → find test (changed which change cs) ≡ Some c
+    change c ≡ c → find test cs ≡ Some c → find test (changed_where which change cs) ≡ Some c
 found_changed test which change [] c keeps same found = cc
 found_changed test which change (d ∷ cs) c keeps same found = by (which d) (test d) refl found (found_changed test which change cs c keeps same)
   where
     some_is : (let o : Option Connection = Some d in o) ≡ Some c → d ≡ c
     some_is e = cc
 
-    by : (w t : Bool) → test d ≡ t → (if t then Some d else find test cs) ≡ Some c → (find test cs ≡ Some c → find test (changed which change cs) ≡ Some c) →
-        find test (if w then change d ∷ cs else d ∷ changed which change cs) ≡ Some c
+    by : (w t : Bool) → test d ≡ t → (if t then Some d else find test cs) ≡ Some c → (find test cs ≡ Some c → find test (changed_where which change cs) ≡ Some c) →
+        find test (if w then change d ∷ cs else d ∷ changed_where which change cs) ≡ Some c
     by true true e f rest = ap (λ (b : Bool). if b then Some (change d) else find test cs) (keeps d ∙ e) ∙ ap (λ (x : Connection). Some (change x)) (some_is f) ∙ ap (λ (x : Connection). Some x) same
     by true false e f rest = ap (λ (b : Bool). if b then Some (change d) else find test cs) (keeps d ∙ e) ∙ f
-    by false true e f rest = ap (λ (b : Bool). if b then Some d else find test (changed which change cs)) e ∙ f
-    by false false e f rest = ap (λ (b : Bool). if b then Some d else find test (changed which change cs)) e ∙ rest f
+    by false true e f rest = ap (λ (b : Bool). if b then Some d else find test (changed_where which change cs)) e ∙ f
+    by false false e f rest = ap (λ (b : Bool). if b then Some d else find test (changed_where which change cs)) e ∙ rest f
 
 -- ---- what waits is open, so it is listed
 
@@ -78,7 +78,7 @@ waits_listed port x core cs c listed named none =
 
 settled_leads : (core : CoreState) → serves core ≡ true → settled core ≡ record core { connections = filter is_listed core.connections }
 unfolding settled
-settled_leads core leads = ap (λ (b : Bool). let k : CoreState = record core { connections = filter is_listed (if b then core.connections else map closed core.connections) } in k) leads
+settled_leads core leads = ap (λ (b : Bool). let k : CoreState = record core { connections = filter is_listed (if b then core.connections else map closed_connection core.connections) } in k) leads
 
 both : (x y : Bool) → x ≡ true → y ≡ true → (x && y) ≡ true
 both x y e f = rw (e, f) refl
@@ -105,7 +105,7 @@ messages_keep_it_waiting port x core message waits calm runs silent active going
 
 -- ---- bytes are handed over
 
-handed_is : (c : Connection) → c.pending ≡ [] → handed c ≡ c
+handed_is : (c : Connection) → c.pending ≡ [] → nothing_pending c ≡ c
 handed_is c none = ap (λ (l : List ℕ). let d : Connection = record c { pending = l } in d) (sym none)
 
 pub handing_keeps_it_waiting : HandingKeepsItWaiting
@@ -115,9 +115,9 @@ handing_keeps_it_waiting port other x core waits = by (listed_at other core)
     by : (o : Option Connection) → AwaitsAnswer port x (left_by other core o)
     by None = record { connection = waits.connection; listed = waits.listed; named = waits.named; none = waits.none }
     by (Some d) =
-        waits_listed port x core (changed (is_at other) handed core.connections) waits.connection
-        (found_changed (is_at port) (is_at other) handed core.connections waits.connection (λ c. refl) (handed_is waits.connection waits.none) waits.listed)
-        (found_changed (is_open_named x) (is_at other) handed core.connections waits.connection (λ c. refl) (handed_is waits.connection waits.none) waits.named) waits.none
+        waits_listed port x core (changed_where (is_at other) nothing_pending core.connections) waits.connection
+        (found_changed (is_at port) (is_at other) nothing_pending core.connections waits.connection (λ c. refl) (handed_is waits.connection waits.none) waits.listed)
+        (found_changed (is_open_named x) (is_at other) nothing_pending core.connections waits.connection (λ c. refl) (handed_is waits.connection waits.none) waits.named) waits.none
 
 pub handing_keeps_the_connect : HandingKeepsTheConnect
 unfolding hands_over
@@ -126,11 +126,11 @@ handing_keeps_the_connect port other x core a = by (listed_at other core)
     c : Connection
     c = a.waits.connection
 
-    still : (test : Connection → Bool) → ((d : Connection) → test (handed d) ≡ test d) → find test core.connections ≡ Some c →
-        find test (filter is_listed (changed (is_at other) handed core.connections)) ≡ Some c
+    still : (test : Connection → Bool) → ((d : Connection) → test (nothing_pending d) ≡ test d) → find test core.connections ≡ Some c →
+        find test (filter is_listed (changed_where (is_at other) nothing_pending core.connections)) ≡ Some c
     still test keeps found =
-        found_kept test is_listed (changed (is_at other) handed core.connections) c (listed_open x c (found_passes (is_open_named x) core.connections c a.waits.named))
-        (found_changed test (is_at other) handed core.connections c keeps (handed_is c a.waits.none) found)
+        found_kept test is_listed (changed_where (is_at other) nothing_pending core.connections) c (listed_open x c (found_passes (is_open_named x) core.connections c a.waits.named))
+        (found_changed test (is_at other) nothing_pending core.connections c keeps (handed_is c a.waits.none) found)
 
     by : (o : Option Connection) → AwaitsConnect port x (left_by other core o)
     by None =
@@ -209,7 +209,7 @@ first_awaits_connect port core free unnamed =
 
 pub asked_awaits_answer : AskedAwaitsAnswer
 asked_awaits_answer port x core now connect command a =
-    waits_listed port x (with_replica (proposal_at core command).state core) (changed (is_open_at port) change core.connections) (change c)
+    waits_listed port x (with_replica (proposal_at core command).state core) (changed_where (is_open_at port) change core.connections) (change c)
     (found_both (is_open_at port) (is_at port) change core.connections c is_open (found_passes (is_at port) core.connections c a.waits.listed)
     (found_passes (is_at port) core.connections c a.waits.listed) a.waits.listed a.opened)
     (found_both (is_open_at port) (is_open_named x) change core.connections c is_open (found_passes (is_open_named x) core.connections c a.waits.named) open_after a.waits.named a.opened) a.waits.none

@@ -20,7 +20,7 @@ use Rattle.node_moves.specs.world_base.declared.Connection.{Connection}
 use Rattle.node_moves.specs.world_base.declared.item.Item.TheVariants.{Peer}
 use Rattle.node_moves.specs.world_base.declared.Port.{Port}
 use Rattle.node_moves.specs.node_connections.Connections.{has_failed, is_at, is_listed, is_open_named, is_closed}
-use Rattle.node_moves.specs.node_connections.ConnectionChanges.{changed, closed, failing, max_pending, put_out, putting}
+use Rattle.node_moves.specs.node_connections.ConnectionChanges.{changed_where, closed_connection, failing, max_pending, with_queued, putting}
 use Rattle.node_moves.specs.world_base.Core.{CoreState, StepOutcome, rules, serves}
 use Rattle.node_moves.specs.world_base.Failing.{closes_failed, loses_all_failed, loses_failed, loses_if}
 use Rattle.node_moves.specs.world_base.Handing.{listed_at}
@@ -68,15 +68,15 @@ module _ (port : Port) (front : List ℕ) (some : 0 < length front) where
   none_there z = let e = z.found in cc
 
   -- changes
-  pub front_changed : (test : Connection → Bool) (f : Connection → Connection) (cs : List Connection) → Keeps f → FrontOf cs → FrontOf (changed test f cs)
+  pub front_changed : (test : Connection → Bool) (f : Connection → Connection) (cs : List Connection) → Keeps f → FrontOf cs → FrontOf (changed_where test f cs)
   front_changed test f [] keeps z = absurd (none_there z)
   front_changed test f (d ∷ cs) keeps z = by (test d) (is_at port d) refl (λ y. front_changed test f cs keeps y)
     where
-      by : (b at : Bool) → is_at port d ≡ at → (FrontOf cs → FrontOf (changed test f cs)) → FrontOf (if b then f d ∷ cs else d ∷ changed test f cs)
+      by : (b at : Bool) → is_at port d ≡ at → (FrontOf cs → FrontOf (changed_where test f cs)) → FrontOf (if b then f d ∷ cs else d ∷ changed_where test f cs)
       by true true e rest = found_here (f d) cs (at_still f keeps d ∙ e) (keeps.front_of d (head_is d cs e z))
       by true false e rest = found_later (f d) cs (at_still f keeps d ∙ e) (tail_is d cs e z)
-      by false true e rest = found_here d (changed test f cs) e (head_is d cs e z)
-      by false false e rest = found_later d (changed test f cs) e (rest (tail_is d cs e z))
+      by false true e rest = found_here d (changed_where test f cs) e (head_is d cs e z)
+      by false false e rest = found_later d (changed_where test f cs) e (rest (tail_is d cs e z))
 
   front_mapped : (f : Connection → Connection) (cs : List Connection) → Keeps f → FrontOf cs → FrontOf (map f cs)
   front_mapped f [] keeps z = absurd (none_there z)
@@ -112,10 +112,10 @@ module _ (port : Port) (front : List ℕ) (some : 0 < length front) where
 
   -- ---- what happens to a connection
 
-  pub closed_keeps : Keeps closed
+  pub closed_keeps : Keeps closed_connection
   closed_keeps = record { port_of = λ d. refl; front_of = λ d first. first }
 
-  pub put_keeps : (bytes : List ℕ) → Keeps (put_out bytes)
+  pub put_keeps : (bytes : List ℕ) → Keeps (with_queued bytes)
   put_keeps bytes = record { port_of = λ d. port_by d (nat_le (length d.pending + length bytes) max_pending); front_of = λ d first. front_by d first (nat_le (length d.pending + length bytes) max_pending) }
     where
       port_by : (d : Connection) (b : Bool) → (if b then putting bytes d else failing d).port ≡ d.port
@@ -133,8 +133,8 @@ module _ (port : Port) (front : List ℕ) (some : 0 < length front) where
   front_named x f core keeps z = front_changed (is_open_named x) f core.connections keeps z
 
   front_handled : (core : CoreState) (e : Effect Command Output) → FrontOf core.connections → FrontOf (with_effect core e).connections
-  front_handled core (Out place (outputs.Send x packet)) z = front_named x (put_out (spelling packet)) core (put_keeps (spelling packet)) z
-  front_handled core (Out place (outputs.Close x)) z = front_named x closed core closed_keeps z
+  front_handled core (Out place (outputs.Send x packet)) z = front_named x (with_queued (spelling packet)) core (put_keeps (spelling packet)) z
+  front_handled core (Out place (outputs.Close x)) z = front_named x closed_connection core closed_keeps z
   front_handled core (To receiver message) z = z
 
   pub front_delivered : (core : CoreState) (effects : List (Effect Command Output)) → FrontOf core.connections → FrontOf (fold with_effect core effects).connections
@@ -155,7 +155,7 @@ module _ (port : Port) (front : List ℕ) (some : 0 < length front) where
     where
       by : (o : Option Connection) → FrontOf (loses_if o core).core.connections
       by None = z
-      by (Some c) = front_proposed (commands.Lost c.name) (closes_failed core) (front_changed has_failed closed core.connections closed_keeps z)
+      by (Some c) = front_proposed (commands.Lost c.name) (closes_failed core) (front_changed has_failed closed_connection core.connections closed_keeps z)
 
   front_repeated : (n : ℕ) (core : CoreState) → FrontOf core.connections → FrontOf (repeated n loses_failed core).core.connections
   unfolding repeated
@@ -166,9 +166,9 @@ module _ (port : Port) (front : List ℕ) (some : 0 < length front) where
   unfolding settled
   front_settled core z = by (serves core)
     where
-      by : (b : Bool) → FrontOf (filter is_listed (if b then core.connections else map closed core.connections))
+      by : (b : Bool) → FrontOf (filter is_listed (if b then core.connections else map closed_connection core.connections))
       by true = front_listed core.connections z
-      by false = front_listed (map closed core.connections) (front_mapped closed core.connections closed_keeps z)
+      by false = front_listed (map closed_connection core.connections) (front_mapped closed_connection core.connections closed_keeps z)
 
   pub front_acted : (first : CoreState) → FrontOf first.connections → FrontOf (settled (loses_all_failed first).core).connections
   front_acted first z = front_settled (loses_all_failed first).core (front_repeated (length first.connections) first z)
@@ -177,21 +177,21 @@ module _ (port : Port) (front : List ℕ) (some : 0 < length front) where
 
 -- if two tests find one connection, a change by one is found by the other
 pub found_both : (one two : Connection → Bool) (f : Connection → Connection) (cs : List Connection) (c : Connection) → one c ≡ true → two c ≡ true → two (f c) ≡ true →
-    find two cs ≡ Some c → find one cs ≡ Some c → find two (changed one f cs) ≡ Some (f c)
+    find two cs ≡ Some c → find one cs ≡ Some c → find two (changed_where one f cs) ≡ Some (f c)
 found_both one two f [] c p q r found here = cc
 found_both one two f (d ∷ cs) c p q r found here = by (one d) (two d) refl refl (λ g h. found_both one two f cs c p q r g h) found here
   where
     one_some : (x y : Connection) → (let o : Option Connection = Some x in o) ≡ Some y → x ≡ y
     one_some x y e = cc
 
-    by : (a b : Bool) → one d ≡ a → two d ≡ b → (find two cs ≡ Some c → find one cs ≡ Some c → find two (changed one f cs) ≡ Some (f c)) →
+    by : (a b : Bool) → one d ≡ a → two d ≡ b → (find two cs ≡ Some c → find one cs ≡ Some c → find two (changed_where one f cs) ≡ Some (f c)) →
         (if b then Some d else find two cs) ≡ Some c → (if a then Some d else find one cs) ≡ Some c →
-        find two (if a then f d ∷ cs else d ∷ changed one f cs) ≡ Some (f c)
+        find two (if a then f d ∷ cs else d ∷ changed_where one f cs) ≡ Some (f c)
     by true b e g rest x y =
         let same : d ≡ c = one_some d c y in
         ap (λ (k : Connection). find two (f k ∷ cs)) same ∙ ap (λ (z : Bool). if z then Some (f c) else find two cs) r
     by false true e g rest x y = absurd (both_ways (one d) e (ap one (one_some d c x) ∙ p))
-    by false false e g rest x y = ap (λ (z : Bool). if z then Some d else find two (changed one f cs)) g ∙ rest x y
+    by false false e g rest x y = ap (λ (z : Bool). if z then Some d else find two (changed_where one f cs)) g ∙ rest x y
 
 pub first_put : (port : Port) (x : ConnectionName) (packet : Packet) (core : CoreState) (c : Connection) (some : 0 < length (spelling packet)) → length (spelling packet) ≤ max_pending →
     listed_at port core ≡ Some c → find (is_open_named x) core.connections ≡ Some c → c.pending ≡ [] →
@@ -200,13 +200,13 @@ unfolding changes_named
 first_put port x packet core c some short listed opened none =
     record {
       c = putting (spelling packet) c;
-      found = found_both (is_open_named x) (is_at port) (put_out (spelling packet)) core.connections c (found_passes (is_open_named x) core.connections c opened)
+      found = found_both (is_open_named x) (is_at port) (with_queued (spelling packet)) core.connections c (found_passes (is_open_named x) core.connections c opened)
           (found_passes (is_at port) core.connections c listed) (ap (is_at port) puts ∙ found_passes (is_at port) core.connections c listed) listed opened
           ∙ ap (λ (k : Connection). Some k) puts;
       first = subst (λ (l : List ℕ). IsPrefixOf (spelling packet) (l ++ spelling packet)) (sym none) (prefix_same (spelling packet));
     }
   where
-    puts : put_out (spelling packet) c ≡ putting (spelling packet) c
+    puts : with_queued (spelling packet) c ≡ putting (spelling packet) c
     puts = ap (λ (b : Bool). if b then putting (spelling packet) c else failing c)
         (le-leb (length c.pending + length (spelling packet)) max_pending (let e = ap length none in omega (arith, e, short)))
 

@@ -25,7 +25,7 @@ use Rattle.node_moves.specs.world_base.declared.Connection.{Connection}
 use Rattle.node_moves.specs.world_base.declared.item.Item.TheVariants.{Bytes}
 use Rattle.node_moves.specs.world_base.declared.Port.{Port}
 use Rattle.node_moves.specs.node_connections.Connections.{has_failed, is_at, is_first, is_listed, is_open_at, is_closed}
-use Rattle.node_moves.specs.node_connections.ConnectionChanges.{noted_proposed, changed, closed, holding, left_with}
+use Rattle.node_moves.specs.node_connections.ConnectionChanges.{noted_proposed, changed_where, closed_connection, with_unread, left_with}
 use Rattle.node_moves.specs.world_base.Core.{CoreState, StepOutcome, rules, serves}
 use Rattle.node_moves.specs.world_base.Failing.{loses_all_failed}
 use Rattle.node_moves.specs.world_base.Reading.{changes, open_at, reads, reads_all, reads_next, reads_of, unread_of}
@@ -39,26 +39,26 @@ use Rattle.escaping.proofs.OneDelivery.{calm_finds, none_lost, none_handled, onl
 -- ---- a change, and another of the same connection
 
 pub changed_twice : (test : Connection → Bool) (f g : Connection → Connection) (cs : List Connection) → ((d : Connection) → test d ≡ true → test (g d) ≡ true) →
-    changed test f (changed test g cs) ≡ changed test (λ d. f (g d)) cs
+    changed_where test f (changed_where test g cs) ≡ changed_where test (λ d. f (g d)) cs
 changed_twice test f g [] stays = refl
 changed_twice test f g (c ∷ cs) stays = by (test c) refl (changed_twice test f g cs stays)
   where
-    by : (b : Bool) → test c ≡ b → changed test f (changed test g cs) ≡ changed test (λ d. f (g d)) cs →
-        changed test f (if b then g c ∷ cs else c ∷ changed test g cs) ≡ (if b then f (g c) ∷ cs else c ∷ changed test (λ d. f (g d)) cs)
-    by true e rest = ap (λ (b : Bool). if b then f (g c) ∷ cs else g c ∷ changed test f cs) (stays c e)
-    by false e rest = ap (λ (b : Bool). if b then f c ∷ changed test g cs else c ∷ changed test f (changed test g cs)) e ∙ ap (λ (l : List Connection). c ∷ l) rest
+    by : (b : Bool) → test c ≡ b → changed_where test f (changed_where test g cs) ≡ changed_where test (λ d. f (g d)) cs →
+        changed_where test f (if b then g c ∷ cs else c ∷ changed_where test g cs) ≡ (if b then f (g c) ∷ cs else c ∷ changed_where test (λ d. f (g d)) cs)
+    by true e rest = ap (λ (b : Bool). if b then f (g c) ∷ cs else g c ∷ changed_where test f cs) (stays c e)
+    by false e rest = ap (λ (b : Bool). if b then f c ∷ changed_where test g cs else c ∷ changed_where test f (changed_where test g cs)) e ∙ ap (λ (l : List Connection). c ∷ l) rest
 
 pub find_changed : (test : Connection → Bool) (g : Connection → Connection) (cs : List Connection) (c : Connection) → ((d : Connection) → test d ≡ true → test (g d) ≡ true) →
-    find test cs ≡ Some c → find test (changed test g cs) ≡ Some (g c)
+    find test cs ≡ Some c → find test (changed_where test g cs) ≡ Some (g c)
 find_changed test g [] c stays found = cc
 find_changed test g (d ∷ cs) c stays found = by (test d) refl (find_changed test g cs c stays) found
   where
-    by : (b : Bool) → test d ≡ b → (find test cs ≡ Some c → find test (changed test g cs) ≡ Some (g c)) → (if b then Some d else find test cs) ≡ Some c →
-        find test (if b then g d ∷ cs else d ∷ changed test g cs) ≡ Some (g c)
+    by : (b : Bool) → test d ≡ b → (find test cs ≡ Some c → find test (changed_where test g cs) ≡ Some (g c)) → (if b then Some d else find test cs) ≡ Some c →
+        find test (if b then g d ∷ cs else d ∷ changed_where test g cs) ≡ Some (g c)
     by true e rest f =
         let same : d ≡ c = cc in
         ap (λ (b : Bool). if b then Some (g d) else find test cs) (stays d e) ∙ ap (λ (x : Connection). Some (g x)) same
-    by false e rest f = ap (λ (b : Bool). if b then Some d else find test (changed test g cs)) e ∙ rest f
+    by false e rest f = ap (λ (b : Bool). if b then Some d else find test (changed_where test g cs)) e ∙ rest f
 
 -- ---- the node still serves
 
@@ -124,7 +124,7 @@ module _ (core : CoreState) (port : Port) (now : ℕ) (piece : List ℕ) (c : Co
 
   -- the node with a change of that connection
   abbrev with_change : (Connection → Connection) → CoreState
-  with_change f = record core { connections = changed (is_open_at port) f core.connections }
+  with_change f = record core { connections = changed_where (is_open_at port) f core.connections }
 
   abbrev after : CoreState
   after = with_replica (proposal_at core command).state (with_change (asked_now now connect.keep_alive))
@@ -151,28 +151,28 @@ module _ (core : CoreState) (port : Port) (now : ℕ) (piece : List ℕ) (c : Co
       delivered_of o x = record { core = fold with_effect (with_replica o.state x) o.effects; messages = filter is_message o.effects }
 
   -- the connection is found with its bytes
-  found : open_at port (with_change (holding piece)) ≡ Some (holding piece c)
-  found = find_changed (is_open_at port) (holding piece) core.connections c (λ d e. e) opened
+  found : open_at port (with_change (with_unread piece)) ≡ Some (with_unread piece c)
+  found = find_changed (is_open_at port) (with_unread piece) core.connections c (λ d e. e) opened
 
   asked_is : ◌≡◌ {A = CoreState} (record core {
-    connections = changed (is_open_at port) (noted_proposed connect.keep_alive)
-        (changed (is_open_at port) (left_with now []) (changed (is_open_at port) (holding piece) core.connections));
+    connections = changed_where (is_open_at port) (noted_proposed connect.keep_alive)
+        (changed_where (is_open_at port) (left_with now []) (changed_where (is_open_at port) (with_unread piece) core.connections));
   }) (with_change (asked_now now connect.keep_alive))
   asked_is = ap (λ (l : List Connection). let k : CoreState = record core { connections = l } in k)
-      (changed_twice (is_open_at port) (noted_proposed connect.keep_alive) (left_with now []) (changed (is_open_at port) (holding piece) core.connections) (λ d e. e)
-      ∙ changed_twice (is_open_at port) (λ (d : Connection). noted_proposed connect.keep_alive (left_with now [] d)) (holding piece) core.connections (λ d e. e))
+      (changed_twice (is_open_at port) (noted_proposed connect.keep_alive) (left_with now []) (changed_where (is_open_at port) (with_unread piece) core.connections) (λ d e. e)
+      ∙ changed_twice (is_open_at port) (λ (d : Connection). noted_proposed connect.keep_alive (left_with now [] d)) (with_unread piece) core.connections (λ d e. e))
 
   abbrev first_turn : StepOutcome
   first_turn = record { core = after; messages = (proposal_at core command).effects }
 
-  first_read : reads_next now port (with_change (holding piece)) ≡ first_turn
+  first_read : reads_next now port (with_change (with_unread piece)) ≡ first_turn
   unfolding reads_next changes
   first_read =
-      ap (reads_of now port (with_change (holding piece))) found
-      ∙ ap (reads now port (holding piece c) (with_change (holding piece))) (ap (λ (l : List ℕ). verdict (l ++ piece)) unread ∙ whole)
+      ap (reads_of now port (with_change (with_unread piece))) found
+      ∙ ap (reads now port (with_unread piece c) (with_change (with_unread piece))) (ap (λ (l : List ℕ). verdict (l ++ piece)) unread ∙ whole)
       ∙ rest
     where
-      rest : reads now port (holding piece c) (with_change (holding piece)) (Ok (packets.Connect connect, [])) ≡ first_turn
+      rest : reads now port (with_unread piece c) (with_change (with_unread piece)) (Ok (packets.Connect connect, [])) ≡ first_turn
       rest = rw (awaits, room) (ap (proposes command) asked_is ∙ proposed_silently (with_change (asked_now now connect.keep_alive)) refl)
 
   then_rests : reads_next now port after ≡ without_messages after
@@ -181,15 +181,15 @@ module _ (core : CoreState) (port : Port) (now : ℕ) (piece : List ℕ) (c : Co
       ap (reads_of now port after) (find_changed (is_open_at port) (asked_now now connect.keep_alive) core.connections c still_open opened)
       ∙ ap (reads now port (asked_now now connect.keep_alive c) after) is_more
 
-  all_read : reads_all now port (with_change (holding piece)) ≡ first_turn
+  all_read : reads_all now port (with_change (with_unread piece)) ≡ first_turn
   all_read =
-      ap (λ (o : Option Connection). repeated (unread_of o) (reads_next now port) (with_change (holding piece))) found
-      ∙ ap (λ (l : List ℕ). repeated (length (l ++ piece)) (reads_next now port) (with_change (holding piece))) unread
+      ap (λ (o : Option Connection). repeated (unread_of o) (reads_next now port) (with_change (with_unread piece))) found
+      ∙ ap (λ (l : List ℕ). repeated (length (l ++ piece)) (reads_next now port) (with_change (with_unread piece))) unread
       ∙ by piece whole
     where
-      by : (p : List ℕ) → verdict p ≡ Ok (packets.Connect connect, []) → repeated (length p) (reads_next now port) (with_change (holding piece)) ≡ first_turn
+      by : (p : List ℕ) → verdict p ≡ Ok (packets.Connect connect, []) → repeated (length p) (reads_next now port) (with_change (with_unread piece)) ≡ first_turn
       by [] e = absurd (two_kinds (packets.Connect connect, []) stops.More (sym e ∙ is_more))
-      by (b ∷ bs) e = repeated_once (length bs) (reads_next now port) (with_change (holding piece)) first_turn first_read then_rests
+      by (b ∷ bs) e = repeated_once (length bs) (reads_next now port) (with_change (with_unread piece)) first_turn first_read then_rests
 
   after_calm : ReportsItsLosses after
   after_calm = each_kept (λ (d : Connection). has_failed d ≡ false) (is_open_at port) (asked_now now connect.keep_alive) core.connections (λ d e. refl) calm
@@ -197,7 +197,7 @@ module _ (core : CoreState) (port : Port) (now : ℕ) (piece : List ℕ) (c : Co
   settled_after : settled after ≡ with_asked now port connect command core
   unfolding settled
   settled_after =
-      ap (λ (b : Bool). let k : CoreState = record after { connections = filter is_listed (if b then after.connections else map closed after.connections) } in k)
+      ap (λ (b : Bool). let k : CoreState = record after { connections = filter is_listed (if b then after.connections else map closed_connection after.connections) } in k)
       (proposed_serves core command room)
 
   pub is_proposed : node_step (Bytes port piece now) core ≡ record { core = with_asked now port connect command core; messages = (proposal_at core command).effects }

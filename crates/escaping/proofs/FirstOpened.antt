@@ -9,7 +9,7 @@ use Rattle.packet_world.specs.broker_spec.Connection.{ConnectionName, is_connect
 use Rattle.node_moves.specs.world_base.declared.Connection.{Connection}
 use Rattle.node_moves.specs.world_base.declared.Port.{Port}
 use Rattle.node_moves.specs.node_connections.Connections.{fresh, has_failed, is_at, is_listed}
-use Rattle.node_moves.specs.node_connections.ConnectionChanges.{closed}
+use Rattle.node_moves.specs.node_connections.ConnectionChanges.{closed_connection}
 use Rattle.node_moves.specs.world_base.Core.{CoreState, StepOutcome, serves}
 use Rattle.node_moves.specs.world_base.Failing.{loses_all_failed}
 use Rattle.node_moves.specs.world_base.Step.{next_name, with_next_connection, settled}
@@ -51,7 +51,7 @@ settled_new : (core : CoreState) (port : Port) → serves core ≡ true → sett
 unfolding settled
 settled_new core port leads =
     ap (λ (b : Bool). let k : CoreState = record (with_new port core) {
-      connections = filter is_listed (if b then (with_new port core).connections else map closed (with_new port core).connections);
+      connections = filter is_listed (if b then (with_new port core).connections else map closed_connection (with_new port core).connections);
     } in k) leads
     ∙ ap (λ (l : List Connection). let k : CoreState = record (with_new port core) { connections = l } in k)
     (filter-append is_listed core.connections (fresh port (first_name core) ∷ []))

@@ -15,7 +15,7 @@ use Rattle.node_moves.specs.world_base.declared.ConnectionStage.TheVariants.{Pro
 use Rattle.node_moves.specs.world_base.declared.item.Item.TheVariants.{Bytes}
 use Rattle.node_moves.specs.world_base.declared.Port.{Port}
 use Rattle.node_moves.specs.node_connections.Connections.{is_first, is_listed, is_open_at}
-use Rattle.node_moves.specs.node_connections.ConnectionChanges.{changed}
+use Rattle.node_moves.specs.node_connections.ConnectionChanges.{changed_where}
 use Rattle.node_moves.specs.world_base.Core.{CoreState, rules}
 use Rattle.node_moves.specs.world_base.Reading.{open_at}
 use Rattle.node_moves.specs.world_base.Step.{node_step}
@@ -37,7 +37,7 @@ with_asked now port connect command core =
     record core {
       replica = record core.replica { state = (proposal_at core command).state };
       connections = filter is_listed
-          (changed (is_open_at port) (asked_now now connect.keep_alive) core.connections);
+          (changed_where (is_open_at port) (asked_now now connect.keep_alive) core.connections);
     }
 
 -- bytes that are a CONNECT, on a connection that awaits one, at a node whose log has room, are

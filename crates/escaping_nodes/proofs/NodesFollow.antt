@@ -26,7 +26,7 @@ use Rattle.escaping.specs.world_base.declared.Connection.{Connection}
 use Rattle.escaping.specs.world_base.declared.item.Item.TheVariants.{Peer}
 use Rattle.escaping.specs.world_base.declared.Port.{Port}
 use Rattle.escaping.specs.node_connections.Connections.{has_failed, is_at, is_listed}
-use Rattle.escaping.specs.node_connections.ConnectionChanges.{changed, handed}
+use Rattle.escaping.specs.node_connections.ConnectionChanges.{changed_where, nothing_pending}
 use Rattle.escaping.specs.world_base.Core.{CoreState, CountedCore, rules}
 use Rattle.escaping.specs.world_base.Handing.{hands_over, left_by, listed_at}
 use Rattle.escaping.specs.world_base.Step.{node_step}
@@ -95,8 +95,8 @@ hands_keep port core = by (listed_at port core)
     by None = (refl, λ calm. calm)
     by (Some c) = (
       refl,
-      λ calm. each_filtered (λ (d : Connection). has_failed d ≡ false) is_listed (changed (is_at port) handed core.connections)
-          (each_kept (λ (d : Connection). has_failed d ≡ false) (is_at port) handed core.connections (λ d e. e) calm),
+      λ calm. each_filtered (λ (d : Connection). has_failed d ≡ false) is_listed (changed_where (is_at port) nothing_pending core.connections)
+          (each_kept (λ (d : Connection). has_failed d ≡ false) (is_at port) nothing_pending core.connections (λ d e. e) calm),
     )
 
 pub hands_seen : (a : Moment State Command Output) (n : NodesState) (at : ℕ) (node : CountedCore) (port : Port) → slice_get n.nodes at ≡ Some node → IsSeen a n →

@@ -7,7 +7,7 @@ ghost use Rattle.mailbox.specs.declared.lane.TheConstants.{MAX_SENT};
 ghost use Rattle.world_base.specs.ballot_base.Replica.{status_of};
 ghost use Rattle.world_base.specs.lists.Lists.{IsPrefixOf};
 ghost use Rattle.world_base.specs.node_connections.Stands.{standing_of};
-ghost use Rattle.world_base.specs.Handing.{answer_of, bytes_of, hands_over, idle_ports, listed_at};
+ghost use Rattle.world_base.specs.Handing.{handed_after, pending_bytes, hands_over, idle_ports, listed_at};
 ghost use Rattle.node.specs.Growth.{wants_cut};
 ghost use Rattle.node.specs.Report.{CountsTaken, HasCapacity, ReportsWhole};
 ghost use Rattle.node.specs.State.{Replays, TakesOne, next_taking};
@@ -171,9 +171,9 @@ impl<J: NodeNaming> NodeState<J> {
     /// as [`NodeCore::outgoing`]. Nothing is taken.
     pub fn outgoing(&mut self, port: Port, out: &mut Vec<u8>) -> Result<Handed, Memory>
         ensures bytes { OnOk result
-            (out.new.items ≡ out.old.items ++ bytes_of (listed_at port self.old.node.core)) }
+            (out.new.items ≡ out.old.items ++ pending_bytes (listed_at port self.old.node.core)) }
         ensures answer { IfOk result (λ handed.
-            handed ≡ answer_of (listed_at port self.old.node.core)) }
+            handed ≡ handed_after (listed_at port self.old.node.core)) }
         ensures left { OnOk result (self.new ≡ record self.old {
           node = record self.old.node { core = hands_over port self.old.node.core };
         }) }

@@ -5,8 +5,8 @@ use Rattle.node_connections.specs.declared.connection.Connection.{Connection}
 use Rattle.node_connections.specs.Connections.{is_proposed}
 
 -- bytes that came are held until they are read
-abbrev pub holding : List ℕ → Connection → Connection
-holding piece c = record c { unread = c.unread ++ piece }
+abbrev pub with_unread : List ℕ → Connection → Connection
+with_unread piece c = record c { unread = c.unread ++ piece }
 
 -- a packet was read, which was whole at this time; these bytes came after it
 abbrev pub left_with : ℕ → List ℕ → Connection → Connection
@@ -17,8 +17,8 @@ abbrev pub noted_proposed : ℕ → Connection → Connection
 noted_proposed keep_alive c = record c { stage = Proposed; keep_alive = keep_alive }
 
 -- closed: nothing more is read or waited for, and what was queued before is still handed over
-abbrev pub closed : Connection → Connection
-closed c = record c { stage = Closed; keep_alive = 0; last_packet = 0; unread = [] }
+abbrev pub closed_connection : Connection → Connection
+closed_connection c = record c { stage = Closed; keep_alive = 0; last_packet = 0; unread = [] }
 
 -- bytes are queued
 abbrev pub putting : List ℕ → Connection → Connection
@@ -30,20 +30,20 @@ max_pending = 134217728
 
 -- closed as lost: the loss is to be reported to the broker, if its CONNECT was proposed
 abbrev pub failing : Connection → Connection
-failing c = record (closed c) { stage = if is_proposed c.stage then Failed else Closed }
+failing c = record (closed_connection c) { stage = if is_proposed c.stage then Failed else Closed }
 
 -- bytes are queued if there is room for them; otherwise the connection is closed as lost
-abbrev pub put_out : List ℕ → Connection → Connection
-put_out bytes c =
+abbrev pub with_queued : List ℕ → Connection → Connection
+with_queued bytes c =
     if nat_le (length c.pending + length bytes) max_pending then putting bytes c else failing c
 
 -- what was queued is handed over
-abbrev pub handed : Connection → Connection
-handed c = record c { pending = [] }
+abbrev pub nothing_pending : Connection → Connection
+nothing_pending c = record c { pending = [] }
 
 -- the list after a change of that connection
-abbrev pub changed : (Connection → Bool) → (Connection → Connection) → List Connection →
+abbrev pub changed_where : (Connection → Bool) → (Connection → Connection) → List Connection →
     List Connection
-changed test change [] = []
-changed test change (c ∷ others) =
-    if test c then change c ∷ others else c ∷ changed test change others
+changed_where test change [] = []
+changed_where test change (c ∷ others) =
+    if test c then change c ∷ others else c ∷ changed_where test change others

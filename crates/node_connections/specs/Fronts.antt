@@ -10,8 +10,8 @@ use Rattle.node_connections.specs.declared.connection.Connection.{Connection}
 use Rattle.node_connections.specs.declared.front.Front.{Front}
 use Rattle.node_connections.specs.declared.front.Front.TheVariants as fronts
 use Rattle.node_connections.specs.Connections.{is_first}
-use Rattle.node_connections.specs.ConnectionChanges.{left_with, closed}
-use Rattle.node_connections.specs.Refusing.{refused}
+use Rattle.node_connections.specs.ConnectionChanges.{left_with, closed_connection}
+use Rattle.node_connections.specs.Refusing.{connect_refused}
 
 -- a fault of the bytes
 abbrev pub IsFaultOfBytes : Result (Packet × List ℕ) Stop → Type 0
@@ -47,6 +47,7 @@ TakesFront now old (fronts.Packet packet) new =
     × (new ≡ left_with now rest old)
 TakesFront now old (fronts.Refused code) new =
     (verdict old.unread ≡ Err (stops.Refused code))
-    × (new ≡ (if is_first old.stage then refused code old else closed old))
-TakesFront now old fronts.Fault new = IsFaultOfBytes (verdict old.unread) × (new ≡ closed old)
-TakesFront now old fronts.OutOfMemory new = FrontNeedsMemory old × (new ≡ closed old)
+    × (new ≡ (if is_first old.stage then connect_refused code old else closed_connection old))
+TakesFront now old fronts.Fault new =
+    IsFaultOfBytes (verdict old.unread) × (new ≡ closed_connection old)
+TakesFront now old fronts.OutOfMemory new = FrontNeedsMemory old × (new ≡ closed_connection old)

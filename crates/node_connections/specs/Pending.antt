@@ -6,14 +6,14 @@ use Rattle.node_connections.specs.declared.connection.Connection.{Connection}
 use Rattle.node_connections.specs.Connections.{is_closed}
 
 -- everything that was queued and not yet handed over
-abbrev pub bytes_of : Option Connection → List ℕ
-bytes_of None = []
-bytes_of (Some c) = c.pending
+abbrev pub pending_bytes : Option Connection → List ℕ
+pending_bytes None = []
+pending_bytes (Some c) = c.pending
 
 -- whether more may come: not if the connection is over, or was never opened
-abbrev pub answer_of : Option Connection → Handed
-answer_of None = answers.Closed
-answer_of (Some c) = if is_closed c.stage then answers.Closed else answers.Open
+abbrev pub handed_after : Option Connection → Handed
+handed_after None = answers.Closed
+handed_after (Some c) = if is_closed c.stage then answers.Closed else answers.Open
 
 -- open, with nothing to hand over
 abbrev pub is_idle : Connection → Bool

@@ -2,12 +2,12 @@
 
 ghost use Rattle.std.specs.Prelude.{◌≡◌, ◌++◌, [], false, true, IsOk, OnOk, OnErr};
 ghost use Rattle.node_connections.specs.Connections.{fresh, has_failed, is_at, is_first, is_listed, is_open_at, is_open_named, is_closed, is_proposed, is_silent};
-ghost use Rattle.node_connections.specs.ConnectionChanges.{noted_proposed, closed, failing, put_out, handed, holding, putting};
-ghost use Rattle.node_connections.specs.Pending.{answer_of, is_idle};
+ghost use Rattle.node_connections.specs.ConnectionChanges.{noted_proposed, closed_connection, failing, with_queued, nothing_pending, with_unread, putting};
+ghost use Rattle.node_connections.specs.Pending.{handed_after, is_idle};
 ghost use Rattle.node_connections.specs.Fronts.{TakesFront};
 ghost use Rattle.node_connections.specs.Stands.{standing_of};
 ghost use Rattle.packet.specs.Spelling.{spelling};
-ghost use Rattle.node_connections.specs.Refusing.{refused};
+ghost use Rattle.node_connections.specs.Refusing.{connect_refused};
 
 use crate::front::Front;
 use crate::handed::Handed;
@@ -165,7 +165,7 @@ impl Connection {
 
     /// Says whether more may be queued for it.
     pub fn answer(&self) -> Handed
-        ensures { result ≡ answer_of (Some self.now) }
+        ensures { result ≡ handed_after (Some self.now) }
     {
         if self.is_closed() {
             Handed::Closed
@@ -187,7 +187,7 @@ impl Connection {
 
     /// Holds bytes that came. If memory runs out nothing changes.
     pub fn hold(&mut self, piece: &Piece) -> Result<(), Memory>
-        ensures ok { OnOk result (self.new ≡ holding piece.now self.old) }
+        ensures ok { OnOk result (self.new ≡ with_unread piece.now self.old) }
         ensures err { OnErr result (self.new ≡ self.old) }
     {
         self.unread.hold(piece)
@@ -235,8 +235,8 @@ impl Connection {
     /// Refuses its CONNECT with a code, and says whether there was memory for the answer. It is
     /// closed in any case.
     pub fn refuse(&mut self, code: RefusalCode) -> bool
-        ensures whole { result ≡ true → self.new ≡ refused code self.old }
-        ensures lost { result ≡ false → self.new ≡ closed self.old }
+        ensures whole { result ≡ true → self.new ≡ connect_refused code self.old }
+        ensures lost { result ≡ false → self.new ≡ closed_connection self.old }
     {
         let put = self.put(&Packet::Connack(Connack::Refused(code)));
         self.close();
@@ -247,7 +247,7 @@ impl Connection {
     /// bytes cannot be written: memory ran out, or it has none, as it has an empty list or is over
     /// the size limit. Says whether they could be written.
     pub fn put_or_fail(&mut self, packet: &Packet) -> bool
-        ensures whole { result ≡ true → self.new ≡ put_out (spelling packet.now) self.old }
+        ensures whole { result ≡ true → self.new ≡ with_queued (spelling packet.now) self.old }
         ensures lost { result ≡ false → self.new ≡ failing self.old }
     {
         match self.pending.put_within(packet, MAX_PENDING) {
@@ -278,7 +278,7 @@ impl Connection {
     /// memory runs out, nothing changes; it does not run out if nothing was queued.
     pub fn outgoing(&mut self, out: &mut Vec<u8>) -> Result<(), Memory>
         ensures bytes { OnOk result (out.new.items ≡ out.old.items ++ self.old.pending) }
-        ensures ok { OnOk result (self.new ≡ handed self.old) }
+        ensures ok { OnOk result (self.new ≡ nothing_pending self.old) }
         ensures nothing { self.old.pending ≡ [] → IsOk result }
         ensures err { OnErr result (out.new.items ≡ out.old.items) }
         ensures same { OnErr result (self.new ≡ self.old) }
@@ -288,7 +288,7 @@ impl Connection {
 
     /// Closes it. What was queued before is still handed over.
     pub fn close(&mut self)
-        ensures { self.new ≡ closed self.old }
+        ensures { self.new ≡ closed_connection self.old }
     {
         self.stage = ConnectionStage::Closed;
         self.keep_alive = 0;

@@ -3,7 +3,7 @@
 ghost use Rattle.std.specs.Prelude.{◌≡◌, false, true, [], ◌∷◌, ◌++◌, map, filter, OnErr, OnOk};
 ghost use Rattle.std.specs.List.{list_any};
 ghost use Rattle.node_connections.specs.Connections.{is_at, is_listed};
-ghost use Rattle.node_connections.specs.ConnectionChanges.{closed};
+ghost use Rattle.node_connections.specs.ConnectionChanges.{closed_connection};
 ghost use Rattle.broker_spec.specs.lists.Lists.{IsPrefixOf};
 ghost use Rattle.node_connections.specs.Pending.{is_idle};
 ghost use Rattle.node_connections.specs.declared.connection.Connection.{Connection};
@@ -68,7 +68,7 @@ pub fn push(connections: &mut Vec<Connection>, connection: Connection) -> bool
 
 /// Closes all connections. What was queued for them is still handed over.
 pub fn close_each(connections: &mut Vec<Connection>)
-    ensures { connections.new.items ≡ map closed connections.old.items }
+    ensures { connections.new.items ≡ map closed_connection connections.old.items }
 {
     for index in 0..connections.len() {
         connections[index].close();

@@ -5,7 +5,7 @@ use Rattle.node_moves.specs.ballot_base.Replica.{ReplicaState}
 use Rattle.packet_world.specs.broker_base.State.{State}
 use Rattle.packet_world.specs.broker_spec.declared.command.Command.{Command}
 use Rattle.packet_world.specs.broker_spec.declared.command.Command.TheVariants as commands
-use Rattle.node_moves.specs.node_connections.ConnectionChanges.{noted_proposed, closed, failing, left_with}
+use Rattle.node_moves.specs.node_connections.ConnectionChanges.{noted_proposed, closed_connection, failing, left_with}
 use Rattle.node_moves.specs.world_base.Core.{CoreState, StepOutcome, rules}
 use Rattle.node_moves.specs.world_base.Lossy.{Account, TakesCommand}
 use Rattle.node_moves.specs.world_base.Reading.{changes}
@@ -41,4 +41,4 @@ calm_role core outcome forgets calm = refl
 calm_role core outcome halts calm = refl
 calm_role core outcome (fails port) calm = ap (λ (r : ReplicaState State Command). r.role) (changed_state port failing core)
 calm_role core outcome unheard calm = refl
-calm_role core outcome (drops port piece) calm = ap (λ (r : ReplicaState State Command). r.role) (changed_state port closed core)
+calm_role core outcome (drops port piece) calm = ap (λ (r : ReplicaState State Command). r.role) (changed_state port closed_connection core)

@@ -9,7 +9,7 @@ use Rattle.packet_world.specs.broker_base.State.{State}
 use Rattle.packet_world.specs.lists.Lists.{IsPrefixOf}
 use Rattle.packet_world.proofs.of_lists.Prefixes.{prefix_length, prefix_take, prefix_then, take_prefix}
 use Rattle.node_moves.specs.world_base.declared.Connection.{Connection}
-use Rattle.node_moves.specs.world_base.Handing.{bytes_of}
+use Rattle.node_moves.specs.world_base.Handing.{pending_bytes}
 use Rattle.node_moves.proofs.Kept.{live}
 use Rattle.node_moves.proofs.Views.{some_none}
 use Rattle.node_group.specs.Carried.{answers_to}
@@ -23,14 +23,14 @@ use Rattle.node_group.proofs.Shown.{Sends, answers_front}
 pub data Down (x : ConnectionName) (r : ReplicaState State Command) (down : List ℕ) (agreed : List Command) : Option Connection → Type 0 where
   shows : {c : Connection} (k : ℕ) → live c ≡ true → k ≤ length agreed → down ++ c.pending ≡ answers_to x (take k agreed) → (is_active r.role ≡ true → k ≡ r.committed)
       → Down x r down agreed (Some c)
-  is_done : {o : Option Connection} → ((c : Connection) → o ≡ Some c → live c ≡ false) → IsPrefixOf (down ++ bytes_of o) (answers_to x agreed) → Down x r down agreed o
+  is_done : {o : Option Connection} → ((c : Connection) → o ≡ Some c → live c ≡ false) → IsPrefixOf (down ++ pending_bytes o) (answers_to x agreed) → Down x r down agreed o
 
 -- in each case it is a prefix of all
 pub down_front : {x : ConnectionName} {r : ReplicaState State Command} {down : List ℕ} {agreed : List Command} {o : Option Connection} → Down x r down agreed o
     → IsPrefixOf down (answers_to x agreed)
 down_front {x = x} {down = down} {agreed = agreed} (shows {c = c} k lives low is active) =
     prefix_then (record { rest = c.pending; is = sym is }) (answers_front x (take k agreed) agreed (prefix_take k agreed))
-down_front {down = down} (is_done {o = o} over front) = prefix_then (record { rest = bytes_of o; is = refl }) front
+down_front {down = down} (is_done {o = o} over front) = prefix_then (record { rest = pending_bytes o; is = refl }) front
 
 -- the list grows
 pub down_later : {x : ConnectionName} {r : ReplicaState State Command} {down : List ℕ} {o : Option Connection} (xs ys : List Command) → IsPrefixOf xs ys → Down x r down xs o

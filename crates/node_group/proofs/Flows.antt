@@ -9,7 +9,7 @@ use Rattle.packet_world.proofs.of_lists.Prefixes.{prefix_same}
 use Rattle.node_moves.specs.world_base.declared.Port.{Port}
 use Rattle.node_moves.specs.world_base.declared.Connection.{Connection}
 use Rattle.node_moves.specs.node_connections.Connections.{fresh, is_at, is_listed}
-use Rattle.node_moves.specs.node_connections.ConnectionChanges.{changed, closed, handed}
+use Rattle.node_moves.specs.node_connections.ConnectionChanges.{changed_where, closed_connection, nothing_pending}
 use Rattle.node_moves.specs.world_base.Core.{CoreState, StepOutcome, serves}
 use Rattle.node_moves.specs.world_base.Handing.{hands_over, left_by}
 use Rattle.node_moves.specs.world_base.Step.{next_name, with_next_connection, settled}
@@ -92,13 +92,13 @@ settles_flow x core o = by (serves core)
     kept (Some c) None e f = dries (record { rest = c.pending; is = refl })
     kept (Some c) (Some d) e f = stays_there c d (same_some c d (sym e ∙ (found_filtered x is_listed core.connections d (o.names x) f).0))
 
-    was : (d : Connection) → view all (named x) (filter is_listed (map closed core.connections)) ≡ Some d
-        → (c : Connection) × (view all (named x) core.connections ≡ Some c) × (d ≡ closed c)
+    was : (d : Connection) → view all (named x) (filter is_listed (map closed_connection core.connections)) ≡ Some d
+        → (c : Connection) × (view all (named x) core.connections ≡ Some c) × (d ≡ closed_connection c)
     was d f =
         found_mapped x core.connections d
-        (found_filtered x is_listed (map closed core.connections) d (one_mapped (named x) closed core.connections (λ z. refl) (o.names x)) f).0
+        (found_filtered x is_listed (map closed_connection core.connections) d (one_mapped (named x) closed_connection core.connections (λ z. refl) (o.names x)) f).0
 
-    shut : (before after : Option Connection) → view all (named x) core.connections ≡ before → view all (named x) (filter is_listed (map closed core.connections)) ≡ after
+    shut : (before after : Option Connection) → view all (named x) core.connections ≡ before → view all (named x) (filter is_listed (map closed_connection core.connections)) ≡ after
         → Flows [] [] before after
     shut None None e f = away refl
     shut None (Some d) e f = let h = was d f in absurd (some_none h.0 (sym h.1 ∙ e))
@@ -108,9 +108,9 @@ settles_flow x core o = by (serves core)
         ebbs [] (ap live h.2) (λ dead. refl) (record { rest = []; is = refl })
         (ap (λ (z : Connection). z.pending) h.2 ∙ ap (λ (z : Connection). z.pending) (sym (same_some c h.0 (sym e ∙ h.1))) ∙ sym (append-nil c.pending))
 
-    by : (b : Bool) → Flows [] [] (listed_named x core) (view all (named x) (filter is_listed (if b then core.connections else map closed core.connections)))
+    by : (b : Bool) → Flows [] [] (listed_named x core) (view all (named x) (filter is_listed (if b then core.connections else map closed_connection core.connections)))
     by true = kept (view all (named x) core.connections) (view all (named x) (filter is_listed core.connections)) refl refl
-    by false = shut (view all (named x) core.connections) (view all (named x) (filter is_listed (map closed core.connections))) refl refl
+    by false = shut (view all (named x) core.connections) (view all (named x) (filter is_listed (map closed_connection core.connections))) refl refl
 
 -- ---- bytes are handed over
 
@@ -120,11 +120,11 @@ unfolding hands_over
 hands_flow x port core o = by (find (is_at port) core.connections) refl
   where
     later : List Connection
-    later = changed (is_at port) handed core.connections
+    later = changed_where (is_at port) nothing_pending core.connections
 
     -- what stays in the list after it
     was : (d : Connection) → view all (named x) (filter is_listed later) ≡ Some d → view all (named x) later ≡ Some d
-    was d f = (found_filtered x is_listed later d (one_changed (named x) (is_at port) handed core.connections (λ z. refl) (o.names x)) f).0
+    was d f = (found_filtered x is_listed later d (one_changed (named x) (is_at port) nothing_pending core.connections (λ z. refl) (o.names x)) f).0
 
     other : (before after : Option Connection) → view all (named x) core.connections ≡ before → view all (named x) later ≡ before
         → view all (named x) (filter is_listed later) ≡ after → Flows [] [] before after
@@ -133,24 +133,24 @@ hands_flow x port core o = by (find (is_at port) core.connections) refl
     other (Some c) None e g f = dries (record { rest = c.pending; is = refl })
     other (Some c) (Some d) e g f = stays_there c d (same_some c d (sym g ∙ was d f))
 
-    left : (c d : Connection) → d ≡ handed c → (b : Bool) → live c ≡ b → Flows c.pending [] (Some c) (Some d)
+    left : (c d : Connection) → d ≡ nothing_pending c → (b : Bool) → live c ≡ b → Flows c.pending [] (Some c) (Some d)
     left c d e true lives = flows lives (ap live e ∙ lives) (ap (λ (z : Connection). c.pending ++ z.pending) e)
     left c d e false dead = ebbs [] (ap live e ∙ dead) (λ z. refl) (record { rest = []; is = refl }) (ap (λ (z : Connection). c.pending ++ z.pending) e)
 
-    own : (c : Connection) (after : Option Connection) → view all (named x) later ≡ Some (handed c) → view all (named x) (filter is_listed later) ≡ after
+    own : (c : Connection) (after : Option Connection) → view all (named x) later ≡ Some (nothing_pending c) → view all (named x) (filter is_listed later) ≡ after
         → Flows c.pending [] (Some c) after
     own c None e f = dries (prefix_same c.pending)
-    own c (Some d) e f = left c d (sym (same_some (handed c) d (sym e ∙ was d f))) (live c) refl
+    own c (Some d) e f = left c d (sym (same_some (nothing_pending c) d (sym e ∙ was d f))) (live c) refl
 
     on : (c : Connection) → find (is_at port) core.connections ≡ Some c → (b : Bool) → named x c ≡ b
         → Flows (if b then c.pending else []) [] (view all (named x) core.connections) (view all (named x) (filter is_listed later))
     on c found true is =
-        let two = view_of_changed all (named x) (is_at port) handed core.connections c (o.names x) (λ z t. refl) (named_kept x handed (λ z. refl)) found is in
+        let two = view_of_changed all (named x) (is_at port) nothing_pending core.connections c (o.names x) (λ z t. refl) (named_kept x nothing_pending (λ z. refl)) found is in
         subst (λ (q : Option Connection). Flows c.pending [] q (view all (named x) (filter is_listed later))) (sym two.0)
         (own c (view all (named x) (filter is_listed later)) two.1 refl)
     on c found false is =
         other (view all (named x) core.connections) (view all (named x) (filter is_listed later)) refl
-        (view_of_others all (named x) (is_at port) handed core.connections c (named_kept x handed (λ z. refl)) found is) refl
+        (view_of_others all (named x) (is_at port) nothing_pending core.connections c (named_kept x nothing_pending (λ z. refl)) found is) refl
 
     by : (q : Option Connection) → find (is_at port) core.connections ≡ q → Flows (bytes_named x q) [] (listed_named x core) (listed_named x (left_by port core q))
     by None found = stays (listed_named x core)

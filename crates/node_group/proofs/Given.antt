@@ -7,7 +7,7 @@ use Rattle.packet_world.specs.broker_spec.Connection.{ConnectionName, is_connect
 use Rattle.node_moves.specs.world_base.declared.Port.{Port}
 use Rattle.node_moves.specs.world_base.declared.Connection.{Connection}
 use Rattle.node_moves.specs.node_connections.Connections.{fresh, is_at}
-use Rattle.node_moves.specs.node_connections.ConnectionChanges.{noted_proposed, closed, failing, left_with}
+use Rattle.node_moves.specs.node_connections.ConnectionChanges.{noted_proposed, closed_connection, failing, left_with}
 use Rattle.node_moves.specs.world_base.Core.{CoreState, StepOutcome, serves}
 use Rattle.node_moves.specs.world_base.Failing.{closes_failed}
 use Rattle.node_moves.specs.world_base.Lossy.{Account, TakesCommand}
@@ -56,10 +56,10 @@ exactly_given x core outcome (reads_first now port c connect rest at first is ro
 exactly_given x core outcome (reads_later now port c packet rest at later is room) o given =
     by_same x core outcome.core
     (after _ core (changes port (left_with now rest) core) (at_orderly port (left_with now rest) core o (λ d. refl)) (same_last port (left_with now rest) core)) given
-exactly_given x core outcome (closes port) o given = by_same x core outcome.core (same_last port closed core) given
+exactly_given x core outcome (closes port) o given = by_same x core outcome.core (same_last port closed_connection core) given
 exactly_given x core outcome (refuses port c code at first is) o given = by_same x core outcome.core (same_last port _ core) given
 exactly_given x core outcome (loses_one port c at asked_before) o given =
-    by_same x core outcome.core (after (commands.Lost c.name) core (changes port closed core) (at_orderly port closed core o (λ d. refl)) (same_last port closed core)) given
+    by_same x core outcome.core (after (commands.Lost c.name) core (changes port closed_connection core) (at_orderly port closed_connection core o (λ d. refl)) (same_last port closed_connection core)) given
 exactly_given x core outcome (loses_next c at) o given =
     by_same x core outcome.core (after (commands.Lost c.name) core (closes_failed core) (stays_failed core o).orderly refl) given
 exactly_given x core outcome (expels_one client) o given = by_same x core outcome.core (after (commands.Expel client) core core o refl) given
@@ -90,4 +90,4 @@ stays_given x core outcome forgets o given = given
 stays_given x core outcome halts o given = given
 stays_given x core outcome (fails port) o given = by_same x core outcome.core (same_last port failing core) given
 stays_given x core outcome unheard o given = by_same x core outcome.core (stays_failed core o).last given
-stays_given x core outcome (drops port piece) o given = by_same x core outcome.core (same_last port closed core) given
+stays_given x core outcome (drops port piece) o given = by_same x core outcome.core (same_last port closed_connection core) given

@@ -16,7 +16,7 @@ use Rattle.packet_world.specs.broker_spec.declared.command.Command.TheVariants a
 use Rattle.packet_world.specs.broker_spec.declared.command.Output.{Output}
 use Rattle.packet_world.specs.snapshots.Moments.{Moment, Moments}
 use Rattle.packet_world.specs.snapshots.World.{messages, outputs}
-use Rattle.node_moves.specs.node_connections.ConnectionChanges.{noted_proposed, closed, failing, left_with}
+use Rattle.node_moves.specs.node_connections.ConnectionChanges.{noted_proposed, closed_connection, failing, left_with}
 use Rattle.node_moves.specs.world_base.Core.{CoreState, StepOutcome, rules, serves}
 use Rattle.node_moves.specs.world_base.Lossy.{Account, Drives, TakesCommand}
 use Rattle.node_moves.specs.world_base.Reading.{changes}
@@ -149,4 +149,4 @@ losses_happen g n core turn halts kept at sent frozen t =
     λ config earlier came. one_stop g n core (with_messages kept turn) [] config earlier came at refl (ap messages (nothing_kept kept t)) refl
 losses_happen g n core turn (fails port) kept at sent frozen t = happens_without_messages g n core turn.core kept at (changed_state port failing core) t
 losses_happen g n core turn unheard kept at sent frozen t = happens_without_messages g n core turn.core kept at refl t
-losses_happen g n core turn (drops port piece) kept at sent frozen t = happens_without_messages g n core turn.core kept at (changed_state port closed core) t
+losses_happen g n core turn (drops port piece) kept at sent frozen t = happens_without_messages g n core turn.core kept at (changed_state port closed_connection core) t

@@ -50,9 +50,9 @@ use Rattle.node_moves.specs.world_base.Core.{CoreState, StepOutcome, rules, serv
 use Rattle.node_moves.specs.world_base.Failing.{closes_failed}
 use Rattle.node_moves.specs.world_base.Reading.{changes}
 use Rattle.node_moves.specs.world_base.Effects.{drives, has_room, outcome_of_input, after_replica_step, proposes, without_messages}
-use Rattle.node_moves.specs.node_connections.ConnectionChanges.{noted_proposed, closed, holding, left_with}
+use Rattle.node_moves.specs.node_connections.ConnectionChanges.{noted_proposed, closed_connection, with_unread, left_with}
 use Rattle.node_moves.specs.world_base.Handing.{hands_over}
-use Rattle.node_moves.specs.world_base.Reading.{refused}
+use Rattle.node_moves.specs.world_base.Reading.{connect_refused}
 use Rattle.node_moves.specs.world_base.Step.{with_next_connection, settled, with_cut}
 use Rattle.node_moves.specs.Moves.{Moves, is_proposal}
 use Rattle.node_moves.specs.Moves.Moves.{hears, opens_one, holds, reads_first, reads_later, closes, refuses, loses_one, loses_next, expels_one, cuts_log, crashes, settles, hands}
@@ -407,7 +407,7 @@ pub moves_happen : (g : Group) (n : ℕ) (core : CoreState) (outcome : StepOutco
     → Thinned kept outcome.messages → Happens g n core outcome m kept
 moves_happen g n core outcome (hears input other) kept at sent t = heard_happens g n core input kept at other sent t
 moves_happen g n core outcome (opens_one port) kept at sent t = happens_without_messages g n core _ kept at (state_of (with_next_connection port core) core (opens_keeps port core)) t
-moves_happen g n core outcome (holds port piece) kept at sent t = happens_without_messages g n core _ kept at (changed_state port (holding piece) core) t
+moves_happen g n core outcome (holds port piece) kept at sent t = happens_without_messages g n core _ kept at (changed_state port (with_unread piece) core) t
 moves_happen g n core outcome (reads_first now port c connect rest is_at first is room) kept at sent t =
     put_happens g n core (changes port (noted_proposed connect.keep_alive) (changes port (left_with now rest) core)) _ kept at
     (changes_keep port (noted_proposed connect.keep_alive) (changes port (left_with now rest) core) ∙ changes_keep port (left_with now rest) core)
@@ -415,10 +415,10 @@ moves_happen g n core outcome (reads_first now port c connect rest is_at first i
 moves_happen g n core outcome (reads_later now port c packet rest is_at later is room) kept at sent t =
     put_happens g n core (changes port (left_with now rest) core) _ kept at (changes_keep port (left_with now rest) core)
     (room_serves core (nat_lt (places (replica_of core).log) max_places) room) (λ x is_one. room_is core room) t
-moves_happen g n core outcome (closes port) kept at sent t = happens_without_messages g n core _ kept at (changed_state port closed core) t
-moves_happen g n core outcome (refuses port c code is_at first is) kept at sent t = happens_without_messages g n core _ kept at (changed_state port (refused code) core) t
+moves_happen g n core outcome (closes port) kept at sent t = happens_without_messages g n core _ kept at (changed_state port closed_connection core) t
+moves_happen g n core outcome (refuses port c code is_at first is) kept at sent t = happens_without_messages g n core _ kept at (changed_state port (connect_refused code) core) t
 moves_happen g n core outcome (loses_one port c is_at was_asked) kept at sent t =
-    lost_happens g n core (changes port closed core) (commands.Lost c.name) kept at (changes_keep port closed core) (lost_is_none core c.name) (serves core) refl t
+    lost_happens g n core (changes port closed_connection core) (commands.Lost c.name) kept at (changes_keep port closed_connection core) (lost_is_none core c.name) (serves core) refl t
 moves_happen g n core outcome (loses_next c is_at) kept at sent t =
     lost_happens g n core (closes_failed core) (commands.Lost c.name) kept at refl (lost_is_none core c.name) (serves core) refl t
 moves_happen g n core outcome (expels_one client) kept at sent t =

@@ -9,7 +9,7 @@ use Rattle.packet_world.specs.agreement.MasterState.{AssignRefusal, master_after
 use Rattle.packet_world.specs.broker_spec.Connection.{ConnectionName}
 use Rattle.node_moves.specs.world_base.declared.Connection.{Connection}
 use Rattle.node_moves.specs.node_connections.Connections.{is_listed, is_closed}
-use Rattle.node_moves.specs.node_connections.ConnectionChanges.{closed}
+use Rattle.node_moves.specs.node_connections.ConnectionChanges.{closed_connection}
 use Rattle.node_moves.specs.world_base.declared.item.Item.{Item}
 use Rattle.node_moves.specs.world_base.Core.{CoreState, StepOutcome, opening_core, serves}
 use Rattle.node_moves.specs.world_base.LossyStep.{RunsOn}
@@ -36,7 +36,7 @@ use Rattle.node_group.proofs.PutsInBallot.{runs_well}
 
 -- ---- the end of a step
 
-all_over : (cs : List Connection) → Each (λ (c : Connection). is_closed c.stage ≡ true) (map closed cs)
+all_over : (cs : List Connection) → Each (λ (c : Connection). is_closed c.stage ≡ true) (map closed_connection cs)
 all_over [] = tt
 all_over (c ∷ cs) = (refl, all_over cs)
 
@@ -46,13 +46,13 @@ settled_serves : (x : ConnectionName) (core : CoreState) (d : Connection) → li
 unfolding settled
 settled_serves x core d e lives = by (serves core) refl e
   where
-    by : (b : Bool) → serves core ≡ b → view all (named x) (filter is_listed (if b then core.connections else map closed core.connections)) ≡ Some d
+    by : (b : Bool) → serves core ≡ b → view all (named x) (filter is_listed (if b then core.connections else map closed_connection core.connections)) ≡ Some d
         → serves core ≡ true
     by true leads f = leads
     by false none f =
         absurd (both_ways (is_closed d.stage) lives
-        (found_each (λ (c : Connection). is_closed c.stage ≡ true) (named x) (filter is_listed (map closed core.connections)) d
-        (each_filtered (λ (c : Connection). is_closed c.stage ≡ true) is_listed (map closed core.connections) (all_over core.connections)) f))
+        (found_each (λ (c : Connection). is_closed c.stage ≡ true) (named x) (filter is_listed (map closed_connection core.connections)) d
+        (each_filtered (λ (c : Connection). is_closed c.stage ≡ true) is_listed (map closed_connection core.connections) (all_over core.connections)) f))
 
 settled_names : (core : CoreState) → AreWhereItServes (settled core) → AreOfTheBallot (settled core)
 settled_names core of =

@@ -13,7 +13,7 @@ use Rattle.packet_world.specs.broker_spec.declared.command.Output.TheVariants as
 use Rattle.packet_world.specs.broker_spec.Connection.{ConnectionName}
 use Rattle.node_moves.specs.world_base.declared.Port.{Port}
 use Rattle.node_moves.specs.world_base.declared.Connection.{Connection}
-use Rattle.node_moves.specs.node_connections.ConnectionChanges.{closed, put_out}
+use Rattle.node_moves.specs.node_connections.ConnectionChanges.{closed_connection, with_queued}
 use Rattle.node_moves.specs.world_base.Core.{CoreState, serves}
 use Rattle.node_moves.specs.world_base.Handing.{hands_over, left_by, listed_at}
 use Rattle.node_moves.specs.world_base.Reading.{changes}
@@ -55,8 +55,8 @@ unfolding changes_named
 named_keeps name f core = refl
 
 handled_keeps : (core : CoreState) (e : Effect Command Output) → (with_effect core e).replica ≡ core.replica
-handled_keeps core (Out place (outputs.Send name packet)) = named_keeps name (put_out (spelling packet)) core
-handled_keeps core (Out place (outputs.Close name)) = named_keeps name closed core
+handled_keeps core (Out place (outputs.Send name packet)) = named_keeps name (with_queued (spelling packet)) core
+handled_keeps core (Out place (outputs.Close name)) = named_keeps name closed_connection core
 handled_keeps core (To receiver message) = refl
 
 folded_keeps : (core : CoreState) (effects : List (Effect Command Output)) → (fold with_effect core effects).replica ≡ core.replica

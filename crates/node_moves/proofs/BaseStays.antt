@@ -7,7 +7,7 @@ use Rattle.world_base.specs.ballot_base.Replica.{CountedReplica}
 use Rattle.exactly_once.specs.broker_base.State.{State}
 use Rattle.exactly_once.specs.broker_spec.declared.command.Command.{Command}
 use Rattle.exactly_once.specs.broker_spec.declared.command.Command.TheVariants as commands
-use Rattle.world_base.specs.node_connections.ConnectionChanges.{noted_proposed, closed, failing, left_with}
+use Rattle.world_base.specs.node_connections.ConnectionChanges.{noted_proposed, closed_connection, failing, left_with}
 use Rattle.world_base.specs.Core.{CoreState, StepOutcome}
 use Rattle.world_base.specs.Reading.{changes}
 use Rattle.world_base.specs.Step.{node_step}
@@ -44,7 +44,7 @@ calm_base core outcome forgets calm = refl
 calm_base core outcome halts calm = refl
 calm_base core outcome (fails port) calm = base_of core outcome.core (at_replica port failing core)
 calm_base core outcome unheard calm = refl
-calm_base core outcome (drops port piece) calm = base_of core outcome.core (at_replica port closed core)
+calm_base core outcome (drops port piece) calm = base_of core outcome.core (at_replica port closed_connection core)
 
 -- so it is in a run of such moves
 pub calm_run_base : {core : CoreState} {outcome : StepOutcome} (run : LossyRuns core outcome) → HearsNothing run → outcome.core.replica.state.log.base ≡ core.replica.state.log.base

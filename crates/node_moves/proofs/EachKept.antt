@@ -16,7 +16,7 @@ use Rattle.exactly_once.specs.broker_spec.Connection.{ConnectionName}
 use Rattle.exactly_once.specs.lists.Lists.{Each}
 use Rattle.world_base.specs.declared.Connection.{Connection}
 use Rattle.world_base.specs.node_connections.Connections.{has_failed, is_listed, is_open_named}
-use Rattle.world_base.specs.node_connections.ConnectionChanges.{closed, put_out}
+use Rattle.world_base.specs.node_connections.ConnectionChanges.{closed_connection, with_queued}
 use Rattle.world_base.specs.Core.{CoreState, StepOutcome, rules, serves}
 use Rattle.world_base.specs.Failing.{closes_failed, loses_failed, loses_if}
 use Rattle.world_base.specs.Step.{settled}
@@ -24,8 +24,8 @@ use Rattle.world_base.specs.Effects.{without_messages, repeated, with_effect, af
 use Rattle.node_moves.proofs.Views.{each_kept, each_mapped, each_filtered}
 
 pub record IsKept (P : Connection → Type 0) : Type 0 where
-  pub shut : (c : Connection) → P c → P (closed c)
-  pub put : (bytes : List ℕ) (c : Connection) → P c → P (put_out bytes c)
+  pub shut : (c : Connection) → P c → P (closed_connection c)
+  pub put : (bytes : List ℕ) (c : Connection) → P c → P (with_queued bytes c)
 
 module _ (P : Connection → Type 0) (kept : IsKept P) where
   each_named : (name : ConnectionName) (f : Connection → Connection) (core : CoreState) → ((c : Connection) → P c → P (f c)) → Each P core.connections
@@ -34,8 +34,8 @@ module _ (P : Connection → Type 0) (kept : IsKept P) where
   each_named name f core low all = each_kept P (is_open_named name) f core.connections low all
 
   each_handled : (core : CoreState) (e : Effect Command Output) → Each P core.connections → Each P (with_effect core e).connections
-  each_handled core (Out place (outputs.Send name packet)) all = each_named name (put_out (spelling packet)) core (kept.put (spelling packet)) all
-  each_handled core (Out place (outputs.Close name)) all = each_named name closed core kept.shut all
+  each_handled core (Out place (outputs.Send name packet)) all = each_named name (with_queued (spelling packet)) core (kept.put (spelling packet)) all
+  each_handled core (Out place (outputs.Close name)) all = each_named name closed_connection core kept.shut all
   each_handled core (To receiver message) all = all
 
   each_delivered : (core : CoreState) (effects : List (Effect Command Output)) → Each P core.connections → Each P (fold with_effect core effects).connections
@@ -56,7 +56,7 @@ module _ (P : Connection → Type 0) (kept : IsKept P) where
 
   each_lost : (core : CoreState) (o : Option Connection) → Each P core.connections → Each P (loses_if o core).core.connections
   each_lost core None all = all
-  each_lost core (Some c) all = each_proposed (commands.Lost c.name) (closes_failed core) (each_kept P has_failed closed core.connections kept.shut all)
+  each_lost core (Some c) all = each_proposed (commands.Lost c.name) (closes_failed core) (each_kept P has_failed closed_connection core.connections kept.shut all)
 
   each_failed : (core : CoreState) → Each P core.connections → Each P (loses_failed core).core.connections
   unfolding loses_failed
@@ -67,10 +67,10 @@ module _ (P : Connection → Type 0) (kept : IsKept P) where
   each_repeated zero core all = all
   each_repeated (suc n) core all = each_repeated n (loses_failed core).core (each_failed core all)
 
-pub each_settled : (P : Connection → Type 0) → ((c : Connection) → P c → P (closed c)) → (core : CoreState) → Each P core.connections → Each P (settled core).connections
+pub each_settled : (P : Connection → Type 0) → ((c : Connection) → P c → P (closed_connection c)) → (core : CoreState) → Each P core.connections → Each P (settled core).connections
 unfolding settled
 each_settled P shut core all = by (serves core)
   where
-    by : (b : Bool) → Each P (filter is_listed (if b then core.connections else map closed core.connections))
+    by : (b : Bool) → Each P (filter is_listed (if b then core.connections else map closed_connection core.connections))
     by true = each_filtered P is_listed core.connections all
-    by false = each_filtered P is_listed (map closed core.connections) (each_mapped P closed core.connections shut all)
+    by false = each_filtered P is_listed (map closed_connection core.connections) (each_mapped P closed_connection core.connections shut all)

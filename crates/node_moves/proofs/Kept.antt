@@ -19,7 +19,7 @@ use Rattle.world_base.specs.declared.Connection.{Connection}
 use Rattle.world_base.specs.declared.ConnectionStage.{ConnectionStage}
 use Rattle.world_base.specs.declared.ConnectionStage.TheVariants.{Awaits, Proposed, Closed, Failed}
 use Rattle.world_base.specs.node_connections.Connections.{is_closed, is_proposed, is_failed, has_failed, is_at, is_open_at, is_open_named, is_listed}
-use Rattle.world_base.specs.node_connections.ConnectionChanges.{max_pending, closed, failing, put_out, putting, handed, changed}
+use Rattle.world_base.specs.node_connections.ConnectionChanges.{max_pending, closed_connection, failing, with_queued, putting, nothing_pending, changed_where}
 use Rattle.world_base.specs.Core.{CoreState, StepOutcome, rules, serves}
 use Rattle.world_base.specs.Failing.{closes_failed}
 use Rattle.world_base.specs.Handing.{hands_over, left_by, listed_at}
@@ -70,18 +70,18 @@ mild_kept f c lives (inl (s, u)) = let e : live (f c) ≡ true = ap (λ (z : Con
 mild_kept f c lives (inr over) = let e : live (f c) ≡ false = ap not over in rw e ended
 
 pub kept_changed : (x : ConnectionName) (test : Connection → Bool) (f : Connection → Connection) (cs : List Connection) → AtMostOne (named x) cs
-    → ((d : Connection) → test d ≡ true → live d ≡ true) → IsMild f → Kept (view live (named x) cs) (view live (named x) (changed test f cs))
+    → ((d : Connection) → test d ≡ true → live d ≡ true) → IsMild f → Kept (view live (named x) cs) (view live (named x) (changed_where test f cs))
 kept_changed x test f cs one lives mild = by (find test cs) refl
   where
-    on : (c : Connection) → find test cs ≡ Some c → (b : Bool) → named x c ≡ b → Kept (view live (named x) cs) (view live (named x) (changed test f cs))
+    on : (c : Connection) → find test cs ≡ Some c → (b : Bool) → named x c ≡ b → Kept (view live (named x) cs) (view live (named x) (changed_where test f cs))
     on c e false other =
         subst (Kept (view live (named x) cs)) (sym (view_of_others live (named x) test f cs c (named_kept x f mild.name) e other)) (kept_same (view live (named x) cs))
     on c e true is =
         let two = view_of_changed live (named x) test f cs c one lives (named_kept x f mild.name) e is in
-        subst (λ (o : Option Connection). Kept o (view live (named x) (changed test f cs))) (sym two.0)
+        subst (λ (o : Option Connection). Kept o (view live (named x) (changed_where test f cs))) (sym two.0)
         (subst (Kept (Some c)) (sym two.1) (mild_kept f c (lives c (found_passes test cs c e)) (mild.stage c)))
 
-    by : (o : Option Connection) → find test cs ≡ o → Kept (view live (named x) cs) (view live (named x) (changed test f cs))
+    by : (o : Option Connection) → find test cs ≡ o → Kept (view live (named x) cs) (view live (named x) (changed_where test f cs))
     by None e =
         subst (λ (l : List Connection). Kept (view live (named x) cs) (view live (named x) l)) (sym (none_changes test f cs e)) (kept_same (view live (named x) cs))
     by (Some c) e = on c e (named x c) refl
@@ -105,19 +105,19 @@ still_within : (core later : CoreState) → later.last_name ≡ core.last_name �
     → core.last_name.ballot ≤ core.replica.state.joined → later.last_name.ballot ≤ later.replica.state.joined
 still_within core later same up within = subst (λ (y : ConnectionName). y.ballot ≤ later.replica.state.joined) (sym same) (omega (arith, up, within))
 
-pub changed_orderly : (core later : CoreState) (test : Connection → Bool) (f : Connection → Connection) → IsOrderly core → later.connections ≡ changed test f core.connections
+pub changed_orderly : (core later : CoreState) (test : Connection → Bool) (f : Connection → Connection) → IsOrderly core → later.connections ≡ changed_where test f core.connections
     → later.last_name ≡ core.last_name → core.replica.state.joined ≤ later.replica.state.joined → ((c : Connection) → (f c).name ≡ c.name) → IsOrderly later
 changed_orderly core later test f o are same up name =
     record {
       names = λ x. subst (AtMostOne (named x)) (sym are) (one_changed (named x) test f core.connections (named_kept x f name) (o.names x));
       given = subst (λ (l : List Connection). Each (λ (c : Connection). IsGiven later.last_name c.name) l) (sym are)
-          (subst (λ (y : ConnectionName). Each (λ (c : Connection). IsGiven y c.name) (changed test f core.connections)) (sym same)
+          (subst (λ (y : ConnectionName). Each (λ (c : Connection). IsGiven y c.name) (changed_where test f core.connections)) (sym same)
           (each_kept (λ (c : Connection). IsGiven core.last_name c.name) test f core.connections
           (λ d given. subst (λ (y : ConnectionName). IsGiven core.last_name y) (sym (name d)) given) o.given));
       within = still_within core later same up o.within;
     }
 
-pub stays_changed : (core later : CoreState) (test : Connection → Bool) (f : Connection → Connection) → IsOrderly core → later.connections ≡ changed test f core.connections
+pub stays_changed : (core later : CoreState) (test : Connection → Bool) (f : Connection → Connection) → IsOrderly core → later.connections ≡ changed_where test f core.connections
     → later.last_name ≡ core.last_name → core.replica.state.joined ≤ later.replica.state.joined → ((d : Connection) → test d ≡ true → live d ≡ true) → IsMild f → Stays core later
 stays_changed core later test f o are same up lives mild =
     record {
@@ -130,7 +130,7 @@ pub left_true : (a b : Bool) → (a && b) ≡ true → a ≡ true
 left_true true b e = refl
 left_true false b e = absurd cc
 
-pub closed_is_mild : IsMild closed
+pub closed_is_mild : IsMild closed_connection
 closed_is_mild = record { name = λ c. refl; stage = λ c. inr refl }
 
 -- one that is closed as lost is over
@@ -141,17 +141,17 @@ failing_over c = by (is_proposed c.stage)
     by true = refl
     by false = refl
 
-pub put_out_name : (bytes : List ℕ) (c : Connection) → (put_out bytes c).name ≡ c.name
+pub put_out_name : (bytes : List ℕ) (c : Connection) → (with_queued bytes c).name ≡ c.name
 put_out_name bytes c = by (nat_le (length c.pending + length bytes) max_pending)
   where
     by : (b : Bool) → (let d : Connection = if b then putting bytes c else failing c in d).name ≡ c.name
     by true = refl
     by false = refl
 
-pub put_out_is_mild : (bytes : List ℕ) → IsMild (put_out bytes)
+pub put_out_is_mild : (bytes : List ℕ) → IsMild (with_queued bytes)
 put_out_is_mild bytes = record { name = put_out_name bytes; stage = stays_or_ends }
   where
-    stays_or_ends : (c : Connection) → (((put_out bytes c).stage ≡ c.stage) × ((put_out bytes c).unread ≡ c.unread)) ⊎ (is_closed (put_out bytes c).stage ≡ true)
+    stays_or_ends : (c : Connection) → (((with_queued bytes c).stage ≡ c.stage) × ((with_queued bytes c).unread ≡ c.unread)) ⊎ (is_closed (with_queued bytes c).stage ≡ true)
     stays_or_ends c = by (nat_le (length c.pending + length bytes) max_pending)
       where
         by : (b : Bool) → (((let d : Connection = if b then putting bytes c else failing c in d).stage ≡ c.stage)
@@ -169,8 +169,8 @@ unfolding changes_named
 stays_named name f core o mild = stays_changed core (changes_named name f core) (is_open_named name) f o refl refl (same_le core.replica.state.joined) (λ d e. left_true (live d) (named name d) e) mild
 
 pub stays_handled : (core : CoreState) (e : Effect Command Output) → IsOrderly core → Stays core (with_effect core e)
-stays_handled core (Out place (outputs.Send name packet)) o = stays_named name (put_out (spelling packet)) core o (put_out_is_mild (spelling packet))
-stays_handled core (Out place (outputs.Close name)) o = stays_named name closed core o closed_is_mild
+stays_handled core (Out place (outputs.Send name packet)) o = stays_named name (with_queued (spelling packet)) core o (put_out_is_mild (spelling packet))
+stays_handled core (Out place (outputs.Close name)) o = stays_named name closed_connection core o closed_is_mild
 stays_handled core (To receiver message) o = stays_same core o
 
 stays_delivered : (core : CoreState) (effects : List (Effect Command Output)) → IsOrderly core → Stays core (fold with_effect core effects)
@@ -217,17 +217,17 @@ failed_over Proposed e = absurd cc
 failed_over Closed e = absurd cc
 failed_over Failed e = refl
 
-view_of_failed : (x : ConnectionName) (cs : List Connection) → view live (named x) (changed has_failed closed cs) ≡ view live (named x) cs
+view_of_failed : (x : ConnectionName) (cs : List Connection) → view live (named x) (changed_where has_failed closed_connection cs) ≡ view live (named x) cs
 view_of_failed x [] = refl
 view_of_failed x (c ∷ cs) = by (has_failed c) refl (view_of_failed x cs)
   where
-    tail : (b : Bool) → view live (named x) (changed has_failed closed cs) ≡ view live (named x) cs
-        → (if b then Some c else view live (named x) (changed has_failed closed cs)) ≡ (if b then Some c else view live (named x) cs)
+    tail : (b : Bool) → view live (named x) (changed_where has_failed closed_connection cs) ≡ view live (named x) cs
+        → (if b then Some c else view live (named x) (changed_where has_failed closed_connection cs)) ≡ (if b then Some c else view live (named x) cs)
     tail true same = refl
     tail false same = same
 
-    by : (b : Bool) → has_failed c ≡ b → view live (named x) (changed has_failed closed cs) ≡ view live (named x) cs
-        → view live (named x) (if b then closed c ∷ cs else c ∷ changed has_failed closed cs) ≡ view live (named x) (c ∷ cs)
+    by : (b : Bool) → has_failed c ≡ b → view live (named x) (changed_where has_failed closed_connection cs) ≡ view live (named x) cs
+        → view live (named x) (if b then closed_connection c ∷ cs else c ∷ changed_where has_failed closed_connection cs) ≡ view live (named x) (c ∷ cs)
     by true e ih = let dead : live c ≡ false = failed_over c.stage e in rw dead refl
     by false e ih = tail (live c && named x c) ih
 
@@ -239,7 +239,7 @@ stays_failed core o =
     record {
       kept = λ x. subst (Kept (open_named x core)) (sym (same_of_failed x core)) (kept_same (open_named x core));
       last = refl;
-      orderly = changed_orderly core (closes_failed core) has_failed closed o refl refl (same_le core.replica.state.joined) (λ d. refl);
+      orderly = changed_orderly core (closes_failed core) has_failed closed_connection o refl refl (same_le core.replica.state.joined) (λ d. refl);
     }
 
 -- ---- connections that are closed and done are removed
@@ -251,7 +251,7 @@ neither false b e = refl
 pub unlisted_dead : (c : Connection) → is_listed c ≡ false → live c ≡ false
 unlisted_dead c e = neither (live c) (not (length c.pending == 0)) e
 
-pub all_closed : (x : ConnectionName) (cs : List Connection) → view live (named x) (map closed cs) ≡ None
+pub all_closed : (x : ConnectionName) (cs : List Connection) → view live (named x) (map closed_connection cs) ≡ None
 all_closed x [] = refl
 all_closed x (c ∷ cs) = all_closed x cs
 
@@ -276,41 +276,41 @@ pub stays_settled : (core : CoreState) → IsOrderly core → Stays core (settle
 unfolding settled
 stays_settled core o = by (serves core)
   where
-    by : (b : Bool) → Stays core (let k : CoreState = record core { connections = filter is_listed (if b then core.connections else map closed core.connections) } in k)
+    by : (b : Bool) → Stays core (let k : CoreState = record core { connections = filter is_listed (if b then core.connections else map closed_connection core.connections) } in k)
     by true = stays_listed core _ core.connections refl refl (same_le core.replica.state.joined) o (λ x. kept_same (open_named x core)) o.names o.given
     by false =
-        stays_listed core _ (map closed core.connections) refl refl (same_le core.replica.state.joined) o
+        stays_listed core _ (map closed_connection core.connections) refl refl (same_le core.replica.state.joined) o
         (λ x. subst (Kept (open_named x core)) (sym (all_closed x core.connections)) (kept_gone (open_named x core)))
-        (λ x. one_mapped (named x) closed core.connections (λ d. refl) (o.names x))
-        (each_mapped (λ (c : Connection). IsGiven core.last_name c.name) closed core.connections (λ d within. within) o.given)
+        (λ x. one_mapped (named x) closed_connection core.connections (λ d. refl) (o.names x))
+        (each_mapped (λ (c : Connection). IsGiven core.last_name c.name) closed_connection core.connections (λ d within. within) o.given)
 
 -- ---- what was queued is handed over
 
-kept_handed : (x : ConnectionName) (test : Connection → Bool) (cs : List Connection) → Kept (view live (named x) cs) (view live (named x) (changed test handed cs))
+kept_handed : (x : ConnectionName) (test : Connection → Bool) (cs : List Connection) → Kept (view live (named x) cs) (view live (named x) (changed_where test nothing_pending cs))
 kept_handed x test [] = never
 kept_handed x test (c ∷ cs) = by (test c) (live c && named x c) (kept_handed x test cs)
   where
-    tail : (b : Bool) → Kept (view live (named x) cs) (view live (named x) (changed test handed cs))
-        → Kept (if b then Some c else view live (named x) cs) (if b then Some c else view live (named x) (changed test handed cs))
+    tail : (b : Bool) → Kept (view live (named x) cs) (view live (named x) (changed_where test nothing_pending cs))
+        → Kept (if b then Some c else view live (named x) cs) (if b then Some c else view live (named x) (changed_where test nothing_pending cs))
     tail true kept = still refl refl
     tail false kept = kept
 
-    head : (b : Bool) → Kept (if b then Some c else view live (named x) cs) (if b then Some (handed c) else view live (named x) cs)
+    head : (b : Bool) → Kept (if b then Some c else view live (named x) cs) (if b then Some (nothing_pending c) else view live (named x) cs)
     head true = still refl refl
     head false = kept_same (view live (named x) cs)
 
-    by : (t b : Bool) → Kept (view live (named x) cs) (view live (named x) (changed test handed cs))
-        → Kept (view live (named x) (c ∷ cs)) (view live (named x) (if t then handed c ∷ cs else c ∷ changed test handed cs))
+    by : (t b : Bool) → Kept (view live (named x) cs) (view live (named x) (changed_where test nothing_pending cs))
+        → Kept (view live (named x) (c ∷ cs)) (view live (named x) (if t then nothing_pending c ∷ cs else c ∷ changed_where test nothing_pending cs))
     by true b kept = head (live c && named x c)
     by false b kept = tail (live c && named x c) kept
 
 stays_left : (port : Port) (core : CoreState) (o : Option Connection) → IsOrderly core → Stays core (left_by port core o)
 stays_left port core None o = stays_same core o
 stays_left port core (Some c) o =
-    stays_listed core (left_by port core (Some c)) (changed (is_at port) handed core.connections) refl refl (same_le core.replica.state.joined) o
+    stays_listed core (left_by port core (Some c)) (changed_where (is_at port) nothing_pending core.connections) refl refl (same_le core.replica.state.joined) o
     (λ x. kept_handed x (is_at port) core.connections)
-    (λ x. one_changed (named x) (is_at port) handed core.connections (λ d. refl) (o.names x))
-    (each_kept (λ (c : Connection). IsGiven core.last_name c.name) (is_at port) handed core.connections (λ d within. within) o.given)
+    (λ x. one_changed (named x) (is_at port) nothing_pending core.connections (λ d. refl) (o.names x))
+    (each_kept (λ (c : Connection). IsGiven core.last_name c.name) (is_at port) nothing_pending core.connections (λ d within. within) o.given)
 
 pub stays_handed : (port : Port) (core : CoreState) → IsOrderly core → Stays core (hands_over port core)
 unfolding hands_over

@@ -8,7 +8,7 @@ use Rattle.exactly_once.specs.broker_spec.Connection.{ConnectionName}
 use Rattle.world_base.specs.declared.Port.{Port}
 use Rattle.world_base.specs.declared.item.Item.{Item}
 use Rattle.world_base.specs.declared.item.Item.TheVariants.{Peer, Tick, Opened, Bytes, Ended, Expel, Cut, Crash}
-use Rattle.world_base.specs.node_connections.ConnectionChanges.{closed, holding}
+use Rattle.world_base.specs.node_connections.ConnectionChanges.{closed_connection, with_unread}
 use Rattle.world_base.specs.Core.{CoreState, StepOutcome}
 use Rattle.world_base.specs.Lossy.{Account, both_accounts, without_effects}
 use Rattle.world_base.specs.LossyStep.{Cuts, HoldsBytes, LosesAllFailed, AcceptsConnection, DoesItem}
@@ -47,16 +47,16 @@ before_calm core did may_cut bytes none still next tail = first_calm may_cut byt
 held : (port : Port) (piece : List ℕ) (now : ℕ) (core : CoreState) (did : Account) → HoldsBytes port piece core did
     → Before core did [] false (λ x. came_with x (Bytes port piece now) core)
 held port piece now core did (inl is) =
-    before_is core (without_effects (changes port (holding piece) core)) did [] false _ is
+    before_is core (without_effects (changes port (with_unread piece) core)) did [] false _ is
     (λ next tail. first_move (exactly (holds port piece)) false (λ x. came_with x (Bytes port piece now) core) refl (λ x. refl) (λ e. refl) tt tail)
 held port piece now core did (inr (none_open none is)) =
     before_is core (without_effects core) did [] false _ is (λ next tail. first_calm false (λ x. came_with x (Bytes port piece now) core) (λ x. ap (piece_on x piece) none) tail)
 held port piece now core did (inr (unproposed c found other is)) =
-    before_is core (without_effects (changes port closed core)) did [] false _ is
+    before_is core (without_effects (changes port closed_connection core)) did [] false _ is
     (λ next tail. first_move (drops port piece) false (λ x. came_with x (Bytes port piece now) core) refl (λ x. refl) (λ e. refl) tt tail)
 held port piece now core did (inr (proposed c found heard proposes)) =
     λ next tail. first_move (drops port piece) false (λ x. came_with x (Bytes port piece now) core) refl (λ x. refl) (λ e. refl) tt
-    (calm_join (still_lost c.name (changes port closed core) did proposes) tail)
+    (calm_join (still_lost c.name (changes port closed_connection core) did proposes) tail)
 
 opened : (port : Port) (now : ℕ) (core : CoreState) (did : Account) → AcceptsConnection port core did → Before core did [] false (λ x. came_with x (Opened port now) core)
 opened port now core did (inl is) =

@@ -8,7 +8,7 @@ use Rattle.world_base.specs.declared.Connection.{Connection}
 use Rattle.world_base.specs.declared.ConnectionStage.{ConnectionStage}
 use Rattle.world_base.specs.declared.ConnectionStage.TheVariants.{Awaits, Proposed, Closed, Failed}
 use Rattle.world_base.specs.node_connections.Connections.{is_proposed, is_failed, has_failed}
-use Rattle.world_base.specs.node_connections.ConnectionChanges.{closed}
+use Rattle.world_base.specs.node_connections.ConnectionChanges.{closed_connection}
 use Rattle.world_base.specs.Core.{CoreState}
 use Rattle.world_base.specs.Failing.{closes_failed, loses_failed, loses_if}
 use Rattle.world_base.specs.Step.{acts_on, does_item}
@@ -76,7 +76,7 @@ failed_step core = by (find has_failed core.connections) refl
     lowers : (c : Connection) → find has_failed core.connections ≡ Some c
         → total untold_weight (proposes (commands.Lost c.name) (closes_failed core)).core.connections < total untold_weight core.connections
     lowers c at =
-        let less = total_lowered untold_weight has_failed closed core.connections c at (untold_drops c.stage (found_passes has_failed core.connections c at)) in
+        let less = total_lowered untold_weight has_failed closed_connection core.connections c at (untold_drops c.stage (found_passes has_failed core.connections c at)) in
         let most = total_proposed untold_weight untold_light (commands.Lost c.name) (closes_failed core) in
         omega (arith, less, most)
 

@@ -15,7 +15,7 @@ use Rattle.exactly_once.specs.lists.Lists.{In}
 use Rattle.exactly_once.specs.StoryCommands.{is_packet_of}
 use Rattle.world_base.specs.declared.Connection.{Connection}
 use Rattle.world_base.specs.node_connections.Connections.{is_closed}
-use Rattle.world_base.specs.node_connections.ConnectionChanges.{noted_proposed, failing, closed, left_with}
+use Rattle.world_base.specs.node_connections.ConnectionChanges.{noted_proposed, failing, closed_connection, left_with}
 use Rattle.world_base.specs.Core.{CoreState, StepOutcome, rules, serves}
 use Rattle.world_base.specs.Lossy.{Account, Drives, TakesCommand}
 use Rattle.world_base.specs.Reading.{changes}
@@ -106,7 +106,7 @@ calm_keeps core turn (fails port) o calm of =
     by_same core turn (fails port) o tt (same_state core (changes port failing core) (state_of (changes port failing core) core (at_replica port failing core))) of
 calm_keeps core turn unheard o calm of = by_same core turn unheard o tt (record { role = refl; joined = refl; stopped = refl; base = refl }) of
 calm_keeps core turn (drops port piece) o calm of =
-    by_same core turn (drops port piece) o tt (same_state core (changes port closed core) (state_of (changes port closed core) core (at_replica port closed core))) of
+    by_same core turn (drops port piece) o tt (same_state core (changes port closed_connection core) (state_of (changes port closed_connection core) core (at_replica port closed_connection core))) of
 
 -- ---- a move in which it receives something
 

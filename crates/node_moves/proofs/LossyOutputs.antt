@@ -13,7 +13,7 @@ use Rattle.exactly_once.specs.broker_spec.Connection.{ConnectionName, same_conne
 use Rattle.exactly_once.proofs.of_broker_spec.ConnectionNames.{same_itself, same_name}
 use Rattle.world_base.specs.declared.Connection.{Connection}
 use Rattle.world_base.specs.node_connections.Connections.{is_open_named}
-use Rattle.world_base.specs.node_connections.ConnectionChanges.{changed, closed, failing, put_out}
+use Rattle.world_base.specs.node_connections.ConnectionChanges.{changed_where, closed_connection, failing, with_queued}
 use Rattle.world_base.specs.Core.{CoreState}
 use Rattle.world_base.specs.Lossy.{HandlesAll, Performs}
 use Rattle.world_base.specs.Lossy.HandlesAll.{nothing, does, sends, loses}
@@ -37,9 +37,9 @@ unfolding changes_named
 named_replica name f core = refl
 
 serves_replica : (output : Output) (core new : CoreState) → Performs output core new → new.replica ≡ core.replica
-serves_replica (outputs.Send name packet) core new (inl is) = ap (λ (k : CoreState). k.replica) is ∙ named_replica name (put_out (spelling packet)) core
+serves_replica (outputs.Send name packet) core new (inl is) = ap (λ (k : CoreState). k.replica) is ∙ named_replica name (with_queued (spelling packet)) core
 serves_replica (outputs.Send name packet) core new (inr is) = ap (λ (k : CoreState). k.replica) is ∙ named_replica name failing core
-serves_replica (outputs.Close name) core new is = ap (λ (k : CoreState). k.replica) is ∙ named_replica name closed core
+serves_replica (outputs.Close name) core new is = ap (λ (k : CoreState). k.replica) is ∙ named_replica name closed_connection core
 
 pub delivers_replica : (given : Given) (core new : CoreState) (messages : Given) → HandlesAll given core new messages → new.replica ≡ core.replica
 delivers_replica _ core _ _ nothing = refl
@@ -73,12 +73,12 @@ failing_shuts bytes c lives = is_shut [] lives (ap not (failing_over c)) (sym (a
 
 -- of that name, and of another
 fails_for : (x name : ConnectionName) (bytes : List ℕ) (cs : List Connection) → AtMostOne (named x) cs → (b : Bool) → same_connection x name ≡ b
-    → Shuts (if b then bytes else []) (view all (named x) cs) (view all (named x) (changed (is_open_named name) failing cs))
+    → Shuts (if b then bytes else []) (view all (named x) cs) (view all (named x) (changed_where (is_open_named name) failing cs))
 fails_for x name bytes cs one true e =
-    subst (λ (y : ConnectionName). Shuts bytes (view all (named x) cs) (view all (named x) (changed (is_open_named y) failing cs)))
+    subst (λ (y : ConnectionName). Shuts bytes (view all (named x) cs) (view all (named x) (changed_where (is_open_named y) failing cs)))
     (same_name x name e) (there (find (is_open_named x) cs) refl)
   where
-    there : (o : Option Connection) → find (is_open_named x) cs ≡ o → Shuts bytes (view all (named x) cs) (view all (named x) (changed (is_open_named x) failing cs))
+    there : (o : Option Connection) → find (is_open_named x) cs ≡ o → Shuts bytes (view all (named x) cs) (view all (named x) (changed_where (is_open_named x) failing cs))
     there None f =
         subst (λ (l : List Connection). Shuts bytes (view all (named x) cs) (view all (named x) l)) (sym (none_changes (is_open_named x) failing cs f))
         (shuts_dead bytes (view all (named x) cs) (λ c h. listed_closed x cs c f h))
@@ -94,7 +94,7 @@ fails_for x name bytes cs one false e = by (find (is_open_named name) cs) refl
         sym (subst (λ (y : ConnectionName). same_connection x y ≡ true) same (same_itself x)) ∙ e
     flip c is false f = refl
 
-    by : (o : Option Connection) → find (is_open_named name) cs ≡ o → Shuts [] (view all (named x) cs) (view all (named x) (changed (is_open_named name) failing cs))
+    by : (o : Option Connection) → find (is_open_named name) cs ≡ o → Shuts [] (view all (named x) cs) (view all (named x) (changed_where (is_open_named name) failing cs))
     by None f = shuts_unchanged x (is_open_named name) failing cs f
     by (Some c) f =
         let is = same_name c.name name (right_true (live c) (named name c) (found_passes (is_open_named name) cs c f)) in
@@ -107,7 +107,7 @@ fails_shuts x name packet core o =
     (by (same_connection x name) (fails_for x name (spelling packet) core.connections (o.names x) (same_connection x name) refl))
   where
     after : Option Connection
-    after = view all (named x) (changed (is_open_named name) failing core.connections)
+    after = view all (named x) (changed_where (is_open_named name) failing core.connections)
 
     by : (b : Bool) → Shuts (if b then spelling packet else []) (listed_named x core) after → Shuts (spelled (if b then packet ∷ [] else [])) (listed_named x core) after
     by true h = subst (λ (l : List ℕ). Shuts l (listed_named x core) after) (sym (append-nil (spelling packet))) h

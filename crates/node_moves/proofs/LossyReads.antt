@@ -17,7 +17,7 @@ use Rattle.exactly_once.specs.StoryCommands.{is_packet_of}
 use Rattle.world_base.specs.declared.Port.{Port}
 use Rattle.world_base.specs.declared.Connection.{Connection}
 use Rattle.world_base.specs.node_connections.Connections.{is_at, is_first, is_open_at}
-use Rattle.world_base.specs.node_connections.ConnectionChanges.{noted_proposed, closed, failing, left_with}
+use Rattle.world_base.specs.node_connections.ConnectionChanges.{noted_proposed, closed_connection, failing, left_with}
 use Rattle.world_base.specs.Core.{CoreState, StepOutcome, rules}
 use Rattle.world_base.specs.Lossy.{Account, Drives, TakesCommand}
 use Rattle.world_base.specs.Reading.{changes, open_at}
@@ -172,32 +172,32 @@ closed_end x core later port written read in_transit rest c o at is gone same en
     given = subst (IsGiven core.last_name) (same_name c.name x is) (found_given core port c o at)
 
 gone_closed : (x : ConnectionName) (core : CoreState) (port : Port) (c : Connection) → IsOrderly core → open_at port core ≡ Some c → named x c ≡ true →
-    open_named x (changes port closed core) ≡ None
+    open_named x (changes port closed_connection core) ≡ None
 unfolding changes
 gone_closed x core port c o at is =
-    (view_of_changed live (named x) (is_open_at port) closed core.connections c (o.names x) (λ d e. left_true (live d) (is_at port d) e)
-    (named_kept x closed (λ d. refl)) at is).1
+    (view_of_changed live (named x) (is_open_at port) closed_connection core.connections c (o.names x) (λ d e. left_true (live d) (is_at port d) e)
+    (named_kept x closed_connection (λ d. refl)) at is).1
 
 dropped_end : (x : ConnectionName) (core : CoreState) (port : Port) (piece : List ℕ) (written read : List Packet) (later : List ℕ) → IsOrderly core
-    → Stays core (changes port closed core) → (found : Option Connection) → open_at port core ≡ found → IsEnd x core written read (piece_on x piece found ++ later)
-    → IsEnd x (changes port closed core) written read later
-dropped_end x core port piece written read later o s None at end = end_kept x core (changes port closed core) written read later end (s.kept x) s.last
+    → Stays core (changes port closed_connection core) → (found : Option Connection) → open_at port core ≡ found → IsEnd x core written read (piece_on x piece found ++ later)
+    → IsEnd x (changes port closed_connection core) written read later
+dropped_end x core port piece written read later o s None at end = end_kept x core (changes port closed_connection core) written read later end (s.kept x) s.last
 dropped_end x core port piece written read later o s (Some c) at end = by (named x c) refl
   where
     with_test : (b : Bool) → named x c ≡ b → IsEnd x core written read ((if b then piece else []) ++ later)
     with_test b e = subst (λ (t : Bool). IsEnd x core written read ((if t then piece else []) ++ later)) e end
 
-    by : (b : Bool) → named x c ≡ b → IsEnd x (changes port closed core) written read later
+    by : (b : Bool) → named x c ≡ b → IsEnd x (changes port closed_connection core) written read later
     by true e =
-        closed_end x core (changes port closed core) port written read (piece ++ later) later c o at e (gone_closed x core port c o at e) s.last (with_test true e)
-    by false e = end_kept x core (changes port closed core) written read later (with_test false e) (s.kept x) s.last
+        closed_end x core (changes port closed_connection core) port written read (piece ++ later) later c o at e (gone_closed x core port c o at e) s.last (with_test true e)
+    by false e = end_kept x core (changes port closed_connection core) written read later (with_test false e) (s.kept x) s.last
 
-abbrev drop_move : (core : CoreState) (port : Port) (piece : List ℕ) → LossyMoves core (record { core = changes port closed core; messages = [] })
+abbrev drop_move : (core : CoreState) (port : Port) (piece : List ℕ) → LossyMoves core (record { core = changes port closed_connection core; messages = [] })
 drop_move core port piece = drops port piece
 
 drop_reads : (core : CoreState) (port : Port) (piece : List ℕ) → IsOrderly core → ReadsAll (drop_move core port piece)
 drop_reads core port piece o =
-    let s = stays_at port closed core o closed_is_mild in (
+    let s = stays_at port closed_connection core o closed_is_mild in (
       s.orderly,
       λ x written read in_transit later end same.
           none_more x (drop_move core port piece) written read later

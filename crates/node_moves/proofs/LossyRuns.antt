@@ -14,7 +14,7 @@ use Rattle.exactly_once.specs.broker_spec.declared.command.Output.{Output}
 use Rattle.world_base.specs.declared.Port.{Port}
 use Rattle.world_base.specs.declared.Connection.{Connection}
 use Rattle.world_base.specs.node_connections.Connections.{is_at, is_first, is_open_at, is_closed}
-use Rattle.world_base.specs.node_connections.ConnectionChanges.{noted_proposed, closed, failing, left_with}
+use Rattle.world_base.specs.node_connections.ConnectionChanges.{noted_proposed, closed_connection, failing, left_with}
 use Rattle.world_base.specs.Core.{CoreState, StepOutcome}
 use Rattle.world_base.specs.Failing.{closes_failed}
 use Rattle.world_base.specs.Lossy.{Account, Repeated, Then, without_effects}
@@ -26,7 +26,7 @@ use Rattle.world_base.specs.LossyReading.EndsConnection.{none_open, unproposed, 
 use Rattle.world_base.specs.LossyReading.EndsSilent.{none_silent, ends_one}
 use Rattle.world_base.specs.LossyReading.LosesFailed.{none_failed, tells_one}
 use Rattle.world_base.specs.LossyReading.ReadsNext.{waits, first, later, refuses as refuses_it, ends}
-use Rattle.world_base.specs.Reading.{changes, open_at, refused}
+use Rattle.world_base.specs.Reading.{changes, open_at, connect_refused}
 use Rattle.world_base.specs.Effects.{without_messages}
 use Rattle.node_moves.specs.LossyMoves.{LossyMoves, with_loss, halting, outcome_in}
 use Rattle.node_moves.specs.LossyParts.{came_on, hears_in, inputs_in, is_handing}
@@ -107,16 +107,16 @@ pub still_expelled : (client : List ℕ) (core : CoreState) (did : Account) → 
 still_expelled client core did (inl taken) = calm_move (expels_losing client did taken) (refl, refl, refl, λ x. refl)
 still_expelled client core did (inr declines) = still_declines core did declines
 
-closing : (port : Port) (core : CoreState) → Calm core (without_messages (changes port closed core))
+closing : (port : Port) (core : CoreState) → Calm core (without_messages (changes port closed_connection core))
 closing port core = calm_move (exactly (closes port)) (refl, refl, refl, λ x. refl)
 
 -- ---- ends
 
 pub still_ends : (port : Port) (core : CoreState) (did : Account) → EndsConnection port core did → Still core did
 still_ends port core did (none_open none is) = by_none core did is
-still_ends port core did (unproposed c found other is) = by_account core (changes port closed core) did is (closing port core)
+still_ends port core did (unproposed c found other is) = by_account core (changes port closed_connection core) did is (closing port core)
 still_ends port core did (proposed c found heard proposes) =
-    still_after core (changes port closed core) did (closing port core) (still_lost c.name (changes port closed core) did proposes)
+    still_after core (changes port closed_connection core) did (closing port core) (still_lost c.name (changes port closed_connection core) did proposes)
 
 pub still_silent : (now : ℕ) (core : CoreState) (did : Account) → EndsSilent now core did → Still core did
 still_silent now core did (none_silent none is) = by_none core did is
@@ -136,19 +136,19 @@ right_true : (a b : Bool) → (a && b) ≡ true → b ≡ true
 right_true true b e = e
 right_true false b e = absurd cc
 
-closed_left : (now : ℕ) (port : Port) (rest : List ℕ) (core : CoreState) → changes port closed (changes port (left_with now rest) core) ≡ changes port closed core
+closed_left : (now : ℕ) (port : Port) (rest : List ℕ) (core : CoreState) → changes port closed_connection (changes port (left_with now rest) core) ≡ changes port closed_connection core
 unfolding changes
-closed_left now port rest core = ap (λ (l : List Connection). record core { connections = l }) (twice (is_open_at port) closed (left_with now rest) core.connections (λ c e. e))
+closed_left now port rest core = ap (λ (l : List Connection). record core { connections = l }) (twice (is_open_at port) closed_connection (left_with now rest) core.connections (λ c e. e))
 
 failing_left : (now : ℕ) (port : Port) (rest : List ℕ) (core : CoreState) → changes port failing (changes port (left_with now rest) core) ≡ changes port failing core
 unfolding changes
 failing_left now port rest core = ap (λ (l : List Connection). record core { connections = l }) (twice (is_open_at port) failing (left_with now rest) core.connections (λ c e. e))
 
-closed_asked : (keep_alive : ℕ) (port : Port) (core : CoreState) → changes port closed (changes port (noted_proposed keep_alive) core) ≡ changes port closed core
+closed_asked : (keep_alive : ℕ) (port : Port) (core : CoreState) → changes port closed_connection (changes port (noted_proposed keep_alive) core) ≡ changes port closed_connection core
 unfolding changes
 closed_asked keep_alive port core =
     ap (λ (l : List Connection). record core { connections = l })
-    (twice (is_open_at port) closed (noted_proposed keep_alive) core.connections (λ c e. right_true (not (is_closed c.stage)) (is_at port c) e))
+    (twice (is_open_at port) closed_connection (noted_proposed keep_alive) core.connections (λ c e. right_true (not (is_closed c.stage)) (is_at port c) e))
 
 forgets_before : (port : Port) (f : Connection → Connection) (core : CoreState) → changes port f (with_loss core) ≡ with_loss (changes port f core)
 unfolding changes
@@ -187,14 +187,14 @@ still_connects : (now : ℕ) (port : Port) (c : Connection) (core : CoreState) (
 still_connects now port c core connect rest did at awaits is (inl taken) =
     calm_move (first_losing now port c connect rest did at awaits is taken) (refl, refl, refl, λ x. refl)
 still_connects now port c core connect rest did at awaits is (inr other) =
-    declined port closed core (changes port (noted_proposed connect.keep_alive) (changes port (left_with now rest) core)) did
+    declined port closed_connection core (changes port (noted_proposed connect.keep_alive) (changes port (left_with now rest) core)) did
     (closed_asked connect.keep_alive port (changes port (left_with now rest) core) ∙ closed_left now port rest core) (closing port core) other
 
 still_begins : (now : ℕ) (port : Port) (c : Connection) (core : CoreState) (packet : Packet) (rest : List ℕ) (did : Account) → open_at port core ≡ Some c → is_first c.stage ≡ true
     → verdict c.unread ≡ Ok (packet, rest) → TakesFirstPacket port c.name packet (changes port (left_with now rest) core) did → Still core did
 still_begins now port c core (packets.Connect connect) rest did at awaits is runs = still_connects now port c core connect rest did at awaits is runs
 still_begins now port c core _ rest did at awaits is runs =
-    by_account core (changes port closed (changes port (left_with now rest) core)) did runs
+    by_account core (changes port closed_connection (changes port (left_with now rest) core)) did runs
     (subst (λ (k : CoreState). Calm core (without_messages k)) (sym (closed_left now port rest core)) (closing port core))
 
 failing_at : (port : Port) (core : CoreState) → Calm core (without_messages (changes port failing core))
@@ -208,7 +208,7 @@ still_says now port c core packet rest did at after_first is (inr other) = by ot
   where
     by : Shuts port other.one.core other.two → Still core did
     by (inl shut) =
-        declined port closed core (changes port (left_with now rest) core) did (closed_left now port rest core) (closing port core)
+        declined port closed_connection core (changes port (left_with now rest) core) did (closed_left now port rest core) (closing port core)
         (record { one = other.one; two = other.two; first = other.first; next = shut; is = other.is })
     by (inr fails_so) =
         declined port failing core (changes port (left_with now rest) core) did (failing_left now port rest core) (failing_at port core)
@@ -219,7 +219,7 @@ still_reads now port core did (waits c found more is) = by_none core did is
 still_reads now port core did (first c packet rest found awaits is runs) = still_begins now port c core packet rest did found awaits is runs
 still_reads now port core did (later c packet rest found after_first is runs) = still_says now port c core packet rest did found after_first is runs
 still_reads now port core did (refuses_it c code found awaits is runs) =
-    by_account core (changes port (refused code) core) did runs (calm_move (exactly (refuses port c code found awaits is)) (refl, refl, refl, λ x. refl))
+    by_account core (changes port (connect_refused code) core) did runs (calm_move (exactly (refuses port c code found awaits is)) (refl, refl, refl, λ x. refl))
 still_reads now port core did (ends may runs) = still_ends port core did runs
 
 -- ---- a step

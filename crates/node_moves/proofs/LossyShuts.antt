@@ -8,7 +8,7 @@ use Rattle.exactly_once.specs.broker_spec.Connection.{ConnectionName}
 use Rattle.exactly_once.specs.Sends.{sends_to}
 use Rattle.world_base.specs.declared.Connection.{Connection}
 use Rattle.world_base.specs.node_connections.Connections.{has_failed, is_open_named}
-use Rattle.world_base.specs.node_connections.ConnectionChanges.{noted_proposed, closed, failing, left_with}
+use Rattle.world_base.specs.node_connections.ConnectionChanges.{noted_proposed, closed_connection, failing, left_with}
 use Rattle.world_base.specs.Core.{CoreState, StepOutcome}
 use Rattle.world_base.specs.Lossy.{Account, Drives, TakesCommand}
 use Rattle.world_base.specs.Reading.{changes}
@@ -78,8 +78,8 @@ lossy_shuts core outcome forgets o x may = shuts_same (listed_named x core)
 lossy_shuts core outcome halts o x may = shuts_same (listed_named x core)
 lossy_shuts core outcome (fails port) o x may = at_shuts x port failing core o (λ z. refl) (failing_shuts [])
 lossy_shuts core outcome unheard o x may =
-    shuts_tested x has_failed closed core.connections (o.names x) (λ z. refl) (λ z failed. was_shut (failed_dead z failed) refl refl)
-lossy_shuts core outcome (drops port piece) o x may = at_shuts x port closed core o (λ z. refl) (λ z lives. shuts_closed z)
+    shuts_tested x has_failed closed_connection core.connections (o.names x) (λ z. refl) (λ z failed. was_shut (failed_dead z failed) refl refl)
+lossy_shuts core outcome (drops port piece) o x may = at_shuts x port closed_connection core o (λ z. refl) (λ z lives. shuts_closed z)
 
 -- ---- what is queued on an open connection
 

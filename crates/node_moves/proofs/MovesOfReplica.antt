@@ -15,7 +15,7 @@ use Rattle.exactly_once.specs.broker_spec.declared.command.Output.TheVariants as
 use Rattle.world_base.specs.declared.Port.{Port}
 use Rattle.world_base.specs.declared.Connection.{Connection}
 use Rattle.world_base.specs.node_connections.Connections.{fresh, is_at}
-use Rattle.world_base.specs.node_connections.ConnectionChanges.{noted_proposed, closed, left_with, put_out}
+use Rattle.world_base.specs.node_connections.ConnectionChanges.{noted_proposed, closed_connection, left_with, with_queued}
 use Rattle.world_base.specs.Core.{CoreState, StepOutcome, rules, serves}
 use Rattle.world_base.specs.Failing.{closes_failed}
 use Rattle.world_base.specs.Handing.{hands_over, left_by}
@@ -33,8 +33,8 @@ unfolding changes_named
 named_replica name f core = refl
 
 handled_replica : (core : CoreState) (e : Effect Command Output) → (with_effect core e).replica ≡ core.replica
-handled_replica core (Out place (outputs.Send name packet)) = named_replica name (put_out (spelling packet)) core
-handled_replica core (Out place (outputs.Close name)) = named_replica name closed core
+handled_replica core (Out place (outputs.Send name packet)) = named_replica name (with_queued (spelling packet)) core
+handled_replica core (Out place (outputs.Close name)) = named_replica name closed_connection core
 handled_replica core (To receiver message) = refl
 
 fold_replica : (core : CoreState) (effects : List (Effect Command Output)) → (fold with_effect core effects).replica ≡ core.replica
@@ -100,9 +100,9 @@ move_same core turn (holds port piece) calm = same_replica core turn.core (at_re
 move_same core turn (reads_first now port c connect rest at first is room) calm =
     after_same _ core (changes port (noted_proposed connect.keep_alive) (changes port (left_with now rest) core)) (at_replica port (noted_proposed connect.keep_alive) (changes port (left_with now rest) core) ∙ at_replica port (left_with now rest) core)
 move_same core turn (reads_later now port c packet rest at later is room) calm = after_same _ core (changes port (left_with now rest) core) (at_replica port (left_with now rest) core)
-move_same core turn (closes port) calm = same_replica core turn.core (at_replica port closed core)
+move_same core turn (closes port) calm = same_replica core turn.core (at_replica port closed_connection core)
 move_same core turn (refuses port c code at first is) calm = same_replica core turn.core (at_replica port _ core)
-move_same core turn (loses_one port c at asked_before) calm = after_same _ core (changes port closed core) (at_replica port closed core)
+move_same core turn (loses_one port c at asked_before) calm = after_same _ core (changes port closed_connection core) (at_replica port closed_connection core)
 move_same core turn (loses_next c at) calm = after_same _ core (closes_failed core) refl
 move_same core turn (expels_one client) calm = after_same _ core core refl
 move_same core turn settles calm = same_replica core (settled core) (settled_replica core)

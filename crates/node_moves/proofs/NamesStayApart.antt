@@ -21,7 +21,7 @@ use Rattle.world_base.specs.declared.item.Item.{Item}
 use Rattle.world_base.specs.declared.item.Item.TheVariants.{Peer, Tick, Opened, Bytes, Ended, Expel, Cut, Crash}
 use Rattle.world_base.specs.declared.Connection.{Connection}
 use Rattle.world_base.specs.node_connections.Connections.{fresh, has_failed, is_at, is_open_at, is_open_named}
-use Rattle.world_base.specs.node_connections.ConnectionChanges.{noted_proposed, closed, failing, holding, left_with, put_out, changed}
+use Rattle.world_base.specs.node_connections.ConnectionChanges.{noted_proposed, closed_connection, failing, with_unread, left_with, with_queued, changed_where}
 use Rattle.world_base.specs.Core.{CoreState, rules, serves}
 use Rattle.world_base.specs.Failing.{closes_failed}
 use Rattle.world_base.specs.Handing.{hands_over}
@@ -35,7 +35,7 @@ use Rattle.world_base.specs.LossyReading.EndsConnection.{none_open, unproposed, 
 use Rattle.world_base.specs.LossyReading.EndsSilent.{none_silent, ends_one}
 use Rattle.world_base.specs.LossyReading.LosesFailed.{none_failed, tells_one}
 use Rattle.world_base.specs.LossyReading.ReadsNext.{waits, first, later, refuses, ends}
-use Rattle.world_base.specs.Reading.{changes, open_at, refused, unread_of}
+use Rattle.world_base.specs.Reading.{changes, open_at, connect_refused, unread_of}
 use Rattle.world_base.specs.Step.{crashed, next_name, with_next_connection, settled, with_cut}
 use Rattle.world_base.specs.LossyStep.Cuts.{nothing_to_cut, cuts_log, forgets_cut}
 use Rattle.world_base.specs.Effects.{changes_named}
@@ -72,22 +72,22 @@ keep_both a b c one two o =
 
 -- who is not there does not come by a change
 gone_changed : (name test : Connection → Bool) (f : Connection → Connection) (cs : List Connection) → ((d : Connection) → name (f d) ≡ name d) →
-    find name cs ≡ None → find name (changed test f cs) ≡ None
+    find name cs ≡ None → find name (changed_where test f cs) ≡ None
 gone_changed name test f [] kept none = refl
 gone_changed name test f (c ∷ cs) kept none = by_name (name c) refl none (gone_changed name test f cs kept)
   where
-    by_test : (t : Bool) → name c ≡ false → find name cs ≡ None → find name (changed test f cs) ≡ None →
-        find name (if t then f c ∷ cs else c ∷ changed test f cs) ≡ None
+    by_test : (t : Bool) → name c ≡ false → find name cs ≡ None → find name (changed_where test f cs) ≡ None →
+        find name (if t then f c ∷ cs else c ∷ changed_where test f cs) ≡ None
     by_test true other e ih = let there : name (f c) ≡ false = kept c ∙ other in rw there e
     by_test false other e ih = rw other ih
 
     by_name : (n : Bool) → name c ≡ n → (if n then Some c else find name cs) ≡ None →
-        (find name cs ≡ None → find name (changed test f cs) ≡ None) → find name (changed test f (c ∷ cs)) ≡ None
+        (find name cs ≡ None → find name (changed_where test f cs) ≡ None) → find name (changed_where test f (c ∷ cs)) ≡ None
     by_name true is e ih = absurd (some_none c e)
     by_name false is e ih = by_test (test c) is e (ih e)
 
 keep_changed : (core new : CoreState) (test : Connection → Bool) (f : Connection → Connection) →
-    new.connections ≡ changed test f core.connections → new.last_name ≡ core.last_name →
+    new.connections ≡ changed_where test f core.connections → new.last_name ≡ core.last_name →
     core.replica.state.joined ≤ new.replica.state.joined → ((c : Connection) → (f c).name ≡ c.name) → Keep core new
 keep_changed core new test f are same up name o =
     record {
@@ -106,11 +106,11 @@ keep_named : (to : ConnectionName) (f : Connection → Connection) (core : CoreS
 unfolding changes_named
 keep_named to f core name = keep_changed core (changes_named to f core) (is_open_named to) f refl refl (same_le core.replica.state.joined) name
 
-keep_closed : (port : Port) (core : CoreState) → Keep core (changes port closed core)
-keep_closed port core = keep_at port closed core (λ c. refl)
+keep_closed : (port : Port) (core : CoreState) → Keep core (changes port closed_connection core)
+keep_closed port core = keep_at port closed_connection core (λ c. refl)
 
 keep_failed : (core : CoreState) → Keep core (closes_failed core)
-keep_failed core = keep_changed core (closes_failed core) has_failed closed refl refl (same_le core.replica.state.joined) (λ c. refl)
+keep_failed core = keep_changed core (closes_failed core) has_failed closed_connection refl refl (same_le core.replica.state.joined) (λ c. refl)
 
 -- ---- the replica
 
@@ -139,10 +139,10 @@ steps_up old new outcome given up (inr (inr (inr (state, rest)), counted)) =
 
 keep_served : (output : Output) (core new : CoreState) → Performs output core new → Keep core new
 keep_served (outputs.Send name packet) core new (inl is) =
-    subst (λ (k : CoreState). Keep core k) (sym is) (keep_named name (put_out (spelling packet)) core (put_out_name (spelling packet)))
+    subst (λ (k : CoreState). Keep core k) (sym is) (keep_named name (with_queued (spelling packet)) core (put_out_name (spelling packet)))
 keep_served (outputs.Send name packet) core new (inr is) =
     subst (λ (k : CoreState). Keep core k) (sym is) (keep_named name failing core (λ c. refl))
-keep_served (outputs.Close name) core new is = subst (λ (k : CoreState). Keep core k) (sym is) (keep_named name closed core (λ c. refl))
+keep_served (outputs.Close name) core new is = subst (λ (k : CoreState). Keep core k) (sym is) (keep_named name closed_connection core (λ c. refl))
 
 keep_delivered : (given : List (Effect Command Output)) (core new : CoreState) (messages : List (Effect Command Output)) →
     HandlesAll given core new messages → Keep core new
@@ -204,10 +204,10 @@ keep_asked command Otherwise on core did (inr other) = keep_then Declines Otherw
 
 keep_ended : (port : Port) (core : CoreState) (did : Account) → EndsConnection port core did → Keep core did.core
 keep_ended port core did (none_open none is) = by_account core core did is (keep_same core)
-keep_ended port core did (unproposed c found other is) = by_account core (changes port closed core) did is (keep_closed port core)
+keep_ended port core did (unproposed c found other is) = by_account core (changes port closed_connection core) did is (keep_closed port core)
 keep_ended port core did (proposed c found heard proposes) =
-    keep_both core (changes port closed core) did.core (keep_closed port core)
-    (keep_proposed (commands.Lost c.name) (changes port closed core) did proposes)
+    keep_both core (changes port closed_connection core) did.core (keep_closed port core)
+    (keep_proposed (commands.Lost c.name) (changes port closed_connection core) did proposes)
 
 keep_silent : (now : ℕ) (core : CoreState) (did : Account) → EndsSilent now core did → Keep core did.core
 keep_silent now core did (none_silent none is) = by_account core core did is (keep_same core)
@@ -222,7 +222,7 @@ keep_lost core did (tells_one c found proposes) =
 -- ---- reads
 
 keep_shut : (port : Port) (core : CoreState) (did : Account) → ClosesConnection port core did → Keep core did.core
-keep_shut port core did is = by_account core (changes port closed core) did is (keep_closed port core)
+keep_shut port core did is = by_account core (changes port closed_connection core) did is (keep_closed port core)
 
 keep_shuts : (port : Port) (core : CoreState) (did : Account) → Shuts port core did → Keep core did.core
 keep_shuts port core did (inl is) = keep_shut port core did is
@@ -248,7 +248,7 @@ keep_read now port core did (later c packet rest found after_first is runs) =
     keep_both core (changes port (left_with now rest) core) did.core (keep_left port now rest core)
     (keep_asked (commands.Packet c.name packet) (Shuts port) (keep_shuts port) (changes port (left_with now rest) core) did runs)
 keep_read now port core did (refuses c code found awaits is runs) =
-    by_account core (changes port (refused code) core) did runs (keep_at port (refused code) core (λ c. refl))
+    by_account core (changes port (connect_refused code) core) did runs (keep_at port (connect_refused code) core (λ c. refl))
 keep_read now port core did (ends may runs) = keep_ended port core did runs
 
 -- ---- a connection is opened
@@ -298,7 +298,7 @@ keep_item (Bytes port piece now) core did runs =
     (record { one = runs.one; two = runs.two; first = runs.first; next = runs.next; is = runs.is })
   where
     held : (k : CoreState) (d : Account) → HoldsBytes port piece k d → Keep k d.core
-    held k d (inl is) = by_account k (changes port (holding piece) k) d is (keep_at port (holding piece) k (λ c. refl))
+    held k d (inl is) = by_account k (changes port (with_unread piece) k) d is (keep_at port (with_unread piece) k (λ c. refl))
     held k d (inr ended) = keep_ended port k d ended
 keep_item (Ended port) core did runs = keep_ended port core did runs
 keep_item (Expel client) core did runs = keep_proposed (commands.Expel client) core did runs

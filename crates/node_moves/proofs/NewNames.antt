@@ -7,7 +7,7 @@ use Rattle.exactly_once.proofs.of_broker_spec.ConnectionNames.{same_name}
 use Rattle.world_base.specs.declared.Port.{Port}
 use Rattle.world_base.specs.declared.Connection.{Connection}
 use Rattle.world_base.specs.node_connections.Connections.{fresh, is_at, is_listed}
-use Rattle.world_base.specs.node_connections.ConnectionChanges.{closed, handed, changed}
+use Rattle.world_base.specs.node_connections.ConnectionChanges.{closed_connection, nothing_pending, changed_where}
 use Rattle.world_base.specs.Core.{CoreState, serves}
 use Rattle.world_base.specs.Handing.{hands_over, left_by}
 use Rattle.world_base.specs.Step.{next_name, with_next_connection, settled}
@@ -54,10 +54,10 @@ pub settled_away : (x : ConnectionName) (core : CoreState) (d : Connection) → 
 unfolding settled
 settled_away x core d o none there = by (serves core) there
   where
-    by : (b : Bool) → view all (named x) (filter is_listed (if b then core.connections else map closed core.connections)) ≡ Some d → ⊥
+    by : (b : Bool) → view all (named x) (filter is_listed (if b then core.connections else map closed_connection core.connections)) ≡ Some d → ⊥
     by true f = some_none d (sym (found_filtered x is_listed core.connections d (o.names x) f).0 ∙ none)
     by false f =
-        let g = found_filtered x is_listed (map closed core.connections) d (one_mapped (named x) closed core.connections (λ z. refl) (o.names x)) f in
+        let g = found_filtered x is_listed (map closed_connection core.connections) d (one_mapped (named x) closed_connection core.connections (λ z. refl) (o.names x)) f in
         let h = found_mapped x core.connections d g.0 in
         some_none h.0 (sym h.1 ∙ none)
 
@@ -67,18 +67,18 @@ unfolding hands_over
 handed_away x port core d o none there = by (find (is_at port) core.connections) refl there
   where
     on : (c : Connection) → find (is_at port) core.connections ≡ Some c → (b : Bool) → named x c ≡ b
-        → view all (named x) (changed (is_at port) handed core.connections) ≡ Some d → ⊥
+        → view all (named x) (changed_where (is_at port) nothing_pending core.connections) ≡ Some d → ⊥
     on c found true is f =
-        some_none c (sym (view_of_changed all (named x) (is_at port) handed core.connections c (o.names x) (λ z t. refl) (named_kept x handed (λ z. refl)) found is).0 ∙ none)
+        some_none c (sym (view_of_changed all (named x) (is_at port) nothing_pending core.connections c (o.names x) (λ z t. refl) (named_kept x nothing_pending (λ z. refl)) found is).0 ∙ none)
     on c found false other f =
-        some_none d (sym (sym (view_of_others all (named x) (is_at port) handed core.connections c (named_kept x handed (λ z. refl)) found other) ∙ f) ∙ none)
+        some_none d (sym (sym (view_of_others all (named x) (is_at port) nothing_pending core.connections c (named_kept x nothing_pending (λ z. refl)) found other) ∙ f) ∙ none)
 
     by : (q : Option Connection) → find (is_at port) core.connections ≡ q → listed_named x (left_by port core q) ≡ Some d → ⊥
     by None found f = some_none d (sym f ∙ none)
     by (Some c) found f =
         on c found (named x c) refl
-        (found_filtered x is_listed (changed (is_at port) handed core.connections) d
-        (one_changed (named x) (is_at port) handed core.connections (λ z. refl) (o.names x)) f).0
+        (found_filtered x is_listed (changed_where (is_at port) nothing_pending core.connections) d
+        (one_changed (named x) (is_at port) nothing_pending core.connections (λ z. refl) (o.names x)) f).0
 
 pub new_names_are_of_the_ballot : NewNamesAreOfTheBallot
 new_names_are_of_the_ballot core turn (opens_one port) o x d none there = opened_new x port core d none there

@@ -9,7 +9,7 @@ use Rattle.exactly_once.specs.Sends.{sends_to}
 use Rattle.world_base.specs.declared.Port.{Port}
 use Rattle.world_base.specs.declared.Connection.{Connection}
 use Rattle.world_base.specs.node_connections.Connections.{fresh, has_failed, is_at, is_failed, is_listed, is_closed}
-use Rattle.world_base.specs.node_connections.ConnectionChanges.{noted_proposed, closed, handed, holding, left_with, changed}
+use Rattle.world_base.specs.node_connections.ConnectionChanges.{noted_proposed, closed_connection, nothing_pending, with_unread, left_with, changed_where}
 use Rattle.world_base.specs.declared.ConnectionStage.{ConnectionStage}
 use Rattle.world_base.specs.declared.ConnectionStage.TheVariants.{Awaits, Proposed, Closed, Failed}
 use Rattle.world_base.specs.Failing.{closes_failed}
@@ -91,16 +91,16 @@ settled_closed : (x : ConnectionName) (core : CoreState) (d : Connection) → Is
 unfolding settled
 settled_closed x core d o e over = by (serves core) e
   where
-    mapped : (c : Connection) → view all (named x) core.connections ≡ Some c → d ≡ closed c → (b : Bool) → live c ≡ b → IsExactlyClosedBy x (let m : Moves core _ = settles in m) d
+    mapped : (c : Connection) → view all (named x) core.connections ≡ Some c → d ≡ closed_connection c → (b : Bool) → live c ≡ b → IsExactlyClosedBy x (let m : Moves core _ = settles in m) d
     mapped c there is true lives =
         closes_now c [] (listed_open x core.connections c there lives) (ap (λ (z : Connection). z.pending) is ∙ sym (append-nil c.pending)) (record { rest = []; is = refl })
     mapped c there is false dead = was_closed c there (over_if (is_closed c.stage) dead) (ap (λ (z : Connection). z.pending) is)
 
-    by : (b : Bool) → view all (named x) (filter is_listed (if b then core.connections else map closed core.connections)) ≡ Some d
+    by : (b : Bool) → view all (named x) (filter is_listed (if b then core.connections else map closed_connection core.connections)) ≡ Some d
         → IsExactlyClosedBy x (let m : Moves core _ = settles in m) d
     by true f = was_closed d (found_filtered x is_listed core.connections d (o.names x) f).0 over refl
     by false f =
-        let g = found_filtered x is_listed (map closed core.connections) d (one_mapped (named x) closed core.connections (λ z. refl) (o.names x)) f in
+        let g = found_filtered x is_listed (map closed_connection core.connections) d (one_mapped (named x) closed_connection core.connections (λ z. refl) (o.names x)) f in
         let h = found_mapped x core.connections d g.0 in
         mapped h.0 h.1 h.2 (live h.0) refl
 
@@ -109,7 +109,7 @@ handed_closed : (x : ConnectionName) (port : Port) (core : CoreState) (d : Conne
 unfolding hands_over
 handed_closed x port core d o e over = by (find (is_at port) core.connections) refl e
   where
-    done : (c : Connection) → d ≡ handed c → is_listed d ≡ true → ⊥
+    done : (c : Connection) → d ≡ nothing_pending c → is_listed d ≡ true → ⊥
     done c is listed =
         let p : d.pending ≡ [] = ap (λ (z : Connection). z.pending) is in
         both_ways (is_listed d) (rest (is_closed d.stage) d.pending over p) listed
@@ -118,19 +118,19 @@ handed_closed x port core d o e over = by (find (is_at port) core.connections) r
         rest b bytes f g = rw (f, g) refl
 
     on : (c : Connection) → find (is_at port) core.connections ≡ Some c → (b : Bool) → named x c ≡ b
-        → (view all (named x) (changed (is_at port) handed core.connections) ≡ Some d) × (is_listed d ≡ true) → view all (named x) core.connections ≡ Some d
+        → (view all (named x) (changed_where (is_at port) nothing_pending core.connections) ≡ Some d) × (is_listed d ≡ true) → view all (named x) core.connections ≡ Some d
     on c found true is (f, listed) =
-        let two = view_of_changed all (named x) (is_at port) handed core.connections c (o.names x) (λ z t. refl) (named_kept x handed (λ z. refl)) found is in
-        absurd (done c (sym (same_some (handed c) d (sym two.1 ∙ f))) listed)
+        let two = view_of_changed all (named x) (is_at port) nothing_pending core.connections c (o.names x) (λ z t. refl) (named_kept x nothing_pending (λ z. refl)) found is in
+        absurd (done c (sym (same_some (nothing_pending c) d (sym two.1 ∙ f))) listed)
     on c found false other (f, listed) =
-        sym (view_of_others all (named x) (is_at port) handed core.connections c (named_kept x handed (λ z. refl)) found other) ∙ f
+        sym (view_of_others all (named x) (is_at port) nothing_pending core.connections c (named_kept x nothing_pending (λ z. refl)) found other) ∙ f
 
     by : (q : Option Connection) → find (is_at port) core.connections ≡ q → listed_named x (left_by port core q) ≡ Some d → listed_named x core ≡ Some d
     by None found f = f
     by (Some c) found f =
         on c found (named x c) refl
-        (found_filtered x is_listed (changed (is_at port) handed core.connections) d
-        (one_changed (named x) (is_at port) handed core.connections (λ z. refl) (o.names x)) f)
+        (found_filtered x is_listed (changed_where (is_at port) nothing_pending core.connections) d
+        (one_changed (named x) (is_at port) nothing_pending core.connections (λ z. refl) (o.names x)) f)
 
 -- ---- the law
 
@@ -155,7 +155,7 @@ Changes _ = Unit {0}
 pub move_shuts : (core : CoreState) (outcome : StepOutcome) (m : Moves core outcome) → IsOrderly core → (x : ConnectionName) → Changes m
     → Shuts (sent_in x m) (listed_named x core) (listed_named x outcome.core)
 move_shuts core outcome (hears input other) o x may = driven_shuts x input core o
-move_shuts core outcome (holds port piece) o x may = at_shuts x port (holding piece) core o (λ z. refl) (holding_shuts piece)
+move_shuts core outcome (holds port piece) o x may = at_shuts x port (with_unread piece) core o (λ z. refl) (holding_shuts piece)
 move_shuts core outcome (reads_first now port c connect rest at first is room) o x may =
     let left : CoreState = changes port (left_with now rest) core in
     let ordered = at_orderly port (left_with now rest) core o (λ z. refl) in
@@ -167,16 +167,16 @@ move_shuts core outcome (reads_later now port c packet rest at later is room) o 
     with_room x _ core (changes port (left_with now rest) core) room
     (after_shuts x _ core (changes port (left_with now rest) core) (at_shuts x port (left_with now rest) core o (λ z. refl) (left_shuts now rest))
     (at_orderly port (left_with now rest) core o (λ z. refl)) (at_replica port (left_with now rest) core))
-move_shuts core outcome (closes port) o x may = at_shuts x port closed core o (λ z. refl) (λ z lives. shuts_closed z)
+move_shuts core outcome (closes port) o x may = at_shuts x port closed_connection core o (λ z. refl) (λ z lives. shuts_closed z)
 move_shuts core outcome (refuses port c code at first is) o x may =
     subst (λ l. Shuts (spelled l) (listed_named x core) (listed_named x outcome.core)) (sym (append-nil (exact_refusal x {core = core} (refuses port c code at first is))))
     (refused_shuts x port c code core o at)
 move_shuts core outcome (loses_one port c at asked_before) o x may =
-    after_shuts x _ core (changes port closed core) (at_shuts x port closed core o (λ z. refl) (λ z lives. shuts_closed z))
-    (at_orderly port closed core o (λ z. refl)) (at_replica port closed core)
+    after_shuts x _ core (changes port closed_connection core) (at_shuts x port closed_connection core o (λ z. refl) (λ z lives. shuts_closed z))
+    (at_orderly port closed_connection core o (λ z. refl)) (at_replica port closed_connection core)
 move_shuts core outcome (loses_next c at) o x may =
     after_shuts x _ core (closes_failed core)
-    (shuts_tested x has_failed closed core.connections (o.names x) (λ z. refl) (λ z failed. was_shut (failed_dead z failed) refl refl)) (stays_failed core o).orderly refl
+    (shuts_tested x has_failed closed_connection core.connections (o.names x) (λ z. refl) (λ z failed. was_shut (failed_dead z failed) refl refl)) (stays_failed core o).orderly refl
 move_shuts core outcome (expels_one client) o x may = after_shuts x _ core core (shuts_same (listed_named x core)) o refl
 move_shuts core outcome (cuts_log can) o x may = shuts_same (listed_named x core)
 move_shuts core outcome crashes o x may = shuts_same (listed_named x core)

@@ -6,7 +6,7 @@ use Rattle.exactly_once.specs.broker_spec.Connection.{ConnectionName}
 use Rattle.world_base.specs.declared.Port.{Port}
 use Rattle.world_base.specs.declared.Connection.{Connection}
 use Rattle.world_base.specs.node_connections.Connections.{is_at, is_listed, is_closed}
-use Rattle.world_base.specs.node_connections.ConnectionChanges.{closed, handed, changed}
+use Rattle.world_base.specs.node_connections.ConnectionChanges.{closed_connection, nothing_pending, changed_where}
 use Rattle.world_base.specs.Core.{CoreState, serves}
 use Rattle.world_base.specs.Handing.{hands_over, left_by}
 use Rattle.world_base.specs.Step.{settled}
@@ -51,11 +51,11 @@ pub settled_open : (x : ConnectionName) (core : CoreState) (d : Connection) → 
 unfolding settled
 settled_open x core d o e lives = by (serves core) refl e
   where
-    by : (b : Bool) → serves core ≡ b → view all (named x) (filter is_listed (if b then core.connections else map closed core.connections)) ≡ Some d
+    by : (b : Bool) → serves core ≡ b → view all (named x) (filter is_listed (if b then core.connections else map closed_connection core.connections)) ≡ Some d
         → (b ≡ true) × (listed_named x core ≡ Some d)
     by true leads f = (refl, (found_filtered x is_listed core.connections d (o.names x) f).0)
     by false leads f =
-        let g = found_filtered x is_listed (map closed core.connections) d (one_mapped (named x) closed core.connections (λ z. refl) (o.names x)) f in
+        let g = found_filtered x is_listed (map closed_connection core.connections) d (one_mapped (named x) closed_connection core.connections (λ z. refl) (o.names x)) f in
         let h = found_mapped x core.connections d g.0 in
         let over : is_closed d.stage ≡ true = ap (λ (z : Connection). is_closed z.stage) h.2 in
         absurd (both_ways (is_closed d.stage) lives over)
@@ -66,17 +66,17 @@ unfolding hands_over
 handed_open x port core d o e lives = by (find (is_at port) core.connections) refl e
   where
     on : (c : Connection) → find (is_at port) core.connections ≡ Some c → (b : Bool) → named x c ≡ b
-        → view all (named x) (changed (is_at port) handed core.connections) ≡ Some d → (z : Connection) × (listed_named x core ≡ Some z) × (is_closed z.stage ≡ false)
+        → view all (named x) (changed_where (is_at port) nothing_pending core.connections) ≡ Some d → (z : Connection) × (listed_named x core ≡ Some z) × (is_closed z.stage ≡ false)
     on c found true is f =
-        let two = view_of_changed all (named x) (is_at port) handed core.connections c (o.names x) (λ z t. refl) (named_kept x handed (λ z. refl)) found is in
-        (c, two.0, ap (λ (z : Connection). is_closed z.stage) (same_some (handed c) d (sym two.1 ∙ f)) ∙ lives)
+        let two = view_of_changed all (named x) (is_at port) nothing_pending core.connections c (o.names x) (λ z t. refl) (named_kept x nothing_pending (λ z. refl)) found is in
+        (c, two.0, ap (λ (z : Connection). is_closed z.stage) (same_some (nothing_pending c) d (sym two.1 ∙ f)) ∙ lives)
     on c found false other f =
-        (d, sym (view_of_others all (named x) (is_at port) handed core.connections c (named_kept x handed (λ z. refl)) found other) ∙ f, lives)
+        (d, sym (view_of_others all (named x) (is_at port) nothing_pending core.connections c (named_kept x nothing_pending (λ z. refl)) found other) ∙ f, lives)
 
     by : (q : Option Connection) → find (is_at port) core.connections ≡ q → listed_named x (left_by port core q) ≡ Some d
         → (z : Connection) × (listed_named x core ≡ Some z) × (is_closed z.stage ≡ false)
     by None found f = (d, f, lives)
     by (Some c) found f =
         on c found (named x c) refl
-        (found_filtered x is_listed (changed (is_at port) handed core.connections) d
-        (one_changed (named x) (is_at port) handed core.connections (λ z. refl) (o.names x)) f).0
+        (found_filtered x is_listed (changed_where (is_at port) nothing_pending core.connections) d
+        (one_changed (named x) (is_at port) nothing_pending core.connections (λ z. refl) (o.names x)) f).0

@@ -22,10 +22,10 @@ use Rattle.world_base.specs.ballot_base.Protocol.{Input}
 use Rattle.world_base.specs.ballot_base.Replica.{CountedReplica, ReplicaState}
 use Rattle.world_base.specs.Step.{settled, with_next_connection}
 use Rattle.world_base.specs.node_connections.Connections.{is_listed, is_at, is_open_at, is_open_named}
-use Rattle.world_base.specs.node_connections.ConnectionChanges.{noted_proposed, holding, left_with, max_pending, closed, failing, put_out, putting, changed}
+use Rattle.world_base.specs.node_connections.ConnectionChanges.{noted_proposed, with_unread, left_with, max_pending, closed_connection, failing, with_queued, putting, changed_where}
 use Rattle.world_base.specs.Core.{CoreState, StepOutcome, rules, serves}
 use Rattle.world_base.specs.Failing.{closes_failed}
-use Rattle.world_base.specs.Reading.{changes, refused}
+use Rattle.world_base.specs.Reading.{changes, connect_refused}
 use Rattle.world_base.specs.Effects.{without_messages, after_replica_step, with_effect, proposes, changes_named, drives, outcome_of_input, has_room}
 use Rattle.node_moves.specs.Ends.{AtMostOne, IsOrderly, open_named}
 use Rattle.node_moves.specs.Moves.{Moves}
@@ -60,35 +60,35 @@ if_still bytes c d false e = gone
 -- one that is found is changed
 puts_found : (x : ConnectionName) (test : Connection → Bool) (f : Connection → Connection) (cs : List Connection) (c : Connection) (bytes : List ℕ) → AtMostOne (named x) cs
     → ((d : Connection) → test d ≡ true → live d ≡ true) → ((d : Connection) → (f d).name ≡ d.name) → find test cs ≡ Some c → named x c ≡ true
-    → (live (f c) ≡ true → (f c).pending ≡ c.pending ++ bytes) → Puts bytes (view live (named x) cs) (view live (named x) (changed test f cs))
+    → (live (f c) ≡ true → (f c).pending ≡ c.pending ++ bytes) → Puts bytes (view live (named x) cs) (view live (named x) (changed_where test f cs))
 puts_found x test f cs c bytes one lives name found is pending =
     let two = view_of_changed live (named x) test f cs c one lives (named_kept x f name) found is in
-    subst (λ (o : Option Connection). Puts bytes o (view live (named x) (changed test f cs))) (sym two.0)
+    subst (λ (o : Option Connection). Puts bytes o (view live (named x) (changed_where test f cs))) (sym two.0)
     (subst (Puts bytes (Some c)) (sym two.1) (if_still bytes c (f c) (live (f c)) pending))
 
 puts_others : (x : ConnectionName) (test : Connection → Bool) (f : Connection → Connection) (cs : List Connection) (c : Connection)
-    → ((d : Connection) → (f d).name ≡ d.name) → find test cs ≡ Some c → named x c ≡ false → Puts [] (view live (named x) cs) (view live (named x) (changed test f cs))
+    → ((d : Connection) → (f d).name ≡ d.name) → find test cs ≡ Some c → named x c ≡ false → Puts [] (view live (named x) cs) (view live (named x) (changed_where test f cs))
 puts_others x test f cs c name found other =
     subst (Puts [] (view live (named x) cs)) (sym (view_of_others live (named x) test f cs c (named_kept x f name) found other)) (puts_none (view live (named x) cs))
 
 -- a change that queues nothing
 puts_nothing : (x : ConnectionName) (test : Connection → Bool) (f : Connection → Connection) (cs : List Connection) → AtMostOne (named x) cs
     → ((d : Connection) → test d ≡ true → live d ≡ true) → ((d : Connection) → (f d).name ≡ d.name) → ((d : Connection) → (f d).pending ≡ d.pending)
-    → Puts [] (view live (named x) cs) (view live (named x) (changed test f cs))
+    → Puts [] (view live (named x) cs) (view live (named x) (changed_where test f cs))
 puts_nothing x test f cs one lives name pending = by (find test cs) refl
   where
-    on : (c : Connection) → find test cs ≡ Some c → (b : Bool) → named x c ≡ b → Puts [] (view live (named x) cs) (view live (named x) (changed test f cs))
+    on : (c : Connection) → find test cs ≡ Some c → (b : Bool) → named x c ≡ b → Puts [] (view live (named x) cs) (view live (named x) (changed_where test f cs))
     on c e true is = puts_found x test f cs c [] one lives name e is (λ _. pending c ∙ sym (append-nil c.pending))
     on c e false other = puts_others x test f cs c name e other
 
-    by : (o : Option Connection) → find test cs ≡ o → Puts [] (view live (named x) cs) (view live (named x) (changed test f cs))
+    by : (o : Option Connection) → find test cs ≡ o → Puts [] (view live (named x) cs) (view live (named x) (changed_where test f cs))
     by None e = subst (λ (l : List Connection). Puts [] (view live (named x) cs) (view live (named x) l)) (sym (none_changes test f cs e)) (puts_none (view live (named x) cs))
     by (Some c) e = on c e (named x c) refl
 
 -- ---- one output
 
 -- bytes are queued, if the connection stays open
-put_out_pending : (bytes : List ℕ) (c : Connection) → live (put_out bytes c) ≡ true → (put_out bytes c).pending ≡ c.pending ++ bytes
+put_out_pending : (bytes : List ℕ) (c : Connection) → live (with_queued bytes c) ≡ true → (with_queued bytes c).pending ≡ c.pending ++ bytes
 put_out_pending bytes c = by (nat_le (length c.pending + length bytes) max_pending)
   where
     by : (b : Bool) → live (if b then putting bytes c else failing c) ≡ true
@@ -97,7 +97,7 @@ put_out_pending bytes c = by (nat_le (length c.pending + length bytes) max_pendi
     by false lives = let over = failing_over c in absurd cc
 
 sent_list : (x name : ConnectionName) (bytes : List ℕ) (cs : List Connection) → AtMostOne (named x) cs → (b : Bool) → same_connection x name ≡ b
-    → Puts (if b then bytes else []) (view live (named x) cs) (view live (named x) (changed (is_open_named name) (put_out bytes) cs))
+    → Puts (if b then bytes else []) (view live (named x) cs) (view live (named x) (changed_where (is_open_named name) (with_queued bytes) cs))
 sent_list x name bytes cs one true e = by (find (is_open_named x) cs) refl
   where
     same : x ≡ name
@@ -110,16 +110,16 @@ sent_list x name bytes cs one true e = by (find (is_open_named x) cs) refl
     right true b t = t
     right false b t = absurd cc
 
-    there : (o : Option Connection) → find (is_open_named x) cs ≡ o → Puts bytes (view live (named x) cs) (view live (named x) (changed (is_open_named x) (put_out bytes) cs))
+    there : (o : Option Connection) → find (is_open_named x) cs ≡ o → Puts bytes (view live (named x) cs) (view live (named x) (changed_where (is_open_named x) (with_queued bytes) cs))
     there None f =
-        subst (λ (l : List Connection). Puts bytes (view live (named x) cs) (view live (named x) l)) (sym (none_changes (is_open_named x) (put_out bytes) cs f))
+        subst (λ (l : List Connection). Puts bytes (view live (named x) cs) (view live (named x) l)) (sym (none_changes (is_open_named x) (with_queued bytes) cs f))
         (subst (λ (o : Option Connection). Puts bytes o o) (sym f) nobody)
     there (Some c) f =
-        puts_found x (is_open_named x) (put_out bytes) cs c bytes one lives (put_out_name bytes) f (right (live c) (named x c) (found_passes (is_open_named x) cs c f))
+        puts_found x (is_open_named x) (with_queued bytes) cs c bytes one lives (put_out_name bytes) f (right (live c) (named x c) (found_passes (is_open_named x) cs c f))
         (put_out_pending bytes c)
 
-    by : (o : Option Connection) → find (is_open_named x) cs ≡ o → Puts bytes (view live (named x) cs) (view live (named x) (changed (is_open_named name) (put_out bytes) cs))
-    by o f = subst (λ (y : ConnectionName). Puts bytes (view live (named x) cs) (view live (named x) (changed (is_open_named y) (put_out bytes) cs))) same (there o f)
+    by : (o : Option Connection) → find (is_open_named x) cs ≡ o → Puts bytes (view live (named x) cs) (view live (named x) (changed_where (is_open_named name) (with_queued bytes) cs))
+    by o f = subst (λ (y : ConnectionName). Puts bytes (view live (named x) cs) (view live (named x) (changed_where (is_open_named y) (with_queued bytes) cs))) same (there o f)
 sent_list x name bytes cs one false e = by (find (is_open_named name) cs) refl
   where
     right : (a b : Bool) → (a && b) ≡ true → b ≡ true
@@ -133,13 +133,13 @@ sent_list x name bytes cs one false e = by (find (is_open_named name) cs) refl
         sym itself ∙ e
     flip c is false f = refl
 
-    by : (o : Option Connection) → find (is_open_named name) cs ≡ o → Puts [] (view live (named x) cs) (view live (named x) (changed (is_open_named name) (put_out bytes) cs))
+    by : (o : Option Connection) → find (is_open_named name) cs ≡ o → Puts [] (view live (named x) cs) (view live (named x) (changed_where (is_open_named name) (with_queued bytes) cs))
     by None f =
-        subst (λ (l : List Connection). Puts [] (view live (named x) cs) (view live (named x) l)) (sym (none_changes (is_open_named name) (put_out bytes) cs f))
+        subst (λ (l : List Connection). Puts [] (view live (named x) cs) (view live (named x) l)) (sym (none_changes (is_open_named name) (with_queued bytes) cs f))
         (puts_none (view live (named x) cs))
     by (Some c) f =
         let is = same_name c.name name (right (live c) (named name c) (found_passes (is_open_named name) cs c f)) in
-        puts_others x (is_open_named name) (put_out bytes) cs c (put_out_name bytes) f (flip c is (named x c) refl)
+        puts_others x (is_open_named name) (with_queued bytes) cs c (put_out_name bytes) f (flip c is (named x c) refl)
 
 -- ---- what a step of the replica gives
 
@@ -160,21 +160,21 @@ bytes_join x (Out place (outputs.Send name packet)) effects = by (same_connectio
     by false = refl
 
 named_puts : (x name : ConnectionName) (f : Connection → Connection) (core : CoreState) (bytes : List ℕ)
-    → Puts bytes (open_named x core) (view live (named x) (changed (is_open_named name) f core.connections)) → Puts bytes (open_named x core) (open_named x (changes_named name f core))
+    → Puts bytes (open_named x core) (view live (named x) (changed_where (is_open_named name) f core.connections)) → Puts bytes (open_named x core) (open_named x (changes_named name f core))
 unfolding changes_named
 named_puts x name f core bytes h = h
 
 handled_puts : (x : ConnectionName) (core : CoreState) (e : Effect Command Output) → IsOrderly core → Puts (bytes_for x (e ∷ [])) (open_named x core) (open_named x (with_effect core e))
 handled_puts x core (To receiver message) o = puts_none (open_named x core)
 handled_puts x core (Out place (outputs.Close name)) o =
-    named_puts x name closed core []
-    (puts_nothing x (is_open_named name) closed core.connections (o.names x) (λ d e. left_true (live d) (named name d) e) (λ d. refl) (λ d. refl))
+    named_puts x name closed_connection core []
+    (puts_nothing x (is_open_named name) closed_connection core.connections (o.names x) (λ d e. left_true (live d) (named name d) e) (λ d. refl) (λ d. refl))
 handled_puts x core (Out place (outputs.Send name packet)) o =
-    named_puts x name (put_out (spelling packet)) core (spelled (if same_connection x name then packet ∷ [] else []))
+    named_puts x name (with_queued (spelling packet)) core (spelled (if same_connection x name then packet ∷ [] else []))
     (by (same_connection x name) (sent_list x name (spelling packet) core.connections (o.names x) (same_connection x name) refl))
   where
     after : Option Connection
-    after = view live (named x) (changed (is_open_named name) (put_out (spelling packet)) core.connections)
+    after = view live (named x) (changed_where (is_open_named name) (with_queued (spelling packet)) core.connections)
 
     by : (b : Bool) → Puts (if b then spelling packet else []) (open_named x core) after → Puts (spelled (if b then packet ∷ [] else [])) (open_named x core) after
     by true h = subst (λ (l : List ℕ). Puts l (open_named x core) after) (sym (append-nil (spelling packet))) h
@@ -262,33 +262,33 @@ settled_puts x core = by (serves core)
     nothing_left None = nobody
     nothing_left (Some c) = gone
 
-    by : (b : Bool) → Puts [] (open_named x core) (view live (named x) (filter is_listed (if b then core.connections else map closed core.connections)))
+    by : (b : Bool) → Puts [] (open_named x core) (view live (named x) (filter is_listed (if b then core.connections else map closed_connection core.connections)))
     by true = subst (Puts [] (open_named x core)) (sym (view_filtered live (named x) is_listed core.connections unlisted_dead)) (puts_none (open_named x core))
     by false =
-        subst (Puts [] (open_named x core)) (sym (view_filtered live (named x) is_listed (map closed core.connections) unlisted_dead ∙ all_closed x core.connections))
+        subst (Puts [] (open_named x core)) (sym (view_filtered live (named x) is_listed (map closed_connection core.connections) unlisted_dead ∙ all_closed x core.connections))
         (nothing_left (open_named x core))
 
 -- a change that closes the connection
 closing_puts : (x : ConnectionName) (port : Port) (f : Connection → Connection) (cs : List Connection) → AtMostOne (named x) cs → ((d : Connection) → (f d).name ≡ d.name)
-    → ((d : Connection) → live (f d) ≡ false) → Puts [] (view live (named x) cs) (view live (named x) (changed (is_open_at port) f cs))
+    → ((d : Connection) → live (f d) ≡ false) → Puts [] (view live (named x) cs) (view live (named x) (changed_where (is_open_at port) f cs))
 closing_puts x port f cs one name over = by (find (is_open_at port) cs) refl
   where
     on : (c : Connection) → find (is_open_at port) cs ≡ Some c → (b : Bool) → named x c ≡ b
-        → Puts [] (view live (named x) cs) (view live (named x) (changed (is_open_at port) f cs))
+        → Puts [] (view live (named x) cs) (view live (named x) (changed_where (is_open_at port) f cs))
     on c e true is =
         let two = view_of_changed live (named x) (is_open_at port) f cs c one (λ d t. left_true (live d) (is_at port d) t) (named_kept x f name) e is in
         let none : if_live live (f c) ≡ None = rw (over c) refl in
-        subst (λ (o : Option Connection). Puts [] o (view live (named x) (changed (is_open_at port) f cs))) (sym two.0) (subst (Puts [] (Some c)) (sym (two.1 ∙ none)) gone)
+        subst (λ (o : Option Connection). Puts [] o (view live (named x) (changed_where (is_open_at port) f cs))) (sym two.0) (subst (Puts [] (Some c)) (sym (two.1 ∙ none)) gone)
     on c e false other = puts_others x (is_open_at port) f cs c name e other
 
-    by : (o : Option Connection) → find (is_open_at port) cs ≡ o → Puts [] (view live (named x) cs) (view live (named x) (changed (is_open_at port) f cs))
+    by : (o : Option Connection) → find (is_open_at port) cs ≡ o → Puts [] (view live (named x) cs) (view live (named x) (changed_where (is_open_at port) f cs))
     by None e =
         subst (λ (l : List Connection). Puts [] (view live (named x) cs) (view live (named x) l)) (sym (none_changes (is_open_at port) f cs e)) (puts_none (view live (named x) cs))
     by (Some c) e = on c e (named x c) refl
 
-refused_puts : (x : ConnectionName) (port : Port) (code : RefusalCode) (core : CoreState) → IsOrderly core → Puts [] (open_named x core) (open_named x (changes port (refused code) core))
+refused_puts : (x : ConnectionName) (port : Port) (code : RefusalCode) (core : CoreState) → IsOrderly core → Puts [] (open_named x core) (open_named x (changes port (connect_refused code) core))
 unfolding changes
-refused_puts x port code core o = closing_puts x port (refused code) core.connections (o.names x) (λ d. refl) (λ d. refl)
+refused_puts x port code core o = closing_puts x port (connect_refused code) core.connections (o.names x) (λ d. refl) (λ d. refl)
 
 opened_puts : (x : ConnectionName) (port : Port) (core : CoreState) (c : Connection) → IsOrderly core → open_named x core ≡ Some c
     → Puts [] (open_named x core) (open_named x (with_next_connection port core))
@@ -300,7 +300,7 @@ all_puts : (core : CoreState) (turn : StepOutcome) (m : Moves core turn) → IsO
     → Puts (bytes_for x (move_effects m)) (open_named x core) (open_named x turn.core)
 all_puts core turn (hears input other) o no_hand x c there = driven_puts x input core o
 all_puts core turn (opens_one port) o no_hand x c there = opened_puts x port core c o there
-all_puts core turn (holds port piece) o no_hand x c there = at_puts x port (holding piece) core o (λ d. refl) (λ d. refl)
+all_puts core turn (holds port piece) o no_hand x c there = at_puts x port (with_unread piece) core o (λ d. refl) (λ d. refl)
 all_puts core turn (reads_first now port k connect rest at first is room) o no_hand x c there =
     let left : CoreState = changes port (left_with now rest) core in
     let ordered = at_orderly port (left_with now rest) core o (λ d. refl) in
@@ -312,10 +312,10 @@ all_puts core turn (reads_later now port k packet rest at later is room) o no_ha
     with_room x _ core (changes port (left_with now rest) core) room
     (after_puts x _ core (changes port (left_with now rest) core) (at_puts x port (left_with now rest) core o (λ d. refl) (λ d. refl))
     (at_orderly port (left_with now rest) core o (λ d. refl)) (at_replica port (left_with now rest) core))
-all_puts core turn (closes port) o no_hand x c there = at_puts x port closed core o (λ d. refl) (λ d. refl)
+all_puts core turn (closes port) o no_hand x c there = at_puts x port closed_connection core o (λ d. refl) (λ d. refl)
 all_puts core turn (refuses port k code at first is) o no_hand x c there = refused_puts x port code core o
 all_puts core turn (loses_one port k at proposed_before) o no_hand x c there =
-    after_puts x _ core (changes port closed core) (at_puts x port closed core o (λ d. refl) (λ d. refl)) (at_orderly port closed core o (λ d. refl)) (at_replica port closed core)
+    after_puts x _ core (changes port closed_connection core) (at_puts x port closed_connection core o (λ d. refl) (λ d. refl)) (at_orderly port closed_connection core o (λ d. refl)) (at_replica port closed_connection core)
 all_puts core turn (loses_next k at) o no_hand x c there =
     after_puts x _ core (closes_failed core) (subst (Puts [] (open_named x core)) (sym (same_of_failed x core)) (puts_none (open_named x core)))
     (stays_failed core o).orderly refl

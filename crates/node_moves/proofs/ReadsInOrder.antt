@@ -15,9 +15,9 @@ use Rattle.exactly_once.specs.StoryCommands.{is_packet_of}
 use Rattle.world_base.specs.declared.Port.{Port}
 use Rattle.world_base.specs.declared.Connection.{Connection}
 use Rattle.world_base.specs.node_connections.Connections.{is_first, is_at, is_open_at}
-use Rattle.world_base.specs.node_connections.ConnectionChanges.{noted_proposed, holding, left_with, closed, changed}
+use Rattle.world_base.specs.node_connections.ConnectionChanges.{noted_proposed, with_unread, left_with, closed_connection, changed_where}
 use Rattle.world_base.specs.Core.{CoreState, StepOutcome}
-use Rattle.world_base.specs.Reading.{changes, open_at, refused}
+use Rattle.world_base.specs.Reading.{changes, open_at, connect_refused}
 use Rattle.world_base.specs.Failing.{closes_failed}
 use Rattle.world_base.specs.Step.{with_next_connection}
 use Rattle.world_base.specs.Effects.{without_messages, proposes, has_room}
@@ -93,7 +93,7 @@ pub found_given : (core : CoreState) (port : Port) (c : Connection) → IsOrderl
 found_given core port c o at = found_each (λ (d : Connection). IsGiven core.last_name d.name) (is_open_at port) core.connections c o.given at
 
 pub record IsChange (core later : CoreState) (port : Port) (c : Connection) (f : Connection → Connection) : Type 0 where
-  pub are : later.connections ≡ changed (is_open_at port) f core.connections
+  pub are : later.connections ≡ changed_where (is_open_at port) f core.connections
   pub same : later.last_name ≡ core.last_name
   pub up : core.replica.state.joined ≤ later.replica.state.joined
   pub at : open_at port core ≡ Some c
@@ -149,9 +149,9 @@ one_read x core later port c f written read in_transit rest packet o h is left s
 
 -- bytes come in on it
 one_held : (x : ConnectionName) (core later : CoreState) (port : Port) (c : Connection) (written read : List Packet) (piece in_transit : List ℕ) → IsOrderly core
-    → IsChange core later port c (holding piece) → named x c ≡ true → WasOpen x core c written read (piece ++ in_transit) → IsEnd x later written read in_transit
+    → IsChange core later port c (with_unread piece) → named x c ≡ true → WasOpen x core c written read (piece ++ in_transit) → IsEnd x later written read in_transit
 one_held x core later port c written read piece in_transit o h is was =
-    is_open (holding piece c) (subst (λ (y : ConnectionName). IsGiven y x) (sym h.same) was.given) (change_there x core later port c (holding piece) o h is) was.first
+    is_open (with_unread piece c) (subst (λ (y : ConnectionName). IsGiven y x) (sym h.same) was.given) (change_there x core later port c (with_unread piece) o h is) was.first
     (record {
       rest = was.piped.rest;
       is = was.piped.is;
@@ -277,7 +277,7 @@ later_reads now core port c packet rest at later reads room o =
 
 -- ---- bytes come in
 
-held_change : (core : CoreState) (port : Port) (c : Connection) (piece : List ℕ) → open_at port core ≡ Some c → IsChange core (changes port (holding piece) core) port c (holding piece)
+held_change : (core : CoreState) (port : Port) (c : Connection) (piece : List ℕ) → open_at port core ≡ Some c → IsChange core (changes port (with_unread piece) core) port c (with_unread piece)
 unfolding changes
 held_change core port c piece at =
     record {
@@ -289,33 +289,33 @@ held_change core port c piece at =
       lives = left_true (live c) (is_at port c) (found_passes (is_open_at port) core.connections c at);
     }
 
-held_none : (core : CoreState) (port : Port) (piece : List ℕ) → open_at port core ≡ None → changes port (holding piece) core ≡ core
+held_none : (core : CoreState) (port : Port) (piece : List ℕ) → open_at port core ≡ None → changes port (with_unread piece) core ≡ core
 unfolding changes
-held_none core port piece none = ap (λ (l : List Connection). record core { connections = l }) (none_changes (is_open_at port) (holding piece) core.connections none)
+held_none core port piece none = ap (λ (l : List Connection). record core { connections = l }) (none_changes (is_open_at port) (with_unread piece) core.connections none)
 
-held_orderly : (core : CoreState) (port : Port) (piece : List ℕ) → IsOrderly core → IsOrderly (changes port (holding piece) core)
+held_orderly : (core : CoreState) (port : Port) (piece : List ℕ) → IsOrderly core → IsOrderly (changes port (with_unread piece) core)
 unfolding changes
-held_orderly core port piece o = changed_orderly core (changes port (holding piece) core) (is_open_at port) (holding piece) o refl refl (same_le core.replica.state.joined) (λ d. refl)
+held_orderly core port piece o = changed_orderly core (changes port (with_unread piece) core) (is_open_at port) (with_unread piece) o refl refl (same_le core.replica.state.joined) (λ d. refl)
 
 held_end : (x : ConnectionName) (core : CoreState) (port : Port) (piece : List ℕ) (written read : List Packet) (later : List ℕ) → IsOrderly core
     → (found : Option Connection) → open_at port core ≡ found → IsEnd x core written read (piece_on x piece found ++ later)
-    → IsEnd x (changes port (holding piece) core) written read later
+    → IsEnd x (changes port (with_unread piece) core) written read later
 held_end x core port piece written read later o None at end = subst (λ (k : CoreState). IsEnd x k written read later) (sym (held_none core port piece at)) end
 held_end x core port piece written read later o (Some c) at end = by (named x c) refl
   where
-    h : IsChange core (changes port (holding piece) core) port c (holding piece)
+    h : IsChange core (changes port (with_unread piece) core) port c (with_unread piece)
     h = held_change core port c piece at
 
     with_test : (b : Bool) → named x c ≡ b → IsEnd x core written read ((if b then piece else []) ++ later)
     with_test b e = subst (λ (t : Bool). IsEnd x core written read ((if t then piece else []) ++ later)) e end
 
-    by : (b : Bool) → named x c ≡ b → IsEnd x (changes port (holding piece) core) written read later
+    by : (b : Bool) → named x c ≡ b → IsEnd x (changes port (with_unread piece) core) written read later
     by true e =
-        one_held x core (changes port (holding piece) core) port c written read piece later o h e
+        one_held x core (changes port (with_unread piece) core) port c written read piece later o h e
         (was_open x core port c written read (piece ++ later) o at e (with_test true e))
-    by false e = change_other x core (changes port (holding piece) core) port c (holding piece) written read later h e (with_test false e)
+    by false e = change_other x core (changes port (with_unread piece) core) port c (with_unread piece) written read later h e (with_test false e)
 
-abbrev hold_move : (core : CoreState) (port : Port) (piece : List ℕ) → Moves core (without_messages (changes port (holding piece) core))
+abbrev hold_move : (core : CoreState) (port : Port) (piece : List ℕ) → Moves core (without_messages (changes port (with_unread piece) core))
 hold_move core port piece = holds port piece
 
 hold_reads : (core : CoreState) (port : Port) (piece : List ℕ) → IsOrderly core → ReadsAll (hold_move core port piece)
@@ -339,7 +339,7 @@ open_reads core port o =
           none_more x (open_move core port) written read later (w.end x written read later (subst (IsEnd x core written read) same end)) refl,
     )
 
-refused_is_mild : (code : RefusalCode) → IsMild (refused code)
+refused_is_mild : (code : RefusalCode) → IsMild (connect_refused code)
 refused_is_mild code = record { name = λ c. refl; stage = λ c. inr refl }
 
 pub nodes_read_in_order : NodesReadInOrder
@@ -348,14 +348,14 @@ nodes_read_in_order core outcome (opens_one port) o = open_reads core port o
 nodes_read_in_order core outcome (holds port piece) o = hold_reads core port piece o
 nodes_read_in_order core outcome (reads_first now port c connect rest at first reads room) o = first_reads now core port c connect rest at first reads room o
 nodes_read_in_order core outcome (reads_later now port c packet rest at later reads room) o = later_reads now core port c packet rest at later reads room o
-nodes_read_in_order core outcome (closes port) o = stays_reads (closes port) (stays_at port closed core o closed_is_mild) (λ x. refl) (λ x. refl)
+nodes_read_in_order core outcome (closes port) o = stays_reads (closes port) (stays_at port closed_connection core o closed_is_mild) (λ x. refl) (λ x. refl)
 nodes_read_in_order core outcome (refuses port c code at first is) o =
-    stays_reads (refuses port c code at first is) (stays_at port (refused code) core o (refused_is_mild code)) (λ x. refl) (λ x. refl)
+    stays_reads (refuses port c code at first is) (stays_at port (connect_refused code) core o (refused_is_mild code)) (λ x. refl) (λ x. refl)
 nodes_read_in_order core outcome (loses_one port c at proposed) o =
-    let s = stays_at port closed core o closed_is_mild in
+    let s = stays_at port closed_connection core o closed_is_mild in
     stays_reads (loses_one port c at proposed)
-    (stays_joined core (changes port closed core) (proposes (commands.Lost c.name) (changes port closed core)).core s
-    (stays_proposed (commands.Lost c.name) (changes port closed core) s.orderly)) (λ x. refl) (λ x. refl)
+    (stays_joined core (changes port closed_connection core) (proposes (commands.Lost c.name) (changes port closed_connection core)).core s
+    (stays_proposed (commands.Lost c.name) (changes port closed_connection core) s.orderly)) (λ x. refl) (λ x. refl)
 nodes_read_in_order core outcome (loses_next c at) o =
     let s = stays_failed core o in
     stays_reads (loses_next c at)

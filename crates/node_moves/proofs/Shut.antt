@@ -8,7 +8,7 @@ use Rattle.exactly_once.specs.broker_spec.Connection.{ConnectionName}
 use Rattle.exactly_once.specs.lists.Lists.{IsPrefixOf}
 use Rattle.exactly_once.proofs.of_lists.Prefixes.{prefix_then}
 use Rattle.world_base.specs.declared.Connection.{Connection}
-use Rattle.world_base.specs.node_connections.ConnectionChanges.{closed, changed, failing, max_pending, put_out, putting}
+use Rattle.world_base.specs.node_connections.ConnectionChanges.{closed_connection, changed_where, failing, max_pending, with_queued, putting}
 use Rattle.node_moves.specs.Ends.{AtMostOne}
 use Rattle.node_moves.proofs.Views.{view, found_each, found_passes, same_some, some_none, none_changes, view_of_others, view_of_changed}
 use Rattle.node_moves.proofs.Kept.{failing_over, live, named, named_kept}
@@ -51,15 +51,15 @@ shuts_joined (was_shut {d = d} e f g) (is_shut front h i j k) = absurd (both_way
 shuts_joined (was_shut e f g) (was_shut h i j) = was_shut e i (j ∙ g)
 
 -- what is closed gets nothing
-pub shuts_closed : (c : Connection) → Shuts [] (Some c) (Some (closed c))
+pub shuts_closed : (c : Connection) → Shuts [] (Some c) (Some (closed_connection c))
 shuts_closed c = by (live c) refl
   where
-    by : (b : Bool) → live c ≡ b → Shuts [] (Some c) (Some (closed c))
+    by : (b : Bool) → live c ≡ b → Shuts [] (Some c) (Some (closed_connection c))
     by true e = is_shut [] e refl (sym (append-nil c.pending)) (record { rest = []; is = refl })
     by false e = was_shut e refl refl
 
 -- bytes are queued if there is room for them, and otherwise it is closed
-pub put_out_shuts : (bytes : List ℕ) (c : Connection) → live c ≡ true → Shuts bytes (Some c) (Some (put_out bytes c))
+pub put_out_shuts : (bytes : List ℕ) (c : Connection) → live c ≡ true → Shuts bytes (Some c) (Some (with_queued bytes c))
 put_out_shuts bytes c lives = by (nat_le (length c.pending + length bytes) max_pending)
   where
     by : (b : Bool) → Shuts bytes (Some c) (Some (if b then putting bytes c else failing c))
@@ -71,39 +71,39 @@ put_out_shuts bytes c lives = by (nat_le (length c.pending + length bytes) max_p
 -- of that name, and of another
 pub shuts_on : (x : ConnectionName) (test : Connection → Bool) (f : Connection → Connection) (cs : List Connection) (c : Connection) (bytes : List ℕ) → AtMostOne (named x) cs
     → ((d : Connection) → (f d).name ≡ d.name) → find test cs ≡ Some c → named x c ≡ true → Shuts bytes (Some c) (Some (f c))
-    → Shuts bytes (view all (named x) cs) (view all (named x) (changed test f cs))
+    → Shuts bytes (view all (named x) cs) (view all (named x) (changed_where test f cs))
 shuts_on x test f cs c bytes one name found is h =
     let two = view_of_changed all (named x) test f cs c one (λ d e. refl) (named_kept x f name) found is in
-    subst (λ (o : Option Connection). Shuts bytes o (view all (named x) (changed test f cs))) (sym two.0) (subst (Shuts bytes (Some c)) (sym two.1) h)
+    subst (λ (o : Option Connection). Shuts bytes o (view all (named x) (changed_where test f cs))) (sym two.0) (subst (Shuts bytes (Some c)) (sym two.1) h)
 
 pub shuts_others : (x : ConnectionName) (test : Connection → Bool) (f : Connection → Connection) (cs : List Connection) (c : Connection) → ((d : Connection) → (f d).name ≡ d.name)
-    → find test cs ≡ Some c → named x c ≡ false → Shuts [] (view all (named x) cs) (view all (named x) (changed test f cs))
+    → find test cs ≡ Some c → named x c ≡ false → Shuts [] (view all (named x) cs) (view all (named x) (changed_where test f cs))
 shuts_others x test f cs c name found other =
     subst (Shuts [] (view all (named x) cs)) (sym (view_of_others all (named x) test f cs c (named_kept x f name) found other)) (shuts_same (view all (named x) cs))
 
 pub shuts_unchanged : (x : ConnectionName) (test : Connection → Bool) (f : Connection → Connection) (cs : List Connection) → find test cs ≡ None
-    → Shuts [] (view all (named x) cs) (view all (named x) (changed test f cs))
+    → Shuts [] (view all (named x) cs) (view all (named x) (changed_where test f cs))
 shuts_unchanged x test f cs none =
     subst (λ (l : List Connection). Shuts [] (view all (named x) cs) (view all (named x) l)) (sym (none_changes test f cs none)) (shuts_same (view all (named x) cs))
 
 -- a change that queues nothing
 pub shuts_tested : (x : ConnectionName) (test : Connection → Bool) (f : Connection → Connection) (cs : List Connection) → AtMostOne (named x) cs
     → ((d : Connection) → (f d).name ≡ d.name) → ((d : Connection) → test d ≡ true → Shuts [] (Some d) (Some (f d)))
-    → Shuts [] (view all (named x) cs) (view all (named x) (changed test f cs))
+    → Shuts [] (view all (named x) cs) (view all (named x) (changed_where test f cs))
 shuts_tested x test f cs one name each = by (find test cs) refl
   where
-    on : (c : Connection) → find test cs ≡ Some c → (b : Bool) → named x c ≡ b → Shuts [] (view all (named x) cs) (view all (named x) (changed test f cs))
+    on : (c : Connection) → find test cs ≡ Some c → (b : Bool) → named x c ≡ b → Shuts [] (view all (named x) cs) (view all (named x) (changed_where test f cs))
     on c e true is = shuts_on x test f cs c [] one name e is (each c (found_passes test cs c e))
     on c e false other = shuts_others x test f cs c name e other
 
-    by : (o : Option Connection) → find test cs ≡ o → Shuts [] (view all (named x) cs) (view all (named x) (changed test f cs))
+    by : (o : Option Connection) → find test cs ≡ o → Shuts [] (view all (named x) cs) (view all (named x) (changed_where test f cs))
     by None e = shuts_unchanged x test f cs e
     by (Some c) e = on c e (named x c) refl
 
 -- a change of an open connection that queues nothing
 pub shuts_nothing : (x : ConnectionName) (test : Connection → Bool) (f : Connection → Connection) (cs : List Connection) → AtMostOne (named x) cs
     → ((d : Connection) → test d ≡ true → live d ≡ true) → ((d : Connection) → (f d).name ≡ d.name)
-    → ((d : Connection) → live d ≡ true → Shuts [] (Some d) (Some (f d))) → Shuts [] (view all (named x) cs) (view all (named x) (changed test f cs))
+    → ((d : Connection) → live d ≡ true → Shuts [] (Some d) (Some (f d))) → Shuts [] (view all (named x) cs) (view all (named x) (changed_where test f cs))
 shuts_nothing x test f cs one lives name each = shuts_tested x test f cs one name (λ d e. each d (lives d e))
 
 -- ---- open, or closed
@@ -161,13 +161,13 @@ found_filtered x test (c ∷ cs) d one e =
     by false t false other ih f = rw other (ih f)
 
 -- each of them closed
-pub found_mapped : (x : ConnectionName) (cs : List Connection) (d : Connection) → view all (named x) (map closed cs) ≡ Some d
-    → (c : Connection) × (view all (named x) cs ≡ Some c) × (d ≡ closed c)
+pub found_mapped : (x : ConnectionName) (cs : List Connection) (d : Connection) → view all (named x) (map closed_connection cs) ≡ Some d
+    → (c : Connection) × (view all (named x) cs ≡ Some c) × (d ≡ closed_connection c)
 found_mapped x [] d e = cc
 found_mapped x (c ∷ cs) d e = by (named x c) (found_mapped x cs d) e
   where
-    by : (b : Bool) → (view all (named x) (map closed cs) ≡ Some d → (z : Connection) × (view all (named x) cs ≡ Some z) × (d ≡ closed z))
-        → (if b then Some (closed c) else view all (named x) (map closed cs)) ≡ Some d
-        → (z : Connection) × ((if b then Some c else view all (named x) cs) ≡ Some z) × (d ≡ closed z)
-    by true ih f = (c, refl, sym (same_some (closed c) d f))
+    by : (b : Bool) → (view all (named x) (map closed_connection cs) ≡ Some d → (z : Connection) × (view all (named x) cs ≡ Some z) × (d ≡ closed_connection z))
+        → (if b then Some (closed_connection c) else view all (named x) (map closed_connection cs)) ≡ Some d
+        → (z : Connection) × ((if b then Some c else view all (named x) cs) ≡ Some z) × (d ≡ closed_connection z)
+    by true ih f = (c, refl, sym (same_some (closed_connection c) d f))
     by false ih f = ih f

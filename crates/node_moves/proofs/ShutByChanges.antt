@@ -16,9 +16,9 @@ use Rattle.exactly_once.specs.broker_spec.Connection.{ConnectionName, same_conne
 use Rattle.world_base.specs.declared.Port.{Port}
 use Rattle.world_base.specs.declared.Connection.{Connection}
 use Rattle.world_base.specs.node_connections.Connections.{is_at, is_open_at}
-use Rattle.world_base.specs.node_connections.ConnectionChanges.{noted_proposed, holding, left_with}
+use Rattle.world_base.specs.node_connections.ConnectionChanges.{noted_proposed, with_unread, left_with}
 use Rattle.world_base.specs.Core.{CoreState, rules, serves}
-use Rattle.world_base.specs.Reading.{changes, open_at, refused}
+use Rattle.world_base.specs.Reading.{changes, open_at, connect_refused}
 use Rattle.world_base.specs.Effects.{has_room, proposes}
 use Rattle.node_moves.specs.Closed.{listed_named}
 use Rattle.node_moves.specs.Ends.{IsOrderly}
@@ -46,7 +46,7 @@ pub at_replica : (port : Port) (f : Connection → Connection) (core : CoreState
 unfolding changes
 at_replica port f core = refl
 
-pub holding_shuts : (piece : List ℕ) (d : Connection) → live d ≡ true → Shuts [] (Some d) (Some (holding piece d))
+pub holding_shuts : (piece : List ℕ) (d : Connection) → live d ≡ true → Shuts [] (Some d) (Some (with_unread piece d))
 holding_shuts piece d e = stays_open e e (sym (append-nil d.pending))
 
 pub left_shuts : (now : ℕ) (rest : List ℕ) (d : Connection) → live d ≡ true → Shuts [] (Some d) (Some (left_with now rest d))
@@ -77,15 +77,15 @@ with_room x command core between room h =
 -- a CONNECT that is refused with a code
 refusing_shuts : (x : ConnectionName) (port : Port) (c : Connection) (code : RefusalCode) (core : CoreState) → IsOrderly core → open_at port core ≡ Some c
     → (b : Bool) → named x c ≡ b
-    → Shuts (spelled (if b then packets.Connack (connacks.Refused code) ∷ [] else [])) (listed_named x core) (listed_named x (changes port (refused code) core))
+    → Shuts (spelled (if b then packets.Connack (connacks.Refused code) ∷ [] else [])) (listed_named x core) (listed_named x (changes port (connect_refused code) core))
 unfolding changes
 refusing_shuts x port c code core o at true is =
-    shuts_on x (is_open_at port) (refused code) core.connections c _ (o.names x) (λ d. refl) at is
+    shuts_on x (is_open_at port) (connect_refused code) core.connections c _ (o.names x) (λ d. refl) at is
     (is_shut (spelling (packets.Connack (connacks.Refused code))) (left_true (live c) (is_at port c) (found_passes (is_open_at port) core.connections c at)) refl refl
     (record { rest = []; is = refl }))
-refusing_shuts x port c code core o at false other = shuts_others x (is_open_at port) (refused code) core.connections c (λ d. refl) at other
+refusing_shuts x port c code core o at false other = shuts_others x (is_open_at port) (connect_refused code) core.connections c (λ d. refl) at other
 
 pub refused_shuts : (x : ConnectionName) (port : Port) (c : Connection) (code : RefusalCode) (core : CoreState) → IsOrderly core → open_at port core ≡ Some c
     → Shuts (spelled (if same_connection c.name x then packets.Connack (connacks.Refused code) ∷ [] else [])) (listed_named x core)
-    (listed_named x (changes port (refused code) core))
+    (listed_named x (changes port (connect_refused code) core))
 refused_shuts x port c code core o at = refusing_shuts x port c code core o at (named x c) refl

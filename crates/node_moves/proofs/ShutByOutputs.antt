@@ -19,7 +19,7 @@ use Rattle.exactly_once.proofs.of_broker_spec.ConnectionNames.{same_name, same_i
 use Rattle.exactly_once.specs.Sends.{sends_to}
 use Rattle.world_base.specs.declared.Connection.{Connection}
 use Rattle.world_base.specs.node_connections.Connections.{is_open_named}
-use Rattle.world_base.specs.node_connections.ConnectionChanges.{closed, put_out, changed}
+use Rattle.world_base.specs.node_connections.ConnectionChanges.{closed_connection, with_queued, changed_where}
 use Rattle.world_base.specs.Core.{CoreState, StepOutcome, rules, serves}
 use Rattle.world_base.specs.Effects.{without_messages, after_replica_step, with_effect, proposes, changes_named, drives, outcome_of_input}
 use Rattle.node_moves.specs.Closed.{listed_named}
@@ -37,18 +37,18 @@ right_true false b t = absurd cc
 -- ---- a packet for a name
 
 sent : (x name : ConnectionName) (bytes : List ℕ) (cs : List Connection) → AtMostOne (named x) cs → (b : Bool) → same_connection x name ≡ b
-    → Shuts (if b then bytes else []) (view all (named x) cs) (view all (named x) (changed (is_open_named name) (put_out bytes) cs))
-sent x name bytes cs one true e = subst (λ (y : ConnectionName). Shuts bytes (view all (named x) cs) (view all (named x) (changed (is_open_named y) (put_out bytes) cs)))
+    → Shuts (if b then bytes else []) (view all (named x) cs) (view all (named x) (changed_where (is_open_named name) (with_queued bytes) cs))
+sent x name bytes cs one true e = subst (λ (y : ConnectionName). Shuts bytes (view all (named x) cs) (view all (named x) (changed_where (is_open_named y) (with_queued bytes) cs)))
     (same_name x name e) (there (find (is_open_named x) cs) refl)
   where
-    there : (o : Option Connection) → find (is_open_named x) cs ≡ o → Shuts bytes (view all (named x) cs) (view all (named x) (changed (is_open_named x) (put_out bytes) cs))
+    there : (o : Option Connection) → find (is_open_named x) cs ≡ o → Shuts bytes (view all (named x) cs) (view all (named x) (changed_where (is_open_named x) (with_queued bytes) cs))
     there None f =
-        subst (λ (l : List Connection). Shuts bytes (view all (named x) cs) (view all (named x) l)) (sym (none_changes (is_open_named x) (put_out bytes) cs f))
+        subst (λ (l : List Connection). Shuts bytes (view all (named x) cs) (view all (named x) l)) (sym (none_changes (is_open_named x) (with_queued bytes) cs f))
         (shuts_dead bytes (view all (named x) cs) (λ c h. listed_closed x cs c f h))
     there (Some c) f =
         let passes = found_passes (is_open_named x) cs c f in
         let lives = left_true (live c) (named x c) passes in
-        shuts_on x (is_open_named x) (put_out bytes) cs c bytes one (put_out_name bytes) f (right_true (live c) (named x c) passes) (put_out_shuts bytes c lives)
+        shuts_on x (is_open_named x) (with_queued bytes) cs c bytes one (put_out_name bytes) f (right_true (live c) (named x c) passes) (put_out_shuts bytes c lives)
 sent x name bytes cs one false e = by (find (is_open_named name) cs) refl
   where
     flip : (c : Connection) → c.name ≡ name → (b : Bool) → named x c ≡ b → b ≡ false
@@ -57,11 +57,11 @@ sent x name bytes cs one false e = by (find (is_open_named name) cs) refl
         sym (subst (λ (y : ConnectionName). same_connection x y ≡ true) same (same_itself x)) ∙ e
     flip c is false f = refl
 
-    by : (o : Option Connection) → find (is_open_named name) cs ≡ o → Shuts [] (view all (named x) cs) (view all (named x) (changed (is_open_named name) (put_out bytes) cs))
-    by None f = shuts_unchanged x (is_open_named name) (put_out bytes) cs f
+    by : (o : Option Connection) → find (is_open_named name) cs ≡ o → Shuts [] (view all (named x) cs) (view all (named x) (changed_where (is_open_named name) (with_queued bytes) cs))
+    by None f = shuts_unchanged x (is_open_named name) (with_queued bytes) cs f
     by (Some c) f =
         let is = same_name c.name name (right_true (live c) (named name c) (found_passes (is_open_named name) cs c f)) in
-        shuts_others x (is_open_named name) (put_out bytes) cs c (put_out_name bytes) f (flip c is (named x c) refl)
+        shuts_others x (is_open_named name) (with_queued bytes) cs c (put_out_name bytes) f (flip c is (named x c) refl)
 
 -- ---- what a step of the replica gives
 
@@ -82,7 +82,7 @@ bytes_join x (Out place (outputs.Send name packet)) effects = by (same_connectio
     by false = refl
 
 pub named_shuts : (x name : ConnectionName) (f : Connection → Connection) (core : CoreState) (bytes : List ℕ)
-    → Shuts bytes (listed_named x core) (view all (named x) (changed (is_open_named name) f core.connections)) → Shuts bytes (listed_named x core) (listed_named x (changes_named name f core))
+    → Shuts bytes (listed_named x core) (view all (named x) (changed_where (is_open_named name) f core.connections)) → Shuts bytes (listed_named x core) (listed_named x (changes_named name f core))
 unfolding changes_named
 named_shuts x name f core bytes h = h
 
@@ -90,14 +90,14 @@ pub handled_shuts : (x : ConnectionName) (core : CoreState) (e : Effect Command 
     → Shuts (bytes_for x (e ∷ [])) (listed_named x core) (listed_named x (with_effect core e))
 handled_shuts x core (To receiver message) o = shuts_same (listed_named x core)
 handled_shuts x core (Out place (outputs.Close name)) o =
-    named_shuts x name closed core []
-    (shuts_nothing x (is_open_named name) closed core.connections (o.names x) (λ d e. left_true (live d) (named name d) e) (λ d. refl) (λ d e. shuts_closed d))
+    named_shuts x name closed_connection core []
+    (shuts_nothing x (is_open_named name) closed_connection core.connections (o.names x) (λ d e. left_true (live d) (named name d) e) (λ d. refl) (λ d e. shuts_closed d))
 handled_shuts x core (Out place (outputs.Send name packet)) o =
-    named_shuts x name (put_out (spelling packet)) core (spelled (if same_connection x name then packet ∷ [] else []))
+    named_shuts x name (with_queued (spelling packet)) core (spelled (if same_connection x name then packet ∷ [] else []))
     (by (same_connection x name) (sent x name (spelling packet) core.connections (o.names x) (same_connection x name) refl))
   where
     after : Option Connection
-    after = view all (named x) (changed (is_open_named name) (put_out (spelling packet)) core.connections)
+    after = view all (named x) (changed_where (is_open_named name) (with_queued (spelling packet)) core.connections)
 
     by : (b : Bool) → Shuts (if b then spelling packet else []) (listed_named x core) after → Shuts (spelled (if b then packet ∷ [] else [])) (listed_named x core) after
     by true h = subst (λ (l : List ℕ). Shuts l (listed_named x core) after) (sym (append-nil (spelling packet))) h

@@ -9,7 +9,7 @@ use Rattle.world_base.specs.declared.Port.{Port}
 use Rattle.world_base.specs.declared.item.Item.TheVariants.{Tick}
 use Rattle.world_base.specs.declared.Connection.{Connection}
 use Rattle.world_base.specs.node_connections.Connections.{is_closed, is_proposed, is_silent, is_at, is_open_at}
-use Rattle.world_base.specs.node_connections.ConnectionChanges.{closed, failing}
+use Rattle.world_base.specs.node_connections.ConnectionChanges.{closed_connection, failing}
 use Rattle.world_base.specs.Core.{CoreState, StepOutcome}
 use Rattle.world_base.specs.KeepAlive.{lower, lower_silent, lowest_silent, ends_if, ends_silent}
 use Rattle.world_base.specs.Reading.{changes, port_closed, loses, loses_open, open_at}
@@ -36,7 +36,7 @@ none_open c over n = rw over (none n)
 open_light : IsLight open_weight
 open_light =
     record {
-      shut = λ c. none_open (closed c) refl (open_weight c);
+      shut = λ c. none_open (closed_connection c) refl (open_weight c);
       put = λ bytes c. put_or_failing (λ d. open_weight d ≤ open_weight c) bytes c (same_le (open_weight c)) (none_open (failing c) (failing_over c) (open_weight c));
     }
 
@@ -47,25 +47,25 @@ at_most_one false = omega arith
 one_open : (c : Connection) → open_weight c ≤ 1
 one_open c = at_most_one (is_closed c.stage)
 
-open_drops : (c : Connection) → live c ≡ true → open_weight (closed c) < open_weight c
+open_drops : (c : Connection) → live c ≡ true → open_weight (closed_connection c) < open_weight c
 open_drops c lives = let one : 0 < 1 = omega arith in rw (not-true (is_closed c.stage) lives) one
 
 closes_lowers : (port : Port) (c : Connection) (core : CoreState) → open_at port core ≡ Some c
-    → total open_weight (changes port closed core).connections < total open_weight core.connections
+    → total open_weight (changes port closed_connection core).connections < total open_weight core.connections
 unfolding changes
 closes_lowers port c core at =
-    total_lowered open_weight (is_open_at port) closed core.connections c at
+    total_lowered open_weight (is_open_at port) closed_connection core.connections c at
     (open_drops c (left_true (live c) (is_at port c) (found_passes (is_open_at port) core.connections c at)))
 
 loses_lowers : (port : Port) (c : Connection) (core : CoreState) → open_at port core ≡ Some c
     → total open_weight (loses port c core).core.connections < total open_weight core.connections
 loses_lowers port c core at = by (is_proposed c.stage)
   where
-    by : (b : Bool) → total open_weight (let t : StepOutcome = if b then proposes (commands.Lost c.name) (changes port closed core) else without_messages (changes port closed core) in t).core.connections
+    by : (b : Bool) → total open_weight (let t : StepOutcome = if b then proposes (commands.Lost c.name) (changes port closed_connection core) else without_messages (changes port closed_connection core) in t).core.connections
         < total open_weight core.connections
     by true =
         let less = closes_lowers port c core at in
-        let most = total_proposed open_weight open_light (commands.Lost c.name) (changes port closed core) in
+        let most = total_proposed open_weight open_light (commands.Lost c.name) (changes port closed_connection core) in
         omega (arith, less, most)
     by false = closes_lowers port c core at
 

@@ -19,9 +19,9 @@ use Rattle.world_base.specs.declared.item.Item.{Item}
 use Rattle.world_base.specs.declared.item.Item.TheVariants.{Peer, Tick, Opened, Bytes, Ended, Expel, Cut, Crash}
 use Rattle.world_base.specs.declared.Connection.{Connection}
 use Rattle.world_base.specs.node_connections.Connections.{is_closed, is_first, is_proposed, has_failed, is_at, is_open_at}
-use Rattle.world_base.specs.node_connections.ConnectionChanges.{noted_proposed, holding, left_with, closed, changed}
+use Rattle.world_base.specs.node_connections.ConnectionChanges.{noted_proposed, with_unread, left_with, closed_connection, changed_where}
 use Rattle.world_base.specs.Core.{CoreState, StepOutcome}
-use Rattle.world_base.specs.Reading.{changes, open_at, loses, loses_open, port_closed, connect_proposed, proposes_packet, takes_first_packet, reads, reads_of, reads_next, refused, unread_of}
+use Rattle.world_base.specs.Reading.{changes, open_at, loses, loses_open, port_closed, connect_proposed, proposes_packet, takes_first_packet, reads, reads_of, reads_next, connect_refused, unread_of}
 use Rattle.world_base.specs.ballot_base.Cutting.{can_cut}
 use Rattle.world_base.specs.Step.{node_step, acts_on, cuts, settled, does_item, with_cut}
 use Rattle.world_base.specs.Failing.{loses_failed, loses_if}
@@ -87,21 +87,21 @@ first_move {core = core} {t = t} m =
 -- ---- what changes a connection before it is closed leaves no trace
 
 pub twice : (test : Connection → Bool) (f g : Connection → Connection) (cs : List Connection) → ((c : Connection) → test c ≡ true → test (g c) ≡ true)
-    → changed test f (changed test g cs) ≡ changed test (λ c. f (g c)) cs
+    → changed_where test f (changed_where test g cs) ≡ changed_where test (λ c. f (g c)) cs
 twice test f g [] kept = refl
 twice test f g (c ∷ cs) kept = by (test c) refl (twice test f g cs kept)
   where
-    by : (b : Bool) → test c ≡ b → changed test f (changed test g cs) ≡ changed test (λ d. f (g d)) cs
-        → changed test f (if b then g c ∷ cs else c ∷ changed test g cs) ≡ (if b then f (g c) ∷ cs else c ∷ changed test (λ d. f (g d)) cs)
+    by : (b : Bool) → test c ≡ b → changed_where test f (changed_where test g cs) ≡ changed_where test (λ d. f (g d)) cs
+        → changed_where test f (if b then g c ∷ cs else c ∷ changed_where test g cs) ≡ (if b then f (g c) ∷ cs else c ∷ changed_where test (λ d. f (g d)) cs)
     by true e ih = rw (kept c e) refl
     by false e ih = rw e (ap (λ l. c ∷ l) ih)
 
 still_closed : (port : Port) (g : Connection → Connection) (core : CoreState) → ((c : Connection) → is_open_at port c ≡ true → is_open_at port (g c) ≡ true)
-    → ((c : Connection) → closed (g c) ≡ closed c) → changes port closed (changes port g core) ≡ changes port (λ c. closed (g c)) core
+    → ((c : Connection) → closed_connection (g c) ≡ closed_connection c) → changes port closed_connection (changes port g core) ≡ changes port (λ c. closed_connection (g c)) core
 unfolding changes
-still_closed port g core kept same = ap (λ (l : List Connection). record core { connections = l }) (twice (is_open_at port) closed g core.connections kept)
+still_closed port g core kept same = ap (λ (l : List Connection). record core { connections = l }) (twice (is_open_at port) closed_connection g core.connections kept)
 
-closed_left : (now : ℕ) (port : Port) (rest : List ℕ) (core : CoreState) → changes port closed (changes port (left_with now rest) core) ≡ changes port closed core
+closed_left : (now : ℕ) (port : Port) (rest : List ℕ) (core : CoreState) → changes port closed_connection (changes port (left_with now rest) core) ≡ changes port closed_connection core
 closed_left now port rest core = still_closed port (left_with now rest) core (λ c e. e) (λ c. refl)
 
 right_true : (a b : Bool) → (a && b) ≡ true → b ≡ true
@@ -112,7 +112,7 @@ asked_open : (keep_alive : ℕ) (port : Port) (c : Connection) → is_open_at po
 asked_open keep_alive port c e = right_true (not (is_closed c.stage)) (is_at port c) e
 
 closed_asked : (keep_alive now : ℕ) (port : Port) (rest : List ℕ) (core : CoreState)
-    → changes port closed (changes port (noted_proposed keep_alive) (changes port (left_with now rest) core)) ≡ changes port closed core
+    → changes port closed_connection (changes port (noted_proposed keep_alive) (changes port (left_with now rest) core)) ≡ changes port closed_connection core
 closed_asked keep_alive now port rest core = still_closed port (noted_proposed keep_alive) (changes port (left_with now rest) core) (asked_open keep_alive port) (λ c. refl) ∙ closed_left now port rest core
 
 -- ---- changes of connections leave the replica as it is
@@ -124,7 +124,7 @@ room_kept port change core = refl
 -- ---- a connection is lost
 
 lost_by : (port : Port) (c : Connection) (core : CoreState) → open_at port core ≡ Some c → (b : Bool) → is_proposed c.stage ≡ b
-    → Calm core (if b then proposes (commands.Lost c.name) (changes port closed core) else without_messages (changes port closed core))
+    → Calm core (if b then proposes (commands.Lost c.name) (changes port closed_connection core) else without_messages (changes port closed_connection core))
 lost_by port c core at true e = calm_move (loses_one port c at e) (refl, refl)
 lost_by port c core at false e = calm_move (closes port) (refl, refl)
 
@@ -141,7 +141,7 @@ ends_run port core = ended_runs port core (open_at port core) refl
 
 -- ---- a packet is read
 
-closes_with : (port : Port) (core later : CoreState) → later ≡ changes port closed core → Calm core (without_messages later)
+closes_with : (port : Port) (core later : CoreState) → later ≡ changes port closed_connection core → Calm core (without_messages later)
 closes_with port core later same = subst (λ (z : CoreState). Calm core (without_messages z)) (sym same) (calm_move (closes port) (refl, refl))
 
 first_runs : (now : ℕ) (port : Port) (c : Connection) (core : CoreState) (connect : Connect) (rest : List ℕ) → open_at port core ≡ Some c → is_first c.stage ≡ true
@@ -182,7 +182,7 @@ refused_runs : (now : ℕ) (port : Port) (c : Connection) (core : CoreState) (co
     → verdict c.unread ≡ Err (stops.Refused code) → Calm core (reads now port c core (Err (stops.Refused code)))
 refused_runs now port c core code at is = by (is_first c.stage) refl
   where
-    by : (b : Bool) → is_first c.stage ≡ b → Calm core (if b then without_messages (changes port (refused code) core) else loses port c core)
+    by : (b : Bool) → is_first c.stage ≡ b → Calm core (if b then without_messages (changes port (connect_refused code) core) else loses port c core)
     by true first = calm_move (refuses port c code at first is) (refl, refl)
     by false later = lost_runs port c core at
 
@@ -253,8 +253,8 @@ taken_in (Tick now) core =
 taken_in (Opened port now) core = first_move (opens_one port)
 taken_in (Bytes port piece now) core =
     first_join (first_move (holds port piece))
-    (repeated_runs (reads_next now port) (next_runs now port) (unread_of (open_at port (changes port (holding piece) core)))
-    (changes port (holding piece) core))
+    (repeated_runs (reads_next now port) (next_runs now port) (unread_of (open_at port (changes port (with_unread piece) core)))
+    (changes port (with_unread piece) core))
 taken_in (Ended port) core = let r = ends_run port core in calm_first r.0 r.1
 taken_in (Expel client) core = let r = expel_runs client core in calm_first r.0 r.1
 taken_in Cut core = cut_run core

@@ -16,7 +16,7 @@ use Rattle.exactly_once.specs.broker_spec.declared.command.Output.TheVariants as
 use Rattle.exactly_once.specs.broker_spec.Connection.{ConnectionName}
 use Rattle.world_base.specs.declared.Port.{Port}
 use Rattle.world_base.specs.declared.Connection.{Connection}
-use Rattle.world_base.specs.node_connections.ConnectionChanges.{noted_proposed, left_with, closed, put_out}
+use Rattle.world_base.specs.node_connections.ConnectionChanges.{noted_proposed, left_with, closed_connection, with_queued}
 use Rattle.world_base.specs.Core.{CoreState, rules, serves}
 use Rattle.world_base.specs.Reading.{changes}
 use Rattle.world_base.specs.Effects.{after_replica_step, with_effect, proposes, has_room, changes_named}
@@ -39,8 +39,8 @@ unfolding changes_named
 named_replica name f core = refl
 
 handled_replica : (core : CoreState) (e : Effect Command Output) → (with_effect core e).replica ≡ core.replica
-handled_replica core (Out place (outputs.Send name packet)) = named_replica name (put_out (spelling packet)) core
-handled_replica core (Out place (outputs.Close name)) = named_replica name closed core
+handled_replica core (Out place (outputs.Send name packet)) = named_replica name (with_queued (spelling packet)) core
+handled_replica core (Out place (outputs.Close name)) = named_replica name closed_connection core
 handled_replica core (To receiver message) = refl
 
 fold_replica : (core : CoreState) (effects : List (Effect Command Output)) → (fold with_effect core effects).replica ≡ core.replica

@@ -6,7 +6,7 @@ use Rattle.std.proofs.lemmas.Bool.{cases_Bool, both_ways}
 use Rattle.exactly_once.specs.lists.Lists.{Each}
 use Rattle.exactly_once.proofs.of_lists.OfEach.{each_append}
 use Rattle.world_base.specs.declared.Connection.{Connection}
-use Rattle.world_base.specs.node_connections.ConnectionChanges.{changed}
+use Rattle.world_base.specs.node_connections.ConnectionChanges.{changed_where}
 use Rattle.node_moves.specs.Ends.{AtMostOne}
 
 -- the live one of a name
@@ -51,28 +51,28 @@ none_in_view live named [] all = refl
 none_in_view live named (c ∷ cs) all = rw (and_no (live c) (named c) all.0) (none_in_view live named cs all.1)
 
 -- nothing is changed if none passes
-pub none_changes : (test : Connection → Bool) (f : Connection → Connection) (cs : List Connection) → find test cs ≡ None → changed test f cs ≡ cs
+pub none_changes : (test : Connection → Bool) (f : Connection → Connection) (cs : List Connection) → find test cs ≡ None → changed_where test f cs ≡ cs
 none_changes test f [] e = refl
 none_changes test f (c ∷ cs) e = by (test c) (none_changes test f cs) e
   where
-    by : (b : Bool) → (find test cs ≡ None → changed test f cs ≡ cs) → (if b then Some c else find test cs) ≡ None
-        → (if b then f c ∷ cs else c ∷ changed test f cs) ≡ c ∷ cs
+    by : (b : Bool) → (find test cs ≡ None → changed_where test f cs ≡ cs) → (if b then Some c else find test cs) ≡ None
+        → (if b then f c ∷ cs else c ∷ changed_where test f cs) ≡ c ∷ cs
     by true ih g = absurd (some_none c g)
     by false ih g = ap (λ l. c ∷ l) (ih g)
 
 -- the one that is changed is of another name
 pub view_of_others : (live named test : Connection → Bool) (f : Connection → Connection) (cs : List Connection) (c : Connection) → ((d : Connection) → named (f d) ≡ named d)
-    → find test cs ≡ Some c → named c ≡ false → view live named (changed test f cs) ≡ view live named cs
+    → find test cs ≡ Some c → named c ≡ false → view live named (changed_where test f cs) ≡ view live named cs
 view_of_others live named test f [] c kept found other = refl
 view_of_others live named test f (d ∷ cs) c kept found other = by (test d) (λ g. view_of_others live named test f cs c kept g other) found
   where
-    tail : (b : Bool) → view live named (changed test f cs) ≡ view live named cs
-        → (if b then Some d else view live named (changed test f cs)) ≡ (if b then Some d else view live named cs)
+    tail : (b : Bool) → view live named (changed_where test f cs) ≡ view live named cs
+        → (if b then Some d else view live named (changed_where test f cs)) ≡ (if b then Some d else view live named cs)
     tail true same = refl
     tail false same = same
 
-    by : (b : Bool) → (find test cs ≡ Some c → view live named (changed test f cs) ≡ view live named cs) → (if b then Some d else find test cs) ≡ Some c
-        → view live named (if b then f d ∷ cs else d ∷ changed test f cs) ≡ view live named (d ∷ cs)
+    by : (b : Bool) → (find test cs ≡ Some c → view live named (changed_where test f cs) ≡ view live named cs) → (if b then Some d else find test cs) ≡ Some c
+        → view live named (if b then f d ∷ cs else d ∷ changed_where test f cs) ≡ view live named (d ∷ cs)
     by true ih f' =
         let none : named d ≡ false = ap named (same_some d c f') ∙ other in
         rw (and_no (live d) (named d) none, and_no (live (f d)) (named (f d)) (kept d ∙ none)) refl
@@ -81,7 +81,7 @@ view_of_others live named test f (d ∷ cs) c kept found other = by (test d) (λ
 -- it is of that name
 pub view_of_changed : (live named test : Connection → Bool) (f : Connection → Connection) (cs : List Connection) (c : Connection) → AtMostOne named cs → ((d : Connection) → test d ≡ true → live d ≡ true)
     → ((d : Connection) → named (f d) ≡ named d) → find test cs ≡ Some c → named c ≡ true
-    → (view live named cs ≡ Some c) × (view live named (changed test f cs) ≡ if_live live (f c))
+    → (view live named cs ≡ Some c) × (view live named (changed_where test f cs) ≡ if_live live (f c))
 view_of_changed live named test f [] c one lives kept found is = absurd cc
 view_of_changed live named test f (d ∷ cs) c one lives kept found is = by (test d) refl (λ g. view_of_changed live named test f cs c one.1 lives kept g is) found
   where
@@ -89,9 +89,9 @@ view_of_changed live named test f (d ∷ cs) c one lives kept found is = by (tes
     changed_head z named_z none true e = rw (e, named_z) refl
     changed_head z named_z none false e = rw e none
 
-    by : (b : Bool) → test d ≡ b → (find test cs ≡ Some c → (view live named cs ≡ Some c) × (view live named (changed test f cs) ≡ if_live live (f c)))
+    by : (b : Bool) → test d ≡ b → (find test cs ≡ Some c → (view live named cs ≡ Some c) × (view live named (changed_where test f cs) ≡ if_live live (f c)))
         → (if b then Some d else find test cs) ≡ Some c
-        → (view live named (d ∷ cs) ≡ Some c) × (view live named (if b then f d ∷ cs else d ∷ changed test f cs) ≡ if_live live (f c))
+        → (view live named (d ∷ cs) ≡ Some c) × (view live named (if b then f d ∷ cs else d ∷ changed_where test f cs) ≡ if_live live (f c))
     by true t ih g =
         let same = same_some d c g in
         let named_d : named d ≡ true = ap named same ∙ is in
@@ -111,30 +111,30 @@ view_of_changed live named test f (d ∷ cs) c one lives kept found is = by (tes
 -- ---- at most one stays so
 
 each_changed : (named test : Connection → Bool) (f : Connection → Connection) (cs : List Connection) → ((d : Connection) → named (f d) ≡ named d) → Each (λ c. named c ≡ false) cs
-    → Each (λ c. named c ≡ false) (changed test f cs)
+    → Each (λ c. named c ≡ false) (changed_where test f cs)
 each_changed named test f [] kept all = tt
 each_changed named test f (c ∷ cs) kept all = by (test c) (each_changed named test f cs kept all.1)
   where
-    by : (b : Bool) → Each (λ d. named d ≡ false) (changed test f cs) → Each (λ d. named d ≡ false) (if b then f c ∷ cs else c ∷ changed test f cs)
+    by : (b : Bool) → Each (λ d. named d ≡ false) (changed_where test f cs) → Each (λ d. named d ≡ false) (if b then f c ∷ cs else c ∷ changed_where test f cs)
     by true ih = (kept c ∙ all.0, all.1)
     by false ih = (all.0, ih)
 
-pub one_changed : (named test : Connection → Bool) (f : Connection → Connection) (cs : List Connection) → ((d : Connection) → named (f d) ≡ named d) → AtMostOne named cs → AtMostOne named (changed test f cs)
+pub one_changed : (named test : Connection → Bool) (f : Connection → Connection) (cs : List Connection) → ((d : Connection) → named (f d) ≡ named d) → AtMostOne named cs → AtMostOne named (changed_where test f cs)
 one_changed named test f [] kept one = tt
 one_changed named test f (c ∷ cs) kept one = by (test c) (one_changed named test f cs kept one.1)
   where
-    by : (b : Bool) → AtMostOne named (changed test f cs) → AtMostOne named (if b then f c ∷ cs else c ∷ changed test f cs)
+    by : (b : Bool) → AtMostOne named (changed_where test f cs) → AtMostOne named (if b then f c ∷ cs else c ∷ changed_where test f cs)
     by true ih = (λ e. one.0 (sym (kept c) ∙ e), one.1)
     by false ih = (λ e. each_changed named test f cs kept (one.0 e), ih)
 
 -- ---- those that stay
 
 pub each_kept : (P : Connection → Type 0) (test : Connection → Bool) (f : Connection → Connection) (cs : List Connection) → ((d : Connection) → P d → P (f d)) → Each P cs
-    → Each P (changed test f cs)
+    → Each P (changed_where test f cs)
 each_kept P test f [] kept all = tt
 each_kept P test f (c ∷ cs) kept all = by (test c) (each_kept P test f cs kept all.1)
   where
-    by : (b : Bool) → Each P (changed test f cs) → Each P (if b then f c ∷ cs else c ∷ changed test f cs)
+    by : (b : Bool) → Each P (changed_where test f cs) → Each P (if b then f c ∷ cs else c ∷ changed_where test f cs)
     by true ih = (kept c all.0, all.1)
     by false ih = (all.0, ih)
 

@@ -13,7 +13,7 @@ use Rattle.exactly_once.specs.broker_spec.declared.command.Output.TheVariants as
 use Rattle.exactly_once.specs.broker_spec.Connection.{ConnectionName}
 use Rattle.world_base.specs.declared.Connection.{Connection}
 use Rattle.world_base.specs.node_connections.Connections.{is_open_named}
-use Rattle.world_base.specs.node_connections.ConnectionChanges.{max_pending, closed, failing, putting, put_out, changed}
+use Rattle.world_base.specs.node_connections.ConnectionChanges.{max_pending, closed_connection, failing, putting, with_queued, changed_where}
 use Rattle.world_base.specs.Core.{CoreState, StepOutcome, rules, serves}
 use Rattle.world_base.specs.Effects.{without_messages, repeated, with_effect, after_replica_step, proposes, changes_named}
 use Rattle.node_moves.proofs.NamesInOrder.{same_le}
@@ -29,21 +29,21 @@ total_few w (c ∷ cs) one = let here = one c in let rest = total_few w cs one i
 
 -- a change of one
 pub total_changed : (w : Connection → ℕ) (test : Connection → Bool) (f : Connection → Connection) (cs : List Connection)
-    → ((c : Connection) → w (f c) ≤ w c) → total w (changed test f cs) ≤ total w cs
+    → ((c : Connection) → w (f c) ≤ w c) → total w (changed_where test f cs) ≤ total w cs
 total_changed w test f [] low = same_le 0
 total_changed w test f (c ∷ cs) low = by (test c) (total_changed w test f cs low) (low c)
   where
-    by : (b : Bool) → total w (changed test f cs) ≤ total w cs → w (f c) ≤ w c → total w (if b then f c ∷ cs else c ∷ changed test f cs) ≤ w c + total w cs
+    by : (b : Bool) → total w (changed_where test f cs) ≤ total w cs → w (f c) ≤ w c → total w (if b then f c ∷ cs else c ∷ changed_where test f cs) ≤ w c + total w cs
     by true rest here = omega (arith, here)
     by false rest here = omega (arith, rest)
 
 pub total_lowered : (w : Connection → ℕ) (test : Connection → Bool) (f : Connection → Connection) (cs : List Connection) (d : Connection)
-    → find test cs ≡ Some d → w (f d) < w d → total w (changed test f cs) < total w cs
+    → find test cs ≡ Some d → w (f d) < w d → total w (changed_where test f cs) < total w cs
 total_lowered w test f [] d found less = cc
 total_lowered w test f (c ∷ cs) d found less = by (test c) (λ g. total_lowered w test f cs d g less) found
   where
-    by : (b : Bool) → (find test cs ≡ Some d → total w (changed test f cs) < total w cs) → (if b then Some c else find test cs) ≡ Some d
-        → total w (if b then f c ∷ cs else c ∷ changed test f cs) < w c + total w cs
+    by : (b : Bool) → (find test cs ≡ Some d → total w (changed_where test f cs) < total w cs) → (if b then Some c else find test cs) ≡ Some d
+        → total w (if b then f c ∷ cs else c ∷ changed_where test f cs) < w c + total w cs
     by true rest g =
         let here : w (f c) < w c = subst (λ (z : Connection). w (f z) < w z) (sym (same_some c d g)) less in
         omega (arith, here)
@@ -52,7 +52,7 @@ total_lowered w test f (c ∷ cs) d found less = by (test c) (λ g. total_lowere
 -- ---- what is proposed
 
 -- what holds where bytes are queued, and if the connection is closed as lost
-pub put_or_failing : (P : Connection → Type 0) (bytes : List ℕ) (c : Connection) → P (putting bytes c) → P (failing c) → P (put_out bytes c)
+pub put_or_failing : (P : Connection → Type 0) (bytes : List ℕ) (c : Connection) → P (putting bytes c) → P (failing c) → P (with_queued bytes c)
 put_or_failing P bytes c p q = by (nat_le (length c.pending + length bytes) max_pending)
   where
     by : (b : Bool) → P (if b then putting bytes c else failing c)
@@ -61,8 +61,8 @@ put_or_failing P bytes c p q = by (nat_le (length c.pending + length bytes) max_
 
 -- no output raises it
 pub record IsLight (w : Connection → ℕ) : Type 0 where
-  pub shut : (c : Connection) → w (closed c) ≤ w c
-  pub put : (bytes : List ℕ) (c : Connection) → w (put_out bytes c) ≤ w c
+  pub shut : (c : Connection) → w (closed_connection c) ≤ w c
+  pub put : (bytes : List ℕ) (c : Connection) → w (with_queued bytes c) ≤ w c
 
 total_named : (w : Connection → ℕ) (name : ConnectionName) (f : Connection → Connection) (core : CoreState) → ((c : Connection) → w (f c) ≤ w c)
     → total w (changes_named name f core).connections ≤ total w core.connections
@@ -70,8 +70,8 @@ unfolding changes_named
 total_named w name f core low = total_changed w (is_open_named name) f core.connections low
 
 total_handled : (w : Connection → ℕ) → IsLight w → (core : CoreState) (e : Effect Command Output) → total w (with_effect core e).connections ≤ total w core.connections
-total_handled w light core (Out place (outputs.Send name packet)) = total_named w name (put_out (spelling packet)) core (light.put (spelling packet))
-total_handled w light core (Out place (outputs.Close name)) = total_named w name closed core light.shut
+total_handled w light core (Out place (outputs.Send name packet)) = total_named w name (with_queued (spelling packet)) core (light.put (spelling packet))
+total_handled w light core (Out place (outputs.Close name)) = total_named w name closed_connection core light.shut
 total_handled w light core (To receiver message) = same_le (total w core.connections)
 
 total_delivered : (w : Connection → ℕ) → IsLight w → (core : CoreState) (effects : List (Effect Command Output))

@@ -13,7 +13,7 @@ use Rattle.exactly_once.specs.broker_spec.Connection.{ConnectionName}
 use Rattle.world_base.specs.declared.Port.{Port}
 use Rattle.world_base.specs.declared.Connection.{Connection}
 use Rattle.world_base.specs.node_connections.Connections.{is_first}
-use Rattle.world_base.specs.node_connections.ConnectionChanges.{noted_proposed, closed, failing, left_with}
+use Rattle.world_base.specs.node_connections.ConnectionChanges.{noted_proposed, closed_connection, failing, left_with}
 use Rattle.world_base.specs.Core.{CoreState, StepOutcome, rules}
 use Rattle.world_base.specs.Failing.{closes_failed}
 use Rattle.world_base.specs.Lossy.{Account, Drives, TakesCommand}
@@ -82,4 +82,4 @@ pub data LossyMoves (core : CoreState) : StepOutcome → Type 0 where
   unheard : LossyMoves core (without_messages (closes_failed core))
   -- bytes come in on an open connection that is closed, since there is no memory for them
   drops : (port : Port) (piece : List ℕ) →
-      LossyMoves core (without_messages (changes port closed core))
+      LossyMoves core (without_messages (changes port closed_connection core))

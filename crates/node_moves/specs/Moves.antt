@@ -16,11 +16,11 @@ use Rattle.world_base.specs.declared.Port.{Port}
 use Rattle.world_base.specs.declared.item.Item.{Item}
 use Rattle.world_base.specs.declared.Connection.{Connection}
 use Rattle.world_base.specs.node_connections.Connections.{has_failed, is_first, is_proposed}
-use Rattle.world_base.specs.node_connections.ConnectionChanges.{noted_proposed, holding, left_with, closed}
+use Rattle.world_base.specs.node_connections.ConnectionChanges.{noted_proposed, with_unread, left_with, closed_connection}
 use Rattle.world_base.specs.Core.{CoreState, StepOutcome}
 use Rattle.world_base.specs.Failing.{closes_failed}
 use Rattle.world_base.specs.Handing.{hands_over}
-use Rattle.world_base.specs.Reading.{changes, open_at, refused}
+use Rattle.world_base.specs.Reading.{changes, open_at, connect_refused}
 use Rattle.world_base.specs.Step.{node_step, with_next_connection, settled, crashed, with_cut}
 use Rattle.world_base.specs.Effects.{without_messages, proposes, drives, has_room}
 
@@ -38,7 +38,7 @@ pub data Moves (core : CoreState) : StepOutcome → Type 0 where
   opens_one : (port : Port) → Moves core (without_messages (with_next_connection port core))
   -- bytes come in on an open connection
   holds : (port : Port) (piece : List ℕ) →
-      Moves core (without_messages (changes port (holding piece) core))
+      Moves core (without_messages (changes port (with_unread piece) core))
   -- the first packet of an open connection, a CONNECT, is read and proposed, whole at this time;
   -- the log has room for it
   reads_first : (now : ℕ) (port : Port) (c : Connection) (connect : Connect) (rest : List ℕ) →
@@ -52,16 +52,16 @@ pub data Moves (core : CoreState) : StepOutcome → Type 0 where
       verdict c.unread ≡ Ok (packet, rest) → has_room core ≡ true →
       Moves core (proposes (commands.Packet c.name packet) (changes port (left_with now rest) core))
   -- a connection is closed, and nothing more is read from it
-  closes : (port : Port) → Moves core (without_messages (changes port closed core))
+  closes : (port : Port) → Moves core (without_messages (changes port closed_connection core))
   -- a connection is closed with an answer: its first packet is a CONNECT that is refused
   refuses : (port : Port) (c : Connection) (code : RefusalCode) → open_at port core ≡ Some c →
       is_first c.stage ≡ true →
       verdict c.unread ≡ Err (stops.Refused code) →
-      Moves core (without_messages (changes port (refused code) core))
+      Moves core (without_messages (changes port (connect_refused code) core))
   -- a connection is closed, and its loss is proposed, since its Connect was
   loses_one : (port : Port) (c : Connection) → open_at port core ≡ Some c →
       is_proposed c.stage ≡ true →
-      Moves core (proposes (commands.Lost c.name) (changes port closed core))
+      Moves core (proposes (commands.Lost c.name) (changes port closed_connection core))
   -- the loss of a connection is proposed that was closed for want of room for what was to be sent
   loses_next : (c : Connection) → find has_failed core.connections ≡ Some c →
       Moves core (proposes (commands.Lost c.name) (closes_failed core))

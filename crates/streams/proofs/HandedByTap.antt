@@ -5,7 +5,7 @@ use Rattle.node.specs.declared.Handed.{Handed}
 use Rattle.node.specs.declared.Port.{Port}
 use Rattle.node.specs.world_base.Core.{CountedCore}
 use Rattle.node.specs.Growth.{counted}
-use Rattle.node.specs.world_base.Handing.{answer_of, bytes_of, listed_at}
+use Rattle.node.specs.world_base.Handing.{handed_after, pending_bytes, listed_at}
 use Rattle.node.specs.State.{Replays, Seen}
 use Rattle.connection.specs.Writing.{HandsOver}
 use Rattle.streams.specs.Tapping.{NodesBegan, HandsOut}
@@ -16,14 +16,14 @@ pub handed_by_tap :
     (was is count : ℕ)
     → NodesBegan first_of
     → Replays (first_of seen.taker.inbox) seen.taker.taken seen.node
-    → new ≡ old ++ bytes_of (listed_at before.port seen.node.core)
-    → answer ≡ answer_of (listed_at before.port seen.node.core)
+    → new ≡ old ++ pending_bytes (listed_at before.port seen.node.core)
+    → answer ≡ handed_after (listed_at before.port seen.node.core)
     → was ≡ length old → is ≡ length new
     → after ≡ record before { handed = count }
     → count ≡ min (before.handed + (is - was)) (2 ^ 64 - 1)
     → HandsOver HandsOut before answer after old new
 handed_by_tap first_of before after seen answer old new was is count began replays bytes answers first last counts sum =
-    let more = bytes_of (listed_at before.port seen.node.core) in
+    let more = pending_bytes (listed_at before.port seen.node.core) in
     let size : length new ≡ length old + length more = ap length bytes ∙ length-append old more in
     let all : count ≡ counted (before.handed + length more) = omega (arith, size, first, last, sum) in
     record {

@@ -5,7 +5,7 @@ use Rattle.node.specs.declared.Handed.{Handed}
 use Rattle.node.specs.declared.Port.{Port}
 use Rattle.node.specs.world_base.Core.{CountedCore, opening_core}
 use Rattle.node.specs.Growth.{counted}
-use Rattle.node.specs.world_base.Handing.{answer_of, bytes_of, listed_at}
+use Rattle.node.specs.world_base.Handing.{handed_after, pending_bytes, listed_at}
 use Rattle.node.specs.State.{Replays, Seen}
 use Rattle.streams.specs.declared.port_tap.PortTap.{PortTap}
 
@@ -22,8 +22,8 @@ pub record IsHandedOver
     : Type 0 where
   pub seen : Seen
   pub replays : Replays (first_of seen.taker.inbox) seen.taker.taken seen.node
-  pub bytes_are : bytes ≡ bytes_of (listed_at port seen.node.core)
-  pub answer_is : answer ≡ answer_of (listed_at port seen.node.core)
+  pub bytes_are : bytes ≡ pending_bytes (listed_at port seen.node.core)
+  pub answer_is : answer ≡ handed_after (listed_at port seen.node.core)
 
 -- nothing was handed over by a tap
 abbrev pub HandsNone : PortTap → Type 0

@@ -2,7 +2,7 @@
 
 ghost use Rattle.std.specs.Prelude.{◌≡◌, ◌++◌, IfOk, OnErr, OnOk};
 ghost use Rattle.connection.specs.Writing.{HandsOver};
-ghost use Rattle.node.specs.world_base.Handing.{bytes_of, hands_over, listed_at};
+ghost use Rattle.node.specs.world_base.Handing.{pending_bytes, hands_over, listed_at};
 ghost use Rattle.streams.specs.Tapping.{NodesBegan, HandsOut};
 
 use connection::Tap;
@@ -54,7 +54,7 @@ impl PortTap {
         // All that the node queued for the port, and nothing else.
         ensures bytes { OnOk result
             (out.new.items
-            ≡ out.old.items ++ bytes_of (listed_at self.old.port node.old.node.core)) }
+            ≡ out.old.items ++ pending_bytes (listed_at self.old.port node.old.node.core)) }
         ensures left { OnOk result (node.new ≡ record node.old {
           node = record node.old.node { core = hands_over self.old.port node.old.node.core };
         }) }

@@ -11,7 +11,7 @@ use Rattle.world_base.specs.declared.Connection.{Connection as NodesEnd}
 use Rattle.world_base.specs.declared.Port.{Port}
 use Rattle.headline.specs.node_connections.Connections.{is_at}
 use Rattle.world_base.specs.Core.{CoreState, CountedCore}
-use Rattle.world_base.specs.Handing.{bytes_of, listed_at}
+use Rattle.world_base.specs.Handing.{pending_bytes, listed_at}
 use Rattle.headline.specs.node_moves.Moves.NodeCall.{gives}
 use Rattle.headline.proofs.of_node_moves.Views.{found_passes}
 use Rattle.headline.specs.node_group.Streams.{bytes_named}
@@ -42,13 +42,13 @@ use Rattle.world.proofs.WaysStand.{PipeAt, pipe_at, way_changes}
 
 -- all that a node hands over at a port is of one name
 all_named : (x : ConnectionName) (port : Port) (core : CoreState) → ((d : NodesEnd) → In d core.connections → d.port.0 ≡ port.0 → d.name ≡ x)
-    → bytes_named x (listed_at port core) ≡ bytes_of (listed_at port core)
+    → bytes_named x (listed_at port core) ≡ pending_bytes (listed_at port core)
 all_named x port core ports = by (listed_at port core) refl
   where
     named : (d : NodesEnd) → d.name ≡ x → (let l : List ℕ = if same_connection d.name x then d.pending else [] in l) ≡ d.pending
     named d is = ap (λ (b : Bool). let l : List ℕ = if b then d.pending else [] in l) (ap (λ (y : ConnectionName). same_connection y x) is ∙ same_name_self x)
 
-    by : (o : Option NodesEnd) → listed_at port core ≡ o → bytes_named x o ≡ bytes_of o
+    by : (o : Option NodesEnd) → listed_at port core ≡ o → bytes_named x o ≡ pending_bytes o
     by None e = refl
     by (Some d) e = named d (ports d (found_in (is_at port) core.connections d e) (eq_is d.port.0 port.0 (found_passes (is_at port) core.connections d e)))
 
@@ -73,9 +73,9 @@ module _ {nodes : ℕ} {config : Config} {cs : List Client} (m : World) (trail :
       let core = mapped_from (λ (c : CountedCore). c.core) old.nodes.nodes x.p.node carried.core (sym (ap (λ (l : List CoreState). slice_get l x.p.node) s.nodes.nodes) ∙ carried.stands) in
       let handed = over core.x core.found in
       let down : bytes ≡ x.p.down ++ goes_down_in x.κ.name d.does.step =
-      handed ∙ ap (λ (l : List ℕ). l ++ bytes_of (listed_at x.p.port core.x.core)) (sym x.is.down)
+      handed ∙ ap (λ (l : List ℕ). l ++ pending_bytes (listed_at x.p.port core.x.core)) (sym x.is.down)
       ∙ ap (λ (l : List ℕ). x.p.down ++ l)
-      (ap (λ (k : CoreState). bytes_of (listed_at x.p.port k)) core.is ∙ sym named ∙ sym (carried.down x.κ.name)) in
+      (ap (λ (k : CoreState). pending_bytes (listed_at x.p.port k)) core.is ∙ sym named ∙ sym (carried.down x.κ.name)) in
       let q : Pipe = record x.p { down = x.p.down ++ goes_down_in x.κ.name d.does.step } in
       let later : Way = record way { down = bytes } in
       record {

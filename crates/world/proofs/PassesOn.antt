@@ -9,7 +9,7 @@ use Rattle.escaping_nodes.specs.Coming.Come.{all_came as none_comes, hands, to_n
 use Rattle.headline.specs.node_moves.Moves.NodeCall.{gives}
 use Rattle.headline.proofs.of_node_group.Placed.{get_mapped}
 use Rattle.world_base.specs.Core.{CountedCore}
-use Rattle.world_base.specs.Handing.{bytes_of, listed_at}
+use Rattle.world_base.specs.Handing.{pending_bytes, listed_at}
 use Rattle.world_base.specs.declared.Port.{Port}
 use Rattle.world_nodes.specs.Running.{numbered_node}
 use Rattle.world_nodes.specs.Nodes.{NodesState}
@@ -97,7 +97,7 @@ handed (Some core) node port before old between is given =
     record {
       come = subst (λ (n : NodesState). Come old [] n) (sym given) (hands (node - 1) core port (at_place old.nodes node core (sym is)) none_comes);
       goes = acts_go (Some (node - 1, gives port)) old between acts;
-      may = inr (acts, λ other there. ap (λ (c : CountedCore). before ++ bytes_of (listed_at port c.core)) (same_Some core other (is ∙ there)));
+      may = inr (acts, λ other there. ap (λ (c : CountedCore). before ++ pending_bytes (listed_at port c.core)) (same_Some core other (is ∙ there)));
     }
 
 -- ---- one connection

@@ -17,7 +17,7 @@ use Rattle.escaping_client.proofs.of_lists.Places.{get_set}
 use Rattle.packet.specs.Spelling.{spelling}
 use Rattle.world_base.specs.Core.{CountedCore}
 use Rattle.world_base.specs.declared.item.Item.TheVariants.{Peer}
-use Rattle.world_base.specs.Handing.{bytes_of}
+use Rattle.world_base.specs.Handing.{pending_bytes}
 use Rattle.world_base.specs.Step.{node_step}
 use Rattle.world_nodes.specs.ExactSteps.{ComesToNobody, after_node_call}
 use Rattle.world_nodes.specs.Running.{numbered_node, running}
@@ -81,7 +81,7 @@ module _ (name : List ℕ) (i at number place : ℕ) (core : Core) (up : List �
         is_open = is_told_open (port_at_node number) (numbered_node w.nodes.nodes (suc place));
         newest = own_gathered i at number (suc place) core up positive [] w after (let e : 0 < suc place = omega arith in e) gathers housed s;
         begins = subst (λ (l : List ℕ). IsPrefixOf (spelling session_present) l)
-            (sym (ap (λ (o : Option CountedCore). bytes_put_out (port_at_node number) o) stands ∙ ap bytes_of puts.listed)) puts.first;
+            (sym (ap (λ (o : Option CountedCore). bytes_put_out (port_at_node number) o) stands ∙ ap pending_bytes puts.listed)) puts.first;
         first = position_kept name after.clients w.clients (names_seen after.clients w.clients passes.clients) ∙ first;
         nodes = goes;
         master = master_stays w.nodes after.nodes passes.come ∙ same;

@@ -27,7 +27,7 @@ use Rattle.world_base.specs.declared.Port.{Port}
 use Rattle.world_base.specs.declared.item.Item.TheVariants.{Peer}
 use Rattle.headline.specs.node_connections.Connections.{is_open_named, is_closed}
 use Rattle.world_base.specs.Core.{CountedCore, rules}
-use Rattle.world_base.specs.Handing.{answer_of, bytes_of}
+use Rattle.world_base.specs.Handing.{handed_after, pending_bytes}
 use Rattle.world_nodes.specs.ExactSteps.{after_answer, after_node_call}
 use Rattle.world_nodes.specs.Running.{numbered_node}
 use Rattle.world_nodes.specs.Nodes.{NodesState}
@@ -56,11 +56,11 @@ open_stage x c e = by (is_closed c.stage) (and_parts (not (is_closed c.stage)) (
 
 module _ (port : Port) (x : ConnectionName) (node : CountedCore) (w : AwaitsAnswer port x node.core) where
   pub nothing_out : bytes_put_out port (Some node) ≡ []
-  nothing_out = ap bytes_of w.listed ∙ w.none
+  nothing_out = ap pending_bytes w.listed ∙ w.none
 
   pub told_open : is_told_open port (Some node) ≡ true
   told_open =
-      ap (λ (o : Option Connection). is_more (answer_of o)) w.listed
+      ap (λ (o : Option Connection). is_more (handed_after o)) w.listed
       ∙ ap (λ (b : Bool). is_more (let h : Handed = if b then answers.Closed else answers.Open in h))
       (open_stage x w.connection (found_passes (is_open_named x) node.core.connections w.connection w.named))
 

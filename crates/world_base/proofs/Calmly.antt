@@ -10,12 +10,12 @@ use Rattle.ballot.specs.ballot_base.Protocol.Input.{Receives}
 use Rattle.node_connections.specs.declared.port.Port.{Port}
 use Rattle.node_connections.specs.declared.connection.Connection.{Connection}
 use Rattle.node_connections.specs.Connections.{has_failed, is_at, is_listed, is_open_at}
-use Rattle.node_connections.specs.ConnectionChanges.{changed, closed, handed}
+use Rattle.node_connections.specs.ConnectionChanges.{changed_where, closed_connection, nothing_pending}
 use Rattle.world_base.specs.declared.item.Item.{Item}
 use Rattle.world_base.specs.declared.item.Item.TheVariants.{Peer, Tick, Opened, Bytes, Ended, Expel, Cut, Crash}
 use Rattle.world_base.specs.Core.{CoreState, StepOutcome, serves}
 use Rattle.world_base.specs.Failing.{loses_all_failed, loses_failed}
-use Rattle.world_base.specs.Handing.{bytes_of, hands_over, left_by, listed_at}
+use Rattle.world_base.specs.Handing.{pending_bytes, hands_over, left_by, listed_at}
 use Rattle.world_base.specs.Losses.{IsHeardQuietly, IsIgnored, ReadsNone, ItemTakesNoMemory, WaitsNothing, was_proposed}
 use Rattle.world_base.specs.Reading.{changes, port_closed, loses_open, open_at}
 use Rattle.world_base.specs.Step.{acts_on, crashed, node_step, settled, does_item}
@@ -25,16 +25,16 @@ use Rattle.world_base.proofs.Idle.{closing_fails_none, repeated_without_messages
 
 -- ---- what waits to be handed over
 
-closing_keeps : (test : Connection → Bool) (cs : List Connection) → Each (λ (c : Connection). c.pending ≡ []) cs → Each (λ (c : Connection). c.pending ≡ []) (changed test closed cs)
+closing_keeps : (test : Connection → Bool) (cs : List Connection) → Each (λ (c : Connection). c.pending ≡ []) cs → Each (λ (c : Connection). c.pending ≡ []) (changed_where test closed_connection cs)
 closing_keeps test [] each = tt
 closing_keeps test (c ∷ cs) each = by (test c) (closing_keeps test cs each.1)
   where
-    by : (b : Bool) → Each (λ (c : Connection). c.pending ≡ []) (changed test closed cs)
-        → Each (λ (c : Connection). c.pending ≡ []) (if b then closed c ∷ cs else c ∷ changed test closed cs)
+    by : (b : Bool) → Each (λ (c : Connection). c.pending ≡ []) (changed_where test closed_connection cs)
+        → Each (λ (c : Connection). c.pending ≡ []) (if b then closed_connection c ∷ cs else c ∷ changed_where test closed_connection cs)
     by true rest = (each.0, each.1)
     by false rest = (each.0, rest)
 
-all_closed : (cs : List Connection) → Each (λ (c : Connection). c.pending ≡ []) cs → Each (λ (c : Connection). c.pending ≡ []) (map closed cs)
+all_closed : (cs : List Connection) → Each (λ (c : Connection). c.pending ≡ []) cs → Each (λ (c : Connection). c.pending ≡ []) (map closed_connection cs)
 all_closed [] each = tt
 all_closed (c ∷ cs) each = (each.0, all_closed cs each.1)
 
@@ -50,29 +50,29 @@ settled_waits : (core : CoreState) → WaitsNothing core → WaitsNothing (settl
 unfolding settled
 settled_waits core each = by (serves core)
   where
-    by : (b : Bool) → Each (λ (c : Connection). c.pending ≡ []) (filter is_listed (if b then core.connections else map closed core.connections))
+    by : (b : Bool) → Each (λ (c : Connection). c.pending ≡ []) (filter is_listed (if b then core.connections else map closed_connection core.connections))
     by true = some_left is_listed core.connections each
-    by false = some_left is_listed (map closed core.connections) (all_closed core.connections each)
+    by false = some_left is_listed (map closed_connection core.connections) (all_closed core.connections each)
 
-handed_waits : (test : Connection → Bool) (cs : List Connection) → Each (λ (c : Connection). c.pending ≡ []) cs → Each (λ (c : Connection). c.pending ≡ []) (changed test handed cs)
+handed_waits : (test : Connection → Bool) (cs : List Connection) → Each (λ (c : Connection). c.pending ≡ []) cs → Each (λ (c : Connection). c.pending ≡ []) (changed_where test nothing_pending cs)
 handed_waits test [] each = tt
 handed_waits test (c ∷ cs) each = by (test c) (handed_waits test cs each.1)
   where
-    by : (b : Bool) → Each (λ (c : Connection). c.pending ≡ []) (changed test handed cs)
-        → Each (λ (c : Connection). c.pending ≡ []) (if b then handed c ∷ cs else c ∷ changed test handed cs)
+    by : (b : Bool) → Each (λ (c : Connection). c.pending ≡ []) (changed_where test nothing_pending cs)
+        → Each (λ (c : Connection). c.pending ≡ []) (if b then nothing_pending c ∷ cs else c ∷ changed_where test nothing_pending cs)
     by true rest = (refl, each.1)
     by false rest = (each.0, rest)
 
-none_waits : (test : Connection → Bool) (cs : List Connection) → Each (λ (c : Connection). c.pending ≡ []) cs → bytes_of (find test cs) ≡ []
+none_waits : (test : Connection → Bool) (cs : List Connection) → Each (λ (c : Connection). c.pending ≡ []) cs → pending_bytes (find test cs) ≡ []
 none_waits test [] each = refl
 none_waits test (c ∷ cs) each = by (test c) (none_waits test cs each.1)
   where
-    by : (b : Bool) → bytes_of (find test cs) ≡ [] → bytes_of (if b then Some c else find test cs) ≡ []
+    by : (b : Bool) → pending_bytes (find test cs) ≡ [] → pending_bytes (if b then Some c else find test cs) ≡ []
     by true rest = each.0
     by false rest = rest
 
 -- nothing is handed over if nothing waits
-pub nothing_handed : (port : Port) (core : CoreState) → WaitsNothing core → bytes_of (listed_at port core) ≡ []
+pub nothing_handed : (port : Port) (core : CoreState) → WaitsNothing core → pending_bytes (listed_at port core) ≡ []
 nothing_handed port core each = none_waits (is_at port) core.connections each
 
 pub hands_over_waits : (port : Port) (core : CoreState) → WaitsNothing core → WaitsNothing (hands_over port core)
@@ -81,7 +81,7 @@ hands_over_waits port core each = by (listed_at port core)
   where
     by : (o : Option Connection) → WaitsNothing (left_by port core o)
     by None = each
-    by (Some c) = some_left is_listed (changed (is_at port) handed core.connections) (handed_waits (is_at port) core.connections each)
+    by (Some c) = some_left is_listed (changed_where (is_at port) nothing_pending core.connections) (handed_waits (is_at port) core.connections each)
 
 -- ---- an item
 
@@ -103,7 +103,7 @@ ends_calmly port core unproposed = by (open_at port core) refl unproposed
     by None is none = nothing_goes (Ended port) core (ap (loses_open port core) is)
     by (Some c) is none =
         record {
-          next = changes port closed core;
+          next = changes port closed_connection core;
           is = ap (loses_open port core) is ∙ rw none refl;
           fails_none = λ e. closing_fails_none (is_open_at port) core.connections e;
           waits = λ each. closing_keeps (is_open_at port) core.connections each;

@@ -7,7 +7,7 @@ use Rattle.broker_spec.specs.Connection.{ConnectionName}
 use Rattle.node_connections.specs.declared.port.Port.{Port}
 use Rattle.node_connections.specs.declared.connection.Connection.{Connection}
 use Rattle.node_connections.specs.Connections.{is_open_at, is_open_named}
-use Rattle.node_connections.specs.ConnectionChanges.{changed}
+use Rattle.node_connections.specs.ConnectionChanges.{changed_where}
 use Rattle.world_base.specs.Core.{CoreState}
 use Rattle.world_base.specs.Inside.{RunningStep}
 use Rattle.world_base.specs.Reading.{changes}
@@ -18,7 +18,7 @@ pub there : (test : Connection → Bool) (change : Connection → Connection) (r
     (c new : Connection) → index ≡ position test r.core.connections → index ≡ Some i →
     c ≡ get_or r.core.connections i c → new ≡ change c →
     record r { core = record r.core { connections = set r.core.connections i new } }
-    ≡ record r { core = record r.core { connections = changed test change r.core.connections } }
+    ≡ record r { core = record r.core { connections = changed_where test change r.core.connections } }
 there test change r index i c new at is found e =
     ap (λ (l : List Connection). record r { core = record r.core { connections = l } })
     (ap (λ x. set r.core.connections i x) e
@@ -26,7 +26,7 @@ there test change r index i c new at is found e =
 
 nowhere : (test : Connection → Bool) (change : Connection → Connection) (r : RunningStep) (index : Option ℕ) →
     index ≡ position test r.core.connections → index ≡ None →
-    r ≡ record r { core = record r.core { connections = changed test change r.core.connections } }
+    r ≡ record r { core = record r.core { connections = changed_where test change r.core.connections } }
 nowhere test change r index at is =
     ap (λ (l : List Connection). record r { core = record r.core { connections = l } })
     (sym (none_changed test change r.core.connections (sym is ∙ at)))
@@ -66,7 +66,7 @@ as_running core = record { core = core; out_of_memory = false }
 pub core_there : (test : Connection → Bool) (change : Connection → Connection) (core : CoreState) (index : Option ℕ) (i : ℕ)
     (c new : Connection) → index ≡ position test core.connections → index ≡ Some i →
     c ≡ get_or core.connections i c → new ≡ change c →
-    record core { connections = set core.connections i new } ≡ record core { connections = changed test change core.connections }
+    record core { connections = set core.connections i new } ≡ record core { connections = changed_where test change core.connections }
 core_there test change core index i c new at is found e =
     ap (λ (r : RunningStep). r.core) (there test change (as_running core) index i c new at is found e)
 

@@ -11,7 +11,7 @@ use Rattle.ballot.proofs.of_ballot_base.StepRows.{proposed-full}
 use Rattle.node_connections.specs.declared.port.Port.{Port}
 use Rattle.node_connections.specs.declared.connection.Connection.{Connection}
 use Rattle.node_connections.specs.Connections.{is_proposed}
-use Rattle.node_connections.specs.ConnectionChanges.{closed}
+use Rattle.node_connections.specs.ConnectionChanges.{closed_connection}
 use Rattle.world_base.specs.Core.{CoreState, StepOutcome, rules, serves}
 use Rattle.world_base.specs.Inside.{RunningStep, DoesExactly, DoesOutcome}
 use Rattle.world_base.specs.Reading.{changes, port_closed, open_at}
@@ -27,21 +27,21 @@ ends_none port r out none = subst (λ (t : StepOutcome). DoesOutcome r r out out
 
 -- the connection's CONNECT was proposed, and its loss is reported to the broker
 pub ends_proposed : (port : Port) (c : Connection) (a b r : RunningStep) (x y : List (Effect Command Output)) →
-    open_at port a.core ≡ Some c → is_proposed c.stage ≡ true → b ≡ record a { core = changes port closed a.core } →
+    open_at port a.core ≡ Some c → is_proposed c.stage ≡ true → b ≡ record a { core = changes port closed_connection a.core } →
     DoesOutcome b r x y (proposes (commands.Lost c.name) b.core) → DoesOutcome a r x y (port_closed port a.core)
 unfolding port_closed
 ends_proposed port c a b r x y found heard shut turns =
     subst (λ (t : StepOutcome). DoesOutcome a r x y t) (rw (found, heard) refl)
-    (turns_after a b r x y (changes port closed a.core) (proposes (commands.Lost c.name)) shut turns)
+    (turns_after a b r x y (changes port closed_connection a.core) (proposes (commands.Lost c.name)) shut turns)
 
 -- it did not
 pub ends_other : (port : Port) (c : Connection) (a b : RunningStep) (x : List (Effect Command Output)) →
-    open_at port a.core ≡ Some c → is_proposed c.stage ≡ false → b ≡ record a { core = changes port closed a.core } →
+    open_at port a.core ≡ Some c → is_proposed c.stage ≡ false → b ≡ record a { core = changes port closed_connection a.core } →
     DoesOutcome a b x x (port_closed port a.core)
 unfolding port_closed
 ends_other port c a b x found silent shut =
     subst (λ (t : StepOutcome). DoesOutcome a b x x t) (rw (found, silent) refl)
-    (turns_without_messages a b x (changes port closed a.core) (λ _. shut))
+    (turns_without_messages a b x (changes port closed_connection a.core) (λ _. shut))
 
 -- without room nothing is proposed
 room_false : (a b : Bool) → (a && b) ≡ false → (a ≡ false) ⊎ ((a ≡ true) × (b ≡ false))
@@ -73,16 +73,16 @@ proposes_nothing command core e =
 -- a refused proposal closes the connection
 pub closes_refused : (port : Port) (command : Command) (a b c : RunningStep)
     (x y : List (Effect Command Output)) → (c.out_of_memory ≡ false → false ≡ has_room a.core) →
-    DoesOutcome a b x y (proposes command a.core) → DoesExactly b c (changes port closed b.core) →
-    DoesOutcome a c x y (if has_room a.core then proposes command a.core else without_messages (changes port closed a.core))
+    DoesOutcome a b x y (proposes command a.core) → DoesExactly b c (changes port closed_connection b.core) →
+    DoesOutcome a c x y (if has_room a.core then proposes command a.core else without_messages (changes port closed_connection a.core))
 closes_refused port command a b c x y full turns shut =
     turns_as a c x y _ _ same
     (turns_join a b c x y y (proposes command a.core)
-    (λ core. without_messages (changes port closed core)) turns (turns_without_messages b c y (changes port closed b.core) shut))
+    (λ core. without_messages (changes port closed_connection core)) turns (turns_without_messages b c y (changes port closed_connection b.core) shut))
   where
     same : c.out_of_memory ≡ false →
-        then_also (proposes command a.core) (λ core. without_messages (changes port closed core))
-        ≡ (if has_room a.core then proposes command a.core else without_messages (changes port closed a.core))
+        then_also (proposes command a.core) (λ core. without_messages (changes port closed_connection core))
+        ≡ (if has_room a.core then proposes command a.core else without_messages (changes port closed_connection a.core))
     same whole =
         let none = sym (full whole) in
         let nothing = proposes_nothing command a.core none in

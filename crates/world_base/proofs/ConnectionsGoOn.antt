@@ -18,12 +18,12 @@ use Rattle.ballot.specs.ballot_base.declared.message.Message.{Message}
 use Rattle.node_connections.specs.declared.connection.Connection.{Connection}
 use Rattle.node_connections.specs.declared.connection.ConnectionStage.TheVariants.{Closed, Failed}
 use Rattle.node_connections.specs.Connections.{is_open_named, is_closed, is_proposed}
-use Rattle.node_connections.specs.ConnectionChanges.{changed, closed, failing, max_pending, put_out, putting}
+use Rattle.node_connections.specs.ConnectionChanges.{changed_where, closed_connection, failing, max_pending, with_queued, putting}
 use Rattle.world_base.specs.Core.{CoreState}
 use Rattle.world_base.specs.Going.{AreNamedApart, EachGoesOn, ConnectionGoesOn, bytes_by, bytes_for}
 use Rattle.world_base.specs.Lossy.{HandlesAll, Performs}
 use Rattle.world_base.specs.Lossy.HandlesAll.{nothing, does, sends, loses}
-use Rattle.world_base.specs.Reading.{refused}
+use Rattle.world_base.specs.Reading.{connect_refused}
 use Rattle.world_base.specs.Effects.{changes_named}
 
 -- ---- one connection
@@ -66,8 +66,8 @@ goes_over bytes c d port name over same =
       put = same ∙ sym (append-nil c.pending);
     }
 
-pub goes_closed : (bytes : List ℕ) (c : Connection) → ConnectionGoesOn bytes c (closed c)
-goes_closed bytes c = goes_over bytes c (closed c) refl refl refl refl
+pub goes_closed : (bytes : List ℕ) (c : Connection) → ConnectionGoesOn bytes c (closed_connection c)
+goes_closed bytes c = goes_over bytes c (closed_connection c) refl refl refl refl
 
 over_failing : (proposed : Bool) → is_closed (if proposed then Failed else Closed) ≡ true
 over_failing true = refl
@@ -77,7 +77,7 @@ pub goes_failing : (bytes : List ℕ) (c : Connection) → ConnectionGoesOn byte
 goes_failing bytes c = goes_over bytes c (failing c) refl refl (over_failing (is_proposed c.stage)) refl
 
 -- it is closed with the node's refusal
-pub goes_refused : (code : RefusalCode) (c : Connection) → is_closed c.stage ≡ false → ConnectionGoesOn [] c (refused code c)
+pub goes_refused : (code : RefusalCode) (c : Connection) → is_closed c.stage ≡ false → ConnectionGoesOn [] c (connect_refused code c)
 goes_refused code c stays =
     record {
       port = refl;
@@ -92,7 +92,7 @@ goes_refused code c stays =
     }
 
 -- bytes that are queued come after all others, or the connection is closed
-goes_put : (bytes : List ℕ) (c : Connection) → is_closed c.stage ≡ false → ConnectionGoesOn bytes c (put_out bytes c)
+goes_put : (bytes : List ℕ) (c : Connection) → is_closed c.stage ≡ false → ConnectionGoesOn bytes c (with_queued bytes c)
 goes_put bytes c stays = by (nat_le (length c.pending + length bytes) max_pending)
   where
     by : (fits : Bool) → ConnectionGoesOn bytes c (if fits then putting bytes c else failing c)
@@ -211,12 +211,12 @@ apart_on g (c ∷ cs) (d ∷ ds) on apart =
 
 -- a change of the first that passes
 pub changed_on : (test : Connection → Bool) (f : Connection → Connection) → ((c : Connection) → test c ≡ true → ConnectionGoesOn [] c (f c)) →
-    (cs : List Connection) → EachGoesOn [] cs (changed test f cs)
+    (cs : List Connection) → EachGoesOn [] cs (changed_where test f cs)
 changed_on test f on [] = tt
 changed_on test f on (c ∷ cs) = by (test c) refl (changed_on test f on cs)
   where
-    by : (b : Bool) → test c ≡ b → EachGoesOn [] cs (changed test f cs) →
-        EachGoesOn [] (c ∷ cs) (if b then f c ∷ cs else c ∷ changed test f cs)
+    by : (b : Bool) → test c ≡ b → EachGoesOn [] cs (changed_where test f cs) →
+        EachGoesOn [] (c ∷ cs) (if b then f c ∷ cs else c ∷ changed_where test f cs)
     by true e more = (on c e, each_itself cs)
     by false e more = (goes_itself c, more)
 
@@ -258,12 +258,12 @@ module _ (place : ℕ) (output : Output) (name : ConnectionName) (f : Connection
       by (inl over) = goes_over (bytes_by output c.name) c c refl refl over refl
       by (inr other) = other_on output c (others c.name other)
 
-  pub named_on : (cs : List Connection) → AreNamedApart cs → EachGoesOn (Out place output ∷ []) cs (changed (is_open_named name) f cs)
+  pub named_on : (cs : List Connection) → AreNamedApart cs → EachGoesOn (Out place output ∷ []) cs (changed_where (is_open_named name) f cs)
   named_on [] apart = tt
   named_on (c ∷ cs) apart = by (is_open_named name c) refl (named_on cs apart.1)
     where
-      by : (b : Bool) → is_open_named name c ≡ b → EachGoesOn (Out place output ∷ []) cs (changed (is_open_named name) f cs) →
-          EachGoesOn (Out place output ∷ []) (c ∷ cs) (if b then f c ∷ cs else c ∷ changed (is_open_named name) f cs)
+      by : (b : Bool) → is_open_named name c ≡ b → EachGoesOn (Out place output ∷ []) cs (changed_where (is_open_named name) f cs) →
+          EachGoesOn (Out place output ∷ []) (c ∷ cs) (if b then f c ∷ cs else c ∷ changed_where (is_open_named name) f cs)
       by true e more =
           let named = named_so (is_closed c.stage) (same_connection c.name name) e in (
             with_none (bytes_by output c.name) c (f c) (done c (open_so (is_closed c.stage) (same_connection c.name name) e) named),
@@ -277,9 +277,9 @@ for_other : (name : ConnectionName) (packet : Packet) (n : ConnectionName) → s
 for_other name packet n e = ap (λ (b : Bool). if b then spelling packet else []) e
 
 sent_on : (name : ConnectionName) (packet : Packet) (c : Connection) → is_closed c.stage ≡ false → same_connection c.name name ≡ true →
-    ConnectionGoesOn (bytes_by (outputs.Send name packet) c.name) c (put_out (spelling packet) c)
+    ConnectionGoesOn (bytes_by (outputs.Send name packet) c.name) c (with_queued (spelling packet) c)
 sent_on name packet c stays e =
-    subst (λ (b : List ℕ). ConnectionGoesOn b c (put_out (spelling packet) c))
+    subst (λ (b : List ℕ). ConnectionGoesOn b c (with_queued (spelling packet) c))
     (ap (λ (b : Bool). if b then spelling packet else []) (sym e)) (goes_put (spelling packet) c stays)
 
 pub serves_on : (place : ℕ) (output : Output) (core new : CoreState) → Performs output core new → AreNamedApart core.connections →
@@ -287,7 +287,7 @@ pub serves_on : (place : ℕ) (output : Output) (core new : CoreState) → Perfo
 unfolding changes_named
 serves_on place (outputs.Send name packet) core new (inl is) apart =
     subst (λ (k : CoreState). EachGoesOn (Out place (outputs.Send name packet) ∷ []) core.connections k.connections) (sym is)
-    (named_on place (outputs.Send name packet) name (put_out (spelling packet)) (for_other name packet) (sent_on name packet)
+    (named_on place (outputs.Send name packet) name (with_queued (spelling packet)) (for_other name packet) (sent_on name packet)
     core.connections apart)
 serves_on place (outputs.Send name packet) core new (inr is) apart =
     subst (λ (k : CoreState). EachGoesOn (Out place (outputs.Send name packet) ∷ []) core.connections k.connections) (sym is)
@@ -295,7 +295,7 @@ serves_on place (outputs.Send name packet) core new (inr is) apart =
     (λ c stays e. goes_failing (bytes_by (outputs.Send name packet) c.name) c) core.connections apart)
 serves_on place (outputs.Close name) core new is apart =
     subst (λ (k : CoreState). EachGoesOn (Out place (outputs.Close name) ∷ []) core.connections k.connections) (sym is)
-    (named_on place (outputs.Close name) name closed (λ n e. refl) (λ c stays e. goes_closed [] c) core.connections apart)
+    (named_on place (outputs.Close name) name closed_connection (λ n e. refl) (λ c stays e. goes_closed [] c) core.connections apart)
 
 pub delivers_on : (given : List (Effect Command Output)) (core new : CoreState) (messages : List (Effect Command Output)) →
     HandlesAll given core new messages → AreNamedApart core.connections → EachGoesOn given core.connections new.connections

@@ -9,7 +9,7 @@ use Rattle.ballot.specs.ballot_base.declared.message.Effect.{Effect}
 use Rattle.node_connections.specs.declared.port.Port.{Port}
 use Rattle.node_connections.specs.declared.connection.Connection.{Connection}
 use Rattle.node_connections.specs.Connections.{has_failed, is_proposed}
-use Rattle.node_connections.specs.ConnectionChanges.{closed, failing, holding}
+use Rattle.node_connections.specs.ConnectionChanges.{closed_connection, failing, with_unread}
 use Rattle.world_base.specs.Core.{CoreState}
 use Rattle.world_base.specs.Failing.{closes_failed}
 use Rattle.world_base.specs.Inside.{ProposedBy, RanStep, ReportsLost, RunningStep}
@@ -35,15 +35,15 @@ pub ran_none_open : (port : Port) (core : CoreState) (x : List (Effect Command O
 ran_none_open port core x e = ran_without_effects (EndsConnection port) core core x (none_open e refl)
 
 pub ran_unproposed : (port : Port) (c : Connection) (a b : CoreState) (x : List (Effect Command Output)) → open_at port a ≡ Some c →
-    is_proposed c.stage ≡ false → b ≡ changes port closed a → RanStep (EndsConnection port) a b x x
+    is_proposed c.stage ≡ false → b ≡ changes port closed_connection a → RanStep (EndsConnection port) a b x x
 ran_unproposed port c a b x found other shut = ran_without_effects (EndsConnection port) a b x (unproposed c found other (ap without_effects shut))
 
 pub ran_proposed : (port : Port) (c : Connection) (a b r : CoreState) (taken : Bool) (x y : List (Effect Command Output)) →
-    open_at port a ≡ Some c → is_proposed c.stage ≡ true → b ≡ changes port closed a →
+    open_at port a ≡ Some c → is_proposed c.stage ≡ true → b ≡ changes port closed_connection a →
     RanStep (ProposedBy taken (commands.Lost c.name)) b r x y → RanStep (EndsConnection port) a r x y
 ran_proposed port c a b r taken x y found heard shut ran =
     ran_as (ProposedBy taken (commands.Lost c.name)) (EndsConnection port) a b r x y
-    (λ did runs. proposed c found heard (as_proposes taken (commands.Lost c.name) (changes port closed a) did
+    (λ did runs. proposed c found heard (as_proposes taken (commands.Lost c.name) (changes port closed_connection a) did
     (subst (λ (k : CoreState). ProposedBy taken (commands.Lost c.name) k did) shut runs))) ran
 
 -- it is reported to the broker if its CONNECT was proposed
@@ -64,7 +64,7 @@ ran_tells_not heard name a x is =
     subst (λ (t : Bool). RanStep (ReportsLost t name) a a x x) (sym is) (ran_without_effects (ReportsLost false name) a a x refl)
 
 pub ran_lost : (port : Port) (c : Connection) (a b r : CoreState) (x y : List (Effect Command Output)) → open_at port a ≡ Some c →
-    b ≡ changes port closed a → RanStep (ReportsLost (is_proposed c.stage) c.name) b r x y → RanStep (EndsConnection port) a r x y
+    b ≡ changes port closed_connection a → RanStep (ReportsLost (is_proposed c.stage) c.name) b r x y → RanStep (EndsConnection port) a r x y
 ran_lost port c a b r x y found shut ran = by (is_proposed c.stage) refl ran
   where
     by : (p : Bool) → is_proposed c.stage ≡ p → RanStep (ReportsLost p c.name) b r x y → RanStep (EndsConnection port) a r x y
@@ -115,13 +115,13 @@ ran_otherwise taken command Otherwise a b c x y is ran other =
     (ran_without_effects Otherwise b c y other))
 
 -- a connection was closed, or closed as lost
-pub shuts_by : (port : Port) (a b : CoreState) → (b ≡ changes port closed a) ⊎ (b ≡ changes port failing a) → Shuts port a (without_effects b)
+pub shuts_by : (port : Port) (a b : CoreState) → (b ≡ changes port closed_connection a) ⊎ (b ≡ changes port failing a) → Shuts port a (without_effects b)
 shuts_by port a b (inl e) = inl (ap without_effects e)
 shuts_by port a b (inr e) = inr (ap without_effects e)
 
 -- ---- bytes that came
 
-pub ran_held : (port : Port) (piece : List ℕ) (a b : CoreState) (x : List (Effect Command Output)) → b ≡ changes port (holding piece) a →
+pub ran_held : (port : Port) (piece : List ℕ) (a b : CoreState) (x : List (Effect Command Output)) → b ≡ changes port (with_unread piece) a →
     RanStep (HoldsBytes port piece) a b x x
 ran_held port piece a b x e = ran_without_effects (HoldsBytes port piece) a b x (inl (ap without_effects e))
 

@@ -20,12 +20,12 @@ use Rattle.node_connections.specs.declared.connection.ConnectionStage.{Connectio
 use Rattle.node_connections.specs.declared.connection.ConnectionStage.TheVariants.{Awaits, Proposed, Closed, Failed}
 use Rattle.node_connections.specs.declared.connection.Connection.{Connection}
 use Rattle.node_connections.specs.Connections.{is_first, is_proposed, is_open_at}
-use Rattle.node_connections.specs.ConnectionChanges.{changed, closed, left_with}
+use Rattle.node_connections.specs.ConnectionChanges.{changed_where, closed_connection, left_with}
 use Rattle.world_base.specs.Core.{CoreState, StepOutcome}
 use Rattle.node_connections.specs.Fronts.{IsFaultOfBytes}
 use Rattle.node_connections.specs.Fronts.{TakesFront}
 use Rattle.world_base.specs.Inside.{RunningStep, DoesOutcome}
-use Rattle.world_base.specs.Reading.{takes_first_packet, changes, loses, open_at, reads, reads_next, refused, proposes_packet}
+use Rattle.world_base.specs.Reading.{takes_first_packet, changes, loses, open_at, reads, reads_next, connect_refused, proposes_packet}
 use Rattle.world_base.specs.Effects.{proposes, without_messages}
 use Rattle.world_base.proofs.StepsJoin.{turns_idle, turns_without_messages, turns_after}
 
@@ -33,13 +33,13 @@ use Rattle.world_base.proofs.StepsJoin.{turns_idle, turns_without_messages, turn
 
 -- changes that are one on the connection that is found are one on the list
 changed_same : (test : Connection → Bool) (f g : Connection → Connection) (cs : List Connection) (c : Connection) →
-    find test cs ≡ Some c → f c ≡ g c → changed test f cs ≡ changed test g cs
+    find test cs ≡ Some c → f c ≡ g c → changed_where test f cs ≡ changed_where test g cs
 changed_same test f g [] c found same = refl
 changed_same test f g (d ∷ cs) c found same =
     by_test (test d) refl (λ later. changed_same test f g cs c later same)
   where
-    by_test : (b : Bool) → test d ≡ b → (find test cs ≡ Some c → changed test f cs ≡ changed test g cs) →
-        changed test f (d ∷ cs) ≡ changed test g (d ∷ cs)
+    by_test : (b : Bool) → test d ≡ b → (find test cs ≡ Some c → changed_where test f cs ≡ changed_where test g cs) →
+        changed_where test f (d ∷ cs) ≡ changed_where test g (d ∷ cs)
     by_test true e rest =
         let is : Some d ≡ Some c = rw e at found in
         let same' : f d ≡ g d = cc in
@@ -49,11 +49,11 @@ changed_same test f g (d ∷ cs) c found same =
         rw e (ap (λ l. d ∷ l) (rest later))
 
 -- a change that changes nothing
-changed_not : (test : Connection → Bool) (cs : List Connection) → changed test (λ c. c) cs ≡ cs
+changed_not : (test : Connection → Bool) (cs : List Connection) → changed_where test (λ c. c) cs ≡ cs
 changed_not test [] = refl
 changed_not test (d ∷ cs) = by_test (test d) refl (changed_not test cs)
   where
-    by_test : (b : Bool) → test d ≡ b → changed test (λ c. c) cs ≡ cs → changed test (λ c. c) (d ∷ cs) ≡ d ∷ cs
+    by_test : (b : Bool) → test d ≡ b → changed_where test (λ c. c) cs ≡ cs → changed_where test (λ c. c) (d ∷ cs) ≡ d ∷ cs
     by_test true e rest = rw e refl
     by_test false e rest = rw e (ap (λ l. d ∷ l) rest)
 
@@ -125,13 +125,13 @@ packet_there now port c new packet a b r x y found did is turns =
 
 -- a first packet that is no CONNECT
 other_turns : (port : Port) (name : ConnectionName) (packet : Packet) (a b : RunningStep) (x : List (Effect Command Output)) →
-    ((connect : Connect) → packet ≡ packets.Connect connect → ⊥) → b ≡ record a { core = changes port closed a.core } →
+    ((connect : Connect) → packet ≡ packets.Connect connect → ⊥) → b ≡ record a { core = changes port closed_connection a.core } →
     DoesOutcome a b x x (takes_first_packet port name packet a.core)
 other_turns port name (packets.Connect connect) a b x other shut = absurd (other connect refl)
-other_turns port name _ a b x other shut = turns_without_messages a b x (changes port closed a.core) (λ _. shut)
+other_turns port name _ a b x other shut = turns_without_messages a b x (changes port closed_connection a.core) (λ _. shut)
 
 pub turns_other : (awaits : Bool) (port : Port) (name : ConnectionName) (packet : Packet) (a b : RunningStep) (x : List (Effect Command Output)) →
-    awaits ≡ true → ((connect : Connect) → packet ≡ packets.Connect connect → ⊥) → b ≡ record a { core = changes port closed a.core } →
+    awaits ≡ true → ((connect : Connect) → packet ≡ packets.Connect connect → ⊥) → b ≡ record a { core = changes port closed_connection a.core } →
     DoesOutcome a b x x (if awaits then takes_first_packet port name packet a.core else proposes_packet port name packet a.core)
 turns_other awaits port name packet a b x is other shut =
     subst (λ (f : Bool). DoesOutcome a b x x (if f then takes_first_packet port name packet a.core else proposes_packet port name packet a.core)) (sym is)
@@ -142,7 +142,7 @@ turns_other awaits port name packet a b x is other shut =
 abbrev pub Told : Connection → CoreState → StepOutcome
 Told c core = if is_proposed c.stage then proposes (commands.Lost c.name) core else without_messages core
 
-lost_there : (port : Port) (c : Connection) (core : CoreState) → Told c (changes port closed core) ≡ loses port c core
+lost_there : (port : Port) (c : Connection) (core : CoreState) → Told c (changes port closed_connection core) ≡ loses port c core
 lost_there port c core = refl
 
 pub fault_there : (now : ℕ) (port : Port) (c new : Connection) (a b r : RunningStep) (x y : List (Effect Command Output)) →
@@ -153,8 +153,8 @@ fault_there now port c new a b r x y found did is turns = by (verdict c.unread) 
   where
     lost : DoesOutcome a r x y (loses port c a.core)
     lost =
-        turns_after a b r x y (changes port closed a.core) (Told c)
-        (is ∙ ap (λ (k : CoreState). record a { core = k }) (becomes_same port a.core c new closed found did.1)) turns
+        turns_after a b r x y (changes port closed_connection a.core) (Told c)
+        (is ∙ ap (λ (k : CoreState). record a { core = k }) (becomes_same port a.core c new closed_connection found did.1)) turns
 
     by : (v : Result (Packet × List ℕ) Stop) → verdict c.unread ≡ v → IsFaultOfBytes v → DoesOutcome a r x y (reads_next now port a.core)
     by (Err stops.More) e fault = absurd fault
@@ -174,13 +174,13 @@ refused_there now port c new code a b r x y found did is turns =
         turns_after a b r x y (changes port change a.core) (Told c)
         (is ∙ ap (λ (k : CoreState). record a { core = k }) (becomes_same port a.core c new change found e)) turns
 
-    by : (stage : ConnectionStage) → c.stage ≡ stage → new ≡ (if is_first c.stage then refused code c else closed c) →
-        DoesOutcome a r x y (if is_first c.stage then without_messages (changes port (refused code) a.core) else loses port c a.core)
+    by : (stage : ConnectionStage) → c.stage ≡ stage → new ≡ (if is_first c.stage then connect_refused code c else closed_connection c) →
+        DoesOutcome a r x y (if is_first c.stage then without_messages (changes port (connect_refused code) a.core) else loses port c a.core)
     by Awaits e is_new =
-        rw (e) (rw (e) at (after (refused code) (rw (e) at is_new)))
-    by Proposed e is_new = rw (e) (rw (e) at (after closed (rw (e) at is_new)))
-    by Closed e is_new = rw (e) (rw (e) at (after closed (rw (e) at is_new)))
-    by Failed e is_new = rw (e) (rw (e) at (after closed (rw (e) at is_new)))
+        rw (e) (rw (e) at (after (connect_refused code) (rw (e) at is_new)))
+    by Proposed e is_new = rw (e) (rw (e) at (after closed_connection (rw (e) at is_new)))
+    by Closed e is_new = rw (e) (rw (e) at (after closed_connection (rw (e) at is_new)))
+    by Failed e is_new = rw (e) (rw (e) at (after closed_connection (rw (e) at is_new)))
 
 -- either of them
 pub gone_there : (now : ℕ) (port : Port) (c new : Connection) (front : Front) (a b r : RunningStep) (x y : List (Effect Command Output)) →

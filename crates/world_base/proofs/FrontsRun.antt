@@ -16,7 +16,7 @@ use Rattle.node_connections.specs.declared.connection.ConnectionStage.{Connectio
 use Rattle.node_connections.specs.declared.connection.ConnectionStage.TheVariants.{Awaits, Proposed, Closed, Failed}
 use Rattle.node_connections.specs.declared.connection.Connection.{Connection}
 use Rattle.node_connections.specs.Connections.{is_first, is_proposed}
-use Rattle.node_connections.specs.ConnectionChanges.{noted_proposed, closed, left_with}
+use Rattle.node_connections.specs.ConnectionChanges.{noted_proposed, closed_connection, left_with}
 use Rattle.world_base.specs.Core.{CoreState}
 use Rattle.node_connections.specs.Fronts.{FrontNeedsMemory, HasNoPacket}
 use Rattle.node_connections.specs.Fronts.{TakesFront}
@@ -25,7 +25,7 @@ use Rattle.world_base.specs.Lossy.{without_effects}
 use Rattle.world_base.specs.LossyReading.{TakesFirstPacket, ProposesConnect, EndsConnection, MayEnd, ReadsNext, ProposesPacket}
 use Rattle.world_base.specs.LossyReading.EndsConnection.{none_open}
 use Rattle.world_base.specs.LossyReading.ReadsNext.{waits, first, later, refuses, ends}
-use Rattle.world_base.specs.Reading.{changes, open_at, refused}
+use Rattle.world_base.specs.Reading.{changes, open_at, connect_refused}
 use Rattle.world_base.proofs.Accounts.{ran_as, ran_without_effects}
 use Rattle.world_base.proofs.EndsRun.{ran_lost, ran_none_open}
 use Rattle.world_base.proofs.Fronts.{becomes_itself, becomes_same}
@@ -84,13 +84,13 @@ ran_connects awaits port name connect packet a b r x y is connects left ran =
     (λ did runs. subst (λ (k : CoreState). ProposesConnect port name connect k did) left runs) ran))
 
 other_begins : (port : Port) (name : ConnectionName) (packet : Packet) (a b : CoreState) →
-    ((connect : Connect) → packet ≡ packets.Connect connect → ⊥) → b ≡ changes port closed a → TakesFirstPacket port name packet a (without_effects b)
+    ((connect : Connect) → packet ≡ packets.Connect connect → ⊥) → b ≡ changes port closed_connection a → TakesFirstPacket port name packet a (without_effects b)
 other_begins port name (packets.Connect connect) a b other shut = absurd (other connect refl)
 other_begins port name _ a b other shut = ap without_effects shut
 
 pub ran_other : (awaits : Bool) (port : Port) (name : ConnectionName) (packet : Packet) (a b : CoreState)
     (x : List (Effect Command Output)) → awaits ≡ true → ((connect : Connect) → packet ≡ packets.Connect connect → ⊥) →
-    b ≡ changes port closed a → RanStep (TakesPacket awaits port name packet) a b x x
+    b ≡ changes port closed_connection a → RanStep (TakesPacket awaits port name packet) a b x x
 ran_other awaits port name packet a b x is other shut =
     subst (λ (f : Bool). RanStep (TakesPacket f port name packet) a b x x) (sym is)
     (ran_without_effects (TakesPacket true port name packet) a b x (other_begins port name packet a b other shut))
@@ -98,10 +98,10 @@ ran_other awaits port name packet a b x is other shut =
 -- ---- no packet, or no memory
 
 closed_there : (now : ℕ) (port : Port) (c new : Connection) (a b r : CoreState) (x y : List (Effect Command Output)) →
-    open_at port a ≡ Some c → HasNoPacket c ⊎ FrontNeedsMemory c → new ≡ closed c → b ≡ changes port (λ _. new) a →
+    open_at port a ≡ Some c → HasNoPacket c ⊎ FrontNeedsMemory c → new ≡ closed_connection c → b ≡ changes port (λ _. new) a →
     RanStep (ReportsLost (is_proposed c.stage) c.name) b r x y → RanStep (ReadsNext now port) a r x y
 closed_there now port c new a b r x y found may shut is ran =
-    ends_there now port a r x y (subst (λ (o : Option Connection). MayEnd o) (sym found) may) (ran_lost port c a b r x y found (is ∙ becomes_same port a c new closed found shut) ran)
+    ends_there now port a r x y (subst (λ (o : Option Connection). MayEnd o) (sym found) may) (ran_lost port c a b r x y found (is ∙ becomes_same port a c new closed_connection found shut) ran)
 
 first_not_proposed : (stage : ConnectionStage) → is_first stage ≡ true → is_proposed stage ≡ false
 first_not_proposed Awaits e = refl
@@ -114,10 +114,10 @@ refused_there : (now : ℕ) (port : Port) (c new : Connection) (code : RefusalCo
     RanStep (ReportsLost (is_proposed c.stage) c.name) b r x y → RanStep (ReadsNext now port) a r x y
 refused_there now port c new code a b r x y found did is ran = by (is_first c.stage) refl did.1
   where
-    by : (f : Bool) → is_first c.stage ≡ f → new ≡ (if f then refused code c else closed c) → RanStep (ReadsNext now port) a r x y
+    by : (f : Bool) → is_first c.stage ≡ f → new ≡ (if f then connect_refused code c else closed_connection c) → RanStep (ReadsNext now port) a r x y
     by true e answered =
         ran_as (ReportsLost false c.name) (ReadsNext now port) a b r x y
-        (λ done runs. refuses c code found e did.0 (runs ∙ ap without_effects (is ∙ becomes_same port a c new (refused code) found answered)))
+        (λ done runs. refuses c code found e did.0 (runs ∙ ap without_effects (is ∙ becomes_same port a c new (connect_refused code) found answered)))
         (subst (λ (p : Bool). RanStep (ReportsLost p c.name) b r x y) (first_not_proposed c.stage e) ran)
     by false e shut = closed_there now port c new a b r x y found (inl (inr (e, (code, did.0)))) shut is ran
 

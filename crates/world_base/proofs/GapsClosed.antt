@@ -18,7 +18,7 @@ use Rattle.world_base.specs.declared.item.Item.{Item}
 use Rattle.world_base.specs.declared.item.Item.TheVariants.{Peer, Tick, Opened, Bytes, Ended, Expel, Cut, Crash}
 use Rattle.node_connections.specs.declared.connection.Connection.{Connection}
 use Rattle.node_connections.specs.Connections.{fresh, has_failed, is_at, is_open_at, is_closed}
-use Rattle.node_connections.specs.ConnectionChanges.{noted_proposed, closed, failing, holding, left_with}
+use Rattle.node_connections.specs.ConnectionChanges.{noted_proposed, closed_connection, failing, with_unread, left_with}
 use Rattle.world_base.specs.Core.{CoreState, serves}
 use Rattle.world_base.specs.Failing.{closes_failed}
 use Rattle.world_base.specs.Going.{AGapIsClosed, AreNamedApart, EachGoesOn, GoOn, ConnectionGoesOn, OpensAtMostOne}
@@ -32,7 +32,7 @@ use Rattle.world_base.specs.LossyReading.EndsConnection.{none_open, unproposed, 
 use Rattle.world_base.specs.LossyReading.EndsSilent.{none_silent, ends_one}
 use Rattle.world_base.specs.LossyReading.LosesFailed.{none_failed, tells_one}
 use Rattle.world_base.specs.LossyReading.ReadsNext.{waits, first, later, refuses, ends}
-use Rattle.world_base.specs.Reading.{changes, open_at, refused, unread_of}
+use Rattle.world_base.specs.Reading.{changes, open_at, connect_refused, unread_of}
 use Rattle.world_base.specs.Step.{next_name, with_next_connection}
 use Rattle.world_base.proofs.ConnectionsGoOn.{apart_on, changed_on, delivers_on, each_both, each_itself, goes_closed, goes_failing, goes_refused, goes_still}
 
@@ -75,8 +75,8 @@ unfolding changes
 changes_on port f core on =
     changed_on (is_open_at port) f (λ c at. on c (was_open (is_closed c.stage) (is_at port c) at)) core.connections
 
-closes_on : (port : Port) (core : CoreState) → EachGoesOn [] core.connections (changes port closed core).connections
-closes_on port core = changes_on port closed core (λ c stays. goes_closed [] c)
+closes_on : (port : Port) (core : CoreState) → EachGoesOn [] core.connections (changes port closed_connection core).connections
+closes_on port core = changes_on port closed_connection core (λ c stays. goes_closed [] c)
 
 asked_on : (keep_alive : ℕ) (c : Connection) → is_closed c.stage ≡ false → ConnectionGoesOn [] c (noted_proposed keep_alive c)
 asked_on keep_alive c stays = goes_still c (noted_proposed keep_alive c) refl refl refl (λ over. absurd (both over))
@@ -110,10 +110,10 @@ asks_on command Otherwise on core did (inr other) = then_on Declines Otherwise d
 
 ends_on : (port : Port) (core : CoreState) (did : Account) → EndsConnection port core did → Goes core did
 ends_on port core did (none_open none is) = without_effects_on core core did is (each_itself core.connections)
-ends_on port core did (unproposed c found other is) = without_effects_on core (changes port closed core) did is (closes_on port core)
+ends_on port core did (unproposed c found other is) = without_effects_on core (changes port closed_connection core) did is (closes_on port core)
 ends_on port core did (proposed c found heard proposes) =
-    after_on core (changes port closed core) did (closes_on port core)
-    (proposes_on (commands.Lost c.name) (changes port closed core) did proposes)
+    after_on core (changes port closed_connection core) did (closes_on port core)
+    (proposes_on (commands.Lost c.name) (changes port closed_connection core) did proposes)
 
 silent_on : (now : ℕ) (core : CoreState) (did : Account) → EndsSilent now core did → Goes core did
 silent_on now core did (none_silent none is) = without_effects_on core core did is (each_itself core.connections)
@@ -122,13 +122,13 @@ silent_on now core did (ends_one port found runs) = ends_on port core did runs
 failed_on : (core : CoreState) (did : Account) → LosesFailed core did → Goes core did
 failed_on core did (none_failed none is) = without_effects_on core core did is (each_itself core.connections)
 failed_on core did (tells_one c found proposes) =
-    after_on core (closes_failed core) did (changed_on has_failed closed (λ d fails. goes_closed [] d) core.connections)
+    after_on core (closes_failed core) did (changed_on has_failed closed_connection (λ d fails. goes_closed [] d) core.connections)
     (proposes_on (commands.Lost c.name) (closes_failed core) did proposes)
 
 -- ---- reads
 
 shut_on : (port : Port) (core : CoreState) (did : Account) → ClosesConnection port core did → Goes core did
-shut_on port core did is = without_effects_on core (changes port closed core) did is (closes_on port core)
+shut_on port core did is = without_effects_on core (changes port closed_connection core) did is (closes_on port core)
 
 shuts_on : (port : Port) (core : CoreState) (did : Account) → Shuts port core did → Goes core did
 shuts_on port core did (inl is) = shut_on port core did is
@@ -158,15 +158,15 @@ reads_on now port core did (later c packet rest found after_first is runs) =
     after_on core (changes port (left_with now rest) core) did (left_on port now rest core)
     (asks_on (commands.Packet c.name packet) (Shuts port) (shuts_on port) (changes port (left_with now rest) core) did runs)
 reads_on now port core did (refuses c code found awaits is runs) =
-    without_effects_on core (changes port (refused code) core) did runs (changes_on port (refused code) core (goes_refused code))
+    without_effects_on core (changes port (connect_refused code) core) did runs (changes_on port (connect_refused code) core (goes_refused code))
 reads_on now port core did (ends may runs) = ends_on port core did runs
 
 -- ---- an item
 
 holds_on : (port : Port) (piece : List ℕ) (core : CoreState) (did : Account) → HoldsBytes port piece core did → Goes core did
 holds_on port piece core did (inl is) =
-    without_effects_on core (changes port (holding piece) core) did is
-    (changes_on port (holding piece) core (λ c stays. goes_still c (holding piece c) refl refl refl (λ e. e)))
+    without_effects_on core (changes port (with_unread piece) core) did is
+    (changes_on port (with_unread piece) core (λ c stays. goes_still c (with_unread piece c) refl refl refl (λ e. e)))
 holds_on port piece core did (inr runs) = ends_on port core did runs
 
 all_failed_on : (core : CoreState) (did : Account) → Repeated (length core.connections) LosesFailed core did → Goes core did

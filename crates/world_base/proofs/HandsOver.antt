@@ -4,7 +4,7 @@ use Rattle.std.specs.List.{position, filter}
 use Rattle.node_connections.specs.declared.port.Port.{Port}
 use Rattle.node_connections.specs.declared.connection.Connection.{Connection}
 use Rattle.node_connections.specs.Connections.{is_at, is_listed}
-use Rattle.node_connections.specs.ConnectionChanges.{handed}
+use Rattle.node_connections.specs.ConnectionChanges.{nothing_pending}
 use Rattle.world_base.specs.Handing.{hands_over, listed_at}
 use Rattle.world_base.specs.Inside.{RunningStep}
 use Rattle.world_base.proofs.Indices.{index_changed}
@@ -15,7 +15,7 @@ handed_none port r none = rw none refl
 
 pub handed_there : (port : Port) (r : RunningStep) (index : Option ℕ) (i : ℕ) (c new : Connection) (left : List Connection) →
     index ≡ position (is_at port) r.core.connections → index ≡ Some i → c ≡ get_or r.core.connections i c →
-    listed_at port r.core ≡ Some c → new ≡ handed c → left ≡ filter is_listed (set r.core.connections i new) →
+    listed_at port r.core ≡ Some c → new ≡ nothing_pending c → left ≡ filter is_listed (set r.core.connections i new) →
     record r { core = record r.core { connections = left } } ≡ record r { core = hands_over port r.core }
 unfolding hands_over
 handed_there port r index i c new left at is here found e kept =
@@ -23,4 +23,4 @@ handed_there port r index i c new left at is here found e kept =
     (ap (λ (l : List Connection). record r { core = record r.core { connections = l } })
     (kept ∙ ap (filter is_listed)
     (ap (λ x. set r.core.connections i x) e
-    ∙ sym (index_changed (is_at port) handed r.core.connections i c (sym is ∙ at) here))))
+    ∙ sym (index_changed (is_at port) nothing_pending r.core.connections i c (sym is ∙ at) here))))

@@ -15,7 +15,7 @@ use Rattle.world_base.specs.declared.item.Item.{Item}
 use Rattle.world_base.specs.declared.item.Item.TheVariants.{Peer, Tick, Opened, Bytes, Ended, Expel, Cut, Crash}
 use Rattle.node_connections.specs.declared.connection.Connection.{Connection}
 use Rattle.node_connections.specs.Connections.{has_failed, is_open_at, is_proposed}
-use Rattle.node_connections.specs.ConnectionChanges.{changed, closed, holding}
+use Rattle.node_connections.specs.ConnectionChanges.{changed_where, closed_connection, with_unread}
 use Rattle.world_base.specs.Core.{CoreState, StepOutcome}
 use Rattle.world_base.specs.Failing.{loses_all_failed}
 use Rattle.world_base.specs.Inside.{RanStep, RunningStep, DoesOutcome, WithoutFailure}
@@ -72,12 +72,12 @@ drives_idle input core ignored =
 -- ---- connections
 
 unchanged : (test : Connection → Bool) (change : Connection → Connection) (cs : List Connection) → find test cs ≡ None →
-    changed test change cs ≡ cs
+    changed_where test change cs ≡ cs
 unchanged test change [] e = refl
 unchanged test change (c ∷ cs) e = by (test c) (unchanged test change cs) e
   where
-    by : (b : Bool) → (find test cs ≡ None → changed test change cs ≡ cs) → (if b then Some c else find test cs) ≡ None →
-        (if b then change c ∷ cs else c ∷ changed test change cs) ≡ c ∷ cs
+    by : (b : Bool) → (find test cs ≡ None → changed_where test change cs ≡ cs) → (if b then Some c else find test cs) ≡ None →
+        (if b then change c ∷ cs else c ∷ changed_where test change cs) ≡ c ∷ cs
     by true ih f = absurd cc
     by false ih f = ap (λ (l : List Connection). c ∷ l) (ih f)
 
@@ -87,8 +87,8 @@ unfolding changes
 nothing_changes port change core none =
     ap (λ (l : List Connection). record core { connections = l }) (unchanged (is_open_at port) change core.connections none)
 
-pub closes_nothing : (port : Port) (r : RunningStep) → open_at port r.core ≡ None → r ≡ record r { core = changes port closed r.core }
-closes_nothing port r none = ap (λ (k : CoreState). let r2 : Running = record r { core = k } in r2) (sym (nothing_changes port closed r.core none))
+pub closes_nothing : (port : Port) (r : RunningStep) → open_at port r.core ≡ None → r ≡ record r { core = changes port closed_connection r.core }
+closes_nothing port r none = ap (λ (k : CoreState). let r2 : Running = record r { core = k } in r2) (sym (nothing_changes port closed_connection r.core none))
 
 -- one whose CONNECT was proposed counts as told
 pub proposed_then : {X : Type 0} (o : Option Connection) (c : Connection) → o ≡ Some c → is_proposed c.stage ≡ true → was_proposed o ≡ false → X
@@ -124,7 +124,7 @@ takes_nothing (Tick now) core ignored =
     ∙ repeated_without_messages (ends_silent now) _ core (silent_none now core ignored.1)
 takes_nothing (Opened port now) core none = ap without_messages (opens_nothing port core none)
 takes_nothing (Bytes port piece now) core none =
-    ap (λ (k : CoreState). then_also (without_messages k) (reads_all now port)) (nothing_changes port (holding piece) core none)
+    ap (λ (k : CoreState). then_also (without_messages k) (reads_all now port)) (nothing_changes port (with_unread piece) core none)
     ∙ nothing_is_read now port core none
 takes_nothing (Ended port) core none = ends_nothing port core none
 takes_nothing (Expel client) core none = proposes_nothing (commands.Expel client) core none
@@ -213,18 +213,18 @@ quiet_otherwise Cut a b c ignored is decides heard crash ended none takes failed
 quiet_otherwise Crash a b c ignored is decides heard crash ended none takes failed = calm_then a b c (crash refl) none failed
 
 -- no other connection fails if one is closed
-pub closing_fails_none : (test : Connection → Bool) (cs : List Connection) → find has_failed cs ≡ None → find has_failed (changed test closed cs) ≡ None
+pub closing_fails_none : (test : Connection → Bool) (cs : List Connection) → find has_failed cs ≡ None → find has_failed (changed_where test closed_connection cs) ≡ None
 closing_fails_none test [] none = refl
 closing_fails_none test (c ∷ cs) none = by (test c) (has_failed c) refl (closing_fails_none test cs) none
   where
-    by : (b failed : Bool) → has_failed c ≡ failed → (find has_failed cs ≡ None → find has_failed (changed test closed cs) ≡ None) →
-        (if failed then Some c else find has_failed cs) ≡ None → find has_failed (if b then closed c ∷ cs else c ∷ changed test closed cs) ≡ None
+    by : (b failed : Bool) → has_failed c ≡ failed → (find has_failed cs ≡ None → find has_failed (changed_where test closed_connection cs) ≡ None) →
+        (if failed then Some c else find has_failed cs) ≡ None → find has_failed (if b then closed_connection c ∷ cs else c ∷ changed_where test closed_connection cs) ≡ None
     by b true is rest some = absurd cc
     by true false is rest e = e
     by false false is rest e = rw is (rest e)
 
 pub ended_calmly : (port q : Port) (item : Item) (a b : RunningStep) → item ≡ Ended q → item ≡ Ended port →
-    (was_proposed (open_at q a.core) ≡ false → b ≡ record a { core = changes q closed a.core }) → was_proposed (open_at port a.core) ≡ false → WithoutFailure a b
+    (was_proposed (open_at q a.core) ≡ false → b ≡ record a { core = changes q closed_connection a.core }) → was_proposed (open_at port a.core) ≡ false → WithoutFailure a b
 unfolding changes
 ended_calmly port q item a b is same closes unproposed =
     let e : q ≡ port = cc in

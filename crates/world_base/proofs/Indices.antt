@@ -6,7 +6,7 @@ use Rattle.std.proofs.lemmas.List.Quantifiers.{position-Some}
 use Rattle.std.proofs.lemmas.List.Sums.{fails_before_first}
 use Rattle.std.proofs.lemmas.Bool.Decides.{nat_tests}
 use Rattle.node_connections.specs.declared.connection.Connection.{Connection}
-use Rattle.node_connections.specs.ConnectionChanges.{changed}
+use Rattle.node_connections.specs.ConnectionChanges.{changed_where}
 
 -- if no connection passes, none is found and none is changed
 fails_found : (test : Connection → Bool) (cs : List Connection) →
@@ -17,7 +17,7 @@ fails_found test (c ∷ cs) fails =
     rw here (fails_found test cs (λ k d below. fails (suc k) d (omega arith)))
 
 fails_changed : (test : Connection → Bool) (change : Connection → Connection) (cs : List Connection) →
-    ((k : ℕ) (d : Connection) → k < length cs → test (get_or cs k d) ≡ false) → changed test change cs ≡ cs
+    ((k : ℕ) (d : Connection) → k < length cs → test (get_or cs k d) ≡ false) → changed_where test change cs ≡ cs
 fails_changed test change [] fails = refl
 fails_changed test change (c ∷ cs) fails =
     let here : test c ≡ false = fails 0 c (omega arith) in
@@ -36,7 +36,7 @@ passes_found test (c ∷ cs) (suc i) d within here before =
 passes_changed : (test : Connection → Bool) (change : Connection → Connection) (cs : List Connection)
     (i : ℕ) (d : Connection) → i < length cs →
     test (get_or cs i d) ≡ true → ((k : ℕ) → k < i → test (get_or cs k d) ≡ false) →
-    changed test change cs ≡ set cs i (change (get_or cs i d))
+    changed_where test change cs ≡ set cs i (change (get_or cs i d))
 passes_changed test change [] i d within here before = absurd (omega arith)
 passes_changed test change (c ∷ cs) zero d within here before = rw here refl
 passes_changed test change (c ∷ cs) (suc i) d within here before =
@@ -59,7 +59,7 @@ pub none_found : (test : Connection → Bool) (cs : List Connection) → None �
 none_found test cs e = fails_found test cs (none_fails test cs (sym e))
 
 pub none_changed : (test : Connection → Bool) (change : Connection → Connection) (cs : List Connection) →
-    None ≡ position test cs → changed test change cs ≡ cs
+    None ≡ position test cs → changed_where test change cs ≡ cs
 none_changed test change cs e = fails_changed test change cs (none_fails test cs (sym e))
 
 -- the connection at the index is found, and changed
@@ -71,7 +71,7 @@ index_found test cs i c e is =
 
 pub index_changed : (test : Connection → Bool) (change : Connection → Connection) (cs : List Connection)
     (i : ℕ) (c : Connection) → Some i ≡ position test cs → c ≡ get_or cs i c →
-    changed test change cs ≡ set cs i (change c)
+    changed_where test change cs ≡ set cs i (change c)
 index_changed test change cs i c e is =
     let at = position-Some test cs i c (sym e) in
     passes_changed test change cs i c at.0 at.1 at.2 ∙ ap (λ x. set cs i (change x)) (sym is)

@@ -3,13 +3,13 @@ use Rattle.std.proofs.Common.{◌≡◌, true, false, List, map, ap, ◌∙◌}
 use Rattle.std.specs.List.{filter}
 use Rattle.node_connections.specs.declared.connection.Connection.{Connection}
 use Rattle.node_connections.specs.Connections.{is_listed}
-use Rattle.node_connections.specs.ConnectionChanges.{closed}
+use Rattle.node_connections.specs.ConnectionChanges.{closed_connection}
 use Rattle.world_base.specs.Core.{serves}
 use Rattle.world_base.specs.Inside.{RunningStep}
 use Rattle.world_base.specs.Step.{settled}
 
 pub settles-idle : (r : RunningStep) (mid new : List Connection) → serves r.core ≡ false →
-    mid ≡ map closed r.core.connections → new ≡ filter is_listed mid →
+    mid ≡ map closed_connection r.core.connections → new ≡ filter is_listed mid →
     record r { core = record r.core { connections = new } } ≡ record r { core = settled r.core }
 unfolding settled
 settles-idle r mid new idle all kept =

@@ -15,7 +15,7 @@ use Rattle.ballot.specs.ballot_base.Sending.{Outcome, nothing_done}
 use Rattle.ballot.specs.ballot_base.Serving.{proposed, max_places}
 use Rattle.node_connections.specs.declared.connection.Connection.{Connection}
 use Rattle.node_connections.specs.Connections.{is_open_named}
-use Rattle.node_connections.specs.ConnectionChanges.{closed, put_out, changed}
+use Rattle.node_connections.specs.ConnectionChanges.{closed_connection, with_queued, changed_where}
 use Rattle.world_base.specs.Core.{CoreState, StepOutcome, rules, serves}
 use Rattle.packet.specs.Spelling.{spelling}
 
@@ -41,13 +41,14 @@ repeated (suc more) next core = then_also (next core) (repeated more next)
 -- a change of the open connection of a name
 unfoldable pub changes_named : ConnectionName → (Connection → Connection) → CoreState → CoreState
 changes_named name change core =
-    record core { connections = changed (is_open_named name) change core.connections }
+    record core { connections = changed_where (is_open_named name) change core.connections }
 
 -- an output of the broker is done on its connection; one for a connection that is not open is
 -- dropped
 abbrev pub performed_by : Output → CoreState → CoreState
-performed_by (outputs.Send name packet) core = changes_named name (put_out (spelling packet)) core
-performed_by (outputs.Close name) core = changes_named name closed core
+performed_by (outputs.Send name packet) core =
+    changes_named name (with_queued (spelling packet)) core
+performed_by (outputs.Close name) core = changes_named name closed_connection core
 
 -- an effect is done on its connection; a message does nothing to connections
 abbrev pub with_effect : CoreState → Effect Command Output → CoreState

@@ -5,13 +5,16 @@ use Rattle.std.specs.List.{find}
 use Rattle.broker_spec.specs.declared.command.Command.TheVariants as commands
 use Rattle.node_connections.specs.declared.connection.Connection.{Connection}
 use Rattle.node_connections.specs.Connections.{has_failed}
-use Rattle.node_connections.specs.ConnectionChanges.{closed, changed}
+use Rattle.node_connections.specs.ConnectionChanges.{closed_connection, changed_where}
 use Rattle.world_base.specs.Core.{CoreState, StepOutcome}
 use Rattle.world_base.specs.Effects.{without_messages, proposes, repeated}
 
 -- the first failed connection is closed for good
 abbrev pub closes_failed : CoreState → CoreState
-closes_failed core = record core { connections = changed has_failed closed core.connections }
+closes_failed core = record core {
+  connections =
+      changed_where has_failed closed_connection core.connections;
+}
 
 -- a failed connection, if there is one, is closed for good, and its loss is proposed
 abbrev pub loses_if : Option Connection → CoreState → StepOutcome

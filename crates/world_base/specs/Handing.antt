@@ -4,9 +4,9 @@ use Rattle.std.specs.List.{find, filter}
 use Rattle.node_connections.specs.declared.port.Port.{Port}
 use Rattle.node_connections.specs.declared.connection.Connection.{Connection}
 use Rattle.node_connections.specs.Connections.{is_at, is_listed}
-use Rattle.node_connections.specs.ConnectionChanges.{handed, changed}
+use Rattle.node_connections.specs.ConnectionChanges.{nothing_pending, changed_where}
 use Rattle.world_base.specs.Core.{CoreState}
-pub use Rattle.node_connections.specs.Pending.{answer_of, bytes_of, is_idle}
+pub use Rattle.node_connections.specs.Pending.{handed_after, pending_bytes, is_idle}
 
 -- the connection of a port that is open, or has bytes to hand over
 abbrev pub listed_at : Port → CoreState → Option Connection
@@ -16,7 +16,10 @@ listed_at port core = find (is_at port) core.connections
 abbrev pub left_by : Port → CoreState → Option Connection → CoreState
 left_by port core None = core
 left_by port core (Some c) =
-    record core { connections = filter is_listed (changed (is_at port) handed core.connections) }
+    record core {
+      connections = filter is_listed
+          (changed_where (is_at port) nothing_pending core.connections);
+    }
 
 -- what was queued for a port is handed over
 unfoldable pub hands_over : Port → CoreState → CoreState

@@ -13,14 +13,14 @@ use Rattle.broker_spec.specs.declared.command.Command.TheVariants as commands
 use Rattle.node_connections.specs.declared.port.Port.{Port}
 use Rattle.node_connections.specs.declared.connection.Connection.{Connection}
 use Rattle.node_connections.specs.Connections.{has_failed, is_first, is_proposed}
-use Rattle.node_connections.specs.ConnectionChanges.{noted_proposed, closed, failing, left_with}
+use Rattle.node_connections.specs.ConnectionChanges.{noted_proposed, closed_connection, failing, left_with}
 use Rattle.node_connections.specs.Fronts.{FrontNeedsMemory, HasNoPacket}
 use Rattle.world_base.specs.Core.{CoreState}
 use Rattle.world_base.specs.Failing.{closes_failed}
 use Rattle.world_base.specs.KeepAlive.{lowest_silent}
 use Rattle.world_base.specs.Lossy.{Account, TakesCommand, Then, without_effects}
 use Rattle.world_base.specs.LossyProposals.{Declines, ProposesCommand}
-use Rattle.world_base.specs.Reading.{changes, open_at, refused}
+use Rattle.world_base.specs.Reading.{changes, open_at, connect_refused}
 
 -- the connection of a port is closed as lost, and reported to the broker if its Connect was
 -- proposed
@@ -29,10 +29,10 @@ pub data EndsConnection (port : Port) (core : CoreState) (did : Account) : Type 
   none_open : open_at port core ≡ None → did ≡ without_effects core → EndsConnection port core did
   -- its Connect was not proposed
   unproposed : (c : Connection) → open_at port core ≡ Some c → is_proposed c.stage ≡ false →
-      did ≡ without_effects (changes port closed core) → EndsConnection port core did
+      did ≡ without_effects (changes port closed_connection core) → EndsConnection port core did
   -- its Connect was proposed, so its loss is proposed too
   proposed : (c : Connection) → open_at port core ≡ Some c → is_proposed c.stage ≡ true →
-      ProposesCommand (commands.Lost c.name) (changes port closed core) did →
+      ProposesCommand (commands.Lost c.name) (changes port closed_connection core) did →
       EndsConnection port core did
 
 -- the silent connection with the lowest port ends
@@ -60,7 +60,7 @@ TakesOr command Otherwise core did =
 
 -- a connection is closed
 abbrev pub ClosesConnection : Port → CoreState → Account → Type 0
-ClosesConnection port core did = did ≡ without_effects (changes port closed core)
+ClosesConnection port core did = did ≡ without_effects (changes port closed_connection core)
 
 -- a connection is closed, or closed as lost, and the loss is still to be reported to the broker
 abbrev pub Shuts : Port → CoreState → Account → Type 0
@@ -108,6 +108,6 @@ pub data ReadsNext (now : ℕ) (port : Port) (core : CoreState) (did : Account) 
   -- its CONNECT is refused with a code
   refuses : (c : Connection) (code : RefusalCode) → open_at port core ≡ Some c →
       is_first c.stage ≡ true → verdict c.unread ≡ Err (stops.Refused code) →
-      did ≡ without_effects (changes port (refused code) core) → ReadsNext now port core did
+      did ≡ without_effects (changes port (connect_refused code) core) → ReadsNext now port core did
   -- the connection ends, if one is open
   ends : MayEnd (open_at port core) → EndsConnection port core did → ReadsNext now port core did

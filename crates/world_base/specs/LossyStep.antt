@@ -9,7 +9,7 @@ use Rattle.ballot.specs.ballot_base.Protocol.Input.{Receives, Ticks}
 use Rattle.node_connections.specs.declared.port.Port.{Port}
 use Rattle.world_base.specs.declared.item.Item.{Item}
 use Rattle.world_base.specs.declared.item.Item.TheVariants.{Peer, Tick, Opened, Bytes, Ended, Expel, Cut, Crash}
-use Rattle.node_connections.specs.ConnectionChanges.{holding}
+use Rattle.node_connections.specs.ConnectionChanges.{with_unread}
 use Rattle.ballot.specs.ballot_base.Cutting.{can_cut}
 use Rattle.ballot.specs.ballot_base.Losses.{one_more}
 use Rattle.world_base.specs.Core.{CoreState, rules}
@@ -24,7 +24,7 @@ use Rattle.world_base.specs.LossyReading.{EndsConnection, EndsSilent, LosesFaile
 -- received bytes are held, or the connection ends, because there is no memory for them
 abbrev pub HoldsBytes : Port → List ℕ → CoreState → Account → Type 0
 HoldsBytes port piece core did =
-    (did ≡ without_effects (changes port (holding piece) core)) ⊎ EndsConnection port core did
+    (did ≡ without_effects (changes port (with_unread piece) core)) ⊎ EndsConnection port core did
 
 -- a connection is accepted, or, if there is no memory for it, not
 abbrev pub AcceptsConnection : Port → CoreState → Account → Type 0

@@ -12,10 +12,10 @@ use Rattle.broker_spec.specs.declared.command.Command.TheVariants as commands
 use Rattle.node_connections.specs.declared.port.Port.{Port}
 use Rattle.node_connections.specs.declared.connection.Connection.{Connection}
 use Rattle.node_connections.specs.Connections.{is_open_at, is_first, is_proposed}
-use Rattle.node_connections.specs.ConnectionChanges.{noted_proposed, left_with, closed, changed}
+use Rattle.node_connections.specs.ConnectionChanges.{noted_proposed, left_with, closed_connection, changed_where}
 use Rattle.world_base.specs.Core.{CoreState, StepOutcome}
 use Rattle.world_base.specs.Effects.{without_messages, repeated, proposes, has_room}
-pub use Rattle.node_connections.specs.Refusing.{refused}
+pub use Rattle.node_connections.specs.Refusing.{connect_refused}
 
 -- the open connection of a port, if there is one
 abbrev pub open_at : Port → CoreState → Option Connection
@@ -24,14 +24,14 @@ open_at port core = find (is_open_at port) core.connections
 -- a change of the open connection of a port
 unfoldable pub changes : Port → (Connection → Connection) → CoreState → CoreState
 changes port change core =
-    record core { connections = changed (is_open_at port) change core.connections }
+    record core { connections = changed_where (is_open_at port) change core.connections }
 
 -- a connection is closed as lost: it is reported to the broker if its Connect was proposed
 abbrev pub loses : Port → Connection → CoreState → StepOutcome
 loses port c core =
     if is_proposed c.stage
-    then proposes (commands.Lost c.name) (changes port closed core)
-    else without_messages (changes port closed core)
+    then proposes (commands.Lost c.name) (changes port closed_connection core)
+    else without_messages (changes port closed_connection core)
 
 -- a connection, if there is one, is closed as lost; nothing happens otherwise
 abbrev pub loses_open : Port → CoreState → Option Connection → StepOutcome
@@ -47,20 +47,20 @@ abbrev pub connect_proposed : Port → ConnectionName → Connect → CoreState 
 connect_proposed port name connect core =
     if has_room core
     then proposes (commands.Connect name connect.client connect.clean) core
-    else without_messages (changes port closed core)
+    else without_messages (changes port closed_connection core)
 
 -- a later packet, a CONNECT too, is proposed; a refused proposal closes the connection
 abbrev pub proposes_packet : Port → ConnectionName → Packet → CoreState → StepOutcome
 proposes_packet port name packet core =
     if has_room core
     then proposes (commands.Packet name packet) core
-    else without_messages (changes port closed core)
+    else without_messages (changes port closed_connection core)
 
 -- the first packet of a connection must be a CONNECT (MQTT-3.1.0-1)
 abbrev pub takes_first_packet : Port → ConnectionName → Packet → CoreState → StepOutcome
 takes_first_packet port name (packets.Connect connect) core =
     connect_proposed port name connect (changes port (noted_proposed connect.keep_alive) core)
-takes_first_packet port name _ core = without_messages (changes port closed core)
+takes_first_packet port name _ core = without_messages (changes port closed_connection core)
 
 -- what the front of a connection's bytes does to the node at this time: a later CONNECT that is
 -- refused with a code is a malformed packet
@@ -68,7 +68,7 @@ abbrev pub reads : ℕ → Port → Connection → CoreState → Result (Packet 
 reads now port c core (Err stops.More) = without_messages core
 reads now port c core (Err (stops.Malformed kind)) = loses port c core
 reads now port c core (Err (stops.Refused code)) =
-    if is_first c.stage then without_messages (changes port (refused code) core)
+    if is_first c.stage then without_messages (changes port (connect_refused code) core)
     else loses port c core
 reads now port c core (Ok (packet, rest)) =
     if is_first c.stage

@@ -10,7 +10,7 @@ use Rattle.node_connections.specs.declared.port.Port.{Port}
 use Rattle.world_base.specs.declared.item.Item.{Item}
 use Rattle.world_base.specs.declared.item.Item.TheVariants.{Peer, Tick, Opened, Bytes, Ended, Expel, Cut, Crash}
 use Rattle.node_connections.specs.Connections.{is_at, is_listed, fresh}
-use Rattle.node_connections.specs.ConnectionChanges.{holding, closed}
+use Rattle.node_connections.specs.ConnectionChanges.{with_unread, closed_connection}
 use Rattle.world_base.specs.Core.{CoreState, StepOutcome, rules, serves}
 use Rattle.world_base.specs.Failing.{loses_all_failed}
 use Rattle.world_base.specs.KeepAlive.{ends_all_silent}
@@ -49,7 +49,7 @@ unfoldable pub settled : CoreState → CoreState
 settled core =
     record core {
       connections = filter is_listed
-          (if serves core then core.connections else map closed core.connections);
+          (if serves core then core.connections else map closed_connection core.connections);
     }
 
 -- the node after a cut of its log
@@ -72,7 +72,7 @@ does_item (Peer message) core = drives (Receives message) core
 does_item (Tick now) core = then_also (drives Ticks core) (ends_all_silent now)
 does_item (Opened port now) core = without_messages (with_next_connection port core)
 does_item (Bytes port piece now) core =
-    then_also (without_messages (changes port (holding piece) core)) (reads_all now port)
+    then_also (without_messages (changes port (with_unread piece) core)) (reads_all now port)
 does_item (Ended port) core = port_closed port core
 does_item (Expel client) core = proposes (commands.Expel client) core
 does_item Cut core = without_messages (cuts core)

@@ -5,7 +5,7 @@ ghost use Rattle.std.specs.List.{position};
 ghost use Rattle.node_connections.specs.Connections.{is_at};
 ghost use Rattle.node_connections.specs.Stands.{standing_of};
 ghost use Rattle.ballot.specs.lists.Lists.{IsPrefixOf};
-ghost use Rattle.world_base.specs.Handing.{answer_of, bytes_of, hands_over, idle_ports, listed_at};
+ghost use Rattle.world_base.specs.Handing.{handed_after, pending_bytes, hands_over, idle_ports, listed_at};
 
 use crate::stepping_node::SteppingNode;
 use ballot::Memory;
@@ -18,10 +18,10 @@ impl SteppingNode {
         ensures left { OnOk result
             (self.new ≡ record self.old { core = hands_over port self.old.core }) }
         ensures bytes { OnOk result
-            (out.new.items ≡ out.old.items ++ bytes_of (listed_at port self.old.core)) }
+            (out.new.items ≡ out.old.items ++ pending_bytes (listed_at port self.old.core)) }
         ensures answer { IfOk result (λ handed.
-            handed ≡ answer_of (listed_at port self.old.core)) }
-        ensures nothing { bytes_of (listed_at port self.old.core) ≡ [] → IsOk result }
+            handed ≡ handed_after (listed_at port self.old.core)) }
+        ensures nothing { pending_bytes (listed_at port self.old.core) ≡ [] → IsOk result }
         ensures same { OnErr result (self.new ≡ self.old) }
         ensures err { OnErr result (out.new.items ≡ out.old.items) }
     {

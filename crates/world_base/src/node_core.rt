@@ -11,7 +11,7 @@ ghost use Rattle.broker_spec.specs.Connection.{is_connection_name};
 ghost use Rattle.world_base.specs.Core.{opening_core};
 ghost use Rattle.world_base.specs.Step.{next_name};
 ghost use Rattle.ballot.specs.lists.Lists.{IsPrefixOf};
-ghost use Rattle.world_base.specs.Handing.{answer_of, bytes_of, hands_over, idle_ports, listed_at};
+ghost use Rattle.world_base.specs.Handing.{handed_after, pending_bytes, hands_over, idle_ports, listed_at};
 ghost use Rattle.node_connections.specs.Stands.{standing_of};
 ghost use Rattle.world_base.specs.Effects.{has_room};
 ghost use Rattle.world_base.specs.Losses.{DoesNothing, NodeStepped};
@@ -182,12 +182,12 @@ impl NodeCore {
     /// nothing was queued.
     pub fn outgoing(&mut self, port: Port, out: &mut Vec<u8>) -> Result<Handed, Memory>
         ensures bytes { OnOk result
-            (out.new.items ≡ out.old.items ++ bytes_of (listed_at port self.old.core)) }
+            (out.new.items ≡ out.old.items ++ pending_bytes (listed_at port self.old.core)) }
         ensures answer { IfOk result (λ handed.
-            handed ≡ answer_of (listed_at port self.old.core)) }
+            handed ≡ handed_after (listed_at port self.old.core)) }
         ensures left { OnOk result
             (self.new ≡ record self.old { core = hands_over port self.old.core }) }
-        ensures nothing { bytes_of (listed_at port self.old.core) ≡ [] → IsOk result }
+        ensures nothing { pending_bytes (listed_at port self.old.core) ≡ [] → IsOk result }
 
         // Running out of memory changes nothing.
         ensures same { OnErr result (self.new ≡ self.old) }

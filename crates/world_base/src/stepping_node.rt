@@ -8,12 +8,12 @@ ghost use Rattle.ballot.specs.ballot_base.Cutting.{can_cut};
 ghost use Rattle.ballot.specs.ballot_base.Logs.{places};
 ghost use Rattle.ballot.specs.ballot_base.Replica.{status_of};
 ghost use Rattle.node_connections.specs.Connections.{has_failed, is_at, is_open_at, is_open_named};
-ghost use Rattle.node_connections.specs.ConnectionChanges.{noted_proposed, closed, failing, holding, put_out};
+ghost use Rattle.node_connections.specs.ConnectionChanges.{noted_proposed, closed_connection, failing, with_unread, with_queued};
 ghost use Rattle.world_base.specs.Core.{opening_core, serves};
 ghost use Rattle.world_base.specs.Inside.{DoesExactly};
 ghost use Rattle.world_base.specs.KeepAlive.{lowest_silent};
 ghost use Rattle.packet.specs.Spelling.{spelling};
-ghost use Rattle.world_base.specs.Reading.{changes, open_at, refused, unread_of};
+ghost use Rattle.world_base.specs.Reading.{changes, open_at, connect_refused, unread_of};
 ghost use Rattle.world_base.specs.Step.{accepted, accepts_connection, next_name, with_next_connection, settled};
 ghost use Rattle.world_base.specs.Effects.{changes_named, has_room};
 
@@ -198,7 +198,10 @@ impl SteppingNode {
 
     /// Closes the open connection of a port.
     pub fn close(&mut self, port: Port)
-        ensures { self.new ≡ record self.old { core = changes port closed self.old.core } }
+        ensures { self.new ≡ record self.old {
+          core =
+              changes port closed_connection self.old.core;
+        } }
     {
         if let Some(index) = self.index_at(port) {
             self.connections[index].close();
@@ -218,8 +221,9 @@ impl SteppingNode {
     /// Closes the open connection of a port, whose proposal was refused: if memory ran out, its
     /// loss is still to be reported to the broker.
     pub fn give_up(&mut self, port: Port)
-        ensures exact { DoesExactly self.old self.new (changes port closed self.old.core) }
-        ensures lossy { (self.new.core ≡ changes port closed self.old.core)
+        ensures exact { DoesExactly self.old self.new
+            (changes port closed_connection self.old.core) }
+        ensures lossy { (self.new.core ≡ changes port closed_connection self.old.core)
             ⊎ (self.new.core ≡ changes port failing self.old.core) }
     {
         if !self.out_of_memory {
@@ -244,7 +248,10 @@ impl SteppingNode {
     /// was memory.
     pub fn hold_at(&mut self, port: Port, piece: &Piece) -> bool
         ensures ok { result ≡ true →
-            self.new ≡ record self.old { core = changes port (holding piece.now) self.old.core } }
+            self.new ≡ record self.old {
+              core =
+                  changes port (with_unread piece.now) self.old.core;
+            } }
         ensures same { result ≡ false → self.new ≡ self.old }
     {
         match self.index_at(port) {
@@ -256,7 +263,7 @@ impl SteppingNode {
     /// Closes the open connection of a name.
     pub fn close_named(&mut self, name: ConnectionName)
         ensures { self.new ≡ record self.old {
-          core = changes_named name closed self.old.core;
+          core = changes_named name closed_connection self.old.core;
         } }
     {
         if let Some(index) = self.index_of(name) {
@@ -268,9 +275,9 @@ impl SteppingNode {
     /// room or no memory for it.
     pub fn put(&mut self, name: ConnectionName, packet: &Packet)
         ensures exact { DoesExactly self.old self.new
-            (changes_named name (put_out (spelling packet.now)) self.old.core) }
+            (changes_named name (with_queued (spelling packet.now)) self.old.core) }
         ensures lossy { (self.new.core
-            ≡ changes_named name (put_out (spelling packet.now)) self.old.core)
+            ≡ changes_named name (with_queued (spelling packet.now)) self.old.core)
             ⊎ (self.new.core ≡ changes_named name failing self.old.core) }
     {
         if let Some(index) = self.index_of(name) {

@@ -5,7 +5,7 @@ ghost use Rattle.std.specs.List.{find};
 ghost use Rattle.broker_spec.specs.declared.command.Command.TheVariants as commands;
 ghost use Rattle.broker_spec.specs.Sized.{IsSized};
 ghost use Rattle.node_connections.specs.Connections.{has_failed, is_first, is_proposed};
-ghost use Rattle.node_connections.specs.ConnectionChanges.{closed, holding};
+ghost use Rattle.node_connections.specs.ConnectionChanges.{closed_connection, with_unread};
 ghost use Rattle.world_base.specs.Inside.{TakesPacket, DoesOutcome, RanStep, ReportsLost, WithoutFailure};
 ghost use Rattle.world_base.specs.declared.item.Item.TheVariants as items;
 ghost use Rattle.world_base.specs.Losses.{DoesNothing, IsHeardQuietly, ReadsNone, ItemTakesNoMemory, was_proposed};
@@ -122,7 +122,7 @@ impl SteppingNode {
     // Holds bytes that arrived on a port. A connection without memory for them is lost.
     fn hold(&mut self, port: Port, piece: Piece, effects: &mut Vec<Effect<Command, Output>>)
         ensures exact { DoesOutcome self.old self.new effects.old.items effects.new.items
-            (without_messages (changes port (holding piece) self.old.core)) }
+            (without_messages (changes port (with_unread piece) self.old.core)) }
         ensures lossy { RanStep
             (HoldsBytes port piece) self.old.core self.new.core
             effects.old.items effects.new.items }
@@ -278,7 +278,7 @@ impl SteppingNode {
         ensures lossy { RanStep
             (EndsConnection port) self.old.core self.new.core effects.old.items effects.new.items }
         ensures unproposed { was_proposed (open_at port self.old.core) ≡ false →
-            self.new ≡ record self.old { core = changes port closed self.old.core } }
+            self.new ≡ record self.old { core = changes port closed_connection self.old.core } }
     {
         let Some(index) = self.index_at(port) else {
             return;

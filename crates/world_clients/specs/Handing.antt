@@ -2,7 +2,7 @@
 use Rattle.std.specs.Prelude.{◌≡◌, ◌⊎◌, ℕ, ◌-◌, Bool, true, false, List, [], ◌++◌, Option, Some, None, set, slice_get, Result, Ok, Err}
 use Rattle.byte_world.specs.node_moves.Moves.NodeCall.{gives}
 use Rattle.world_base.specs.Core.{CountedCore}
-use Rattle.world_base.specs.Handing.{answer_of, bytes_of, listed_at}
+use Rattle.world_base.specs.Handing.{handed_after, pending_bytes, listed_at}
 use Rattle.world_base.specs.declared.Handed.{Handed}
 use Rattle.world_base.specs.declared.Handed.TheVariants as answers
 use Rattle.world_base.specs.declared.Port.{Port}
@@ -19,7 +19,7 @@ use Rattle.world_clients.specs.NodesGoOn.{NodesStay}
 -- the bytes that the node queued for the port and has not yet handed over
 abbrev pub bytes_put_out : Port → Option CountedCore → List ℕ
 bytes_put_out port None = []
-bytes_put_out port (Some node) = bytes_of (listed_at port node.core)
+bytes_put_out port (Some node) = pending_bytes (listed_at port node.core)
 
 -- whether the node's end of a connection stays open after it handed over bytes
 abbrev pub is_more : Handed → Bool
@@ -29,7 +29,7 @@ is_more answers.Closed = false
 -- whether the node's end of the connection is open
 abbrev pub is_told_open : Port → Option CountedCore → Bool
 is_told_open port None = false
-is_told_open port (Some node) = is_more (answer_of (listed_at port node.core))
+is_told_open port (Some node) = is_more (handed_after (listed_at port node.core))
 
 -- the node hands over the bytes of the port
 abbrev pub HandsOverBytes : Option CountedCore → ℕ → Port → NodesState → NodesState → Type 0

@@ -7,7 +7,7 @@ use Rattle.byte_world.specs.broker_spec.declared.command.Command.{Command}
 use Rattle.world_base.specs.declared.Handed.{Handed}
 use Rattle.world_base.specs.declared.Port.{Port}
 use Rattle.world_base.specs.Core.{CountedCore}
-use Rattle.world_base.specs.Handing.{answer_of, bytes_of, hands_over, listed_at}
+use Rattle.world_base.specs.Handing.{handed_after, pending_bytes, hands_over, listed_at}
 use Rattle.byte_world.proofs.of_node_group.Placed.{set_same}
 use Rattle.world_nodes.specs.Nodes.{NodesState}
 use Rattle.world_nodes.specs.ExactSteps.{AnswersFor, GivesExactly, HandsOver}
@@ -53,11 +53,11 @@ pub same_node : (nodes : List CountedCore) (node : ℕ) (z core : CountedCore) �
 same_node nodes node z core a b = same_some z core (sym a ∙ b)
 
 pub hands_bytes : (n : NodesState) (node : ℕ) (port : Port) (z : CountedCore) (before after : List ℕ) → numbered_node n.nodes node ≡ Some z
-    → after ≡ before ++ bytes_of (listed_at port z.core) → HandsOver node port n before after
+    → after ≡ before ++ pending_bytes (listed_at port z.core) → HandsOver node port n before after
 hands_bytes n node port z before after is bytes core there =
-    subst (λ (y : CountedCore). after ≡ before ++ bytes_of (listed_at port y.core)) (same_node n.nodes node z core is there) bytes
+    subst (λ (y : CountedCore). after ≡ before ++ pending_bytes (listed_at port y.core)) (same_node n.nodes node z core is there) bytes
 
 pub answers_so : (n : NodesState) (node : ℕ) (port : Port) (z : CountedCore) (handed : Handed) → numbered_node n.nodes node ≡ Some z
-    → handed ≡ answer_of (listed_at port z.core) → AnswersFor node port n handed
+    → handed ≡ handed_after (listed_at port z.core) → AnswersFor node port n handed
 answers_so n node port z handed is answer core there =
-    subst (λ (y : CountedCore). handed ≡ answer_of (listed_at port y.core)) (same_node n.nodes node z core is there) answer
+    subst (λ (y : CountedCore). handed ≡ handed_after (listed_at port y.core)) (same_node n.nodes node z core is there) answer

@@ -13,7 +13,7 @@ use Rattle.world_base.specs.declared.Handed.{Handed}
 use Rattle.world_base.specs.declared.item.Item.{Item}
 use Rattle.world_base.specs.declared.item.Item.TheVariants.{Cut, Peer}
 use Rattle.world_base.specs.declared.Port.{Port}
-use Rattle.world_base.specs.Handing.{answer_of, bytes_of, listed_at}
+use Rattle.world_base.specs.Handing.{handed_after, pending_bytes, listed_at}
 use Rattle.byte_world.specs.node_moves.Moves.{NodeCall, done}
 use Rattle.byte_world.specs.node_moves.Moves.NodeCall.{takes, gives}
 use Rattle.byte_world.specs.node_group.Group.{Group}
@@ -70,13 +70,13 @@ NodeDoesCall at node_call old new =
 abbrev pub HandsOver : ℕ → Port → NodesState → List ℕ → List ℕ → Type 0
 HandsOver node port n before after =
     (core : CountedCore) → numbered_node n.nodes node ≡ Some core →
-    after ≡ before ++ bytes_of (listed_at port core.core)
+    after ≡ before ++ pending_bytes (listed_at port core.core)
 
 -- the answer to a handing over says whether more may come
 abbrev pub AnswersFor : ℕ → Port → NodesState → Handed → Type 0
 AnswersFor node port n handed =
     (core : CountedCore) → numbered_node n.nodes node ≡ Some core →
-    handed ≡ answer_of (listed_at port core.core)
+    handed ≡ handed_after (listed_at port core.core)
 
 -- ---- the master
 

@@ -11,7 +11,7 @@ use Rattle.world_base.specs.declared.item.Item.{Item}
 use Rattle.world_base.specs.declared.item.Item.TheVariants.{Peer}
 use Rattle.world_base.specs.declared.Port.{Port}
 use Rattle.world_base.specs.Core.{CountedCore}
-use Rattle.world_base.specs.Handing.{bytes_of, listed_at}
+use Rattle.world_base.specs.Handing.{pending_bytes, listed_at}
 use Rattle.world_base.specs.Losses.{ItemTakesNoMemory}
 use Rattle.world_nodes.specs.Running.{numbered_node, running}
 use Rattle.world_nodes.specs.Nodes.{NodesState}
@@ -40,4 +40,4 @@ ComesUnheeded (Some (suc at, message)) n = RestsAt (suc at) (Peer message) n
 abbrev pub WaitsAtNone : ℕ → Port → NodesState → Type 0
 WaitsAtNone node port n =
     (core : CountedCore) → numbered_node n.nodes node ≡ Some core →
-    bytes_of (listed_at port core.core) ≡ []
+    pending_bytes (listed_at port core.core) ≡ []

@@ -1,5 +1,5 @@
 use Rattle.std.proofs.Common.{inl, inr}
-use Rattle.node_connections.specs.ConnectionChanges.{closed, failing}
+use Rattle.node_connections.specs.ConnectionChanges.{closed_connection, failing}
 use Rattle.world_base.proofs.Changes.{core_changed, core_unchanged}
 use Rattle.world_base.proofs.stepping_node.SteppingNode.give_up.Goals as goal
 
@@ -9,4 +9,4 @@ returns-in-Some-clause-lossy c =
     (rw (← c.self.view_is) at c.index_at.ensures) c.in-Some.is c.index_mut.ensures.value c.fail.ensures))
 
 pub returns-in_default-clause-lossy : goal.returns-in_default-clause-lossy
-returns-in_default-clause-lossy c = inl (core_unchanged c.args.port closed _ c.index_at.result c.index_at.ensures c.in_default.is)
+returns-in_default-clause-lossy c = inl (core_unchanged c.args.port closed_connection _ c.index_at.result c.index_at.ensures c.in_default.is)

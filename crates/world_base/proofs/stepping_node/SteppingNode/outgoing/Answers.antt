@@ -1,7 +1,7 @@
 use Rattle.std.proofs.Common.{◌++◌, sym, ap, ◌∙◌}
 use Rattle.std.proofs.lemmas.List.{append-nil}
 use Rattle.node_connections.specs.Connections.{is_at}
-use Rattle.world_base.specs.Handing.{answer_of, bytes_of}
+use Rattle.world_base.specs.Handing.{handed_after, pending_bytes}
 use Rattle.world_base.proofs.HandsOver.{handed_none, handed_there}
 use Rattle.world_base.proofs.Indices.{none_found, found_there}
 use Rattle.world_base.proofs.stepping_node.SteppingNode.outgoing.Goals as goal
@@ -17,7 +17,7 @@ returns-in_default-clause-bytes c =
 
 pub returns-in_default-clause-answer : goal.returns-in_default-clause-answer
 returns-in_default-clause-answer c =
-    sym (ap answer_of (none_found (is_at c.args.port) c.args.self.now.core.connections
+    sym (ap handed_after (none_found (is_at c.args.port) c.args.self.now.core.connections
     (sym c.in_default.is ∙ c.index_listed.ensures)))
 
 pub returns-clause-left : goal.returns-clause-left
@@ -33,7 +33,7 @@ pub returns-clause-bytes : goal.returns-clause-bytes
 returns-clause-bytes c =
     let at = rw (← c.self.view_is) at c.index_listed.ensures in
     c.in_ok-outgoing.ensures.bytes
-    ∙ rw (← c.self.view_is) (ap (λ l. c.args.out.now.items ++ bytes_of l) (sym
+    ∙ rw (← c.self.view_is) (ap (λ l. c.args.out.now.items ++ pending_bytes l) (sym
     (found_there (is_at c.args.port) _ c.index_listed.result c.in-Some.index _ at c.in-Some.is
     c.index_mut-connection.ensures.value)))
 
@@ -41,13 +41,13 @@ pub returns-clause-answer : goal.returns-clause-answer
 returns-clause-answer c =
     let at = rw (← c.self.view_is) at c.index_listed.ensures in
     c.answer-answer.ensures
-    ∙ rw (← c.self.view_is) (ap answer_of (sym
+    ∙ rw (← c.self.view_is) (ap handed_after (sym
     (found_there (is_at c.args.port) _ c.index_listed.result c.in-Some.index _ at c.in-Some.is
     c.index_mut-connection.ensures.value)))
 
 pub returns-in_err-outgoing-clause-nothing : goal.returns-in_err-outgoing-clause-nothing
 returns-in_err-outgoing-clause-nothing c =
     let at = rw (← c.self.view_is) at c.index_listed.ensures in
-    rw (← c.self.view_is) (λ none. let no = c.in_err-outgoing.ensures.nothing (sym (ap bytes_of
+    rw (← c.self.view_is) (λ none. let no = c.in_err-outgoing.ensures.nothing (sym (ap pending_bytes
     (found_there (is_at c.args.port) _ c.index_listed.result c.in-Some.index _ at c.in-Some.is
     c.index_mut-connection.ensures.value)) ∙ none) in absurd cc)

@@ -1,18 +1,18 @@
 use Rattle.std.proofs.Common.{inl, inr}
-use Rattle.node_connections.specs.ConnectionChanges.{failing, put_out}
+use Rattle.node_connections.specs.ConnectionChanges.{failing, with_queued}
 use Rattle.packet.specs.Spelling.{spelling}
 use Rattle.world_base.proofs.Changes.{named_there, named_nowhere, core_named, core_unnamed}
 use Rattle.world_base.proofs.stepping_node.SteppingNode.put.Goals as goal
 
 pub returns-else-not-whole-clause-exact : goal.returns-else-not-whole-clause-exact
 returns-else-not-whole-clause-exact c = λ _.
-    rw (← c.self.view_is) (named_there c.args.name (put_out (spelling c.args.packet.now)) _ c.index_of.result c.in-Some.index
+    rw (← c.self.view_is) (named_there c.args.name (with_queued (spelling c.args.packet.now)) _ c.index_of.result c.in-Some.index
     c.index_mut.result.now _ (rw (← c.self.view_is) at c.index_of.ensures) c.in-Some.is c.index_mut.ensures.value
     (c.put_or_fail-whole.ensures.whole c.if-not-whole.false))
 
 pub returns-else-not-whole-clause-lossy : goal.returns-else-not-whole-clause-lossy
 returns-else-not-whole-clause-lossy c =
-    rw (← c.self.view_is) (inl (core_named c.args.name (put_out (spelling c.args.packet.now)) _ c.index_of.result c.in-Some.index
+    rw (← c.self.view_is) (inl (core_named c.args.name (with_queued (spelling c.args.packet.now)) _ c.index_of.result c.in-Some.index
     c.index_mut.result.now _ (rw (← c.self.view_is) at c.index_of.ensures) c.in-Some.is c.index_mut.ensures.value
     (c.put_or_fail-whole.ensures.whole c.if-not-whole.false)))
 
@@ -24,8 +24,8 @@ returns-then-not-whole-clause-lossy c =
 
 pub returns-in_default-clause-exact : goal.returns-in_default-clause-exact
 returns-in_default-clause-exact c = λ _.
-    named_nowhere c.args.name (put_out (spelling c.args.packet.now)) _ c.index_of.result c.index_of.ensures c.in_default.is
+    named_nowhere c.args.name (with_queued (spelling c.args.packet.now)) _ c.index_of.result c.index_of.ensures c.in_default.is
 
 pub returns-in_default-clause-lossy : goal.returns-in_default-clause-lossy
 returns-in_default-clause-lossy c =
-    inl (core_unnamed c.args.name (put_out (spelling c.args.packet.now)) _ c.index_of.result c.index_of.ensures c.in_default.is)
+    inl (core_unnamed c.args.name (with_queued (spelling c.args.packet.now)) _ c.index_of.result c.index_of.ensures c.in_default.is)

@@ -1,6 +1,6 @@
 use Rattle.std.proofs.Common.{sym, ◌∙◌}
 use Rattle.node_connections.specs.Connections.{has_failed}
-use Rattle.node_connections.specs.ConnectionChanges.{closed}
+use Rattle.node_connections.specs.ConnectionChanges.{closed_connection}
 use Rattle.world_base.proofs.Changes.{there, core_there}
 use Rattle.world_base.proofs.EndsRun.{idle_failed, ran_failed, ran_none_failed}
 use Rattle.world_base.proofs.Failures.{failed_none, failed_next, failed_one, none_some}
@@ -22,7 +22,7 @@ returns-clause-exact c =
     failed_one c.index_mut-connection.result.now _ _ _ _ _
     (rw (← c.self.view_is) (found_there has_failed _ c.index_failed.result c.in-Some.index _
     (rw (← c.self.view_is) at c.index_failed.ensures) c.in-Some.is c.index_mut-connection.ensures.value))
-    (rw (← c.self.view_is) (there has_failed closed _ c.index_failed.result c.in-Some.index
+    (rw (← c.self.view_is) (there has_failed closed_connection _ c.index_failed.result c.in-Some.index
     c.index_mut-connection.result.now c.close.new.self (rw (← c.self.view_is) at c.index_failed.ensures) c.in-Some.is
     c.index_mut-connection.ensures.value c.close.ensures))
     c.propose.ensures.exact
@@ -42,7 +42,7 @@ returns-clause-lossy c =
     ran_failed c.index_mut-connection.result.now _ _ _ c.propose.result _ _
     (rw (← c.self.view_is) (found_there has_failed _ c.index_failed.result c.in-Some.index _
     (rw (← c.self.view_is) at c.index_failed.ensures) c.in-Some.is c.index_mut-connection.ensures.value))
-    (rw (← c.self.view_is) (core_there has_failed closed _ c.index_failed.result c.in-Some.index
+    (rw (← c.self.view_is) (core_there has_failed closed_connection _ c.index_failed.result c.in-Some.index
     c.index_mut-connection.result.now c.close.new.self (rw (← c.self.view_is) at c.index_failed.ensures) c.in-Some.is
     c.index_mut-connection.ensures.value c.close.ensures))
     c.propose.ensures.lossy
