@@ -4,12 +4,12 @@ use Rattle.std.proofs.lemmas.List.Sums.{fold-append}
 use Rattle.mailbox.specs.Ends.{Taker}
 use Rattle.world_base.specs.declared.item.Item.{Item}
 use Rattle.world_base.specs.declared.item.Item.TheVariants.{Peer, Tick, Opened, Bytes, Ended, Expel, Cut, Crash}
-use Rattle.node.specs.Growth.{bytes_since_cut, bytes_of_item, counted, grown}
+use Rattle.node.specs.Growth.{bytes_since_cut, bytes_of_item, saturated, grown}
 
-pub counted_more : (a b : ℕ) → counted (counted a + b) ≡ counted (a + b)
+pub counted_more : (a b : ℕ) → saturated (saturated a + b) ≡ saturated (a + b)
 counted_more a b = omega arith
 
-pub grown_counted : (n : ℕ) (item : Item) → counted (grown (counted n) item) ≡ counted (grown n item)
+pub grown_counted : (n : ℕ) (item : Item) → saturated (grown (saturated n) item) ≡ saturated (grown n item)
 grown_counted n (Peer message) = counted_more n (bytes_of_item (Peer message))
 grown_counted n (Tick now) = counted_more n 0
 grown_counted n (Opened port now) = counted_more n 0
@@ -26,9 +26,9 @@ since_more taken one = fold-append (λ bytes (x : ℕ × Item). grown bytes x.1)
 -- one item more was taken, and counted
 pub grown_since : (bytes now : ℕ) (old new : Taker Item) (taken : ℕ × Item)
     → new ≡ record old { taken = old.taken ++ taken ∷ [] }
-    → bytes ≡ counted (bytes_since_cut old.taken) → now ≡ counted (grown bytes taken.1)
-    → now ≡ counted (bytes_since_cut new.taken)
+    → bytes ≡ saturated (bytes_since_cut old.taken) → now ≡ saturated (grown bytes taken.1)
+    → now ≡ saturated (bytes_since_cut new.taken)
 grown_since bytes now old new taken is before after =
-    after ∙ ap (λ n. counted (grown n taken.1)) before ∙ grown_counted (bytes_since_cut old.taken) taken.1
-    ∙ ap counted (sym (since_more old.taken taken))
-    ∙ ap (λ (taker : Taker Item). counted (bytes_since_cut taker.taken)) (sym is)
+    after ∙ ap (λ n. saturated (grown n taken.1)) before ∙ grown_counted (bytes_since_cut old.taken) taken.1
+    ∙ ap saturated (sym (since_more old.taken taken))
+    ∙ ap (λ (taker : Taker Item). saturated (bytes_since_cut taker.taken)) (sym is)

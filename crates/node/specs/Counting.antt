@@ -1,7 +1,7 @@
 -- How a node's count of bytes that are not known to be agreed changes, while its log only grows.
 use Rattle.std.specs.Prelude.{ℕ, ◌+◌, ◌≤◌, nat_lt, min, if◌then◌else◌, List, [], ◌∷◌, Option, Some, None}
 use Rattle.world_base.specs.declared.Status.{Status}
-use Rattle.node.specs.Crowding.{Taking, shown, took}
+use Rattle.node.specs.Crowding.{Taking, status_shown, took}
 
 -- bytes that a node took, and how many places its log had once it had taken them
 pub record Taken : Type 0 where
@@ -41,4 +41,4 @@ pub data Counts : List Taken → Taking → Type 0 where
   -- the status is shown
   shows : {all : List Taken} {taking : Taking} (status : Status) → Counts all taking
       → held_of taking.status ≤ status.held → committed_of taking.status ≤ status.committed
-      → Counts all (shown status taking)
+      → Counts all (status_shown status taking)

@@ -58,8 +58,8 @@ is_agreed earlier_end status = nat_le (min earlier_end status.held) status.commi
 
 -- The node shows its status. Once the first `earlier_end` places are agreed the later bytes become
 -- the earlier ones.
-abbrev pub shown : Status → Taking → Taking
-shown status taking =
+abbrev pub status_shown : Status → Taking → Taking
+status_shown status taking =
     if is_agreed taking.earlier_end status
     then record taking {
       status = Some status;

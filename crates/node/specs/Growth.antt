@@ -73,5 +73,5 @@ wants_cut taken core =
     + command_bytes * (core.replica.state.committed - core.replica.state.log.base))
 
 -- a count of bytes that saturates at 2^64 - 1
-abbrev pub counted : ℕ → ℕ
-counted bytes = min bytes (2 ^ 64 - 1)
+abbrev pub saturated : ℕ → ℕ
+saturated bytes = min bytes (2 ^ 64 - 1)

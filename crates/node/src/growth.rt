@@ -2,7 +2,7 @@
 
 ghost use Rattle.std.specs.Prelude.{◌≡◌, ◌+◌, ◌*◌, ℕ, length, max, nat_lt, sum_by};
 ghost use Rattle.node.specs.Growth.{bytes_of_body, bytes_of_command, bytes_of_packet, command_bytes};
-ghost use Rattle.node.specs.Growth.{counted, grown, max_uncut_bytes};
+ghost use Rattle.node.specs.Growth.{saturated, grown, max_uncut_bytes};
 
 use packet::{Packet, Subscribe, Unsubscribe};
 use world_base::{Body, Command, Item};
@@ -16,7 +16,7 @@ const COMMAND_BYTES: u64 = 128;
 /// Says whether items that brought these bytes and commands count more than 16 MiB and more than
 /// the snapshot has bytes.
 pub(crate) fn is_large(bytes: u64, commands: u64, snapshot: &[u8]) -> bool
-    ensures { (all : ℕ) → bytes ≡ counted all →
+    ensures { (all : ℕ) → bytes ≡ saturated all →
         result ≡ nat_lt
         (max max_uncut_bytes (length snapshot.now)) (all + command_bytes * commands) }
 {
@@ -27,7 +27,7 @@ pub(crate) fn is_large(bytes: u64, commands: u64, snapshot: &[u8]) -> bool
 /// Returns how many bytes items brought since the last cut, after one more item. The count
 /// saturates at 2^64 - 1.
 pub(crate) fn grown(bytes: u64, item: &Item) -> u64
-    ensures { result ≡ counted (grown bytes item.now) }
+    ensures { result ≡ saturated (grown bytes item.now) }
 {
     match item {
         Item::Peer(message) => add_body(bytes, &message.body),
@@ -39,7 +39,7 @@ pub(crate) fn grown(bytes: u64, item: &Item) -> u64
 
 // Adds the bytes of a message of another node.
 fn add_body(bytes: u64, body: &Body<Command>) -> u64
-    ensures { result ≡ counted (bytes + bytes_of_body body.now) }
+    ensures { result ≡ saturated (bytes + bytes_of_body body.now) }
 {
     match body {
         Body::Append(_, _, command) => add_command(bytes, command),
@@ -50,7 +50,7 @@ fn add_body(bytes: u64, body: &Body<Command>) -> u64
 
 // Adds the bytes of commands.
 fn add_commands(bytes: u64, commands: &[Command]) -> u64
-    ensures { result ≡ counted (bytes + sum_by bytes_of_command commands.now) }
+    ensures { result ≡ saturated (bytes + sum_by bytes_of_command commands.now) }
 {
     let mut bytes = bytes;
     for command in commands {
@@ -61,7 +61,7 @@ fn add_commands(bytes: u64, commands: &[Command]) -> u64
 
 // Adds the bytes of a command.
 fn add_command(bytes: u64, command: &Command) -> u64
-    ensures { result ≡ counted (bytes + bytes_of_command command.now) }
+    ensures { result ≡ saturated (bytes + bytes_of_command command.now) }
 {
     match command {
         Command::Packet(_, packet) => add_packet(bytes, packet.packet()),
@@ -71,7 +71,7 @@ fn add_command(bytes: u64, command: &Command) -> u64
 
 // Adds the bytes of a packet.
 fn add_packet(bytes: u64, packet: &Packet) -> u64
-    ensures { result ≡ counted (bytes + bytes_of_packet packet.now) }
+    ensures { result ≡ saturated (bytes + bytes_of_packet packet.now) }
 {
     match packet {
         Packet::Publish(publish) => {
@@ -86,7 +86,7 @@ fn add_packet(bytes: u64, packet: &Packet) -> u64
 
 // Adds the bytes of the filters that a client subscribes to.
 fn add_subscribe(bytes: u64, subscribe: &Subscribe) -> u64
-    ensures { result ≡ counted (bytes
+    ensures { result ≡ saturated (bytes
         + sum_by (λ (subscription : _). length subscription.filter) subscribe.now.filters) }
 {
     let subscriptions = subscribe.filters.as_slice();
@@ -100,7 +100,7 @@ fn add_subscribe(bytes: u64, subscribe: &Subscribe) -> u64
 // Adds the bytes of the filters that a client unsubscribes from.
 fn add_unsubscribe(bytes: u64, unsubscribe: &Unsubscribe) -> u64
     ensures { result
-        ≡ counted (bytes + sum_by (λ (filter : _). length filter) unsubscribe.now.filters) }
+        ≡ saturated (bytes + sum_by (λ (filter : _). length filter) unsubscribe.now.filters) }
 {
     let filters = unsubscribe.filters.as_slice();
     let mut bytes = bytes;
@@ -112,7 +112,7 @@ fn add_unsubscribe(bytes: u64, unsubscribe: &Unsubscribe) -> u64
 
 // Adds bytes to a count.
 fn add(bytes: u64, more: usize) -> u64
-    ensures { result ≡ counted (bytes + more) }
+    ensures { result ≡ saturated (bytes + more) }
 {
     bytes.saturating_add(more as u64)
 }

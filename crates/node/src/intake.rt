@@ -1,7 +1,7 @@
 // What a node takes from its clients, and when it takes nothing more.
 
 ghost use Rattle.std.specs.Prelude.{◌≡◌, ◌+◌, ◌≤◌, None, false, true};
-ghost use Rattle.node.specs.Crowding.{admits, is_agreed, open_places, shown, took};
+ghost use Rattle.node.specs.Crowding.{admits, is_agreed, open_places, status_shown, took};
 
 use node_base::PIECE_BYTES;
 use std::marker::Model;
@@ -105,7 +105,7 @@ impl Intake {
 
     /// Takes the node's new status. Bytes that every member now holds are no longer counted.
     pub fn show(&mut self, status: Status)
-        ensures { self.new ≡ shown status self.old }
+        ensures { self.new ≡ status_shown status self.old }
     {
         if is_agreed(self.earlier_end, &status) {
             self.earlier_end = status.held;

@@ -34,7 +34,7 @@ pub struct NodeState<J: NodeNaming> {
 
 impl<J: NodeNaming> Model for NodeState<J> {
     ghost use Rattle.std.specs.Prelude.{◌≡◌};
-    ghost use Rattle.node.specs.Growth.{bytes_since_cut, counted};
+    ghost use Rattle.node.specs.Growth.{bytes_since_cut, saturated};
     ghost use Rattle.node.specs.State.{Replays, Seen};
 
     ghost Value = { Seen };
@@ -246,7 +246,7 @@ impl<J: NodeNaming> NodeState<J> {
 
         // What was taken and what is left over are, lane by lane and in order, all that was sent.
         ensures whole { All (ReportsWhole self.taker.taken result) lanes.new }
-        ensures counted { CountsTaken self.taker result.taken.items }
+        ensures saturated { CountsTaken self.taker result.taken.items }
         ensures lanes { map unmet lanes.new ≡ map unmet lanes.old }
 
         // The node that ends is a replay of all that was taken.

@@ -2,7 +2,7 @@
 use Rattle.std.proofs.Common.{◌≡◌, ℕ, ◌+◌, Option, List, [], ◌++◌, length, refl, sym, ◌∙◌, ap, subst, inl, inr, arith, length-append}
 use Rattle.std.proofs.lemmas.List.{append-nil}
 use Rattle.node.specs.declared.Handed.{Handed}
-use Rattle.node.specs.Growth.{counted}
+use Rattle.node.specs.Growth.{saturated}
 use Rattle.connection.specs.declared.flow.Flow.{Flow}
 use Rattle.connection.specs.declared.flow.Flow.TheVariants as flows
 use Rattle.connection.specs.Life.{Lives}
@@ -14,7 +14,7 @@ use Rattle.streams.specs.declared.port_tap.PortTap.{PortTap}
 
 -- a tap counts these bytes, and its port is that of another
 abbrev Counts : PortTap → List ℕ → PortTap → Type 0
-Counts first handed tap = (tap.handed ≡ counted (length handed)) × (tap.port ≡ first.port)
+Counts first handed tap = (tap.handed ≡ saturated (length handed)) × (tap.port ≡ first.port)
 
 -- one more call
 counts_call : (first before after : PortTap) (handed bytes : List ℕ) (answer : Handed)

@@ -4,7 +4,7 @@ use Rattle.std.specs.Prelude.{ℕ, ◌+◌, ◌-◌, ◌^◌, ◌⊎◌, min, Re
 use Rattle.node.specs.declared.Handed.{Handed}
 use Rattle.node.specs.declared.Port.{Port}
 use Rattle.node.specs.world_base.Core.{CountedCore}
-use Rattle.node.specs.Growth.{counted}
+use Rattle.node.specs.Growth.{saturated}
 use Rattle.node.specs.world_base.Handing.{handed_after, pending_bytes, listed_at}
 use Rattle.node.specs.State.{Replays, Seen}
 use Rattle.connection.specs.Writing.{HandsOver}
@@ -25,7 +25,7 @@ pub handed_by_tap :
 handed_by_tap first_of before after seen answer old new was is count began replays bytes answers first last counts sum =
     let more = pending_bytes (listed_at before.port seen.node.core) in
     let size : length new ≡ length old + length more = ap length bytes ∙ length-append old more in
-    let all : count ≡ counted (before.handed + length more) = omega (arith, size, first, last, sum) in
+    let all : count ≡ saturated (before.handed + length more) = omega (arith, size, first, last, sum) in
     record {
       bytes = more;
       handed = record {

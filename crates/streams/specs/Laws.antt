@@ -1,7 +1,7 @@
 -- What readers may want to know of taps and of ports.
 use Rattle.std.specs.Prelude.{◌≡◌, ℕ, ◌<◌, ◌==◌, List, length, Option}
 use Rattle.connection.specs.Life.{Lives}
-use Rattle.node.specs.Growth.{counted}
+use Rattle.node.specs.Growth.{saturated}
 use Rattle.streams.specs.Ports.{is_of_lane, port_of}
 use Rattle.streams.specs.Tapping.{HandsNone, HandsOut}
 use Rattle.streams.specs.declared.port_tap.PortTap.{PortTap}
@@ -13,7 +13,7 @@ TapsCountAll =
     (first : PortTap) (start : Option (List ℕ)) (tap : PortTap)
     (handed : List ℕ) (contents : Option (List ℕ)) (left : List ℕ)
     → HandsNone first → Lives HandsOut first start tap handed contents left
-    → (tap.handed ≡ counted (length handed)) × (tap.port ≡ first.port)
+    → (tap.handed ≡ saturated (length handed)) × (tap.port ≡ first.port)
 
 -- Ports tell their lanes: those of lanes below 64 are of one lane exactly if the lanes are equal.
 abbrev pub PortsTellLanes : Type 0

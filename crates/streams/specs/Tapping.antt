@@ -4,7 +4,7 @@ use Rattle.node.specs.declared.Config.{Config}
 use Rattle.node.specs.declared.Handed.{Handed}
 use Rattle.node.specs.declared.Port.{Port}
 use Rattle.node.specs.world_base.Core.{CountedCore, opening_core}
-use Rattle.node.specs.Growth.{counted}
+use Rattle.node.specs.Growth.{saturated}
 use Rattle.node.specs.world_base.Handing.{handed_after, pending_bytes, listed_at}
 use Rattle.node.specs.State.{Replays, Seen}
 use Rattle.streams.specs.declared.port_tap.PortTap.{PortTap}
@@ -36,4 +36,4 @@ pub record HandsOut (before : PortTap) (bytes : List ℕ) (answer : Handed) (aft
   pub first_of : ℕ → CountedCore
   pub began : NodesBegan first_of
   pub hands : IsHandedOver first_of before.port bytes answer
-  pub counts : after ≡ record before { handed = counted (before.handed + length bytes) }
+  pub counts : after ≡ record before { handed = saturated (before.handed + length bytes) }
