@@ -6,7 +6,7 @@ use Rattle.std.proofs.lemmas.Grind.{get_or_default_zero}
 use Rattle.atomic_table.specs.Seated.{TableId}
 use Rattle.crossbeam_queue.specs.Passes.{Pass, view, IsSamePass}
 use Rattle.mailbox.specs.declared.view.View.{View}
-use Rattle.mailbox.specs.Delivery.{items_of, taker_view}
+use Rattle.mailbox.specs.Delivery.{items_of_lane, taker_view}
 use Rattle.mailbox.specs.Inside.{Took, heard}
 use Rattle.mailbox.specs.Kept.{ReceiverKept}
 use Rattle.mailbox.proofs.ItemsOfALane.{items_of-append, items_of-same, items_of-other}
@@ -15,12 +15,12 @@ use Rattle.mailbox.proofs.StepsKeepTheRule.{same_or_other}
 module _ {T : Type 0} where
   -- the count of the item's lane rises by one, and every other stays
   counts_follow : (counts : List ℕ) (taken : List (ℕ × T)) (x : ℕ × T) (lane : ℕ)
-      → ((k : ℕ) → k < length counts → slice_index counts k ≡ length (items_of k taken))
+      → ((k : ℕ) → k < length counts → slice_index counts k ≡ length (items_of_lane k taken))
       → lane < length counts
       → slice_index (slice_set counts x.0 (slice_index counts x.0 + 1)) lane
-      ≡ length (items_of lane (taken ++ x ∷ []))
+      ≡ length (items_of_lane lane (taken ++ x ∷ []))
   counts_follow counts taken x lane counted within =
-      let split = ap length (items_of-append lane taken (x ∷ [])) ∙ length-append (items_of lane taken) (items_of lane (x ∷ [])) in
+      let split = ap length (items_of-append lane taken (x ∷ [])) ∙ length-append (items_of_lane lane taken) (items_of_lane lane (x ∷ [])) in
       ⊎_elim
       (λ (same : x.0 ≡ lane).
       let one = ap length (items_of-same lane x [] same) in
@@ -28,7 +28,7 @@ module _ {T : Type 0} where
       let new = get_or-set_same counts x.0 (slice_index counts x.0 + 1) 0 place in
       let new' : slice_index (slice_set counts x.0 (slice_index counts x.0 + 1)) lane ≡ slice_index counts x.0 + 1 =
       subst (λ k. slice_index (slice_set counts x.0 (slice_index counts x.0 + 1)) k ≡ slice_index counts x.0 + 1) same new in
-      let was : slice_index counts x.0 ≡ length (items_of lane taken) =
+      let was : slice_index counts x.0 ≡ length (items_of_lane lane taken) =
       ap (slice_index counts) same ∙ counted lane within in
       omega (arith, split, one, new', was))
       (λ (other : x.0 ≢ lane).
@@ -52,7 +52,7 @@ module _ {T : Type 0} where
         named = kept.named;
         has_room = kept.has_room;
         role = is ∙ ap (λ v. heard v w) kept.role ∙ (λ i. taker_view (length counts) (sym taken i) (sym bounds i));
-        counted = λ lane within. kept.counted lane within ∙ ap (λ l. length (items_of lane l)) (sym taken);
+        counted = λ lane within. kept.counted lane within ∙ ap (λ l. length (items_of_lane lane l)) (sym taken);
       }
 
   pub kept_on : (queue : TableId) (room : ℕ) (old new : Pass (ℕ × T) (View T)) (name : TableId) (counts : List ℕ) (x : ℕ × T) (at count : ℕ)

@@ -7,7 +7,7 @@ use lib.ListN.{get_elem?}
 use Rattle.crossbeam_queue.specs.Fifo.{Forks, Merges, Learns}
 use Rattle.crossbeam_queue.proofs.Lists.{at_set}
 use Rattle.mailbox.specs.declared.view.View.{View}
-use Rattle.mailbox.specs.Delivery.{items_of, FitsLane, FitsReceiver, FitsBounds, FitsRule, Knew}
+use Rattle.mailbox.specs.Delivery.{items_of_lane, FitsLane, FitsReceiver, FitsBounds, FitsRule, Knew}
 use Rattle.mailbox.specs.Inside.{nobody, joined, Learned, receiver_part, lane_part}
 use Rattle.mailbox.proofs.ItemsOfALane.{items_of-append}
 use Rattle.mailbox.proofs.EachView.{Each, each_set, each_snoc}
@@ -26,7 +26,7 @@ module _ {T : Type 0} where
       let vs : List (View T) = slice_set views port (receiver_part v) in
       let pass_of = repassed v.lane (length vs) h.pass_of in
       let F : ℕ → View T → Type 0 = λ j u. FitsLane pass_of h.sent h.taken h.made j u × FitsReceiver h.reader h.taken h.made j u × FitsBounds h.sent h.taken h.most u in
-      let size : length (items_of v.lane v.taken) ≡ length (items_of v.lane h.taken) = ap (λ l. length (items_of v.lane l)) known.1 in
+      let size : length (items_of_lane v.lane v.taken) ≡ length (items_of_lane v.lane h.taken) = ap (λ l. length (items_of_lane v.lane l)) known.1 in
       record {
         reader = h.reader;
         made = h.made;
@@ -113,15 +113,15 @@ module _ {T : Type 0} where
   learns port v sends gets items views h at =
       let lane = (h.fits port v at).0 sends in
       let known = (h.fits port v at).1 gets in
-      let same : items_of v.lane v.taken ≡ items_of v.lane h.taken = ap (items_of v.lane) known.1 in
+      let same : items_of_lane v.lane v.taken ≡ items_of_lane v.lane h.taken = ap (items_of_lane v.lane) known.1 in
       let size = ap length same in
       record {
-        rest = items_of v.lane items;
+        rest = items_of_lane v.lane items;
         prefix =
             lane.1
             ∙ sym (h.whole v.lane)
             ∙ items_of-append v.lane h.taken items
-            ∙ ap (λ l. l ++ items_of v.lane items) (sym same);
+            ∙ ap (λ l. l ++ items_of_lane v.lane items) (sym same);
         more = omega (arith, size, lane.2);
         made = omega (arith, known.2, lane.3);
       }

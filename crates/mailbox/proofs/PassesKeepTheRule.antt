@@ -5,7 +5,7 @@ use mathlib.Core.Option.{some, some-ne-none}
 use lib.ListN.{get_elem?}
 use Rattle.crossbeam_queue.specs.Fifo.{Forks}
 use Rattle.mailbox.specs.declared.view.View.{View}
-use Rattle.mailbox.specs.Delivery.{nothing, receiver_view, FitsLane, FitsReceiver, FitsBounds, FitsRule}
+use Rattle.mailbox.specs.Delivery.{no_bounds, receiver_view, FitsLane, FitsReceiver, FitsBounds, FitsRule}
 use Rattle.mailbox.specs.Inside.{dealing, dealt, nobody, sealed}
 use Rattle.mailbox.proofs.EachView.{each_set, each_snoc}
 use Rattle.mailbox.proofs.Rights.{rights_set, rights_snoc, rights_split}
@@ -13,7 +13,7 @@ use Rattle.mailbox.proofs.PassNumbers.{repassed, repassed-same, repassed-other, 
 
 module _ {T : Type 0} where
   -- an inbox that was not used yet
-  pub begins : FitsRule {T = T} [] (receiver_view 0 [] (2 ^ 64) (2 ^ 64) nothing ∷ [])
+  pub begins : FitsRule {T = T} [] (receiver_view 0 [] (2 ^ 64) (2 ^ 64) no_bounds ∷ [])
   begins = record {
     reader = 0;
     made = 0;
@@ -30,7 +30,7 @@ module _ {T : Type 0} where
         each_snoc
         (λ j u. FitsLane {T = T} (λ _. 0) (λ _. []) [] 0 j u × FitsReceiver {T = T} 0 [] 0 j u × FitsBounds {T = T} (λ _. []) [] (2 ^ 64) u)
         []
-        (receiver_view 0 [] (2 ^ 64) (2 ^ 64) nothing)
+        (receiver_view 0 [] (2 ^ 64) (2 ^ 64) no_bounds)
         (λ j u e. absurd (some-ne-none u (sym e)))
         ((λ p. absurd (not_false p)), (λ _. (refl, refl, refl)), (omega arith, omega arith, omega arith, omega arith));
   }

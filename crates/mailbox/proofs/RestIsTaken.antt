@@ -6,7 +6,7 @@ use Rattle.std.proofs.lemmas.List.Elements.{All-append}
 use Rattle.std.proofs.Math.ListN.{get_or-map}
 use Rattle.std.proofs.Math.Seq.{take-append_seam}
 use Rattle.std.specs.List.{All}
-use Rattle.mailbox.specs.Delivery.{items_of}
+use Rattle.mailbox.specs.Delivery.{items_of_lane}
 use Rattle.mailbox.specs.Ends.{Sender, Taker, fresh_lanes, as_made, AreAllLanes, ArrivesWhole, unmet}
 use Rattle.mailbox.specs.Kept.{IsDrained}
 use Rattle.mailbox.proofs.ItemsOfALane.{items_of-append}
@@ -68,7 +68,7 @@ module _ {T : Type 0} where
   -- a lane of which as many items were taken as it sent
   pub met_all : (taken taken' : List (ℕ × T)) (old new : Sender T) (met count : ℕ)
       → new ≡ record old { met = met }
-      → items_of old.lane taken ≡ take met old.sent
+      → items_of_lane old.lane taken ≡ take met old.sent
       → count ≡ length new.sent
       → met ≡ count
       → taken' ≡ taken
@@ -77,27 +77,27 @@ module _ {T : Type 0} where
       let sent : new.sent ≡ old.sent = ap (λ (s : Sender T). s.sent) is in
       let size = ap length sent in
       let all : take met old.sent ≡ old.sent = take_all met old.sent (omega arith) in
-      (λ i. items_of (is i).lane (same i)) ∙ first ∙ all ∙ sym sent
+      (λ i. items_of_lane (is i).lane (same i)) ∙ first ∙ all ∙ sym sent
 
   -- a lane all of whose items were taken, some before and the others now
   arrives : (counts : List ℕ) (before now left : List (ℕ × T)) (s : Sender T)
       → now ≡ before ++ left
-      → slice_index counts s.lane ≡ length (items_of s.lane before)
+      → slice_index counts s.lane ≡ length (items_of_lane s.lane before)
       → IsDrained now s
       → ArrivesWhole counts left s
   arrives counts before now left s is counted all =
-      let a : List T = items_of s.lane before in
-      let b : List T = items_of s.lane left in
-      let sent : s.sent ≡ a ++ b = sym all ∙ ap (items_of s.lane) is ∙ items_of-append s.lane before left in
+      let a : List T = items_of_lane s.lane before in
+      let b : List T = items_of_lane s.lane left in
+      let sent : s.sent ≡ a ++ b = sym all ∙ ap (items_of_lane s.lane) is ∙ items_of-append s.lane before left in
       (λ i. take (counted i) (sent i) ++ b) ∙ ap (λ l. l ++ b) (take-append_seam a b) ∙ sym sent
 
   pub all_arrives : (counts : List ℕ) (before now left : List (ℕ × T)) (r : Taker T) (lanes : List (Sender T))
       → now ≡ before ++ left
-      → ((k : ℕ) → k < r.lanes → slice_index counts k ≡ length (items_of k before))
+      → ((k : ℕ) → k < r.lanes → slice_index counts k ≡ length (items_of_lane k before))
       → AreAllLanes r lanes
       → All (IsDrained now) lanes
       → All (ArrivesWhole counts left) lanes
   all_arrives counts before now left r lanes is counted are all k d within =
       arrives counts before now left (slice_index_or lanes k d) is
-      (of_all_lanes (λ s. slice_index counts s.lane ≡ length (items_of s.lane before)) r lanes are counted k d within)
+      (of_all_lanes (λ s. slice_index counts s.lane ≡ length (items_of_lane s.lane before)) r lanes are counted k d within)
       (all k d within)

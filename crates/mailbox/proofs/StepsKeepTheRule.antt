@@ -4,7 +4,7 @@ use Rattle.std.proofs.Common.{sym, ◌∙◌, ap, subst, inl, inr, ⊎_elim, app
 use native.Mathlib.Decide.{ℕ_discrete}
 use Rattle.crossbeam_queue.specs.Fifo.{Pushes, Pops}
 use Rattle.mailbox.specs.declared.view.View.{View}
-use Rattle.mailbox.specs.Delivery.{items_of, FitsLane, FitsReceiver, FitsBounds, FitsRule}
+use Rattle.mailbox.specs.Delivery.{items_of_lane, FitsLane, FitsReceiver, FitsBounds, FitsRule}
 use Rattle.mailbox.specs.Inside.{Sent, Took}
 use Rattle.mailbox.proofs.ItemsOfALane.{items_of-append, items_of-same, items_of-other}
 use Rattle.mailbox.proofs.EachView.{each_set}
@@ -22,7 +22,7 @@ module _ {T : Type 0} where
   few_later : (sent : ℕ → List T) (x : ℕ × T) (lane : ℕ)
       → ((k : ℕ) → length (sent k) ≤ 2 ^ 55)
       → length (sent x.0) < 2 ^ 55
-      → length (sent lane ++ items_of lane (x ∷ [])) ≤ 2 ^ 55
+      → length (sent lane ++ items_of_lane lane (x ∷ [])) ≤ 2 ^ 55
   few_later sent x lane few short =
       ⊎_elim
       (λ (same : x.0 ≡ lane).
@@ -35,16 +35,16 @@ module _ {T : Type 0} where
   -- what a lane sent is the same after the push of another
   others_sent : (sent : ℕ → List T) (x : ℕ × T) (lane : ℕ)
       → x.0 ≢ lane
-      → sent lane ≡ sent lane ++ items_of lane (x ∷ [])
+      → sent lane ≡ sent lane ++ items_of_lane lane (x ∷ [])
   others_sent sent x lane other =
       rw (items_of-other lane x [] other) (sym (append-nil (sent lane)))
 
   -- bounds stay true when a lane sends more
   told_when_sent : (sent : ℕ → List T) (taken : List (ℕ × T)) (most : ℕ) (x : ℕ × T) (u : View T)
       → FitsBounds sent taken most u
-      → FitsBounds (λ k. sent k ++ items_of k (x ∷ [])) taken most u
+      → FitsBounds (λ k. sent k ++ items_of_lane k (x ∷ [])) taken most u
   told_when_sent sent taken most x u so = (
-    omega (arith, so.0, length-append (sent u.bounds.lane) (items_of u.bounds.lane (x ∷ []))),
+    omega (arith, so.0, length-append (sent u.bounds.lane) (items_of_lane u.bounds.lane (x ∷ []))),
     so.1,
     so.2,
     so.3,
@@ -66,7 +66,7 @@ module _ {T : Type 0} where
   sends n port v x lane mine short has items views room h at =
       let w : View T = record v { sent = v.sent ++ x.1 ∷ []; may = v.may - 1 } in
       let known = (h.fits port v at).0 lane in
-      let sent = λ (k : ℕ). h.sent k ++ items_of k (x ∷ []) in
+      let sent = λ (k : ℕ). h.sent k ++ items_of_lane k (x ∷ []) in
       let sent_here : h.sent v.lane ≡ h.sent x.0 = ap h.sent (sym mine) in
       let short' : length (h.sent x.0) < 2 ^ 55 = subst (λ (l : List T). length l < 2 ^ 55) (known.1 ∙ sent_here) short in
       let F : ℕ → View T → Type 0 = λ j u. FitsLane h.pass_of sent h.taken h.made j u × FitsReceiver h.reader h.taken h.made j u × FitsBounds sent h.taken h.most u in (
@@ -79,9 +79,9 @@ module _ {T : Type 0} where
           taken = h.taken;
           most = h.most;
           whole = λ k.
-              ap (items_of k) (sym (append_assoc h.taken items (x ∷ [])))
+              ap (items_of_lane k) (sym (append_assoc h.taken items (x ∷ [])))
               ∙ items_of-append k (h.taken ++ items) (x ∷ [])
-              ∙ ap (λ l. l ++ items_of k (x ∷ [])) (h.whole k);
+              ∙ ap (λ l. l ++ items_of_lane k (x ∷ [])) (h.whole k);
           few = λ k. few_later h.sent x k h.few short';
           unmade = λ k far.
               let other : x.0 ≢ k = λ e. omega (arith, e, mine, known.3) in
@@ -114,29 +114,29 @@ module _ {T : Type 0} where
   made_before : (items : List (ℕ × T)) (views : List (View T)) (x : ℕ × T) (h : FitsRule (x ∷ items) views)
       → x.0 < h.made
   made_before items views x h = lt_of_not-le (λ far.
-      let all : items_of x.0 h.taken ++ items_of x.0 (x ∷ items) ≡ [] =
+      let all : items_of_lane x.0 h.taken ++ items_of_lane x.0 (x ∷ items) ≡ [] =
       sym (items_of-append x.0 h.taken (x ∷ items)) ∙ h.whole x.0 ∙ h.unmade x.0 far in
       let size = ap length all in
       let one = ap length (items_of-same x.0 x items refl) in
-      omega (arith, length-append (items_of x.0 h.taken) (items_of x.0 (x ∷ items)), size, one))
+      omega (arith, length-append (items_of_lane x.0 h.taken) (items_of_lane x.0 (x ∷ items)), size, one))
 
   -- a lane of which something is held is not spent as far as it was taken
   short_before : (items : List (ℕ × T)) (views : List (View T)) (x : ℕ × T) (h : FitsRule (x ∷ items) views)
-      → length (items_of x.0 h.taken) < 2 ^ 55
+      → length (items_of_lane x.0 h.taken) < 2 ^ 55
   short_before items views x h =
-      let all : items_of x.0 h.taken ++ items_of x.0 (x ∷ items) ≡ h.sent x.0 =
+      let all : items_of_lane x.0 h.taken ++ items_of_lane x.0 (x ∷ items) ≡ h.sent x.0 =
       sym (items_of-append x.0 h.taken (x ∷ items)) ∙ h.whole x.0 in
       let size = ap length all in
       let one = ap length (items_of-same x.0 x items refl) in
-      omega (arith, length-append (items_of x.0 h.taken) (items_of x.0 (x ∷ items)), size, one, h.few x.0)
+      omega (arith, length-append (items_of_lane x.0 h.taken) (items_of_lane x.0 (x ∷ items)), size, one, h.few x.0)
 
   -- what was taken of a lane does not shrink
   taken_grows : (met lane : ℕ) (taken : List (ℕ × T)) (x : ℕ × T)
-      → met ≤ length (items_of lane taken)
-      → met ≤ length (items_of lane (taken ++ x ∷ []))
+      → met ≤ length (items_of_lane lane taken)
+      → met ≤ length (items_of_lane lane (taken ++ x ∷ []))
   taken_grows met lane taken x less =
       let size = ap length (items_of-append lane taken (x ∷ [])) in
-      omega (arith, length-append (items_of lane taken) (items_of lane (x ∷ [])), size)
+      omega (arith, length-append (items_of_lane lane taken) (items_of_lane lane (x ∷ [])), size)
 
   pub takes : (port : ℕ) (v : View T) → v.gets ≡ true → Pops FitsRule port v (Took v)
   takes port v gets x items views h at =
@@ -152,7 +152,7 @@ module _ {T : Type 0} where
           sent = h.sent;
           taken = taken;
           most = h.most;
-          whole = λ k. ap (items_of k) (append_assoc h.taken (x ∷ []) items) ∙ h.whole k;
+          whole = λ k. ap (items_of_lane k) (append_assoc h.taken (x ∷ []) items) ∙ h.whole k;
           few = h.few;
           unmade = h.unmade;
           within = omega (arith, h.within, length-append h.taken (x ∷ []), rights_set views port v w at);

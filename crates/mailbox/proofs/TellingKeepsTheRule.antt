@@ -10,7 +10,7 @@ use Rattle.crossbeam_queue.specs.Fifo.{Forks, Merges, Held}
 use Rattle.crossbeam_queue.proofs.Lists.{at_set}
 use Rattle.mailbox.specs.declared.view.Bounds.{Bounds}
 use Rattle.mailbox.specs.declared.view.View.{View}
-use Rattle.mailbox.specs.Delivery.{items_of, FitsLane, FitsReceiver, FitsBounds, FitsRule, Knew}
+use Rattle.mailbox.specs.Delivery.{items_of_lane, FitsLane, FitsReceiver, FitsBounds, FitsRule, Knew}
 use Rattle.mailbox.specs.declared.inbox.TheConstants.{MAX_ITEMS}
 use Rattle.mailbox.specs.Ends.{HasArrived, IsFullByReceipt, Receipted, Sender, Taker}
 use Rattle.mailbox.specs.Inside.{ended, heard, lane_knows, nobody, receiver_knows}
@@ -121,15 +121,15 @@ module _ {T : Type 0} where
       }
 
   -- if the inbox holds nothing, all is taken that the receiver knows to be sent
-  arrived : (v : View T) → v.gets ≡ true → Held 0 (Knew v) → v.bounds.sent ≤ length (items_of v.bounds.lane v.taken)
+  arrived : (v : View T) → v.gets ≡ true → Held 0 (Knew v) → v.bounds.sent ≤ length (items_of_lane v.bounds.lane v.taken)
   arrived v gets (items, size, moment) =
       let h = moment.holds in
       let known = (h.fits moment.port v moment.knows).1 gets in
       let bounds = (h.fits moment.port v moment.knows).2.0 in
       let all = ap length (h.whole v.bounds.lane) in
       let none : items ≡ [] = nil_from_length items size in
-      let here : length (items_of v.bounds.lane (h.taken ++ items)) ≡ length (items_of v.bounds.lane v.taken) =
-      ap (λ l. length (items_of v.bounds.lane (h.taken ++ l))) none ∙ ap (λ l. length (items_of v.bounds.lane l)) (append-nil h.taken ∙ sym known.1) in
+      let here : length (items_of_lane v.bounds.lane (h.taken ++ items)) ≡ length (items_of_lane v.bounds.lane v.taken) =
+      ap (λ l. length (items_of_lane v.bounds.lane (h.taken ++ l))) none ∙ ap (λ l. length (items_of_lane v.bounds.lane l)) (append-nil h.taken ∙ sym known.1) in
       omega (arith, bounds, all, here)
 
   -- the same, for the receiver and the receipt that it got
@@ -144,9 +144,9 @@ module _ {T : Type 0} where
   has_arrived (Some x) v w heard' receiver receipt is gets taken bounds empty = tt
   has_arrived None v w heard' receiver receipt is gets taken bounds empty =
       let here = arrived heard' (ap (λ (u : View T). u.gets) is ∙ gets) empty in
-      subst (λ (y : Bounds × List (ℕ × T)). y.0.sent ≤ length (items_of y.0.lane y.1))
+      subst (λ (y : Bounds × List (ℕ × T)). y.0.sent ≤ length (items_of_lane y.0.lane y.1))
       (λ i. (bounds i, taken i))
-      (subst (λ (u : View T). u.bounds.sent ≤ length (items_of u.bounds.lane u.taken)) is here)
+      (subst (λ (u : View T). u.bounds.sent ≤ length (items_of_lane u.bounds.lane u.taken)) is here)
 
   -- if the inbox is full, the lane knows that at least this many items will ever be sent
   pub full : (v : View T) (size : ℕ) → Held size (Knew v) → v.bounds.taken + size + v.may ≤ v.bounds.most

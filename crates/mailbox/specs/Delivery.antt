@@ -8,13 +8,14 @@ use Rattle.mailbox.specs.declared.view.Bounds.{Bounds}
 use Rattle.mailbox.specs.declared.view.View.{View}
 
 -- the items of one lane, in order
-abbrev pub items_of : {T : Type 0} → ℕ → List (ℕ × T) → List T
-items_of lane [] = []
-items_of lane (x ∷ xs) = if x.0 == lane then x.1 ∷ items_of lane xs else items_of lane xs
+abbrev pub items_of_lane : {T : Type 0} → ℕ → List (ℕ × T) → List T
+items_of_lane lane [] = []
+items_of_lane lane (x ∷ xs) = if x.0 == lane then x.1 ∷ items_of_lane lane xs
+    else items_of_lane lane xs
 
 -- what is known without a receipt: only that no inbox ever gets more than 2^64 items
-abbrev pub nothing : Bounds
-nothing = record { lane = 0; sent = 0; taken = 0; most = 2 ^ 64 }
+abbrev pub no_bounds : Bounds
+no_bounds = record { lane = 0; sent = 0; taken = 0; most = 2 ^ 64 }
 
 -- what a lane knows: its number, what it sent, how many of these it knows to be taken, how many
 -- more it may send, and what receipts say
@@ -64,7 +65,7 @@ module _ {T : Type 0} where
       v.sends ≡ true
       → (port ≡ pass_of v.lane)
       × (v.sent ≡ sent v.lane)
-      × (v.met ≤ length (items_of v.lane taken))
+      × (v.met ≤ length (items_of_lane v.lane taken))
       × (v.lane < made)
 
   -- what the receiver's pass knows is true, and no other pass is the receiver's
@@ -88,7 +89,7 @@ pub record FitsRule {T : Type 0} (items : List (ℕ × T)) (views : List (View T
   pub sent : ℕ → List T
   pub taken : List (ℕ × T)
   pub most : ℕ
-  pub whole : (lane : ℕ) → items_of lane (taken ++ items) ≡ sent lane
+  pub whole : (lane : ℕ) → items_of_lane lane (taken ++ items) ≡ sent lane
   pub few : (lane : ℕ) → length (sent lane) ≤ MAX_SENT
   pub unmade : (lane : ℕ) → made ≤ lane → sent lane ≡ []
   pub within : length taken + length items + rights views ≤ most

@@ -4,7 +4,7 @@ use Rattle.crossbeam_queue.specs.Fifo.{Held}
 use Rattle.mailbox.specs.declared.inbox.TheConstants.{MAX_ITEMS, MAX_LANES}
 use Rattle.mailbox.specs.declared.lane.TheConstants.{MAX_SENT}
 use Rattle.mailbox.specs.declared.view.Bounds.{Bounds}
-use Rattle.mailbox.specs.Delivery.{items_of, lane_view, taker_view, Knew}
+use Rattle.mailbox.specs.Delivery.{items_of_lane, lane_view, taker_view, Knew}
 
 -- how many items an inbox holds at most
 abbrev pub max_items : ℕ
@@ -65,7 +65,7 @@ module _ {T : Type 0} where
 
   -- every item that was sent, as far as the receipt says, is among these items that were taken
   abbrev pub HasArrived : Receipted → List (ℕ × T) → Type 0
-  HasArrived receipt taken = receipt.bounds.sent ≤ length (items_of receipt.bounds.lane taken)
+  HasArrived receipt taken = receipt.bounds.sent ≤ length (items_of_lane receipt.bounds.lane taken)
 
   -- a lane as it was made
   abbrev pub as_made : Sender T → Sender T
@@ -86,4 +86,4 @@ module _ {T : Type 0} where
   -- what was counted for a lane and what is left over from it are, in order, all that it sent
   abbrev pub ArrivesWhole : List ℕ → List (ℕ × T) → Sender T → Type 0
   ArrivesWhole counts left s =
-      take (slice_index counts s.lane) s.sent ++ items_of s.lane left ≡ s.sent
+      take (slice_index counts s.lane) s.sent ++ items_of_lane s.lane left ≡ s.sent

@@ -2,7 +2,7 @@
 use Rattle.std.specs.Prelude.{◌≡◌, ℕ, ◌+◌, ◌-◌, ◌^◌, ◌<◌, ◌≤◌, false, List, [], ◌∷◌, ◌++◌, length}
 use Rattle.mailbox.specs.declared.lane.TheConstants.{MAX_SENT}
 use Rattle.mailbox.specs.declared.view.View.{View}
-use Rattle.mailbox.specs.Delivery.{items_of, lane_view, nothing, receiver_view}
+use Rattle.mailbox.specs.Delivery.{items_of_lane, lane_view, no_bounds, receiver_view}
 
 module _ {T : Type 0} where
   -- a pass that knows nothing
@@ -17,7 +17,7 @@ module _ {T : Type 0} where
     taken = [];
     may = 0;
     all = 2 ^ 64;
-    bounds = nothing;
+    bounds = no_bounds;
   }
 
   -- a push: the lane sent one item more
@@ -29,7 +29,7 @@ module _ {T : Type 0} where
   Took v x w =
       (w ≡ record v { taken = v.taken ++ x ∷ [] })
       × (x.0 < v.lanes)
-      × (length (items_of x.0 v.taken) < MAX_SENT)
+      × (length (items_of_lane x.0 v.taken) < MAX_SENT)
 
   -- the receiver makes a lane
   abbrev pub dealing : View T → View T
@@ -37,7 +37,7 @@ module _ {T : Type 0} where
 
   -- the lane that it makes
   abbrev pub dealt : View T → View T
-  dealt v = lane_view v.lanes [] 0 MAX_SENT nothing
+  dealt v = lane_view v.lanes [] 0 MAX_SENT no_bounds
 
   -- the receiver makes no more lanes
   abbrev pub sealed : View T → View T
@@ -45,12 +45,12 @@ module _ {T : Type 0} where
 
   -- a lane says what it has sent
   abbrev pub lane_knows : View T → View T
-  lane_knows v = record nobody { bounds = record nothing { lane = v.lane; sent = length v.sent } }
+  lane_knows v = record nobody { bounds = record no_bounds { lane = v.lane; sent = length v.sent } }
 
   -- the receiver says what it has taken, and how many items there will ever be
   abbrev pub receiver_knows : View T → View T
   receiver_knows v = record nobody {
-    bounds = record nothing { taken = length v.taken; most = v.all };
+    bounds = record no_bounds { taken = length v.taken; most = v.all };
   }
 
   -- a lane that sends no more says that, in addition to what receipts say
@@ -76,8 +76,8 @@ module _ {T : Type 0} where
   -- what was taken of the lane is a prefix of what it sent, and no less than it knew
   pub record Learned (v : View T) : Type 0 where
     pub rest : List T
-    pub prefix : v.sent ≡ items_of v.lane v.taken ++ rest
-    pub more : v.met ≤ length (items_of v.lane v.taken)
+    pub prefix : v.sent ≡ items_of_lane v.lane v.taken ++ rest
+    pub more : v.met ≤ length (items_of_lane v.lane v.taken)
     pub made : v.lane < v.lanes
 
   -- the receiver's part of a view that both share
@@ -86,4 +86,4 @@ module _ {T : Type 0} where
 
   -- the lane's part, which knows now how much of it was taken
   abbrev pub lane_part : View T → View T
-  lane_part v = lane_view v.lane v.sent (length (items_of v.lane v.taken)) v.may v.bounds
+  lane_part v = lane_view v.lane v.sent (length (items_of_lane v.lane v.taken)) v.may v.bounds

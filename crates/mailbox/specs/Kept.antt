@@ -5,7 +5,7 @@ use Rattle.crossbeam_queue.specs.Passes.{Pass, view}
 use Rattle.mailbox.specs.declared.inbox.TheConstants.{MAX_ITEMS}
 use Rattle.mailbox.specs.declared.lane.TheConstants.{MAX_SENT}
 use Rattle.mailbox.specs.declared.view.View.{View}
-use Rattle.mailbox.specs.Delivery.{items_of, lane_view, nothing, receiver_view, taker_view}
+use Rattle.mailbox.specs.Delivery.{items_of_lane, lane_view, no_bounds, receiver_view, taker_view}
 use Rattle.mailbox.specs.Ends.{Sender, Taker, max_lanes}
 use Rattle.mailbox.specs.Inside.{nobody}
 
@@ -36,7 +36,7 @@ pub record ReceiverKept {T : Type 0}
   pub counted :
       (lane : ℕ)
       → lane < length counts
-      → slice_index counts lane ≡ length (items_of lane (view pass).taken)
+      → slice_index counts lane ≡ length (items_of_lane lane (view pass).taken)
 
 -- what a receipt keeps: its pass, for the inbox that its number names, knows what it says
 pub record ReceiptKept {T : Type 0} (pass : Pass (ℕ × T) (View T)) (name : TableId) : Type 0 where
@@ -54,7 +54,7 @@ pub record DealerKept {T : Type 0}
   pub has_room : room ≡ MAX_ITEMS
   pub role :
       view pass
-      ≡ receiver_view (length counts) [] (2 ^ 64 - length counts * MAX_SENT) (2 ^ 64) nothing
+      ≡ receiver_view (length counts) [] (2 ^ 64 - length counts * MAX_SENT) (2 ^ 64) no_bounds
   pub few : length counts ≤ max_lanes
   pub counted : (lane : ℕ) → slice_index counts lane ≡ 0
 
@@ -66,7 +66,7 @@ pub record InboxKept {T : Type 0}
   pub at_rest : pass.me.1 ≡ []
   pub has_room : room ≡ MAX_ITEMS
   pub has_slots : queue.slots ≡ MAX_ITEMS
-  pub role : view pass ≡ receiver_view 0 [] (2 ^ 64) (2 ^ 64) nothing
+  pub role : view pass ≡ receiver_view 0 [] (2 ^ 64) (2 ^ 64) no_bounds
 
 -- what the receiver took more is what was appended to the list
 pub record TakesMore {T : Type 0} (old new : Taker T) (list longer : List (ℕ × T)) : Type 0 where
@@ -76,4 +76,4 @@ pub record TakesMore {T : Type 0} (old new : Taker T) (list longer : List (ℕ �
 
 -- all that a lane sent was taken
 abbrev pub IsDrained : {T : Type 0} → List (ℕ × T) → Sender T → Type 0
-IsDrained taken s = items_of s.lane taken ≡ s.sent
+IsDrained taken s = items_of_lane s.lane taken ≡ s.sent

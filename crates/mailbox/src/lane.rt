@@ -2,7 +2,7 @@
 
 ghost use Rattle.std.specs.Prelude.{◌≡◌, ◌⊎◌, ◌-◌, ◌++◌, ◌∷◌, [], length, OnOk, OnErr, IfErr};
 ghost use Rattle.mailbox.specs.Ends.{Sender, WasFull, IsFullByReceipt, IsSpent};
-ghost use Rattle.mailbox.specs.Delivery.{nothing};
+ghost use Rattle.mailbox.specs.Delivery.{no_bounds};
 
 use crate::moves::{Ends, Hears, Knowledge, LaneKnows, Queue, Sends};
 use crate::naming::Naming;
@@ -76,7 +76,7 @@ impl<T: Drop, J: Naming> Lane<T, J> {
     pub fn receipt(&mut self) -> Receipt<T, J>
         ensures says { result ≡ record {
           inbox = self.old.inbox;
-          bounds = record nothing { lane = self.old.lane; sent = length self.old.sent };
+          bounds = record no_bounds { lane = self.old.lane; sent = length self.old.sent };
         } }
         ensures same { self.new ≡ self.old }
     {

@@ -11,11 +11,11 @@ pub struct DeliveryRule;
 
 impl<T> Protocol<(u8, T), View<T>> for DeliveryRule {
     ghost use Rattle.std.specs.Prelude.{◌^◌, []};
-    ghost use Rattle.mailbox.specs.Delivery.{FitsRule, nothing, receiver_view};
+    ghost use Rattle.mailbox.specs.Delivery.{FitsRule, no_bounds, receiver_view};
 
     ghost holds = { FitsRule };
 
-    ghost first = { receiver_view 0 [] (2 ^ 64) (2 ^ 64) nothing };
+    ghost first = { receiver_view 0 [] (2 ^ 64) (2 ^ 64) no_bounds };
 }
 
 /// The queue of an inbox, under its rule.

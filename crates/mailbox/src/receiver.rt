@@ -1,7 +1,7 @@
 // The receiving end of an inbox.
 
 ghost use Rattle.std.specs.Prelude.{◌≡◌, ◌++◌, ◌∷◌, [], ◌<◌, ◌≤◌, length, take, ◌*◌, IfSome, IfNone, IfOk, OnOk, All, EachIndex, IsTrue, ◌↔◌, map, slice_index, vec_capacity};
-ghost use Rattle.mailbox.specs.Delivery.{items_of, nothing};
+ghost use Rattle.mailbox.specs.Delivery.{items_of_lane, no_bounds};
 ghost use Rattle.mailbox.specs.Ends.{Taker, Sender, WasEmpty, HasArrived, AreAllLanes, ArrivesWhole, unmet};
 ghost use Rattle.mailbox.specs.Kept.{TakesMore, IsDrained};
 ghost use Rattle.mailbox.specs.declared.lane.TheConstants.{MAX_SENT};
@@ -105,7 +105,7 @@ impl<T: Drop, J: Naming> Receiver<T, J> {
     pub fn receipt(&mut self) -> Receipt<T, J>
         ensures says { result ≡ record {
           inbox = self.old.inbox;
-          bounds = record nothing {
+          bounds = record no_bounds {
             taken = length self.old.taken;
             most = self.old.lanes * MAX_SENT;
           };
@@ -122,10 +122,10 @@ impl<T: Drop, J: Naming> Receiver<T, J> {
     /// Returns how many items of a lane of this inbox were taken. The lane then knows it too.
     pub fn meet(&mut self, lane: &mut Lane<T, J>) -> u64
         requires { lane.old.inbox ≡ self.old.inbox }
-        ensures exact { result ≡ length (items_of lane.old.lane self.old.taken) }
+        ensures exact { result ≡ length (items_of_lane lane.old.lane self.old.taken) }
 
         // The items that were taken are the first that the lane sent, and no fewer than it knew.
-        ensures first { items_of lane.old.lane self.old.taken ≡ take result lane.old.sent }
+        ensures first { items_of_lane lane.old.lane self.old.taken ≡ take result lane.old.sent }
         ensures known { lane.old.met ≤ result }
 
         // Nothing was sent or taken.
@@ -157,7 +157,7 @@ impl<T: Drop, J: Naming> Receiver<T, J> {
         // Those counted and those left over are, lane by lane and in order, all that was sent.
         ensures whole { All (ArrivesWhole counts.new left.new.items) lanes.new }
         ensures counted { EachIndex counts.new (λ k.
-            slice_index counts.new k ≡ length (items_of k self.old.taken)) }
+            slice_index counts.new k ≡ length (items_of_lane k self.old.taken)) }
 
         // All that was sent is taken.
         ensures arrived { All (IsDrained self.new.taken) lanes.new }

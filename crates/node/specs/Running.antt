@@ -1,6 +1,6 @@
 -- A node that runs under a lock, its turns, and its end.
 use Rattle.std.specs.Prelude.{◌≡◌, ℕ, ◌<◌, List, Option, Bool, length, slice_index, slice_index_or, All, EachIndex, IfSome}
-use Rattle.mailbox.specs.Delivery.{items_of}
+use Rattle.mailbox.specs.Delivery.{items_of_lane}
 use Rattle.mailbox.specs.Ends.{Sender}
 use Rattle.world_base.specs.Core.{CountedCore}
 use Rattle.world_base.specs.declared.item.Item.{Item}
@@ -56,5 +56,5 @@ pub record ReportsOn (first : CountedCore) (lanes : List (Sender Item)) (report 
   pub replays : Replays first taken node
   pub whole : All (ReportsAll taken report.left.items) lanes
   pub counted : EachIndex report.taken.items (λ lane.
-      slice_index report.taken.items lane ≡ length (items_of lane taken))
+      slice_index report.taken.items lane ≡ length (items_of_lane lane taken))
   pub base : report.base ≡ node.core.replica.state.log.base

@@ -1,7 +1,7 @@
 // A node with its inbox.
 
 ghost use Rattle.std.specs.Prelude.{◌≡◌, ◌≤◌, ◌++◌, ◌*◌, ◌↔◌, [], length, map, take, true, false, All, IfOk, IsTrue, OnErr, OnOk};
-ghost use Rattle.mailbox.specs.Delivery.{items_of, nothing};
+ghost use Rattle.mailbox.specs.Delivery.{items_of_lane, no_bounds};
 ghost use Rattle.mailbox.specs.Ends.{AreAllLanes, HasArrived, WasEmpty, unmet};
 ghost use Rattle.mailbox.specs.declared.lane.TheConstants.{MAX_SENT};
 ghost use Rattle.world_base.specs.ballot_base.Replica.{status_of};
@@ -91,7 +91,7 @@ impl<J: NodeNaming> NodeState<J> {
     pub fn receipt(&mut self) -> Receipt<Item, J>
         ensures says { result ≡ record {
           inbox = self.old.taker.inbox;
-          bounds = record nothing {
+          bounds = record no_bounds {
             taken = length self.old.taker.taken;
             most = self.old.taker.lanes * MAX_SENT;
           };
@@ -151,10 +151,11 @@ impl<J: NodeNaming> NodeState<J> {
     /// Returns how many items of a lane of this inbox were taken. The lane then knows it, too.
     pub fn meet(&mut self, lane: &mut Lane<Item, J>) -> u64
         requires { lane.old.inbox ≡ self.old.taker.inbox }
-        ensures exact { result ≡ length (items_of lane.old.lane self.old.taker.taken) }
+        ensures exact { result ≡ length (items_of_lane lane.old.lane self.old.taker.taken) }
 
         // They are the first that the lane sent, and no fewer than it knew.
-        ensures first { items_of lane.old.lane self.old.taker.taken ≡ take result lane.old.sent }
+        ensures first { items_of_lane lane.old.lane self.old.taker.taken
+            ≡ take result lane.old.sent }
         ensures known { lane.old.met ≤ result }
 
         // The node is a replay of all that was taken.

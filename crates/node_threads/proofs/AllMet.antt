@@ -1,16 +1,16 @@
 -- AllMet.antt: what a lane knows once all that it sent was taken.
 use Rattle.std.proofs.Common.{◌≡◌, ℕ, ◌≤◌, List, [], ◌∷◌, ◌++◌, length, take, ◌∙◌, ap, arith}
 use Rattle.std.proofs.lemmas.List.{take_all}
-use Rattle.mailbox.specs.Delivery.{items_of}
+use Rattle.mailbox.specs.Delivery.{items_of_lane}
 use Rattle.mailbox.specs.Ends.{Sender, all_met, unmet}
 use Rattle.node.specs.declared.Item.{Item}
 
 -- a lane of which no less was taken than it sent
 pub met_all : (taken : List (ℕ × Item)) (old lane new : Sender Item) (count : ℕ)
     → lane ≡ old
-    → length lane.sent ≤ length (items_of lane.lane taken)
-    → count ≡ length (items_of lane.lane taken)
-    → items_of lane.lane taken ≡ take count lane.sent
+    → length lane.sent ≤ length (items_of_lane lane.lane taken)
+    → count ≡ length (items_of_lane lane.lane taken)
+    → items_of_lane lane.lane taken ≡ take count lane.sent
     → new ≡ record lane { met = count }
     → new ≡ all_met old
 met_all taken old lane new count same arrived exact first is =

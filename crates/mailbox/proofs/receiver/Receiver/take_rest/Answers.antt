@@ -1,6 +1,6 @@
 use Rattle.std.proofs.Common.{◌≡◌, ◌<◌, ◌∙◌, ◌++◌, length, sym, ap, append_assoc, refl, arith}
 use Rattle.std.specs.Prelude.{slice_index}
-use Rattle.mailbox.specs.Delivery.{items_of}
+use Rattle.mailbox.specs.Delivery.{items_of_lane}
 use Rattle.mailbox.proofs.RestIsTaken.{of_all_lanes, still_all_lanes, all_arrives}
 use Rattle.mailbox.proofs.receiver.Receiver.take_rest.Goals as goal
 
@@ -24,6 +24,6 @@ returns-then-meets_all-clause-whole g c =
     let place : k < length c.self.inside.counts.items = omega (arith, lanes, within) in
     ap (λ l. slice_index l k) (c.copy_from_slice.ensures.after ∙ c.as_slice.ensures.value)
     ∙ c.self.invariant.counted k place
-    ∙ ap (λ l. length (items_of k l)) taken)
+    ∙ ap (λ l. length (items_of_lane k l)) taken)
     (still_all_lanes c.args.self.now _ c.args.lanes.now (c.meets_all.ensures.lanes ∙ c.loop.invariant.lanes) c.requires.lanes)
     (c.if-meets_all.ensures.all refl)

@@ -1,6 +1,6 @@
 use Rattle.std.proofs.Common.{rules, All, EachIndex, ℕ, length, slice_index, ◌≡◌, ◌∙◌, ap, subst, sym, arith}
 use Rattle.std.specs.Prelude.{slice_index_or}
-use Rattle.mailbox.specs.Delivery.{items_of}
+use Rattle.mailbox.specs.Delivery.{items_of_lane}
 use Rattle.mailbox.specs.Ends.{ArrivesWhole, Taker}
 use Rattle.mailbox.proofs.ItemsOfALane.{items_of-append}
 use Rattle.world_base.specs.declared.item.Item.{Item}
@@ -15,7 +15,7 @@ returns-clause-whole g c = λ place other within. record {
       c.self.view_is
       (let lane : ℕ = (slice_index_or c.take_rest.new.lanes place other).lane in
       sym (items_of-append lane _ c.take_rest.new.left.items)
-      ∙ sym (ap (λ (r : Taker Item). items_of lane r.taken) c.take_rest.ensures.taken)
+      ∙ sym (ap (λ (r : Taker Item). items_of_lane lane r.taken) c.take_rest.ensures.taken)
       ∙ c.take_rest.ensures.arrived place other within);
   counted = subst (λ counts. ArrivesWhole counts c.take_rest.new.left.items (slice_index_or c.take_rest.new.lanes place other))
       (sym (written_back c.args.report.taken.len c.take_rest.new.counts c.args.report.taken.items (omega (arith, c.as_mut_slice.ensures.len))))
@@ -25,8 +25,8 @@ returns-clause-whole g c = λ place other within. record {
 pub returns-clause-counted : goal.returns-clause-counted
 returns-clause-counted g c = record {
   each = search rules;
-  exact = subst (λ counts. EachIndex counts (λ lane. slice_index counts lane ≡ length (items_of lane c.args.self.taker.taken)))
+  exact = subst (λ counts. EachIndex counts (λ lane. slice_index counts lane ≡ length (items_of_lane lane c.args.self.taker.taken)))
       (sym (written_back c.args.report.taken.len c.take_rest.new.counts c.args.report.taken.items (omega (arith, c.as_mut_slice.ensures.len))))
-      (subst (λ (s : Seen). EachIndex c.take_rest.new.counts (λ lane. slice_index c.take_rest.new.counts lane ≡ length (items_of lane s.taker.taken)))
+      (subst (λ (s : Seen). EachIndex c.take_rest.new.counts (λ lane. slice_index c.take_rest.new.counts lane ≡ length (items_of_lane lane s.taker.taken)))
       c.self.view_is c.take_rest.ensures.counted);
 }
