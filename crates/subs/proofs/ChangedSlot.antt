@@ -7,7 +7,7 @@ use Rattle.slab.proofs.SlabLemmas.{Updates-with_value}
 use Rattle.packet_base.specs.declared.qos.QoS.{QoS}
 use Rattle.subs.specs.declared.node.Node.{Node}
 use Rattle.subs.specs.Changes.{same_side, SetsRow, SetsSide, SetsChild, WritesRow, Fills, Links, AddsNode, FreesNode, IsBare}
-use Rattle.subs.specs.Inside.{held_in, child_in, shape_of, HoldsNothing}
+use Rattle.subs.specs.Inside.{clients_at, child_in, shape_of, HoldsNothing}
 
 -- every number but one has what it had
 pub get_after : (old new : Slab Node) (n : ℕ) (slot : Option Node) → Updates old new n slot → (k : ℕ) → get new k ≡ cond (k == n) slot (get old k)
@@ -25,7 +25,7 @@ abbrev child_of : List ℕ → Option Node → Option ℕ
 child_of l o = option_and_then (λ node. child_in node l) o
 
 abbrev held_of : Bool → List ℕ → Option Node → Option QoS
-held_of r c o = option_and_then (λ node. held_in node r c) o
+held_of r c o = option_and_then (λ node. clients_at node r c) o
 
 pub same_shape : (old new : Slab Node) → new.slots ≡ old.slots → shape_of new ≡ shape_of old
 same_shape old new e = λ i. record {
@@ -110,21 +110,21 @@ module _ (old new : Slab Node) (n : ℕ) where
         by true e = (λ i. same i l) ∙ sym (ap (child_of l) (self old n k (Some was) there e))
         by false e = refl
 
-    rows_same : held_in is ≡ held_in was → (k : ℕ) (r : Bool) (c : List ℕ) → (shape_of new).held k r c ≡ (shape_of old).held k r c
+    rows_same : clients_at is ≡ clients_at was → (k : ℕ) (r : Bool) (c : List ℕ) → (shape_of new).held k r c ≡ (shape_of old).held k r c
     rows_same same k r c = ap (held_of r c) (get_after old new n (Some is) updates k) ∙ by (k == n) refl
       where
         by : (v : Bool) → (k == n) ≡ v → held_of r c (cond v (Some is) (get old k)) ≡ held_of r c (get old k)
         by true e = (λ i. same i r c) ∙ sym (ap (held_of r c) (self old n k (Some was) there e))
         by false e = refl
 
-    pub stayed : child_in is ≡ child_in was → held_in is ≡ held_in was → shape_of new ≡ shape_of old
+    pub stayed : child_in is ≡ child_in was → clients_at is ≡ clients_at was → shape_of new ≡ shape_of old
     stayed children rows = λ i. record {
       child = λ k l. children_same children k l i;
       held = λ k r c. rows_same rows k r c i;
       used = λ k. used_same k i;
     }
 
-    pub linked : (level : List ℕ) (below : Option ℕ) → SetsChild (child_in was) (child_in is) level below → held_in is ≡ held_in was → Links (shape_of old) (shape_of new) n level below
+    pub linked : (level : List ℕ) (below : Option ℕ) → SetsChild (child_in was) (child_in is) level below → clients_at is ≡ clients_at was → Links (shape_of old) (shape_of new) n level below
     linked level below sets rows = record {
       child = children;
       held = λ i k r c. rows_same rows k r c i;
@@ -138,7 +138,7 @@ module _ (old new : Slab Node) (n : ℕ) where
             by true e = sets l ∙ ap (cond (bytes_eq level l) below) (sym (ap (child_of l) (self old n k (Some was) there e)))
             by false e = refl
 
-    pub written : (rest : Bool) (client : List ℕ) (kept : Option QoS) → SetsRow (held_in was) (held_in is) rest client kept → child_in is ≡ child_in was → WritesRow (shape_of old) (shape_of new) n rest client kept
+    pub written : (rest : Bool) (client : List ℕ) (kept : Option QoS) → SetsRow (clients_at was) (clients_at is) rest client kept → child_in is ≡ child_in was → WritesRow (shape_of old) (shape_of new) n rest client kept
     written rest client kept sets children = record {
       child = λ i k l. children_same children k l i;
       used = λ i k. used_same k i;
@@ -152,7 +152,7 @@ module _ (old new : Slab Node) (n : ℕ) where
             by true e = sets r c ∙ ap (cond (same_side rest r && bytes_eq client c) kept) (sym (ap (held_of r c) (self old n k (Some was) there e)))
             by false e = refl
 
-    pub filled : (rest : Bool) (kept : List ℕ → Option QoS) → SetsSide (held_in was) (held_in is) rest kept → child_in is ≡ child_in was → Fills (shape_of old) (shape_of new) n rest kept
+    pub filled : (rest : Bool) (kept : List ℕ → Option QoS) → SetsSide (clients_at was) (clients_at is) rest kept → child_in is ≡ child_in was → Fills (shape_of old) (shape_of new) n rest kept
     filled rest kept sets children = record {
       child = λ i k l. children_same children k l i;
       used = λ i k. used_same k i;

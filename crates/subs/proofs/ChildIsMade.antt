@@ -5,7 +5,7 @@ use Rattle.std.proofs.lemmas.Bool.{true≢false, eq-eqb, eqb-true}
 use Rattle.std.proofs.lemmas.List.{append_assoc}
 use Rattle.topics.specs.Text.{Levels}
 use Rattle.topics.specs.Matching.{is_all}
-use Rattle.subs.specs.Shape.{Children, Shape, asked, rows}
+use Rattle.subs.specs.Shape.{Children, Shape, asked_below, rows}
 use Rattle.subs.specs.Ways.{led, slot, IsTree, IsReachedNode}
 use Rattle.subs.specs.Changes.{Links, AddsNode, FreesNode, IsBare}
 use Rattle.subs.proofs.Ways.{rows_below}
@@ -92,5 +92,5 @@ pub none_after : (s : Shape) (root : Option ℕ) (path : Levels) (at : ℕ) (l :
     → led s.child root path ≡ Some at → is_all l ls ≡ false → s.child at l ≡ None → rows s root (path ++ l ∷ ls) c ≡ None
 none_after s root path at l ls c way other none =
     rows_below s root path at l ls c way
-    ∙ ap (λ v. cond v (s.held at true c) (option_and_then (λ b. asked s b ls c) (s.child at l))) other
-    ∙ ap (option_and_then (λ b. asked s b ls c)) none
+    ∙ ap (λ v. cond v (s.held at true c) (option_and_then (λ b. asked_below s b ls c) (s.child at l))) other
+    ∙ ap (option_and_then (λ b. asked_below s b ls c)) none

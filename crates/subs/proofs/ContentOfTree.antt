@@ -10,7 +10,7 @@ use Rattle.packet_base.specs.declared.qos.QoS.{QoS}
 use Rattle.subs_base.specs.Content.{Content, with_row, without_row, without_client}
 use Rattle.subs_base.specs.ListIndex.{Filters, Clients, content_of, at}
 use Rattle.topics.specs.Text.{levels}
-use Rattle.subs.specs.Inside.{Asked, same_levels, with_asked, cleared}
+use Rattle.subs.specs.Inside.{Asked, same_levels, asked_with, cleared}
 use Rattle.subs.proofs.Ways.{same_levels_is, same_levels_self}
 
 text_of_levels : (text other : List ℕ) → levels text ≡ levels other → text ≡ other
@@ -42,7 +42,7 @@ at_texts asked client filter = asked (levels filter) client
 pub row_put :
     (old new : Asked) (text filter client : List ℕ) (kept : Option QoS)
     → text ≡ filter
-    → new ≡ with_asked old (levels text) client kept
+    → new ≡ asked_with old (levels text) client kept
     → at_texts new ≡ (λ c f. cond (bytes_eq client c && bytes_eq filter f) kept (old (levels f) c))
 row_put old new text filter client kept is after = λ i c f. go c f i
   where

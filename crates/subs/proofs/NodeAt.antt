@@ -7,11 +7,11 @@ use Rattle.packet_base.specs.declared.qos.QoS.{QoS}
 use Rattle.subs.specs.declared.node.Node.{Node}
 use Rattle.subs.specs.Shape.{Shape}
 use Rattle.subs.specs.Changes.{IsBare}
-use Rattle.subs.specs.Inside.{held_in, child_in, shape_of}
+use Rattle.subs.specs.Inside.{clients_at, child_in, shape_of}
 use Rattle.subs.specs.Walk.{greatest, found_at}
 
-pub held_is : (nodes : Slab Node) (n : ℕ) (node : Node) → get nodes n ≡ Some node → (r : Bool) → (shape_of nodes).held n r ≡ held_in node r
-held_is nodes n node h r = λ i c. option_and_then (λ x. held_in x r c) (h i)
+pub held_is : (nodes : Slab Node) (n : ℕ) (node : Node) → get nodes n ≡ Some node → (r : Bool) → (shape_of nodes).held n r ≡ clients_at node r
+held_is nodes n node h r = λ i c. option_and_then (λ x. clients_at x r c) (h i)
 
 pub child_is : (nodes : Slab Node) (n : ℕ) (node : Node) → get nodes n ≡ Some node → (l : List ℕ) → (shape_of nodes).child n l ≡ child_in node l
 child_is nodes n node h l = ap (λ o. option_and_then (λ x. child_in x l) o) h
@@ -20,7 +20,7 @@ child_is nodes n node h l = ap (λ o. option_and_then (λ x. child_in x l) o) h
 pub bare_none : (nodes : Slab Node) (n : ℕ) → get nodes n ≡ None → IsBare (shape_of nodes) n
 bare_none nodes n h = record {
   child = λ l. ap (λ o. option_and_then (λ x. child_in x l) o) h;
-  held = λ r c. ap (λ o. option_and_then (λ x. held_in x r c) o) h;
+  held = λ r c. ap (λ o. option_and_then (λ x. clients_at x r c) o) h;
 }
 
 -- nothing is found at an empty node

@@ -9,8 +9,8 @@ use Rattle.packet_base.specs.declared.qos.QoS.{QoS}
 use Rattle.subs.specs.declared.node.Node.{Node}
 use Rattle.subs.specs.declared.node_id.NodeId.{NodeId}
 use Rattle.subs.specs.Changes.{SetsRow, SetsChild}
-use Rattle.subs.specs.Rows.{listed, row_at, SetsAt}
-use Rattle.subs.specs.Inside.{held_in, child_in, HoldsNothing}
+use Rattle.subs.specs.Rows.{rows_as_list, qos_of_client, SetsAt}
+use Rattle.subs.specs.Inside.{clients_at, child_in, HoldsNothing}
 
 abbrev pub number_of : Option NodeId → Option ℕ
 number_of o = option_map (λ id. id.number) o
@@ -30,7 +30,7 @@ turned x y =
     ] refl
 
 -- a node of empty maps
-pub empty_node : (node : Node) → listed node.here ≡ [] → listed node.rest ≡ [] → node.named.entries ≡ [] → node.plus ≡ None → HoldsNothing node
+pub empty_node : (node : Node) → rows_as_list node.here ≡ [] → rows_as_list node.rest ≡ [] → node.named.entries ≡ [] → node.plus ≡ None → HoldsNothing node
 empty_node node here rest named plus = record { child = child; held = held }
   where
     child : (level : List ℕ) → child_in node level ≡ None
@@ -40,7 +40,7 @@ empty_node node here rest named plus = record { child = child; held = held }
         by true = ap number_of plus
         by false = ap (λ es. number_of (lookup (is_at (λ key. slice_cmp nat_cmp level key.items)) es)) named
 
-    held : (r : Bool) (client : List ℕ) → held_in node r client ≡ None
+    held : (r : Bool) (client : List ℕ) → clients_at node r client ≡ None
     held true client = ap (λ es. lookup (is_at (slice_cmp nat_cmp client)) es) rest
     held false client = ap (λ es. lookup (is_at (slice_cmp nat_cmp client)) es) here
 
@@ -89,22 +89,22 @@ sets_named old new level below not plus named l =
 pub sets_rest :
     (old new : Node) (client : List ℕ) (kept : Option QoS) → new.here ≡ old.here
     → SetsAt old.rest new.rest client kept
-    → SetsRow (held_in old) (held_in new) true client kept
+    → SetsRow (clients_at old) (clients_at new) true client kept
 sets_rest old new client kept here rest true c = rest c
-sets_rest old new client kept here rest false c = ap (λ m. row_at m c) here
+sets_rest old new client kept here rest false c = ap (λ m. qos_of_client m c) here
 
 pub sets_here :
     (old new : Node) (client : List ℕ) (kept : Option QoS) → new.rest ≡ old.rest
     → SetsAt old.here new.here client kept
-    → SetsRow (held_in old) (held_in new) false client kept
-sets_here old new client kept rest here true c = ap (λ m. row_at m c) rest
+    → SetsRow (clients_at old) (clients_at new) false client kept
+sets_here old new client kept rest here true c = ap (λ m. qos_of_client m c) rest
 sets_here old new client kept rest here false c = here c
 
 -- if the rows of both sides are the same, so are the node's
-pub same_rows : (old new : Node) → row_at new.here ≡ row_at old.here → row_at new.rest ≡ row_at old.rest → held_in new ≡ held_in old
+pub same_rows : (old new : Node) → qos_of_client new.here ≡ qos_of_client old.here → qos_of_client new.rest ≡ qos_of_client old.rest → clients_at new ≡ clients_at old
 same_rows old new here rest = λ i r c. go r c i
   where
-    go : (r : Bool) (c : List ℕ) → held_in new r c ≡ held_in old r c
+    go : (r : Bool) (c : List ℕ) → clients_at new r c ≡ clients_at old r c
     go true c = λ i. rest i c
     go false c = λ i. here i c
 

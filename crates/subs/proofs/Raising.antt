@@ -17,7 +17,7 @@ use Rattle.packet_base.specs.declared.qos.QoS.{QoS}
 use Rattle.packet_base.specs.QoS.{qos_number}
 use Rattle.subs_base.proofs.RowsAreGranted.{first}
 use Rattle.subs.specs.declared.rows.Rows.TheVariants as kept
-use Rattle.subs.specs.Rows.{row_at}
+use Rattle.subs.specs.Rows.{qos_of_client}
 use Rattle.subs.specs.Shape.{Shape}
 use Rattle.subs.specs.Walk.{greatest, Raises, GivesSome, found_at, found_below}
 
@@ -100,7 +100,7 @@ raised_first m n client qos es sorted updates c =
 pub raised_one :
     (m n : BTreeMap (List ℕ) QoS) (client : List ℕ) (qos : QoS)
     → Updates (slice_cmp nat_cmp) m n client (greatest (get (slice_cmp nat_cmp) m client) (Some qos))
-    → Raises m n (row_at (kept.One client qos))
+    → Raises m n (qos_of_client (kept.One client qos))
 raised_one m n client qos updates c =
     elim (is_eq (slice_cmp nat_cmp c client)) as (λ v. is_eq (slice_cmp nat_cmp c client) ≡ v → get (slice_cmp nat_cmp) n c ≡ greatest (get (slice_cmp nat_cmp) m c) (cond v (Some qos) None)) [
       | true ↦ λ e.
@@ -113,7 +113,7 @@ raised_one m n client qos updates c =
           ∙ sym (greatest_none (get (slice_cmp nat_cmp) m c))
     ] refl
 
-pub raised_none : (m : BTreeMap (List ℕ) QoS) → Raises m m (row_at kept.Empty)
+pub raised_none : (m : BTreeMap (List ℕ) QoS) → Raises m m (qos_of_client kept.Empty)
 raised_none m c = sym (greatest_none (get (slice_cmp nat_cmp) m c))
 
 -- what a call of two answers gives, the first of which went well

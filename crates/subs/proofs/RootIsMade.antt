@@ -5,7 +5,7 @@ use Rattle.std.proofs.lemmas.Bool.{true≢false, eq-eqb}
 use Rattle.topics.specs.Text.{Levels}
 use Rattle.topics.specs.Matching.{is_all}
 use Rattle.packet_base.specs.declared.qos.QoS.{QoS}
-use Rattle.subs.specs.Shape.{Shape, asked, rows}
+use Rattle.subs.specs.Shape.{Shape, asked_below, rows}
 use Rattle.subs.specs.Ways.{reach, IsTree}
 use Rattle.subs.specs.Changes.{AddsNode, IsBare}
 
@@ -33,9 +33,9 @@ module _ (old new : Shape) (n : ℕ) (opens : AddsNode old new n) (bare : IsBare
       either true = refl
       either false = refl
 
-      go : (f : Levels) (c : List ℕ) → asked new n f c ≡ None
+      go : (f : Levels) (c : List ℕ) → asked_below new n f c ≡ None
       go [] c = bare.held false c
       go (l ∷ ls) c =
-          ap (λ o. cond (is_all l ls) o (option_and_then (λ b. asked new b ls c) (new.child n l))) (bare.held true c)
-          ∙ ap (λ o. cond (is_all l ls) None (option_and_then (λ b. asked new b ls c) o)) (bare.child l)
+          ap (λ o. cond (is_all l ls) o (option_and_then (λ b. asked_below new b ls c) (new.child n l))) (bare.held true c)
+          ∙ ap (λ o. cond (is_all l ls) None (option_and_then (λ b. asked_below new b ls c) o)) (bare.child l)
           ∙ either (is_all l ls)

@@ -22,10 +22,10 @@ use Rattle.subs_base.specs.ListIndex.{Filters, Clients, at, content_of}
 use Rattle.subs_base.specs.Inside.{listed, AreOrdered}
 use Rattle.subs.specs.declared.group.Group.{Group}
 use Rattle.subs.specs.declared.group.Group.TheVariants.{One}
-use Rattle.subs.specs.Gathered.{Groups, row_in, rows_of_group, groups_of, gathered, all_put, filters_set, clients_set}
+use Rattle.subs.specs.Gathered.{Groups, last_row_of, rows_of_group, groups_as_lists, gathered, all_rows_put, filters_set, clients_set}
 use Rattle.subs.specs.declared.rows.Rows.{Rows}
 use Rattle.subs.specs.declared.rows.Rows.TheVariants as kept
-use Rattle.subs.specs.Rows.{row_at}
+use Rattle.subs.specs.Rows.{qos_of_client}
 use Rattle.subs.specs.Inside.{Asked, with_rows}
 use Rattle.subs.proofs.ContentOfTree.{at_texts, same_text}
 use Rattle.subs.proofs.NodeSets.{turned}
@@ -33,14 +33,14 @@ use Rattle.subs.proofs.RowsSet.{one_at}
 
 -- what a client has among rows, if there are any
 abbrev pub of_rows : List ℕ → Option (List (List ℕ × QoS)) → Option QoS
-of_rows c o = option_and_then (λ rows. row_in rows c) o
+of_rows c o = option_and_then (λ rows. last_row_of rows c) o
 
 -- ---- one more row
 
 abbrev in_group : List ℕ → Option Group → Option QoS
-in_group c o = option_and_then (λ group. row_in (rows_of_group group) c) o
+in_group c o = option_and_then (λ group. last_row_of (rows_of_group group) c) o
 
-gathered_held : (es : List (List ℕ × Group)) (c f : List ℕ) → gathered (groups_of es) c f ≡ in_group c (lookup (bytes_eq f) es)
+gathered_held : (es : List (List ℕ × Group)) (c f : List ℕ) → gathered (groups_as_lists es) c f ≡ in_group c (lookup (bytes_eq f) es)
 gathered_held es c f = ap (of_rows c) (lookup-map_values rows_of_group (bytes_eq f) es) ∙ opened (lookup (bytes_eq f) es)
   where
     opened : (o : Option Group) → of_rows c (option_map rows_of_group o) ≡ in_group c o
@@ -50,8 +50,8 @@ gathered_held es c f = ap (of_rows c) (lookup-map_values rows_of_group (bytes_eq
 pub row_added :
     (old new : List (List ℕ × Group)) (filter : List ℕ) (row : List ℕ × QoS) (rows : Group)
     → ((f : List ℕ) → lookup (bytes_eq f) new ≡ cond (bytes_eq filter f) (Some rows) (lookup (bytes_eq f) old))
-    → ((c : List ℕ) → row_in (rows_of_group rows) c ≡ cond (bytes_eq row.0 c) (Some row.1) (in_group c (lookup (bytes_eq filter) old)))
-    → gathered (groups_of new) ≡ with_row (gathered (groups_of old)) row.0 filter row.1
+    → ((c : List ℕ) → last_row_of (rows_of_group rows) c ≡ cond (bytes_eq row.0 c) (Some row.1) (in_group c (lookup (bytes_eq filter) old)))
+    → gathered (groups_as_lists new) ≡ with_row (gathered (groups_as_lists old)) row.0 filter row.1
 row_added old new filter row rows outer inner = λ i c f. go c f i
   where
     both : (b : Bool) (o : Option QoS) → cond b (Some row.1) o ≡ cond (b && true) (Some row.1) o
@@ -70,7 +70,7 @@ row_added old new filter row rows outer inner = λ i c f. go c f i
         ∙ both (bytes_eq row.0 c) (in_group c (lookup (bytes_eq f) old))
     by c f false e = neither (bytes_eq row.0 c) (in_group c (lookup (bytes_eq f) old))
 
-    go : (c f : List ℕ) → gathered (groups_of new) c f ≡ cond (bytes_eq row.0 c && bytes_eq filter f) (Some row.1) (gathered (groups_of old) c f)
+    go : (c f : List ℕ) → gathered (groups_as_lists new) c f ≡ cond (bytes_eq row.0 c && bytes_eq filter f) (Some row.1) (gathered (groups_as_lists old) c f)
     go c f =
         gathered_held new c f
         ∙ ap (in_group c) (outer f)
@@ -81,21 +81,21 @@ row_added old new filter row rows outer inner = λ i c f. go c f i
 pub row_pushed :
     (old : List (List ℕ × Group)) (filter : List ℕ) (row : List ℕ × QoS) (was is : Group)
     → Some was ≡ lookup (bytes_eq filter) old → rows_of_group is ≡ rows_of_group was ++ row ∷ []
-    → (c : List ℕ) → row_in (rows_of_group is) c ≡ cond (bytes_eq row.0 c) (Some row.1) (in_group c (lookup (bytes_eq filter) old))
+    → (c : List ℕ) → last_row_of (rows_of_group is) c ≡ cond (bytes_eq row.0 c) (Some row.1) (in_group c (lookup (bytes_eq filter) old))
 row_pushed old filter row was is there items c =
-    ap (λ rows. row_in rows c) items
-    ∙ sym (update_all_push bytes_eq (λ _. None) (row_in (rows_of_group was)) (rows_of_group was) row c refl)
+    ap (λ rows. last_row_of rows c) items
+    ∙ sym (update_all_push bytes_eq (λ _. None) (last_row_of (rows_of_group was)) (rows_of_group was) row c refl)
     ∙ ap (λ o. cond (bytes_eq row.0 c) (Some row.1) (in_group c o)) there
 
 -- it is the first of the filter
 pub row_first :
     (old : List (List ℕ × Group)) (filter : List ℕ) (row : List ℕ × QoS)
     → None ≡ lookup (bytes_eq filter) old
-    → (c : List ℕ) → row_in (rows_of_group (One row.0 row.1)) c ≡ cond (bytes_eq row.0 c) (Some row.1) (in_group c (lookup (bytes_eq filter) old))
+    → (c : List ℕ) → last_row_of (rows_of_group (One row.0 row.1)) c ≡ cond (bytes_eq row.0 c) (Some row.1) (in_group c (lookup (bytes_eq filter) old))
 row_first old filter row none c =
     ap (λ o. cond (bytes_eq row.0 c) (Some row.1) (in_group c o)) none
 
-keys_same : (es : List (List ℕ × Group)) → keys_of (groups_of es) ≡ keys_of es
+keys_same : (es : List (List ℕ × Group)) → keys_of (groups_as_lists es) ≡ keys_of es
 keys_same [] = refl
 keys_same (e ∷ es) = ap (λ ks. e.0 ∷ ks) (keys_same es)
 
@@ -182,43 +182,43 @@ same_tests = λ i x y. sym (texts_ties x y) i
 pub group_put :
     (old new : Asked) (text filter : List ℕ) (list : List (List ℕ × QoS)) (rows : Rows)
     → text ≡ filter
-    → row_at rows ≡ row_in list
-    → new ≡ with_rows old (levels text) (row_at rows)
-    → at_texts new ≡ (λ c f. cond (bytes_eq filter f) (row_in list c) (at_texts old c f))
+    → qos_of_client rows ≡ last_row_of list
+    → new ≡ with_rows old (levels text) (qos_of_client rows)
+    → at_texts new ≡ (λ c f. cond (bytes_eq filter f) (last_row_of list c) (at_texts old c f))
 group_put old new text filter list rows is made after = λ i c f. go c f i
   where
-    go : (c f : List ℕ) → new (levels f) c ≡ cond (bytes_eq filter f) (row_in list c) (old (levels f) c)
+    go : (c f : List ℕ) → new (levels f) c ≡ cond (bytes_eq filter f) (last_row_of list c) (old (levels f) c)
     go c f =
         ap (λ (a : Asked). a (levels f) c) after
-        ∙ ap (λ b. cond b (row_at rows c) (old (levels f) c)) (same_text text f ∙ ap (λ t. bytes_eq t f) is)
+        ∙ ap (λ b. cond b (qos_of_client rows c) (old (levels f) c)) (same_text text f ∙ ap (λ t. bytes_eq t f) is)
         ∙ ap (λ o. cond (bytes_eq filter f) o (old (levels f) c)) (λ i. made i c)
 
 -- a map made of rows holds them, and a single row is held as it is
 pub map_made :
     (list : List (List ℕ × QoS)) (clients : BTreeMap (List ℕ) QoS)
     → ((q : List ℕ) → get (slice_cmp nat_cmp) clients q ≡ update_all (eq_by_cmp (slice_cmp nat_cmp)) (λ _. None) list q)
-    → row_at (kept.Many clients) ≡ row_in list
+    → qos_of_client (kept.Many clients) ≡ last_row_of list
 map_made list clients made = λ i q. (made q ∙ ap (λ e. update_all e (λ _. None) list q) same_tests) i
 
-pub one_made : (client : List ℕ) (qos : QoS) → row_at (kept.One client qos) ≡ row_in ((client, qos) ∷ [])
+pub one_made : (client : List ℕ) (qos : QoS) → qos_of_client (kept.One client qos) ≡ last_row_of ((client, qos) ∷ [])
 one_made client qos = λ i q. one_at client qos q i
 
 put_in_turn : (gs : Groups) (g : List ℕ → Option (List (List ℕ × QoS))) (c f : List ℕ) →
-    all_put gs (λ d h. of_rows d (g h)) c f ≡ of_rows c (update_all bytes_eq g gs f)
+    all_rows_put gs (λ d h. of_rows d (g h)) c f ≡ of_rows c (update_all bytes_eq g gs f)
 put_in_turn [] g c f = refl
 put_in_turn (e ∷ gs) g c f =
-    ap (λ content. all_put gs content c f) (λ i d h. into (bytes_eq e.0 h) d h i)
+    ap (λ content. all_rows_put gs content c f) (λ i d h. into (bytes_eq e.0 h) d h i)
     ∙ put_in_turn gs (update bytes_eq g e.0 (Some e.1)) c f
   where
-    into : (b : Bool) (d h : List ℕ) → cond b (row_in e.1 d) (of_rows d (g h)) ≡ of_rows d (cond b (Some e.1) (g h))
+    into : (b : Bool) (d h : List ℕ) → cond b (last_row_of e.1 d) (of_rows d (g h)) ≡ of_rows d (cond b (Some e.1) (g h))
     into true d h = refl
     into false d h = refl
 
 -- once all are put in, the nodes hold what was gathered
-pub groups_put : (es : List (List ℕ × Group)) → IsDistinct bytes_eq (keys_of es) → all_put (groups_of es) no_subscriptions ≡ gathered (groups_of es)
+pub groups_put : (es : List (List ℕ × Group)) → IsDistinct bytes_eq (keys_of es) → all_rows_put (groups_as_lists es) no_subscriptions ≡ gathered (groups_as_lists es)
 groups_put es distinct = λ i c f. go c f i
   where
-    go : (c f : List ℕ) → all_put (groups_of es) no_subscriptions c f ≡ gathered (groups_of es) c f
+    go : (c f : List ℕ) → all_rows_put (groups_as_lists es) no_subscriptions c f ≡ gathered (groups_as_lists es) c f
     go c f =
-        put_in_turn (groups_of es) (λ _. None) c f
-        ∙ ap (of_rows c) (update_all_none nat_list_eq_equiv bytes_eq (λ x y. refl) (groups_of es) f (subst (IsDistinct bytes_eq) (sym (keys_same es)) distinct))
+        put_in_turn (groups_as_lists es) (λ _. None) c f
+        ∙ ap (of_rows c) (update_all_none nat_list_eq_equiv bytes_eq (λ x y. refl) (groups_as_lists es) f (subst (IsDistinct bytes_eq) (sym (keys_same es)) distinct))

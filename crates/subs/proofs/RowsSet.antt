@@ -7,26 +7,26 @@ use Rattle.std.specs.Ordering.{nat_cmp}
 use Rattle.std.proofs.lemmas.Map.Text.{is_eq-slice_cmp}
 use Rattle.packet_base.specs.declared.qos.QoS.{QoS}
 use Rattle.subs.specs.declared.rows.Rows.TheVariants.{Empty, One, Many}
-use Rattle.subs.specs.Rows.{row_at, SetsAt}
+use Rattle.subs.specs.Rows.{qos_of_client, SetsAt}
 use Rattle.subs.proofs.LevelsFound.{updates_client}
 use Rattle.subs.proofs.NodeSets.{turned}
 
 -- a single row
-pub one_at : (held : List ℕ) (kept : QoS) (c : List ℕ) → row_at (One held kept) c ≡ cond (bytes_eq held c) (Some kept) None
+pub one_at : (held : List ℕ) (kept : QoS) (c : List ℕ) → qos_of_client (One held kept) c ≡ cond (bytes_eq held c) (Some kept) None
 one_at held kept c = ap (λ b. cond b (Some kept) None) (is_eq-slice_cmp c held ∙ turned c held)
 
-pub none_at : (held client : List ℕ) (kept : QoS) → bytes_eq held client ≡ false → row_at (One held kept) client ≡ None
+pub none_at : (held client : List ℕ) (kept : QoS) → bytes_eq held client ≡ false → qos_of_client (One held kept) client ≡ None
 none_at held client kept apart = one_at held kept client ∙ ap (λ b. cond b (Some kept) None) apart
 
-pub some_at : (held client : List ℕ) (kept : QoS) → bytes_eq held client ≡ true → row_at (One held kept) client ≡ Some kept
+pub some_at : (held client : List ℕ) (kept : QoS) → bytes_eq held client ≡ true → qos_of_client (One held kept) client ≡ Some kept
 some_at held client kept same = one_at held kept client ∙ ap (λ b. cond b (Some kept) None) same
 
 -- the row of a client that has one is another
 pub one_set : (held client : List ℕ) (kept qos : QoS) → bytes_eq held client ≡ true → SetsAt (One held kept) (One held qos) client (Some qos)
 one_set held client kept qos same c =
     one_at held qos c
-    ∙ by (bytes_eq held c) (row_at (One held kept) c) (one_at held kept c)
-    ∙ ap (λ (x : List ℕ). cond (bytes_eq x c) (Some qos) (row_at (One held kept) c)) ((bytes_decides held client).0 same)
+    ∙ by (bytes_eq held c) (qos_of_client (One held kept) c) (one_at held kept c)
+    ∙ ap (λ (x : List ℕ). cond (bytes_eq x c) (Some qos) (qos_of_client (One held kept) c)) ((bytes_decides held client).0 same)
   where
     by : (v : Bool) (o : Option QoS) → o ≡ cond v (Some kept) None → cond v (Some qos) None ≡ cond v (Some qos) o
     by true o e = refl
@@ -34,8 +34,8 @@ one_set held client kept qos same c =
 
 pub one_cleared : (held client : List ℕ) (kept : QoS) → bytes_eq held client ≡ true → SetsAt (One held kept) Empty client None
 one_cleared held client kept same c =
-    by (bytes_eq held c) (row_at (One held kept) c) (one_at held kept c)
-    ∙ ap (λ (x : List ℕ). cond (bytes_eq x c) None (row_at (One held kept) c)) ((bytes_decides held client).0 same)
+    by (bytes_eq held c) (qos_of_client (One held kept) c) (one_at held kept c)
+    ∙ ap (λ (x : List ℕ). cond (bytes_eq x c) None (qos_of_client (One held kept) c)) ((bytes_decides held client).0 same)
   where
     by : (v : Bool) (o : Option QoS) → o ≡ cond v (Some kept) None → None ≡ cond v None o
     by true o e = refl
@@ -44,8 +44,8 @@ one_cleared held client kept same c =
 pub one_stays : (held client : List ℕ) (kept : QoS) → bytes_eq held client ≡ false → SetsAt (One held kept) (One held kept) client None
 one_stays held client kept apart c = by (bytes_eq client c) refl
   where
-    by : (v : Bool) → bytes_eq client c ≡ v → row_at (One held kept) c ≡ cond v None (row_at (One held kept) c)
-    by true e = subst (λ (x : List ℕ). row_at (One held kept) x ≡ None) ((bytes_decides client c).0 e) (none_at held client kept apart)
+    by : (v : Bool) → bytes_eq client c ≡ v → qos_of_client (One held kept) c ≡ cond v None (qos_of_client (One held kept) c)
+    by true e = subst (λ (x : List ℕ). qos_of_client (One held kept) x ≡ None) ((bytes_decides client c).0 e) (none_at held client kept apart)
     by false e = refl
 
 -- a map of one row and another

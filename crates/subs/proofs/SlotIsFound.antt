@@ -7,7 +7,7 @@ use Rattle.packet_base.specs.declared.qos.QoS.{QoS}
 use Rattle.subs.specs.Shape.{Children, Shape, rows}
 use Rattle.subs.specs.Ways.{reach, led, slot, IsTree}
 use Rattle.subs.specs.Changes.{WritesRow}
-use Rattle.subs.specs.Inside.{Asked, same_levels, with_asked}
+use Rattle.subs.specs.Inside.{Asked, same_levels, asked_with}
 use Rattle.subs.proofs.Ways.{row_at, rows_are, same_levels_is}
 use Rattle.subs.proofs.Written.{written}
 
@@ -22,7 +22,7 @@ pub row_missing : (s : Shape) (root : Option ℕ) (f : Levels) (c : List ℕ) �
 row_missing s root f c way = rows_are s root f c ∙ ap (λ o. row_at s.held o (slot f).1 c) way
 
 -- nothing goes if there was nothing
-pub nothing_goes : (a : Asked) (filter : Levels) (client : List ℕ) → a filter client ≡ None → a ≡ with_asked a filter client None
+pub nothing_goes : (a : Asked) (filter : Levels) (client : List ℕ) → a filter client ≡ None → a ≡ asked_with a filter client None
 nothing_goes a filter client none = λ i f c. go f c i
   where
     go : (f : Levels) (c : List ℕ) → a f c ≡ cond (same_levels filter f && bytes_eq client c) None (a f c)
@@ -40,7 +40,7 @@ nothing_goes a filter client none = λ i f c. go f c i
 pub written_at :
     (old new : Shape) (root : Option ℕ) (f : Levels) (at : ℕ) (rest : Bool) (client : List ℕ) (kept : Option QoS)
     → IsTree old.child old.used root → led old.child root (slot f).0 ≡ Some at → rest ≡ (slot f).1
-    → WritesRow old new at rest client kept → rows new root ≡ with_asked (rows old root) f client kept
+    → WritesRow old new at rest client kept → rows new root ≡ asked_with (rows old root) f client kept
 written_at old new root f at rest client kept tree way side writes =
     written old new root f at client kept tree way (subst (λ (r : Bool). WritesRow old new at r client kept) side writes)
 

@@ -24,7 +24,7 @@ use Rattle.packet_base.specs.QoS.{qos_number}
 use Rattle.subs_base.specs.Content.{Content}
 use Rattle.subs_base.specs.Granted.{Row, clients_of, IsGreatest, IsGranted, IsWanted}
 use Rattle.subs_base.proofs.RowsAreGranted.{later, first}
-use Rattle.subs.specs.Shape.{Shape, asked, shape_content}
+use Rattle.subs.specs.Shape.{Shape, asked_below, shape_content}
 use Rattle.subs.specs.Walk.{GivesSome, found_at, found_below, found_named, found_from, found_for}
 use Rattle.subs.proofs.WalkFinds.{AreClean, levels_clean, text_of, found_origin, named_origin, found_reaches, below_reached, matching}
 
@@ -89,12 +89,12 @@ dollar_level (x ∷ xs) level rest is h =
 module _ (s : Shape) where
   -- what is asked s for below a node
   abbrev below_content : ℕ → Content
-  below_content at client filter = asked s at (levels filter) client
+  below_content at client filter = asked_below s at (levels filter) client
 
   abbrev Asks : ℕ → List ℕ → List ℕ → QoS → Type 0
   Asks root topic client qos = (filter : List ℕ) × (below_content root client filter ≡ Some qos) × Matches filter topic
 
-  asks_plain : (root : ℕ) (topic client : List ℕ) (qos : QoS) (ls : Levels) → starts_with 36 topic ≡ false → asked s root ls client ≡ Some qos → matches_rest ls (levels topic) ≡ true → AreClean ls → Asks root topic client qos
+  asks_plain : (root : ℕ) (topic client : List ℕ) (qos : QoS) (ls : Levels) → starts_with 36 topic ≡ false → asked_below s root ls client ≡ Some qos → matches_rest ls (levels topic) ≡ true → AreClean ls → Asks root topic client qos
   asks_plain root topic client qos [] dollar found match clean = absurd (none (levels topic) (is_last_levels topic) match)
     where
       none : (ts : Levels) → is_last ts ≡ false → matches_rest [] ts ≡ true → ⊥
@@ -103,16 +103,16 @@ module _ (s : Shape) where
   asks_plain root topic client qos (l ∷ ls) dollar found match clean =
       let text = text_of l ls clean in (
         l ++ text.0,
-        ap (λ f. asked s root f client) text.1 ∙ found,
+        ap (λ f. asked_below s root f client) text.1 ∙ found,
         (tested (l ++ text.0) topic).0
             (rw (never_hidden (starts_with_wildcard (l ++ text.0)) (starts_with 36 topic) dollar) (ap (λ f. matches_rest f (levels topic)) text.1 ∙ match)),
       )
 
-  asks_dollar : (root : ℕ) (topic client : List ℕ) (qos : QoS) (l : List ℕ) (ls : Levels) → starts_with 36 l ≡ true → asked s root (l ∷ ls) client ≡ Some qos → matches_rest (l ∷ ls) (levels topic) ≡ true → AreClean (l ∷ ls) → Asks root topic client qos
+  asks_dollar : (root : ℕ) (topic client : List ℕ) (qos : QoS) (l : List ℕ) (ls : Levels) → starts_with 36 l ≡ true → asked_below s root (l ∷ ls) client ≡ Some qos → matches_rest (l ∷ ls) (levels topic) ≡ true → AreClean (l ∷ ls) → Asks root topic client qos
   asks_dollar root topic client qos l ls dollar found match clean =
       let text = text_of l ls clean in (
         l ++ text.0,
-        ap (λ f. asked s root f client) text.1 ∙ found,
+        ap (λ f. asked_below s root f client) text.1 ∙ found,
         (tested (l ++ text.0) topic).0
             (rw (is_36_then_no_wildcard (l ++ text.0) (plain_first 36 l text.0 dollar)) (ap (λ f. matches_rest f (levels topic)) text.1 ∙ match)),
       )
@@ -156,7 +156,7 @@ module _ (s : Shape) where
       plus_first : (l : List ℕ) (ls : Levels) → l ≡ codes "+" → first_byte (l ∷ ls) ≡ Some 43
       plus_first l ls e = ap (λ (x : List ℕ). first_byte (x ∷ ls)) e
 
-      named : (ls ts : Levels) → levels filter ≡ ls → starts_with_wildcard filter ≡ false → asked s root ls client ≡ Some qos → matches_rest ls ts ≡ true → is_last ts ≡ false
+      named : (ls ts : Levels) → levels filter ≡ ls → starts_with_wildcard filter ≡ false → asked_below s root ls client ≡ Some qos → matches_rest ls ts ≡ true → is_last ts ≡ false
           → (found : QoS) × (found_named s root ts client ≡ Some found) × (qos_number qos ≤ qos_number found)
       named ls [] is none h match last = absurd (true≢false last)
       named [] (t ∷ ts) is none h match last = absurd cc
@@ -166,7 +166,7 @@ module _ (s : Shape) where
             | true ↦ λ e. absurd (true≢false (sym (wild 35 (l ∷ ls) is (hash_first l ls ((bytes_decides l (codes "#")).0 (and_parts _ _ e).0))) ∙ no.0))
             | false ↦ λ e.
                 let parts = matching l ls t ts e match in
-                let kept : option_and_then (λ b. asked s b ls client) (s.child root l) ≡ Some qos = sym (ap (λ b. cond b (s.held root true client) (option_and_then (λ b. asked s b ls client) (s.child root l))) e) ∙ h in
+                let kept : option_and_then (λ b. asked_below s b ls client) (s.child root l) ≡ Some qos = sym (ap (λ b. cond b (s.held root true client) (option_and_then (λ b. asked_below s b ls client) (s.child root l))) e) ∙ h in
                 elim parts.0 as (λ _. (found : QoS) × (found_named s root (t ∷ ts) client ≡ Some found) × (qos_number qos ≤ qos_number found)) [
                   | inl plus ↦ absurd (true≢false (sym (wild 43 (l ∷ ls) is (plus_first l ls plus)) ∙ no.1))
                   | inr same ↦

@@ -12,7 +12,7 @@ use Rattle.topics.proofs.OnePass.{bare}
 use Rattle.topics.proofs.FrontGoesBy.{no_plus, no_hash}
 use Rattle.packet_base.specs.declared.qos.QoS.{QoS}
 use Rattle.packet_base.specs.QoS.{qos_number}
-use Rattle.subs.specs.Shape.{Shape, asked}
+use Rattle.subs.specs.Shape.{Shape, asked_below}
 use Rattle.subs.specs.Walk.{greatest, found_at, found_below}
 use Rattle.subs.proofs.Raising.{greatest_left, greatest_right, greatest_either}
 
@@ -66,7 +66,7 @@ module _ (s : Shape) where
   -- where a row comes from: a filter of clean levels that matches
   abbrev pub Origin : ℕ → Levels → List ℕ → QoS → Type 0
   Origin node topic client qos =
-      (filter : Levels) × (asked s node filter client ≡ Some qos) × (matches_rest filter topic ≡ true) × AreClean filter
+      (filter : Levels) × (asked_below s node filter client ≡ Some qos) × (matches_rest filter topic ≡ true) × AreClean filter
 
   from_rest : (node : ℕ) (topic : Levels) (client : List ℕ) (qos : QoS) → s.held node true client ≡ Some qos → Origin node topic client qos
   from_rest node [] client qos is = (codes "#" ∷ [], is, refl, clean_hash)
@@ -78,18 +78,18 @@ module _ (s : Shape) where
       → has_no_wildcard level ≡ true → All (λ byte. (byte == 47) ≡ false) level
       → ((below : ℕ) → found_at s below topic client ≡ Some qos → Origin below topic client qos)
       → found_below s node level topic client ≡ Some qos
-      → (filter : Levels) × (asked s node (level ∷ filter) client ≡ Some qos) × (matches_rest (level ∷ filter) (level ∷ topic) ≡ true) × AreClean (level ∷ filter)
+      → (filter : Levels) × (asked_below s node (level ∷ filter) client ≡ Some qos) × (matches_rest (level ∷ filter) (level ∷ topic) ≡ true) × AreClean (level ∷ filter)
   named_origin node level topic client qos plain clean after found = go (s.child node level) refl found
     where
       go : (o : Option ℕ) → s.child node level ≡ o → option_and_then (λ b. found_at s b topic client) o ≡ Some qos
-          → (filter : Levels) × (asked s node (level ∷ filter) client ≡ Some qos) × (matches_rest (level ∷ filter) (level ∷ topic) ≡ true) × AreClean (level ∷ filter)
+          → (filter : Levels) × (asked_below s node (level ∷ filter) client ≡ Some qos) × (matches_rest (level ∷ filter) (level ∷ topic) ≡ true) × AreClean (level ∷ filter)
       go None e is = absurd cc
       go (Some m) e is =
           let r = after m is in
           let all : is_all level r.0 ≡ false = not_all level r.0 (no_hash level plain) in (
             r.0,
-            ap (λ b. cond b (s.held node true client) (option_and_then (λ b. asked s b r.0 client) (s.child node level))) all
-                ∙ ap (option_and_then (λ b. asked s b r.0 client)) e ∙ r.1,
+            ap (λ b. cond b (s.held node true client) (option_and_then (λ b. asked_below s b r.0 client) (s.child node level))) all
+                ∙ ap (option_and_then (λ b. asked_below s b r.0 client)) e ∙ r.1,
             rw (no_hash level plain, no_plus level plain, same level) r.2,
             (clean, r.3),
           )
@@ -105,7 +105,7 @@ module _ (s : Shape) where
       go None e is = absurd cc
       go (Some m) e is =
           let r = after m is in
-          (codes "+" ∷ r.0, ap (option_and_then (λ b. asked s b r.0 client)) e ∙ r.1, r.2, (clean_plus, r.3))
+          (codes "+" ∷ r.0, ap (option_and_then (λ b. asked_below s b r.0 client)) e ∙ r.1, r.2, (clean_plus, r.3))
 
   pub found_origin : (node : ℕ) (topic : Levels) (client : List ℕ) (qos : QoS) → bare topic ≡ true → AreClean topic → found_at s node topic client ≡ Some qos → Origin node topic client qos
   found_origin node [] client qos plain clean found =
@@ -133,12 +133,12 @@ module _ (s : Shape) where
 
   pub below_reached :
       (node : ℕ) (level : List ℕ) (filter topic : Levels) (client : List ℕ) (qos : QoS)
-      → ((below : ℕ) → asked s below filter client ≡ Some qos → Reaches below topic client qos)
-      → option_and_then (λ b. asked s b filter client) (s.child node level) ≡ Some qos
+      → ((below : ℕ) → asked_below s below filter client ≡ Some qos → Reaches below topic client qos)
+      → option_and_then (λ b. asked_below s b filter client) (s.child node level) ≡ Some qos
       → (found : QoS) × (found_below s node level topic client ≡ Some found) × (qos_number qos ≤ qos_number found)
   below_reached node level filter topic client qos after is = go (s.child node level) refl is
     where
-      go : (o : Option ℕ) → s.child node level ≡ o → option_and_then (λ b. asked s b filter client) o ≡ Some qos
+      go : (o : Option ℕ) → s.child node level ≡ o → option_and_then (λ b. asked_below s b filter client) o ≡ Some qos
           → (found : QoS) × (found_below s node level topic client ≡ Some found) × (qos_number qos ≤ qos_number found)
       go None e is = absurd cc
       go (Some m) e is = let r = after m is in (r.0, ap (option_and_then (λ b. found_at s b topic client)) e ∙ r.1, r.2)
@@ -147,14 +147,14 @@ module _ (s : Shape) where
   rest_reached node [] client qos is = greatest_left _ _ qos is
   rest_reached node (t ∷ ts) client qos is = greatest_left _ _ qos is
 
-  pub found_reaches : (node : ℕ) (filter topic : Levels) (client : List ℕ) (qos : QoS) → asked s node filter client ≡ Some qos → matches_rest filter topic ≡ true → Reaches node topic client qos
+  pub found_reaches : (node : ℕ) (filter topic : Levels) (client : List ℕ) (qos : QoS) → asked_below s node filter client ≡ Some qos → matches_rest filter topic ≡ true → Reaches node topic client qos
   found_reaches node [] [] client qos is match = greatest_right _ _ qos is
   found_reaches node [] (t ∷ ts) client qos is match = absurd cc
   found_reaches node (level ∷ filter) [] client qos is match =
       rest_reached node [] client qos
-      (sym (ap (λ b. cond b (s.held node true client) (option_and_then (λ b. asked s b filter client) (s.child node level))) match) ∙ is)
+      (sym (ap (λ b. cond b (s.held node true client) (option_and_then (λ b. asked_below s b filter client) (s.child node level))) match) ∙ is)
   found_reaches node (level ∷ filter) (t ∷ ts) client qos is match =
-      elim (is_all level filter) as (λ v. is_all level filter ≡ v → cond v (s.held node true client) (option_and_then (λ b. asked s b filter client) (s.child node level)) ≡ Some qos → Reaches node (t ∷ ts) client qos) [
+      elim (is_all level filter) as (λ v. is_all level filter ≡ v → cond v (s.held node true client) (option_and_then (λ b. asked_below s b filter client) (s.child node level)) ≡ Some qos → Reaches node (t ∷ ts) client qos) [
         | true ↦ λ e k. rest_reached node (t ∷ ts) client qos k
         | false ↦ λ e k.
             let parts = matching level filter t ts e match in

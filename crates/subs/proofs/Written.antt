@@ -6,7 +6,7 @@ use Rattle.packet_base.specs.declared.qos.QoS.{QoS}
 use Rattle.subs.specs.Shape.{Children, Shape, rows}
 use Rattle.subs.specs.Ways.{led, slot, IsTree}
 use Rattle.subs.specs.Changes.{same_side, WritesRow, Fills}
-use Rattle.subs.specs.Inside.{same_levels, with_asked, with_rows}
+use Rattle.subs.specs.Inside.{same_levels, asked_with, with_rows}
 use Rattle.subs.proofs.Ways.{same_levels_is, same_levels_self, one_filter, row_at, rows_are}
 
 pub same_side_is : (a b : Bool) → same_side a b ≡ true → a ≡ b
@@ -73,7 +73,7 @@ pub written :
     → IsTree old.child old.used root
     → led old.child root (slot f).0 ≡ Some at
     → WritesRow old new at (slot f).1 client kept
-    → rows new root ≡ with_asked (rows old root) f client kept
+    → rows new root ≡ asked_with (rows old root) f client kept
 written old new root f at client kept tree way writes = λ i g c. go g c i
   where
     by : (g : Levels) (c : List ℕ) (o : Option ℕ) → led old.child root (slot g).0 ≡ o
@@ -84,7 +84,7 @@ written old new root f at client kept tree way writes = λ i g c. go g c i
         ∙ ap (λ b. cond b kept (old.held k (slot g).1 c))
         (grouped (k == at) (same_side (slot f).1 (slot g).1) (bytes_eq client c) ∙ ap (λ b. b && bytes_eq client c) (one_slot old root f at tree way g k e))
 
-    go : (g : Levels) (c : List ℕ) → rows new root g c ≡ with_asked (rows old root) f client kept g c
+    go : (g : Levels) (c : List ℕ) → rows new root g c ≡ asked_with (rows old root) f client kept g c
     go g c =
         rows_are new root g c
         ∙ ap (λ (ch : Children). row_at new.held (led ch root (slot g).0) (slot g).1 c) writes.child

@@ -9,8 +9,8 @@ use Rattle.subs.specs.declared.group.Group.{Group}
 use Rattle.subs.specs.declared.group.Group.TheVariants as kinds
 
 -- rows as they came: the last of a client counts
-abbrev pub row_in : List (List ℕ × QoS) → List ℕ → Option QoS
-row_in rows = update_all bytes_eq (λ _. None) rows
+abbrev pub last_row_of : List (List ℕ × QoS) → List ℕ → Option QoS
+last_row_of rows = update_all bytes_eq (λ _. None) rows
 
 -- each filter with its rows
 abbrev pub Groups : Type 0
@@ -22,19 +22,19 @@ rows_of_group (kinds.One client qos) = (client, qos) ∷ []
 rows_of_group (kinds.More rows) = rows.items
 
 -- the groups as lists
-abbrev pub groups_of : List (List ℕ × Group) → Groups
-groups_of entries = map (λ entry. (entry.0, rows_of_group entry.1)) entries
+abbrev pub groups_as_lists : List (List ℕ × Group) → Groups
+groups_as_lists entries = map (λ entry. (entry.0, rows_of_group entry.1)) entries
 
 -- the QoS at each client and filter
 abbrev pub gathered : Groups → Content
 gathered groups client filter =
-    option_and_then (λ rows. row_in rows client) (lookup (bytes_eq filter) groups)
+    option_and_then (λ rows. last_row_of rows client) (lookup (bytes_eq filter) groups)
 
 -- these rows are put in, filter by filter
-abbrev pub all_put : Groups → Content → Content
-all_put [] content = content
-all_put (group ∷ groups) content =
-    all_put groups (λ client filter. if bytes_eq group.0 filter then row_in group.1 client
+abbrev pub all_rows_put : Groups → Content → Content
+all_rows_put [] content = content
+all_rows_put (group ∷ groups) content =
+    all_rows_put groups (λ client filter. if bytes_eq group.0 filter then last_row_of group.1 client
     else content client filter)
 
 -- these filters of a client are set, one by one

@@ -10,13 +10,13 @@ use Rattle.packet_base.specs.declared.qos.QoS.{QoS}
 use Rattle.subs_base.specs.Content.{Content}
 use Rattle.subs_base.specs.ListIndex.{Filters, at}
 use Rattle.subs.specs.declared.node.Node.{Node}
-use Rattle.subs.specs.Rows.{row_at}
+use Rattle.subs.specs.Rows.{qos_of_client}
 use Rattle.subs.specs.Shape.{Shape}
 
 -- the clients of a node
-abbrev pub held_in : Node → Bool → List ℕ → Option QoS
-held_in node true client = row_at node.rest client
-held_in node false client = row_at node.here client
+abbrev pub clients_at : Node → Bool → List ℕ → Option QoS
+clients_at node true client = qos_of_client node.rest client
+clients_at node false client = qos_of_client node.here client
 
 -- the children of a node, `+` and the others
 abbrev pub child_in : Node → List ℕ → Option ℕ
@@ -31,7 +31,8 @@ shape_of nodes =
     record {
       child = λ at level. option_and_then (λ node. child_in node level) (slab.get nodes at);
       held =
-          λ at rest client. option_and_then (λ node. held_in node rest client) (slab.get nodes at);
+          λ at rest client. option_and_then (λ node. clients_at node rest client)
+          (slab.get nodes at);
       used = λ at. is_some (slab.get nodes at);
     }
 
@@ -40,8 +41,8 @@ abbrev pub Asked : Type 0
 Asked = Levels → List ℕ → Option QoS
 
 -- no client asks for any filter
-abbrev pub nothing : Asked
-nothing filter client = None
+abbrev pub no_filter_asked : Asked
+no_filter_asked filter client = None
 
 -- whether two lists of levels are equal
 abbrev pub same_levels : Levels → Levels → Bool
@@ -51,8 +52,8 @@ same_levels (part ∷ parts) [] = false
 same_levels (part ∷ parts) (level ∷ rest) = bytes_eq part level && same_levels parts rest
 
 -- this is what the client asks for at the filter of these levels
-abbrev pub with_asked : Asked → Levels → List ℕ → Option QoS → Asked
-with_asked before filter client kept f c =
+abbrev pub asked_with : Asked → Levels → List ℕ → Option QoS → Asked
+asked_with before filter client kept f c =
     if same_levels filter f && bytes_eq client c then kept else before f c
 
 -- these are the clients of the filter of these levels
@@ -67,4 +68,4 @@ cleared client filters before c f =
 -- the node has no row and no child
 pub record HoldsNothing (node : Node) : Type 0 where
   pub child : (level : List ℕ) → child_in node level ≡ None
-  pub held : (rest : Bool) (client : List ℕ) → held_in node rest client ≡ None
+  pub held : (rest : Bool) (client : List ℕ) → clients_at node rest client ≡ None

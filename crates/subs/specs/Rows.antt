@@ -9,16 +9,16 @@ use Rattle.subs.specs.declared.rows.Rows.{Rows}
 use Rattle.subs.specs.declared.rows.Rows.TheVariants as kinds
 
 -- each client with its QoS
-abbrev pub listed : Rows → List (List ℕ × QoS)
-listed kinds.Empty = []
-listed (kinds.One client qos) = (client, qos) ∷ []
-listed (kinds.Many rows) = rows.entries
+abbrev pub rows_as_list : Rows → List (List ℕ × QoS)
+rows_as_list kinds.Empty = []
+rows_as_list (kinds.One client qos) = (client, qos) ∷ []
+rows_as_list (kinds.Many rows) = rows.entries
 
 -- the client's QoS
-abbrev pub row_at : Rows → List ℕ → Option QoS
-row_at rows client = lookup (is_at (slice_cmp nat_cmp client)) (listed rows)
+abbrev pub qos_of_client : Rows → List ℕ → Option QoS
+qos_of_client rows client = lookup (is_at (slice_cmp nat_cmp client)) (rows_as_list rows)
 
 -- the client's row is this one
 abbrev pub SetsAt : Rows → Rows → List ℕ → Option QoS → Type 0
 SetsAt old new client kept =
-    (c : List ℕ) → row_at new c ≡ (if bytes_eq client c then kept else row_at old c)
+    (c : List ℕ) → qos_of_client new c ≡ (if bytes_eq client c then kept else qos_of_client old c)

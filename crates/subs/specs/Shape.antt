@@ -21,15 +21,15 @@ pub record Shape : Type 0 where
   pub used : ℕ → Bool
 
 -- the QoS at which the client asked for the filter of these levels, below a node
-abbrev pub asked : Shape → ℕ → Levels → List ℕ → Option QoS
-asked shape at [] client = shape.held at false client
-asked shape at (level ∷ rest) client =
+abbrev pub asked_below : Shape → ℕ → Levels → List ℕ → Option QoS
+asked_below shape at [] client = shape.held at false client
+asked_below shape at (level ∷ rest) client =
     if is_all level rest then shape.held at true client
-    else option_and_then (λ below. asked shape below rest client) (shape.child at level)
+    else option_and_then (λ below. asked_below shape below rest client) (shape.child at level)
 
 -- the QoS at which the client asked for the filter of these levels, below the root, if there is one
 abbrev pub rows : Shape → Option ℕ → Levels → List ℕ → Option QoS
-rows shape root filter client = option_and_then (λ at. asked shape at filter client) root
+rows shape root filter client = option_and_then (λ at. asked_below shape at filter client) root
 
 -- at each client and filter what is at the filter's levels
 abbrev pub shape_content : Shape → Option ℕ → Content

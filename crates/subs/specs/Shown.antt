@@ -17,8 +17,8 @@ abbrev pub root_of : Nodes → Option ℕ
 root_of nodes = option_map (λ id. id.number) nodes.root
 
 -- the QoS of each client at the levels of each filter
-abbrev pub rows_of : Nodes → Levels → List ℕ → Option QoS
-rows_of nodes = rows (shape nodes) (root_of nodes)
+abbrev pub rows_at_levels : Nodes → Levels → List ℕ → Option QoS
+rows_at_levels nodes = rows (shape nodes) (root_of nodes)
 
 -- the nodes are a tree: what a node number may be
 abbrev pub IsSoundTree : Nodes → Type 0
@@ -33,5 +33,5 @@ abbrev pub IsThere : Nodes → ℕ → Type 0
 IsThere nodes at = (path : Levels) × LeadsTo nodes path at
 
 -- at each client and filter what is at the levels of its text
-abbrev pub content_in : Nodes → Content
-content_in nodes client filter = rows_of nodes (levels filter) client
+abbrev pub content_of_nodes : Nodes → Content
+content_of_nodes nodes client filter = rows_at_levels nodes (levels filter) client

@@ -6,7 +6,7 @@ ghost use Rattle.std.specs.Cmp.Lexicographic.{slice_cmp};
 ghost use Rattle.std.specs.Ordering.{nat_cmp};
 ghost use Rattle.topics.specs.Text.{levels_of};
 ghost use Rattle.std.specs.Prelude.{Some};
-ghost use Rattle.subs.specs.Rows.{row_at};
+ghost use Rattle.subs.specs.Rows.{qos_of_client};
 ghost use Rattle.subs.specs.Shown.{shape, root_of};
 ghost use Rattle.subs.specs.Walk.{greatest, Raises, GivesSome, found_at, found_below};
 ghost use Rattle.subs.specs.Walk.{found_for, found_after};
@@ -88,8 +88,8 @@ impl Nodes {
 
 // Raises each of the clients to its QoS there.
 fn raise_all(rows: &Rows, found: &mut Found) -> Result<(), AllocError>
-    ensures ok { OnOk result (Raises found.old found.new (row_at rows.now)) }
-    ensures some { OnErr result (GivesSome (row_at rows.now)) }
+    ensures ok { OnOk result (Raises found.old found.new (qos_of_client rows.now)) }
+    ensures some { OnErr result (GivesSome (qos_of_client rows.now)) }
 {
     match rows {
         Rows::Empty => Ok(()),

@@ -8,8 +8,8 @@ ghost use Rattle.std.specs.Ordering.{nat_cmp};
 ghost use Rattle.subs_base.specs.Content.{no_subscriptions, with_row};
 ghost use Rattle.subs_base.specs.ListIndex.{content_of};
 ghost use Rattle.subs_base.specs.Inside.{listed};
-ghost use Rattle.subs.specs.Gathered.{gathered, groups_of, clients_set, filters_set};
-ghost use Rattle.subs.specs.Shown.{content_in, IsSoundTree};
+ghost use Rattle.subs.specs.Gathered.{gathered, groups_as_lists, clients_set, filters_set};
+ghost use Rattle.subs.specs.Shown.{content_of_nodes, IsSoundTree};
 
 use crate::group::Group;
 use crate::nodes::Nodes;
@@ -28,7 +28,8 @@ pub(crate) fn gather(
     clients: &BTreeMap<ClientId, BTreeMap<Filter, QoS>>,
 ) -> Result<Groups, AllocError>
     ensures { IfOk result
-        (λ groups. gathered (groups_of groups.entries) ≡ content_of (listed clients.now.entries)) }
+        (λ groups. gathered (groups_as_lists groups.entries)
+        ≡ content_of (listed clients.now.entries)) }
 {
     let mut groups = IndexMap::new(alloc);
     for (client, filters) in clients {
@@ -45,8 +46,9 @@ fn gather_filters(
     filters: &BTreeMap<Filter, QoS>,
 ) -> Result<(), AllocError>
     ensures rows { OnOk result
-        (gathered (groups_of groups.new.entries)
-        ≡ filters_set client.now filters.now.entries (gathered (groups_of groups.old.entries))) }
+        (gathered (groups_as_lists groups.new.entries)
+        ≡ filters_set client.now filters.now.entries
+        (gathered (groups_as_lists groups.old.entries))) }
 
     // This is what going over the map shows of it. `gather` needs it.
     ensures ordered { IsOrdered (slice_cmp nat_cmp) filters.now }
@@ -65,8 +67,8 @@ fn add_row(
     row: (ClientId, QoS),
 ) -> Result<(), AllocError>
     ensures { OnOk result
-        (gathered (groups_of groups.new.entries)
-        ≡ with_row (gathered (groups_of groups.old.entries)) row.0 filter.now row.1) }
+        (gathered (groups_as_lists groups.new.entries)
+        ≡ with_row (gathered (groups_as_lists groups.old.entries)) row.0 filter.now row.1) }
 {
     if let Some(group) = groups.get_mut(filter) {
         return group.add(alloc, row);
@@ -78,7 +80,7 @@ fn add_row(
 /// Returns the nodes of these filters.
 pub(crate) fn nodes_of(alloc: Global, groups: Groups) -> Result<Nodes, AllocError>
     ensures content { IfOk result
-        (λ nodes. content_in nodes ≡ gathered (groups_of groups.entries)) }
+        (λ nodes. content_of_nodes nodes ≡ gathered (groups_as_lists groups.entries)) }
     ensures sound { IfOk result IsSoundTree }
 {
     let mut nodes = Nodes::new(alloc);

@@ -1,8 +1,8 @@
 // The rows of one filter while a list is gathered.
 
 ghost use Rattle.std.specs.Prelude.{◌≡◌, ◌++◌, ◌∷◌, [], OnOk, IfOk};
-ghost use Rattle.subs.specs.Gathered.{rows_of_group, row_in};
-ghost use Rattle.subs.specs.Rows.{row_at};
+ghost use Rattle.subs.specs.Gathered.{rows_of_group, last_row_of};
+ghost use Rattle.subs.specs.Rows.{qos_of_client};
 
 use crate::rows::Rows;
 use packet_base::{ClientId, QoS};
@@ -33,7 +33,7 @@ impl Group {
 
     /// Returns the same rows by their clients; of each client the last row counts.
     pub(crate) fn into_rows(self, alloc: Global) -> Result<Rows, AllocError>
-        ensures { IfOk result (λ rows. row_at rows ≡ row_in (rows_of_group self)) }
+        ensures { IfOk result (λ rows. qos_of_client rows ≡ last_row_of (rows_of_group self)) }
     {
         match self {
             Group::One(client, qos) => Ok(Rows::One(client, qos)),

@@ -3,7 +3,7 @@
 ghost use Rattle.std.specs.Prelude.{◌≡◌, ◌++◌, [], ◌∷◌, List, ℕ, OnErr, IfOk, None};
 ghost use Rattle.topics.specs.Text.{Levels, levels_of};
 ghost use Rattle.subs.specs.Ways.{slot};
-ghost use Rattle.subs.specs.Shown.{shape, rows_of, IsSoundTree, LeadsTo, IsThere};
+ghost use Rattle.subs.specs.Shown.{shape, rows_at_levels, IsSoundTree, LeadsTo, IsThere};
 
 use crate::node_id::NodeId;
 use crate::nodes::{Nodes, is_all};
@@ -20,12 +20,12 @@ impl Nodes {
         ensures leads { IfOk result (λ made. (path : Levels) → LeadsTo self.old path at.number
             → LeadsTo self.new (path ++ (slot (levels_of text.entry)).0) made.node.number) }
         ensures side { IfOk result (λ made. made.rest ≡ (slot (levels_of text.entry)).1) }
-        ensures rows { rows_of self.new ≡ rows_of self.old }
+        ensures rows { rows_at_levels self.new ≡ rows_at_levels self.old }
         ensures sound { IsSoundTree self.new }
         ensures root { self.new.root ≡ self.old.root }
         ensures none { OnErr result
             ((path : Levels) (client : List ℕ) → LeadsTo self.old path at.number
-            → rows_of self.old (path ++ levels_of text.entry) client ≡ None) }
+            → rows_at_levels self.old (path ++ levels_of text.entry) client ≡ None) }
     {
         let Some(text) = text else {
             return Ok(Slot {
@@ -50,7 +50,7 @@ impl Nodes {
         requires there { IsThere self.old at.number }
         ensures leads { IfOk result (λ child. (path : Levels) → LeadsTo self.old path at.number
             → LeadsTo self.new (path ++ level.now ∷ []) child.number) }
-        ensures rows { rows_of self.new ≡ rows_of self.old }
+        ensures rows { rows_at_levels self.new ≡ rows_at_levels self.old }
         ensures sound { IsSoundTree self.new }
         ensures root { self.new.root ≡ self.old.root }
         ensures none { OnErr result ((shape self.old).child at.number level.now ≡ None) }
@@ -68,7 +68,7 @@ impl Nodes {
         requires none { (shape self.old).child at.number level.now ≡ None }
         ensures leads { IfOk result (λ child. (path : Levels) → LeadsTo self.old path at.number
             → LeadsTo self.new (path ++ level.now ∷ []) child.number) }
-        ensures rows { rows_of self.new ≡ rows_of self.old }
+        ensures rows { rows_at_levels self.new ≡ rows_at_levels self.old }
         ensures sound { IsSoundTree self.new }
         ensures root { self.new.root ≡ self.old.root }
     {

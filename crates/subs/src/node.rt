@@ -3,8 +3,8 @@
 
 ghost use Rattle.std.specs.Prelude.{◌≡◌, OnOk, OnErr, ◌↔◌, IsTrue, IsSome, is_some, true, false};
 ghost use Rattle.std.specs.Prelude.{Some, None, option_map};
-ghost use Rattle.subs.specs.Rows.{row_at};
-ghost use Rattle.subs.specs.Inside.{held_in, child_in, HoldsNothing};
+ghost use Rattle.subs.specs.Rows.{qos_of_client};
+ghost use Rattle.subs.specs.Inside.{clients_at, child_in, HoldsNothing};
 ghost use Rattle.subs.specs.Changes.{SetsRow, SetsSide, SetsChild};
 
 use crate::node_id::NodeId;
@@ -60,7 +60,7 @@ impl Node {
         ensures ok { OnOk result
             (SetsChild (child_in self.old) (child_in self.new) level.now (Some child.number)) }
         ensures err { OnErr result (child_in self.new ≡ child_in self.old) }
-        ensures rows { held_in self.new ≡ held_in self.old }
+        ensures rows { clients_at self.new ≡ clients_at self.old }
     {
         if level == b"+".as_slice() {
             self.plus = Some(child);
@@ -73,7 +73,7 @@ impl Node {
     /// Removes the node after a level.
     pub(crate) fn drop_child(&mut self, level: &[u8])
         ensures child { SetsChild (child_in self.old) (child_in self.new) level.now None }
-        ensures rows { held_in self.new ≡ held_in self.old }
+        ensures rows { clients_at self.new ≡ clients_at self.old }
     {
         if level == b"+".as_slice() {
             self.plus = None;
@@ -91,9 +91,9 @@ impl Node {
         qos: QoS,
     ) -> Result<(), AllocError>
         ensures ok { OnOk result
-            (SetsRow (held_in self.old) (held_in self.new) rest client.now (Some qos)) }
-        ensures err { OnErr result (held_in self.new ≡ held_in self.old) }
-        ensures absent { OnErr result (held_in self.old rest client.now ≡ None) }
+            (SetsRow (clients_at self.old) (clients_at self.new) rest client.now (Some qos)) }
+        ensures err { OnErr result (clients_at self.new ≡ clients_at self.old) }
+        ensures absent { OnErr result (clients_at self.old rest client.now ≡ None) }
         ensures child { child_in self.new ≡ child_in self.old }
     {
         if rest {
@@ -104,7 +104,8 @@ impl Node {
 
     /// Puts these rows in place of those at `#` beside the node, or at its own filter.
     pub(crate) fn put(&mut self, rest: bool, rows: Rows)
-        ensures rows { SetsSide (held_in self.old) (held_in self.new) rest (row_at rows) }
+        ensures rows { SetsSide (clients_at self.old) (clients_at self.new) rest
+            (qos_of_client rows) }
         ensures child { child_in self.new ≡ child_in self.old }
     {
         if rest {
@@ -116,8 +117,8 @@ impl Node {
 
     /// Takes the client's row out, and says whether there was one.
     pub(crate) fn clear(&mut self, rest: bool, client: &ClientId) -> bool
-        ensures found { result ≡ is_some (held_in self.old rest client.now) }
-        ensures after { SetsRow (held_in self.old) (held_in self.new) rest client.now None }
+        ensures found { result ≡ is_some (clients_at self.old rest client.now) }
+        ensures after { SetsRow (clients_at self.old) (clients_at self.new) rest client.now None }
         ensures child { child_in self.new ≡ child_in self.old }
     {
         if rest {

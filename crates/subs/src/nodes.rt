@@ -5,9 +5,9 @@ ghost use Rattle.std.specs.Prelude.{None, option_map};
 ghost use Rattle.topics.specs.Text.{levels, levels_of};
 ghost use Rattle.topics.specs.Matching.{is_all};
 ghost use Rattle.subs.specs.Ways.{reach, slot};
-ghost use Rattle.subs.specs.Inside.{nothing, with_asked, with_rows};
-ghost use Rattle.subs.specs.Rows.{row_at};
-ghost use Rattle.subs.specs.Shown.{shape, root_of, rows_of, IsSoundTree};
+ghost use Rattle.subs.specs.Inside.{no_filter_asked, asked_with, with_rows};
+ghost use Rattle.subs.specs.Rows.{qos_of_client};
+ghost use Rattle.subs.specs.Shown.{shape, root_of, rows_at_levels, IsSoundTree};
 
 use crate::node::Node;
 use crate::node_id::NodeId;
@@ -29,7 +29,7 @@ pub(crate) struct Nodes {
 impl Nodes {
     /// Returns a vector without nodes.
     pub(crate) fn new(alloc: Global) -> Nodes
-        ensures rows { rows_of result ≡ nothing }
+        ensures rows { rows_at_levels result ≡ no_filter_asked }
         ensures sound { IsSoundTree result }
     {
         Nodes {
@@ -44,10 +44,11 @@ impl Nodes {
     pub(crate) fn set(&mut self, text: &[u8], client: &ClientId, qos: QoS) -> Result<(), AllocError>
         requires { IsSoundTree self.old }
         ensures ok { OnOk result
-            (rows_of self.new
-            ≡ with_asked (rows_of self.old) (levels text.now) client.now (Some qos)) }
-        ensures err { OnErr result (rows_of self.new ≡ rows_of self.old) }
-        ensures absent { OnErr result (rows_of self.old (levels text.now) client.now ≡ None) }
+            (rows_at_levels self.new
+            ≡ asked_with (rows_at_levels self.old) (levels text.now) client.now (Some qos)) }
+        ensures err { OnErr result (rows_at_levels self.new ≡ rows_at_levels self.old) }
+        ensures absent { OnErr result (rows_at_levels self.old (levels text.now) client.now
+            ≡ None) }
         ensures sound { IsSoundTree self.new }
     {
         let root = self.make_root()?;
@@ -63,7 +64,8 @@ impl Nodes {
     pub(crate) fn put(&mut self, text: &[u8], rows: Rows) -> Result<(), AllocError>
         requires { IsSoundTree self.old }
         ensures ok { OnOk result
-            (rows_of self.new ≡ with_rows (rows_of self.old) (levels text.now) (row_at rows)) }
+            (rows_at_levels self.new ≡ with_rows (rows_at_levels self.old) (levels text.now)
+            (qos_of_client rows)) }
         ensures sound { OnOk result (IsSoundTree self.new) }
     {
         let root = self.make_root()?;
@@ -76,9 +78,10 @@ impl Nodes {
     /// one. Nodes that then hold nothing are removed.
     pub(crate) fn clear(&mut self, text: &[u8], client: &ClientId) -> bool
         requires { IsSoundTree self.old }
-        ensures found { IsTrue result ↔ IsSome (rows_of self.old (levels text.now) client.now) }
-        ensures after { rows_of self.new
-            ≡ with_asked (rows_of self.old) (levels text.now) client.now None }
+        ensures found { IsTrue result ↔ IsSome
+            (rows_at_levels self.old (levels text.now) client.now) }
+        ensures after { rows_at_levels self.new
+            ≡ asked_with (rows_at_levels self.old) (levels text.now) client.now None }
         ensures sound { IsSoundTree self.new }
     {
         let Some(root) = self.root else {
@@ -96,7 +99,7 @@ impl Nodes {
     fn make_root(&mut self) -> Result<NodeId, AllocError>
         requires { IsSoundTree self.old }
         ensures sound { IsSoundTree self.new }
-        ensures rows { rows_of self.new ≡ rows_of self.old }
+        ensures rows { rows_at_levels self.new ≡ rows_at_levels self.old }
         ensures root { IfOk result (λ root. root_of self.new ≡ Some root.number) }
         ensures none { OnErr result (root_of self.old ≡ None) }
     {
@@ -119,10 +122,11 @@ impl Nodes {
         requires sound { IsSoundTree self.old }
         requires root { root_of self.old ≡ Some root.number }
         ensures ok { OnOk result
-            (rows_of self.new
-            ≡ with_asked (rows_of self.old) (levels text.now) client.now (Some qos)) }
-        ensures err { OnErr result (rows_of self.new ≡ rows_of self.old) }
-        ensures absent { OnErr result (rows_of self.old (levels text.now) client.now ≡ None) }
+            (rows_at_levels self.new
+            ≡ asked_with (rows_at_levels self.old) (levels text.now) client.now (Some qos)) }
+        ensures err { OnErr result (rows_at_levels self.new ≡ rows_at_levels self.old) }
+        ensures absent { OnErr result (rows_at_levels self.old (levels text.now) client.now
+            ≡ None) }
         ensures sound { IsSoundTree self.new }
         ensures root { self.new.root ≡ self.old.root }
     {

@@ -2,7 +2,7 @@
 
 ghost use Rattle.std.specs.Prelude.{◌≡◌, ◌++◌, ℕ};
 ghost use Rattle.topics.specs.Text.{Levels};
-ghost use Rattle.subs.specs.Shown.{rows_of, IsSoundTree, LeadsTo, IsThere};
+ghost use Rattle.subs.specs.Shown.{rows_at_levels, IsSoundTree, LeadsTo, IsThere};
 
 use crate::node_id::NodeId;
 use crate::nodes::Nodes;
@@ -15,7 +15,7 @@ impl Nodes {
     pub(crate) fn prune(&mut self, at: NodeId, text: Option<&[u8]>)
         requires sound { IsSoundTree self.old }
         requires there { IsThere self.old at.number }
-        ensures rows { rows_of self.new ≡ rows_of self.old }
+        ensures rows { rows_at_levels self.new ≡ rows_at_levels self.old }
         ensures sound { IsSoundTree self.new }
         ensures root { self.new.root ≡ self.old.root }
 
@@ -38,7 +38,7 @@ impl Nodes {
     fn drop_empty(&mut self, at: NodeId, level: &[u8])
         requires sound { IsSoundTree self.old }
         requires there { IsThere self.old at.number }
-        ensures rows { rows_of self.new ≡ rows_of self.old }
+        ensures rows { rows_at_levels self.new ≡ rows_at_levels self.old }
         ensures sound { IsSoundTree self.new }
         ensures root { self.new.root ≡ self.old.root }
         ensures ways { (path after : Levels) (k : ℕ) → LeadsTo self.old (path ++ after) at.number

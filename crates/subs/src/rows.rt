@@ -5,7 +5,7 @@ ghost use Rattle.std.specs.Cmp.Lexicographic.{slice_cmp};
 ghost use Rattle.std.specs.Ordering.{nat_cmp};
 ghost use Rattle.std.specs.BTreeMap.{Updates, get};
 ghost use Rattle.subs.specs.declared.rows.Rows.TheVariants.{One};
-ghost use Rattle.subs.specs.Rows.{listed, row_at, SetsAt};
+ghost use Rattle.subs.specs.Rows.{rows_as_list, qos_of_client, SetsAt};
 
 use packet_base::{ClientId, QoS};
 use std::alloc::{AllocError, Global};
@@ -29,8 +29,8 @@ impl Rows {
         qos: QoS,
     ) -> Result<(), AllocError>
         ensures ok { OnOk result (SetsAt self.old self.new client.now (Some qos)) }
-        ensures err { OnErr result (row_at self.new ≡ row_at self.old) }
-        ensures absent { OnErr result (row_at self.old client.now ≡ None) }
+        ensures err { OnErr result (qos_of_client self.new ≡ qos_of_client self.old) }
+        ensures absent { OnErr result (qos_of_client self.old client.now ≡ None) }
     {
         match self {
             Rows::Empty => {
@@ -51,7 +51,7 @@ impl Rows {
 
     /// Takes the client's row out, and says whether there was one. It takes no memory.
     pub(crate) fn clear(&mut self, client: &ClientId) -> bool
-        ensures found { result ≡ is_some (row_at self.old client.now) }
+        ensures found { result ≡ is_some (qos_of_client self.old client.now) }
         ensures after { SetsAt self.old self.new client.now None }
     {
         match self {
@@ -69,7 +69,7 @@ impl Rows {
 
     /// Says whether there is no client.
     pub(crate) fn is_empty(&self) -> bool
-        ensures { IsTrue result → listed self.now ≡ [] }
+        ensures { IsTrue result → rows_as_list self.now ≡ [] }
     {
         match self {
             Rows::Empty => true,

@@ -4,7 +4,7 @@ ghost use Rattle.std.specs.Prelude.{◌≡◌, OnOk, OnErr, IfOk, IsTrue, is_som
 ghost use Rattle.std.specs.Prelude.{None, option_map};
 ghost use Rattle.subs.specs.Changes.{WritesRow, Fills, Links, AddsNode, FreesNode, IsBare};
 ghost use Rattle.subs.specs.Inside.{shape_of};
-ghost use Rattle.subs.specs.Rows.{row_at};
+ghost use Rattle.subs.specs.Rows.{qos_of_client};
 
 use crate::node::Node;
 use crate::node_id::NodeId;
@@ -114,7 +114,7 @@ pub(crate) fn set_at(
 pub(crate) fn put_at(nodes: &mut Slab<Node>, slot: Slot, rows: Rows)
     requires { (shape_of nodes.old).used slot.node.number ≡ true }
     ensures { Fills (shape_of nodes.old) (shape_of nodes.new) slot.node.number slot.rest
-        (row_at rows) }
+        (qos_of_client rows) }
 {
     if let Some(node) = nodes.get_mut(slot.node.number) {
         node.put(slot.rest, rows);

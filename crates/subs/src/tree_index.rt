@@ -7,7 +7,7 @@ ghost use Rattle.std.specs.Ordering.{nat_cmp};
 ghost use Rattle.subs_base.specs.ListIndex.{content_of};
 ghost use Rattle.subs.specs.Inside.{cleared};
 ghost use Rattle.subs.specs.Walk.{GivesSome};
-ghost use Rattle.subs.specs.Shown.{content_in, IsSoundTree};
+ghost use Rattle.subs.specs.Shown.{content_of_nodes, IsSoundTree};
 
 use crate::gathering::{gather, nodes_of};
 use crate::nodes::Nodes;
@@ -41,13 +41,13 @@ impl Drop for TreeIndex {
 impl Model for TreeIndex {
     ghost use Rattle.std.specs.Prelude.{◌≡◌};
     ghost use Rattle.subs_base.specs.ListIndex.{Clients, content_of};
-    ghost use Rattle.subs.specs.Shown.{content_in, IsSoundTree};
+    ghost use Rattle.subs.specs.Shown.{content_of_nodes, IsSoundTree};
 
     ghost Value = { Clients };
 
     ghost view = { λ index. index.clients };
 
-    ghost invariant = { λ index. (content_of index.clients ≡ content_in index.nodes)
+    ghost invariant = { λ index. (content_of index.clients ≡ content_of_nodes index.nodes)
         × IsSoundTree index.nodes };
 }
 
@@ -118,8 +118,8 @@ impl TreeIndex {
 // Removes the client's subscriptions of these filters.
 fn clear_all(nodes: &mut Nodes, filters: &BTreeMap<Filter, QoS>, client: &ClientId)
     requires { IsSoundTree nodes.old }
-    ensures after { content_in nodes.new
-        ≡ cleared client.now filters.now.entries (content_in nodes.old) }
+    ensures after { content_of_nodes nodes.new
+        ≡ cleared client.now filters.now.entries (content_of_nodes nodes.old) }
     ensures sound { IsSoundTree nodes.new }
 {
     for (filter, _) in filters {

@@ -5,7 +5,7 @@ use Rattle.std.specs.Prelude.{bytes_eq}
 use Rattle.subs_base.specs.Content.{with_row}
 use Rattle.subs_base.proofs.ContentAfter.{on_ok}
 use Rattle.subs.specs.declared.group.Group.TheVariants.{One}
-use Rattle.subs.specs.Gathered.{gathered, groups_of}
+use Rattle.subs.specs.Gathered.{gathered, groups_as_lists}
 use Rattle.subs.proofs.RowsGathered.{row_added, row_pushed, row_first}
 use Rattle.subs.proofs.gathering.add_row.Goals as goal
 
@@ -27,4 +27,4 @@ returns c =
     c.in_ok-insert.ensures.updates.0)
     (row_first c.get_mut.follows.lender-at-none.entries c.args.filter.now c.args.row
     (c.in_default.ensures.value ∙ sym (ap (λ m. lookup (bytes_eq c.args.filter.now) m.entries) c.get_mut.follows.holds-at-none)))
-    ∙ ap (λ m. with_row (gathered (groups_of m.entries)) c.args.row.0 c.args.filter.now c.args.row.1) c.get_mut.follows.holds-at-none
+    ∙ ap (λ m. with_row (gathered (groups_as_lists m.entries)) c.args.row.0 c.args.filter.now c.args.row.1) c.get_mut.follows.holds-at-none

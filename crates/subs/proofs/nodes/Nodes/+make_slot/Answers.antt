@@ -5,7 +5,7 @@ use Rattle.topics.specs.Text.{Levels, levels_of}
 use Rattle.topics.specs.Matching.{is_all}
 use Rattle.subs_base.proofs.ContentAfter.{on_err}
 use Rattle.subs.specs.Inside.{Asked, shape_of}
-use Rattle.subs.specs.Shown.{root_of, rows_of}
+use Rattle.subs.specs.Shown.{root_of, rows_at_levels}
 use Rattle.subs.proofs.TextCut.{path, fewer}
 use Rattle.subs.proofs.ChildIsMade.{none_after}
 use Rattle.subs.proofs.ContentOfTree.{anyhow}
@@ -17,7 +17,7 @@ returns-in_err-child-clause-none t c =
     let other : is_all c.split_level.result.0.now (levels_of c.split_level.result.1) ≡ false = sym c.is_all.ensures ∙ c.if-is_all.false in
     anyhow c.from_residual.result
     (λ way client leads.
-    ap (λ (ls : Levels). rows_of c.args.self.now (way ++ ls) client) cut
+    ap (λ (ls : Levels). rows_at_levels c.args.self.now (way ++ ls) client) cut
     ∙ none_after (shape_of c.args.self.now.slab) (root_of c.args.self.now) way c.args.at.number c.split_level.result.0.now (levels_of c.split_level.result.1) client
     leads other c.in_err-child.ensures.none)
 
@@ -36,8 +36,8 @@ returns-clause-none t c =
     let cut = path c.args.text c.in-Some.text c.split_level.result.0.now c.split_level.result.1 (record { some = c.in-Some.is; cut = c.split_level.ensures }) in
     on_err c.make_slot.result
     (λ none way client leads.
-    ap (λ (ls : Levels). rows_of c.args.self.now (way ++ ls) client) cut
-    ∙ ap (λ (p : Levels). rows_of c.args.self.now p client) (sym (append_assoc way (c.split_level.result.0.now ∷ []) (levels_of c.split_level.result.1)))
+    ap (λ (ls : Levels). rows_at_levels c.args.self.now (way ++ ls) client) cut
+    ∙ ap (λ (p : Levels). rows_at_levels c.args.self.now p client) (sym (append_assoc way (c.split_level.result.0.now ∷ []) (levels_of c.split_level.result.1)))
     ∙ ap (λ (a : Asked). a ((way ++ c.split_level.result.0.now ∷ []) ++ levels_of c.split_level.result.1) client) (sym c.in_ok-child.ensures.rows)
     ∙ none (way ++ c.split_level.result.0.now ∷ []) client (c.in_ok-child.ensures.leads way leads))
     c.make_slot.ensures.none

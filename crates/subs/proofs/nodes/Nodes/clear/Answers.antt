@@ -3,7 +3,7 @@ use Rattle.std.proofs.Common.{None, ◌∙◌, sym, ap, is_some}
 use Rattle.topics.specs.Text.{levels}
 use Rattle.subs.specs.Ways.{slot}
 use Rattle.subs.specs.Inside.{shape_of}
-use Rattle.subs.specs.Shown.{root_of, rows_of}
+use Rattle.subs.specs.Shown.{root_of, rows_at_levels}
 use Rattle.subs.proofs.NodeSets.{number_of}
 use Rattle.subs.proofs.SlotIsFound.{from_root, row_missing, nothing_goes, written_at, row_of}
 use Rattle.subs.proofs.nodes.Nodes.clear.Goals as goal
@@ -21,7 +21,7 @@ returns-in_default-find_slot-clause-after c =
     let filter = levels c.args.text.now in
     let child = (shape_of c.args.self.now.slab).child in
     let way = from_root child (root_of c.args.self.now) c.in-Some.root.number (slot filter).0 (ap number_of c.in-Some.is) ∙ sym c.in_default-find_slot.ensures.node in
-    nothing_goes (rows_of c.args.self.now) filter c.args.client.now
+    nothing_goes (rows_at_levels c.args.self.now) filter c.args.client.now
     (row_missing (shape_of c.args.self.now.slab) (root_of c.args.self.now) filter c.args.client.now way)
 
 pub clear_at-found-requires : goal.clear_at-found-requires

@@ -3,7 +3,7 @@ use Rattle.std.proofs.Common.{[], ◌∙◌, ap}
 use Rattle.topics.specs.Text.{levels}
 use Rattle.subs.specs.Ways.{led, slot}
 use Rattle.subs.specs.Inside.{Asked, shape_of, with_rows}
-use Rattle.subs.specs.Rows.{row_at}
+use Rattle.subs.specs.Rows.{qos_of_client}
 use Rattle.subs.specs.Shown.{root_of}
 use Rattle.subs.proofs.Written.{filled, tree_filled}
 use Rattle.subs.proofs.nodes.Nodes.put.Goals as goal
@@ -18,10 +18,10 @@ returns-clause-ok c =
     let filter = levels c.args.text.now in
     let way = c.in_ok-slot.ensures.leads [] (ap (λ r. led (shape_of c.make_root.new.self.slab).child r []) c.in_ok-root.ensures.root) in
     filled (shape_of c.make_slot.new.self.slab) (shape_of c.put_at.new.nodes) (root_of c.make_slot.new.self) filter c.in_ok-slot.slot.node.number c.in_ok-slot.slot.rest
-    (row_at c.args.rows) c.in_ok-slot.ensures.sound way c.in_ok-slot.ensures.side c.put_at.ensures
-    ∙ ap (λ (a : Asked). with_rows a filter (row_at c.args.rows)) (c.in_ok-slot.ensures.rows ∙ c.in_ok-root.ensures.rows)
+    (qos_of_client c.args.rows) c.in_ok-slot.ensures.sound way c.in_ok-slot.ensures.side c.put_at.ensures
+    ∙ ap (λ (a : Asked). with_rows a filter (qos_of_client c.args.rows)) (c.in_ok-slot.ensures.rows ∙ c.in_ok-root.ensures.rows)
 
 pub returns-clause-sound : goal.returns-clause-sound
 returns-clause-sound c =
     tree_filled (shape_of c.make_slot.new.self.slab) (shape_of c.put_at.new.nodes) (root_of c.make_slot.new.self) c.in_ok-slot.slot.node.number c.in_ok-slot.slot.rest
-    (row_at c.args.rows) c.in_ok-slot.ensures.sound c.put_at.ensures
+    (qos_of_client c.args.rows) c.in_ok-slot.ensures.sound c.put_at.ensures

@@ -3,7 +3,7 @@ use Rattle.std.proofs.Common.{Some, [], ◌∙◌, sym, ap}
 use Rattle.topics.specs.Text.{levels}
 use Rattle.subs_base.proofs.ContentAfter.{on_ok, on_err}
 use Rattle.subs.specs.Ways.{led, slot}
-use Rattle.subs.specs.Inside.{Asked, shape_of, with_asked}
+use Rattle.subs.specs.Inside.{Asked, shape_of, asked_with}
 use Rattle.subs.specs.Shown.{root_of}
 use Rattle.subs.proofs.ContentOfTree.{anyhow}
 use Rattle.subs.proofs.SlotIsFound.{written_at, row_of}
@@ -27,7 +27,7 @@ returns-clause-ok c =
     (λ writes.
     written_at (shape_of c.make_slot.new.self.slab) (shape_of c.set_at.new.nodes) (root_of c.make_slot.new.self) filter c.in_ok-slot.slot.node.number c.in_ok-slot.slot.rest
     c.args.client.now (Some c.args.qos) c.in_ok-slot.ensures.sound way c.in_ok-slot.ensures.side writes
-    ∙ ap (λ (a : Asked). with_asked a filter c.args.client.now (Some c.args.qos)) c.in_ok-slot.ensures.rows)
+    ∙ ap (λ (a : Asked). asked_with a filter c.args.client.now (Some c.args.qos)) c.in_ok-slot.ensures.rows)
     c.set_at.ensures.ok
 
 pub returns-clause-absent : goal.returns-clause-absent

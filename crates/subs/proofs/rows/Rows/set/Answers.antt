@@ -3,7 +3,7 @@ use Rattle.std.proofs.Common.{◌≡◌, ◌∙◌, ℕ, List, sym, ap, subst, t
 use Rattle.subs_base.proofs.ContentAfter.{on_ok}
 use Rattle.subs.specs.declared.rows.Rows.{Rows}
 use Rattle.subs.specs.declared.rows.Rows.TheVariants.{One, Many}
-use Rattle.subs.specs.Rows.{row_at, SetsAt}
+use Rattle.subs.specs.Rows.{qos_of_client, SetsAt}
 use Rattle.subs.proofs.ContentOfTree.{anyhow}
 use Rattle.subs.proofs.LevelsFound.{updates_client}
 use Rattle.subs.proofs.RowsSet.{one_at, none_at, one_set}
@@ -19,13 +19,13 @@ pub returns-in_err-self-in-One-clause-absent : goal.returns-in_err-self-in-One-c
 returns-in_err-self-in-One-clause-absent c =
     let apart : bytes_eq c.in-One.owner c.args.client.now ≡ false = sym c.eq.ensures ∙ c.if-eq.false in
     anyhow c.from_residual-in_err-self-in-One.result
-    (ap (λ rows. row_at rows c.args.client.now) c.in-One.is ∙ none_at c.in-One.owner c.args.client.now c.in-One.kept apart)
+    (ap (λ rows. qos_of_client rows c.args.client.now) c.in-One.is ∙ none_at c.in-One.owner c.args.client.now c.in-One.kept apart)
 
 pub returns-in_ok-clone-in-Empty-clause-ok : goal.returns-in_ok-clone-in-Empty-clause-ok
 returns-in_ok-clone-in-Empty-clause-ok c =
     subst (λ (old : Rows). SetsAt old (One c.in_ok-clone-in-Empty.field-0 c.args.qos) c.args.client.now (Some c.args.qos)) (sym c.in-Empty.is)
     (λ q.
-    subst (λ (k : List ℕ). row_at (One k c.args.qos) q ≡ cond (bytes_eq c.args.client.now q) (Some c.args.qos) None) (sym c.in_ok-clone-in-Empty.ensures.cases)
+    subst (λ (k : List ℕ). qos_of_client (One k c.args.qos) q ≡ cond (bytes_eq c.args.client.now q) (Some c.args.qos) None) (sym c.in_ok-clone-in-Empty.ensures.cases)
     (one_at c.args.client.now c.args.qos q))
 
 pub returns-in-Many-clause-ok : goal.returns-in-Many-clause-ok

@@ -3,7 +3,7 @@ use Rattle.std.proofs.Common.{◌≡◌, ◌∙◌, sym, ap, Some, None}
 use Rattle.topics.specs.Text.{levels}
 use Rattle.subs_base.specs.Content.{Content, with_row, without_row}
 use Rattle.subs_base.specs.ListIndex.{content_of}
-use Rattle.subs.specs.Shown.{rows_of}
+use Rattle.subs.specs.Shown.{rows_at_levels}
 use Rattle.subs.proofs.ContentOfTree.{anyhow}
 use Rattle.subs.proofs.ContentOfTree.{row_put, put_back, at_ok, at_err}
 use Rattle.subs.proofs.tree_index.TreeIndexSubIndex.set.Goals as goal
@@ -14,7 +14,7 @@ invariant_of-self-then-is_err c =
     let text : c.as_bytes-text.result.now ≡ c.args.filter.now = c.as_bytes-text.ensures.value ∙ c.as_str.ensures.value in
     let none : content_of c.self.inside.clients c.args.client.now c.args.filter.now ≡ None =
     ap (λ (v : Content). v c.args.client.now c.args.filter.now) c.self.invariant.0
-    ∙ sym (ap (λ t. rows_of c.self.inside.nodes (levels t) c.args.client.now) text)
+    ∙ sym (ap (λ t. rows_at_levels c.self.inside.nodes (levels t) c.args.client.now) text)
     ∙ at_err c.set-set.result failed c.set-set.ensures.absent in (
       c.clear.ensures.after
           ∙ ap (λ v. without_row v c.args.client.now c.args.filter.now) c.in_ok-set.ensures.ok
@@ -28,7 +28,7 @@ pub invariant_of-self-else-is_err : goal.invariant_of-self-else-is_err
 invariant_of-self-else-is_err c = (
   c.in_ok-set.ensures.ok
       ∙ ap (λ v. with_row v c.args.client.now c.args.filter.now c.args.qos) c.self.invariant.0
-      ∙ sym (row_put (rows_of c.self.inside.nodes) (rows_of c.set-set.new.self) c.as_bytes-text.result.now c.args.filter.now c.args.client.now (Some c.args.qos)
+      ∙ sym (row_put (rows_at_levels c.self.inside.nodes) (rows_at_levels c.set-set.new.self) c.as_bytes-text.result.now c.args.filter.now c.args.client.now (Some c.args.qos)
       (c.as_bytes-text.ensures.value ∙ c.as_str.ensures.value)
       (at_ok c.set-set.result (sym c.is_err.ensures.value ∙ c.if-is_err.false) c.set-set.ensures.ok)),
   c.set-set.ensures.sound,
@@ -40,7 +40,7 @@ returns-then-is_err-clause-err c =
     let text : c.as_bytes-text.result.now ≡ c.args.filter.now = c.as_bytes-text.ensures.value ∙ c.as_str.ensures.value in
     let none : content_of c.self.inside.clients c.args.client.now c.args.filter.now ≡ None =
     ap (λ (v : Content). v c.args.client.now c.args.filter.now) c.self.invariant.0
-    ∙ sym (ap (λ t. rows_of c.self.inside.nodes (levels t) c.args.client.now) text)
+    ∙ sym (ap (λ t. rows_at_levels c.self.inside.nodes (levels t) c.args.client.now) text)
     ∙ at_err c.set-set.result failed c.set-set.ensures.absent in
     anyhow c.set-set.result
     (c.clear.ensures.after
@@ -55,5 +55,5 @@ returns-then-is_err-clause-absent c =
     anyhow c.set-set.result
     (ap (λ v. content_of v c.args.client.now c.args.filter.now) (sym c.self.view_is)
     ∙ ap (λ (v : Content). v c.args.client.now c.args.filter.now) c.self.invariant.0
-    ∙ sym (ap (λ t. rows_of c.self.inside.nodes (levels t) c.args.client.now) text)
+    ∙ sym (ap (λ t. rows_at_levels c.self.inside.nodes (levels t) c.args.client.now) text)
     ∙ at_err c.set-set.result failed c.set-set.ensures.absent)
