@@ -13,7 +13,7 @@ use Rattle.broker_tables.specs.broker_base.State.{Sessions, session_in}
 use Rattle.broker_tables.specs.broker_base.StateLaws.{AllSound, AreByClient}
 use Rattle.broker_spec.proofs.ClientsInOrder.{same_is}
 use Rattle.broker_tables.proofs.of_broker_base.SessionsStayByClient.{ComesBefore}
-use Rattle.broker_tables.specs.subs_base.Content.{Content, no_subscriptions, with_filters}
+use Rattle.broker_tables.specs.subs_base.Content.{Content, no_subscriptions, with_client_filters}
 use Rattle.broker_tables.specs.broker_rows.Indexed.{subscribed_in, content_in}
 use Rattle.broker_spec.specs.Subscriptions.{qos_asked}
 use Rattle.broker_tables.proofs.of_broker_rows.ConnectSteps.{no_session}
@@ -57,7 +57,7 @@ held_at : (rows : Sessions) (content : Content) (c f : List ℕ) → AreByClient
 unfolding IsStrictlySortedBy
 held_at [] content c f by_client sound = refl
 held_at (row ∷ rows) content c f by_client sound =
-    held_at rows (with_filters content row.0 (granted_last row.1.state.subscriptions)) c f by_client.1 sound.1
+    held_at rows (with_client_filters content row.0 (granted_last row.1.state.subscriptions)) c f by_client.1 sound.1
     ∙ by (same_client c row.0) refl (same_bytes c row.0)
   where
     by : (b : Bool) → same_client c row.0 ≡ b → bytes_eq row.0 c ≡ same_client c row.0 →

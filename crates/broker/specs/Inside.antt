@@ -5,7 +5,7 @@ use Rattle.std.specs.List.{AllByRecursion}
 use Rattle.packet_base.specs.declared.qos.QoS.{QoS}
 use Rattle.retained.specs.Retained.{RetainedTopics}
 use Rattle.session_base.specs.Subscriptions.{GrantedFilter}
-use Rattle.broker_tables.specs.subs_base.Content.{Content, with_filters}
+use Rattle.broker_tables.specs.subs_base.Content.{Content, with_client_filters}
 use Rattle.session_base.specs.FormLaws.{HasForm}
 use Rattle.broker_spec.specs.Connection.{ConnectionName}
 use Rattle.broker_tables.specs.broker_base.State.{Sessions, State}
@@ -39,4 +39,4 @@ granted_last held = update_all bytes_eq (λ _. None) held
 abbrev pub all_held : Sessions → Content → Content
 all_held [] content = content
 all_held (row ∷ rows) content =
-    all_held rows (with_filters content row.0 (granted_last row.1.state.subscriptions))
+    all_held rows (with_client_filters content row.0 (granted_last row.1.state.subscriptions))

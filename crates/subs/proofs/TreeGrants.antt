@@ -22,7 +22,7 @@ use Rattle.topics.proofs.LevelByLevel.{is_last_levels}
 use Rattle.packet_base.specs.declared.qos.QoS.{QoS}
 use Rattle.packet_base.specs.QoS.{qos_number}
 use Rattle.subs_base.specs.Content.{Content}
-use Rattle.subs_base.specs.Granted.{Row, clients_of, IsGreatest, IsGranted, IsWanted}
+use Rattle.subs_base.specs.Granted.{Row, clients_of_rows, IsGreatest, IsGranted, IsWanted}
 use Rattle.subs_base.proofs.RowsAreGranted.{later, first}
 use Rattle.subs.specs.Shape.{Shape, asked_below, shape_content}
 use Rattle.subs.specs.Walk.{GivesSome, found_at, found_below, found_named, found_from, found_for}
@@ -186,12 +186,12 @@ stands (e ∷ es) sorted =
     (λ r h. later r.0 e es r.1 sorted h) es
     (stands es (sorted_tail (slice_cmp nat_cmp) e.0 (keys_of es) sorted)))
 
-pub has_row : (es : List Row) (client : List ℕ) (qos : QoS) → lookup (is_at (slice_cmp nat_cmp client)) es ≡ Some qos → Contains (clients_of es) client
+pub has_row : (es : List Row) (client : List ℕ) (qos : QoS) → lookup (is_at (slice_cmp nat_cmp client)) es ≡ Some qos → Contains (clients_of_rows es) client
 has_row [] client qos h = absurd cc
 has_row (e ∷ es) client qos h =
-    elim (is_eq (slice_cmp nat_cmp client e.0)) as (λ v. is_eq (slice_cmp nat_cmp client e.0) ≡ v → cond v (Some e.1) (lookup (is_at (slice_cmp nat_cmp client)) es) ≡ Some qos → Contains (clients_of (e ∷ es)) client) [
+    elim (is_eq (slice_cmp nat_cmp client e.0)) as (λ v. is_eq (slice_cmp nat_cmp client e.0) ≡ v → cond v (Some e.1) (lookup (is_at (slice_cmp nat_cmp client)) es) ≡ Some qos → Contains (clients_of_rows (e ∷ es)) client) [
       | true ↦ λ is s. (0, omega arith, sym ((bytes_decides client e.0).0 (sym (is_eq-slice_cmp client e.0) ∙ is)))
-      | false ↦ λ is s. Contains-append_right (e.0 ∷ []) (clients_of es) client (has_row es client qos s)
+      | false ↦ λ is s. Contains-append_right (e.0 ∷ []) (clients_of_rows es) client (has_row es client qos s)
     ] refl h
 
 same_some : (p q : QoS) → Some p ≡ Some q → p ≡ q

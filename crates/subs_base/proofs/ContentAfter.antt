@@ -7,7 +7,7 @@ use Rattle.std.specs.Cmp.Lexicographic.{slice_cmp, texts_ties, bytes_decides}
 use Rattle.std.specs.Ordering.{nat_cmp, is_eq}
 use Rattle.std.proofs.lemmas.Map.Made.{lookup-map_values}
 use Rattle.packet_base.specs.declared.qos.QoS.{QoS}
-use Rattle.subs_base.specs.Content.{Content, without_client, without_row, with_filters}
+use Rattle.subs_base.specs.Content.{Content, without_client, without_row, with_client_filters}
 use Rattle.subs_base.specs.ListIndex.{content_of, at}
 use Rattle.subs_base.specs.Inside.{listed}
 
@@ -158,7 +158,7 @@ put_in false f new o = refl
 pub content_put :
     (m n : Map) (client : List ℕ) (new : Kept)
     → ((c : List ℕ) → get (slice_cmp nat_cmp) n c ≡ cond (is_at (slice_cmp nat_cmp client) c) (Some new) (get (slice_cmp nat_cmp) m c))
-    → content_of (listed n.entries) ≡ with_filters (content_of (listed m.entries)) client (get (slice_cmp nat_cmp) new)
+    → content_of (listed n.entries) ≡ with_client_filters (content_of (listed m.entries)) client (get (slice_cmp nat_cmp) new)
 content_put m n client new outer =
     let point : (c f : List ℕ) → held n c f ≡ cond (bytes_eq client c) (get (slice_cmp nat_cmp) new f) (held m c f) = λ c f.
     ap (option_and_then (λ filters. get (slice_cmp nat_cmp) filters f)) (outer c)
@@ -167,6 +167,6 @@ content_put m n client new outer =
     λ i c f. (content_held n c f ∙ point c f ∙ ap (cond (bytes_eq client c) (get (slice_cmp nat_cmp) new f)) (sym (content_held m c f))) i
 
 -- with no filters it is removed
-pub none_put : (before : Content) (client : List ℕ) (new : Kept) → new.entries ≡ [] → without_client before client ≡ with_filters before client (get (slice_cmp nat_cmp) new)
+pub none_put : (before : Content) (client : List ℕ) (new : Kept) → new.entries ≡ [] → without_client before client ≡ with_client_filters before client (get (slice_cmp nat_cmp) new)
 none_put before client new empty =
     λ i c f. cond (bytes_eq client c) (sym (ap (lookup (is_at (slice_cmp nat_cmp f))) empty) i) (before c f)

@@ -11,7 +11,7 @@ use Rattle.packet_base.specs.declared.qos.QoS.{QoS}
 use Rattle.packet_base.specs.declared.qos.QoS.TheVariants as qualities
 use Rattle.packet_base.specs.QoS.{qos_number}
 use Rattle.subs_base.specs.Content.{Content}
-use Rattle.subs_base.specs.Granted.{Row, clients_of, IsGreatest, IsGranted}
+use Rattle.subs_base.specs.Granted.{Row, clients_of_rows, IsGreatest, IsGranted}
 use Rattle.subs_base.specs.Laws.{GrantsOneList}
 
 same_qos : (p q : QoS) → qos_number p ≡ qos_number q → p ≡ q
@@ -77,36 +77,36 @@ same_tails x y xs ys e sorted to c h =
 
 same_rows :
     (content : Content) (topic : List ℕ) (xs ys : List Row)
-    → IsStrictlySortedBy (slice_cmp nat_cmp) (clients_of xs) → IsStrictlySortedBy (slice_cmp nat_cmp) (clients_of ys)
+    → IsStrictlySortedBy (slice_cmp nat_cmp) (clients_of_rows xs) → IsStrictlySortedBy (slice_cmp nat_cmp) (clients_of_rows ys)
     → All (λ row. IsGreatest content topic row.0 row.1) xs → All (λ row. IsGreatest content topic row.0 row.1) ys
-    → ((c : List ℕ) → Contains (clients_of xs) c → Contains (clients_of ys) c)
-    → ((c : List ℕ) → Contains (clients_of ys) c → Contains (clients_of xs) c)
+    → ((c : List ℕ) → Contains (clients_of_rows xs) c → Contains (clients_of_rows ys) c)
+    → ((c : List ℕ) → Contains (clients_of_rows ys) c → Contains (clients_of_rows xs) c)
     → xs ≡ ys
 same_rows content topic [] [] sx sy gx gy to back = refl
-same_rows content topic [] (y ∷ ys) sx sy gx gy to back = let h = back y.0 (head_is y.0 (clients_of ys)) in let l = h.1 in absurd (omega arith)
-same_rows content topic (x ∷ xs) [] sx sy gx gy to back = let h = to x.0 (head_is x.0 (clients_of xs)) in let l = h.1 in absurd (omega arith)
+same_rows content topic [] (y ∷ ys) sx sy gx gy to back = let h = back y.0 (head_is y.0 (clients_of_rows ys)) in let l = h.1 in absurd (omega arith)
+same_rows content topic (x ∷ xs) [] sx sy gx gy to back = let h = to x.0 (head_is x.0 (clients_of_rows xs)) in let l = h.1 in absurd (omega arith)
 same_rows content topic (x ∷ xs) (y ∷ ys) sx sy gx gy to back =
-    let e : x.0 ≡ y.0 = same_heads x.0 y.0 (clients_of xs) (clients_of ys) sx sy (to x.0 (head_is x.0 (clients_of xs))) (back y.0 (head_is y.0 (clients_of ys))) in
+    let e : x.0 ≡ y.0 = same_heads x.0 y.0 (clients_of_rows xs) (clients_of_rows ys) sx sy (to x.0 (head_is x.0 (clients_of_rows xs))) (back y.0 (head_is y.0 (clients_of_rows ys))) in
     let q : x.1 ≡ y.1 =
     same_greatest content topic y.0 x.1 y.1
     (subst (λ (c : List ℕ). IsGreatest content topic c x.1) e (All-head (λ row. IsGreatest content topic row.0 row.1) x xs gx))
     (All-head (λ row. IsGreatest content topic row.0 row.1) y ys gy) in
     let rest : xs ≡ ys =
     same_rows content topic xs ys
-    (sorted_tail (slice_cmp nat_cmp) x.0 (clients_of xs) sx)
-    (sorted_tail (slice_cmp nat_cmp) y.0 (clients_of ys) sy)
+    (sorted_tail (slice_cmp nat_cmp) x.0 (clients_of_rows xs) sx)
+    (sorted_tail (slice_cmp nat_cmp) y.0 (clients_of_rows ys) sy)
     (All-tail (λ row. IsGreatest content topic row.0 row.1) x xs gx)
     (All-tail (λ row. IsGreatest content topic row.0 row.1) y ys gy)
-    (same_tails x.0 y.0 (clients_of xs) (clients_of ys) e sx to)
-    (same_tails y.0 x.0 (clients_of ys) (clients_of xs) (sym e) sy back) in
+    (same_tails x.0 y.0 (clients_of_rows xs) (clients_of_rows ys) e sx to)
+    (same_tails y.0 x.0 (clients_of_rows ys) (clients_of_rows xs) (sym e) sy back) in
     λ i. (e i, q i) ∷ rest i
 
 -- each client of the one is in the other, since it asked for a filter
-in_other : (content : Content) (topic : List ℕ) (xs ys : List Row) → IsGranted content topic xs → IsGranted content topic ys → (c : List ℕ) → Contains (clients_of xs) c → Contains (clients_of ys) c
+in_other : (content : Content) (topic : List ℕ) (xs ys : List Row) → IsGranted content topic xs → IsGranted content topic ys → (c : List ℕ) → Contains (clients_of_rows xs) c → Contains (clients_of_rows ys) c
 in_other content topic xs ys h k c inside =
-    All-contains (λ c. Contains (clients_of ys) c) (clients_of xs) c
-    (All-map (λ c. Contains (clients_of ys) c) (λ (row : Row). row.0) xs
-    (All-weaker (λ row. IsGreatest content topic row.0 row.1) (λ row. Contains (clients_of ys) row.0)
+    All-contains (λ c. Contains (clients_of_rows ys) c) (clients_of_rows xs) c
+    (All-map (λ c. Contains (clients_of_rows ys) c) (λ (row : Row). row.0) xs
+    (All-weaker (λ row. IsGreatest content topic row.0 row.1) (λ row. Contains (clients_of_rows ys) row.0)
     (λ row g. k.complete row.0 g.asked.0 row.1 g.asked.1 g.asked.2)
     xs h.greatest))
     inside

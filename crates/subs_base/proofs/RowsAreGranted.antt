@@ -19,7 +19,7 @@ use Rattle.topics.specs.Matching.{Matches, is_match}
 use Rattle.topics.proofs.MatchingIsTested.{tested}
 use Rattle.packet_base.specs.declared.qos.QoS.{QoS}
 use Rattle.packet_base.specs.QoS.{greater_qos, qos_number}
-use Rattle.subs_base.specs.Granted.{Row, clients_of, IsGreatest, IsGranted, IsWanted, AppendsGranted, row_of}
+use Rattle.subs_base.specs.Granted.{Row, clients_of_rows, IsGreatest, IsGranted, IsWanted, AppendsGranted, row_of}
 use Rattle.subs_base.specs.ListIndex.{Filters, Clients, at, content_of}
 use Rattle.subs_base.specs.Inside.{greatest_from, rows_of, AreOrdered, listed}
 
@@ -139,19 +139,19 @@ origins topic (e ∷ es) sorted ordered =
       | Some q ↦ λ t. All-cons (Origin topic (e ∷ es)) (e.0, q) (rows_of topic es) (e.1, first e es, t, ordered.0) rest
     ] refl
 
-below_rows : (topic : List ℕ) (k : List ℕ) (es : Clients) → AllByRecursion (λ y. slice_cmp nat_cmp k y ≡ Less) (keys_of es) → AllByRecursion (λ y. slice_cmp nat_cmp k y ≡ Less) (clients_of (rows_of topic es))
+below_rows : (topic : List ℕ) (k : List ℕ) (es : Clients) → AllByRecursion (λ y. slice_cmp nat_cmp k y ≡ Less) (keys_of es) → AllByRecursion (λ y. slice_cmp nat_cmp k y ≡ Less) (clients_of_rows (rows_of topic es))
 below_rows topic k [] h = h
 below_rows topic k (e ∷ es) h =
-    elim (greatest_from topic None e.1) as (λ v. AllByRecursion (λ y. slice_cmp nat_cmp k y ≡ Less) (clients_of (row_of e.0 v ++ rows_of topic es))) [
+    elim (greatest_from topic None e.1) as (λ v. AllByRecursion (λ y. slice_cmp nat_cmp k y ≡ Less) (clients_of_rows (row_of e.0 v ++ rows_of topic es))) [
       | None ↦ below_rows topic k es h.1
       | Some q ↦ (h.0, below_rows topic k es h.1)
     ]
 
-rising : (topic : List ℕ) (es : Clients) → IsStrictlySortedBy (slice_cmp nat_cmp) (keys_of es) → IsStrictlySortedBy (slice_cmp nat_cmp) (clients_of (rows_of topic es))
+rising : (topic : List ℕ) (es : Clients) → IsStrictlySortedBy (slice_cmp nat_cmp) (keys_of es) → IsStrictlySortedBy (slice_cmp nat_cmp) (clients_of_rows (rows_of topic es))
 unfolding IsStrictlySortedBy
 rising topic [] h = h
 rising topic (e ∷ es) h =
-    elim (greatest_from topic None e.1) as (λ v. IsStrictlySortedBy (slice_cmp nat_cmp) (clients_of (row_of e.0 v ++ rows_of topic es))) [
+    elim (greatest_from topic None e.1) as (λ v. IsStrictlySortedBy (slice_cmp nat_cmp) (clients_of_rows (row_of e.0 v ++ rows_of topic es))) [
       | None ↦ rising topic es h.1
       | Some q ↦ (below_rows topic e.0 es h.0, rising topic es h.1)
     ]
@@ -159,19 +159,19 @@ rising topic (e ∷ es) h =
 head_is : (x : List ℕ) (xs : List (List ℕ)) → Contains (x ∷ xs) x
 head_is x xs = (0, omega arith, refl)
 
-complete : (topic : List ℕ) (es : Clients) (c f : List ℕ) (q : QoS) → content_of es c f ≡ Some q → is_match f topic ≡ true → Contains (clients_of (rows_of topic es)) c
+complete : (topic : List ℕ) (es : Clients) (c f : List ℕ) (q : QoS) → content_of es c f ≡ Some q → is_match f topic ≡ true → Contains (clients_of_rows (rows_of topic es)) c
 complete topic [] c f q found is = absurd cc
 complete topic (e ∷ es) c f q found is =
-    elim (is_at (slice_cmp nat_cmp c) e.0) as (λ v. is_at (slice_cmp nat_cmp c) e.0 ≡ v → option_and_then (at f) (cond v (Some e.1) (at c es)) ≡ Some q → Contains (clients_of (rows_of topic (e ∷ es))) c) [
+    elim (is_at (slice_cmp nat_cmp c) e.0) as (λ v. is_at (slice_cmp nat_cmp c) e.0 ≡ v → option_and_then (at f) (cond v (Some e.1) (at c es)) ≡ Some q → Contains (clients_of_rows (rows_of topic (e ∷ es))) c) [
       | true ↦ λ t s.
           let r = reaches topic None e.1 f q s is in
           let here : rows_of topic (e ∷ es) ≡ (e.0, r.0) ∷ rows_of topic es = ap (λ v. row_of e.0 v ++ rows_of topic es) r.1 in
-          subst (λ (rows : List Row). Contains (clients_of rows) c) (sym here)
-          (subst (λ (x : List ℕ). Contains (e.0 ∷ clients_of (rows_of topic es)) x) (sym (same c e.0 t)) (head_is e.0 (clients_of (rows_of topic es))))
+          subst (λ (rows : List Row). Contains (clients_of_rows rows) c) (sym here)
+          (subst (λ (x : List ℕ). Contains (e.0 ∷ clients_of_rows (rows_of topic es)) x) (sym (same c e.0 t)) (head_is e.0 (clients_of_rows (rows_of topic es))))
       | false ↦ λ t s.
-          elim (greatest_from topic None e.1) as (λ v. Contains (clients_of (row_of e.0 v ++ rows_of topic es)) c) [
+          elim (greatest_from topic None e.1) as (λ v. Contains (clients_of_rows (row_of e.0 v ++ rows_of topic es)) c) [
             | None ↦ complete topic es c f q s is
-            | Some p ↦ Contains-append_right (e.0 ∷ []) (clients_of (rows_of topic es)) c (complete topic es c f q s is)
+            | Some p ↦ Contains-append_right (e.0 ∷ []) (clients_of_rows (rows_of topic es)) c (complete topic es c f q s is)
           ]
     ] refl found
 

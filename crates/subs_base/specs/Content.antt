@@ -25,5 +25,5 @@ abbrev pub without_client : Content → List ℕ → Content
 without_client content client c f = if bytes_eq client c then None else content c f
 
 -- the client's subscriptions are these
-abbrev pub with_filters : Content → List ℕ → (List ℕ → Option QoS) → Content
-with_filters content client asked c f = if bytes_eq client c then asked f else content c f
+abbrev pub with_client_filters : Content → List ℕ → (List ℕ → Option QoS) → Content
+with_client_filters content client asked c f = if bytes_eq client c then asked f else content c f

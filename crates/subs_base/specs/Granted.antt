@@ -19,8 +19,8 @@ row_of client None = []
 row_of client (Some qos) = (client, qos) ∷ []
 
 -- the rows' clients
-abbrev pub clients_of : List Row → List (List ℕ)
-clients_of rows = map (λ row. row.0) rows
+abbrev pub clients_of_rows : List Row → List (List ℕ)
+clients_of_rows rows = map (λ row. row.0) rows
 
 -- this QoS is the greatest of the client's filters that match the topic (MQTT 3.3.5)
 pub record IsGreatest (content : Content) (topic client : List ℕ) (qos : QoS) : Type 0 where
@@ -33,13 +33,13 @@ pub record IsGreatest (content : Content) (topic client : List ℕ) (qos : QoS) 
 
 -- a row for each client with a matching filter, in the order of the clients' bytes
 pub record IsGranted (content : Content) (topic : List ℕ) (rows : List Row) : Type 0 where
-  pub rising : IsStrictlySortedBy (slice_cmp nat_cmp) (clients_of rows)
+  pub rising : IsStrictlySortedBy (slice_cmp nat_cmp) (clients_of_rows rows)
   pub greatest : All (λ row. IsGreatest content topic row.0 row.1) rows
   pub complete :
       (client filter : List ℕ) (qos : QoS)
       → content client filter ≡ Some qos
       → Matches filter topic
-      → Contains (clients_of rows) client
+      → Contains (clients_of_rows rows) client
 
 -- some client has a filter that matches the topic
 abbrev pub IsWanted : Content → List ℕ → Type 0

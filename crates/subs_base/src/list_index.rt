@@ -24,7 +24,7 @@ ghost use Rattle.std.specs.Prelude.{
 ghost use Rattle.std.specs.Cmp.Lexicographic.{slice_cmp};
 ghost use Rattle.std.specs.Ordering.{nat_cmp};
 ghost use Rattle.std.specs.BTreeMap.{Updates, IsOrdered, get};
-ghost use Rattle.subs_base.specs.Content.{without_row, with_filters};
+ghost use Rattle.subs_base.specs.Content.{without_row, with_client_filters};
 ghost use Rattle.subs_base.specs.Granted.{IsWanted};
 ghost use Rattle.subs_base.specs.ListIndex.{content_of, at};
 ghost use Rattle.subs_base.specs.Inside.{listed, greatest_from, rows_of, AreOrdered};
@@ -123,7 +123,7 @@ impl ListIndex {
         filters: BTreeMap<Filter, QoS>,
     ) -> Result<(), AllocError>
         ensures ok { OnOk result
-            (content_of self.new ≡ with_filters (content_of self.old) client.now
+            (content_of self.new ≡ with_client_filters (content_of self.old) client.now
             (get (slice_cmp nat_cmp) filters)) }
         ensures err { OnErr result (content_of self.new ≡ content_of self.old) }
     {

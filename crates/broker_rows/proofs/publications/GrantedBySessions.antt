@@ -16,7 +16,7 @@ use Rattle.broker_base.proofs.SessionsStayByClient.{ComesBefore}
 use Rattle.broker_base.specs.StateLaws.{AreByClient}
 use Rattle.broker_spec.proofs.ClientsInOrder.{same_is}
 use Rattle.subs_base.specs.Content.{Content}
-use Rattle.subs_base.specs.Granted.{Row, clients_of, IsGreatest, IsGranted, row_of}
+use Rattle.subs_base.specs.Granted.{Row, clients_of_rows, IsGreatest, IsGranted, row_of}
 use Rattle.subs_base.proofs.GrantsOneList.{one_list}
 use Rattle.broker_rows.specs.Published.{granted_rows}
 use Rattle.broker_rows.specs.Indexed.{subscribed_in, content_in}
@@ -28,20 +28,20 @@ use Rattle.broker_rows.proofs.publications.GreatestGranted.{reaches, comes}
 -- ---- the rows rise
 
 -- a client before all sessions comes before each granted row
-below_rows : (topic : List ℕ) (c : Client) (rows : Sessions) → ComesBefore c rows → AllByRecursion (λ y. by_bytes c y ≡ Less) (clients_of (granted_rows topic rows))
+below_rows : (topic : List ℕ) (c : Client) (rows : Sessions) → ComesBefore c rows → AllByRecursion (λ y. by_bytes c y ≡ Less) (clients_of_rows (granted_rows topic rows))
 below_rows topic c [] before = tt
 below_rows topic c (row ∷ rows) before =
-    elim (granted_qos topic row.1.state.subscriptions) as (λ v. AllByRecursion (λ y. by_bytes c y ≡ Less) (clients_of (row_of row.0 v ++ granted_rows topic rows))) [
+    elim (granted_qos topic row.1.state.subscriptions) as (λ v. AllByRecursion (λ y. by_bytes c y ≡ Less) (clients_of_rows (row_of row.0 v ++ granted_rows topic rows))) [
       | None ↦ below_rows topic c rows before.1
       | Some q ↦ (before.0, below_rows topic c rows before.1)
     ]
 
 -- so the granted rows rise
-rising : (topic : List ℕ) (rows : Sessions) → AreByClient rows → IsStrictlySortedBy by_bytes (clients_of (granted_rows topic rows))
+rising : (topic : List ℕ) (rows : Sessions) → AreByClient rows → IsStrictlySortedBy by_bytes (clients_of_rows (granted_rows topic rows))
 unfolding IsStrictlySortedBy
 rising topic [] by_client = tt
 rising topic (row ∷ rows) by_client =
-    elim (granted_qos topic row.1.state.subscriptions) as (λ v. IsStrictlySortedBy by_bytes (clients_of (row_of row.0 v ++ granted_rows topic rows))) [
+    elim (granted_qos topic row.1.state.subscriptions) as (λ v. IsStrictlySortedBy by_bytes (clients_of_rows (row_of row.0 v ++ granted_rows topic rows))) [
       | None ↦ rising topic rows by_client.1
       | Some q ↦ (below_rows topic row.0 rows by_client.0, rising topic rows by_client.1)
     ]
@@ -82,19 +82,19 @@ head_is : (x : List ℕ) (xs : List (List ℕ)) → Contains (x ∷ xs) x
 head_is x xs = (0, omega arith, refl)
 
 -- a client that asked for a matching filter is among the rows
-complete : (topic : List ℕ) (rows : Sessions) (c f : List ℕ) (q : QoS) → content_in rows c f ≡ Some q → is_match f topic ≡ true → Contains (clients_of (granted_rows topic rows)) c
+complete : (topic : List ℕ) (rows : Sessions) (c f : List ℕ) (q : QoS) → content_in rows c f ≡ Some q → is_match f topic ≡ true → Contains (clients_of_rows (granted_rows topic rows)) c
 complete topic [] c f q found is = absurd (cc)
 complete topic (row ∷ rows) c f q found is =
-    elim (same_client c row.0) as (λ v. same_client c row.0 ≡ v → subscribed_in f (cond v (Some row.1) (session_in c rows)) ≡ Some q → Contains (clients_of (granted_rows topic (row ∷ rows))) c) [
+    elim (same_client c row.0) as (λ v. same_client c row.0 ≡ v → subscribed_in f (cond v (Some row.1) (session_in c rows)) ≡ Some q → Contains (clients_of_rows (granted_rows topic (row ∷ rows))) c) [
       | true ↦ λ t s.
           let r = reaches topic row.1.state.subscriptions f q s is in
           let here : granted_rows topic (row ∷ rows) ≡ (row.0, r.0) ∷ granted_rows topic rows = ap (λ v. row_of row.0 v ++ granted_rows topic rows) r.1 in
-          subst (λ (granted : List Row). Contains (clients_of granted) c) (sym here)
-          (subst (λ (x : List ℕ). Contains (row.0 ∷ clients_of (granted_rows topic rows)) x) (sym (same_is c row.0 t)) (head_is row.0 (clients_of (granted_rows topic rows))))
+          subst (λ (granted : List Row). Contains (clients_of_rows granted) c) (sym here)
+          (subst (λ (x : List ℕ). Contains (row.0 ∷ clients_of_rows (granted_rows topic rows)) x) (sym (same_is c row.0 t)) (head_is row.0 (clients_of_rows (granted_rows topic rows))))
       | false ↦ λ t s.
-          elim (granted_qos topic row.1.state.subscriptions) as (λ v. Contains (clients_of (row_of row.0 v ++ granted_rows topic rows)) c) [
+          elim (granted_qos topic row.1.state.subscriptions) as (λ v. Contains (clients_of_rows (row_of row.0 v ++ granted_rows topic rows)) c) [
             | None ↦ complete topic rows c f q s is
-            | Some p ↦ Contains-append_right (row.0 ∷ []) (clients_of (granted_rows topic rows)) c (complete topic rows c f q s is)
+            | Some p ↦ Contains-append_right (row.0 ∷ []) (clients_of_rows (granted_rows topic rows)) c (complete topic rows c f q s is)
           ]
     ] refl found
 

@@ -3,7 +3,7 @@ use Rattle.std.proofs.Common.{◌≡◌, ◌∙◌, ap, subst, ℕ, List, Some, 
 use Rattle.std.specs.BTreeMap.{get, is_at}
 use Rattle.std.specs.Cmp.Lexicographic.{slice_cmp}
 use Rattle.std.specs.Ordering.{nat_cmp}
-use Rattle.subs_base.specs.Content.{with_filters}
+use Rattle.subs_base.specs.Content.{with_client_filters}
 use Rattle.subs_base.specs.ListIndex.{content_of}
 use Rattle.subs_base.proofs.ContentAfter.{content_put, none_put}
 use Rattle.subs_base.proofs.EmptyMapGoes.{no_entries}
@@ -21,4 +21,4 @@ returns-clause-ok c =
     (λ (k : List ℕ). (q : List ℕ) → get (slice_cmp nat_cmp) c.insert.new.self q ≡ cond (is_at (slice_cmp nat_cmp k) q) (Some c.args.filters) (get (slice_cmp nat_cmp) c.self.inside.clients q))
     c.in_ok-clone.ensures.cases
     c.in_ok-insert.ensures.updates.0)
-    ∙ ap (λ v. with_filters (content_of v) c.args.client.now (get (slice_cmp nat_cmp) c.args.filters)) c.self.view_is
+    ∙ ap (λ v. with_client_filters (content_of v) c.args.client.now (get (slice_cmp nat_cmp) c.args.filters)) c.self.view_is
