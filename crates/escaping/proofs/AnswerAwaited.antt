@@ -17,7 +17,7 @@ use Rattle.node_moves.specs.world_base.Step.{node_step, settled}
 use Rattle.node_moves.proofs.Views.{found_passes}
 use Rattle.escaping.specs.Delivery.{heard_by}
 use Rattle.escaping.specs.Asking.{asked_now, proposal_at}
-use Rattle.escaping.specs.Opening.{first_name}
+use Rattle.escaping.specs.Opening.{first_name_of_node}
 use Rattle.escaping.specs.Waiting.{AskedAwaitsAnswer, AwaitsAnswer, AwaitsConnect, FirstAwaitsConnect, HandingKeepsItWaiting, HandingKeepsTheConnect, MessagesKeepItWaiting}
 use Rattle.escaping.proofs.AnswerPutOut.{found_both}
 use Rattle.escaping.proofs.OneDelivery.{calm_finds, drives_silently, none_lost, with_replica}
@@ -191,8 +191,8 @@ first_awaits_connect port core free unnamed =
       waits = record {
         connection = new;
         listed = found_last (is_at port) (filter is_listed core.connections) new (none_kept (is_at port) is_listed core.connections (none_there (is_at port) core.connections free)) here;
-        named = found_last (is_open_named (first_name core)) (filter is_listed core.connections) new (none_kept (is_open_named (first_name core)) is_listed core.connections unnamed)
-            (named_self (first_name core));
+        named = found_last (is_open_named (first_name_of_node core)) (filter is_listed core.connections) new (none_kept (is_open_named (first_name_of_node core)) is_listed core.connections unnamed)
+            (named_self (first_name_of_node core));
         none = refl;
       };
       name = refl;
@@ -202,7 +202,7 @@ first_awaits_connect port core free unnamed =
     }
   where
     new : Connection
-    new = fresh port (first_name core)
+    new = fresh port (first_name_of_node core)
 
     here : is_at port new ≡ true
     here = eq-eqb port.0 port.0 refl

@@ -32,7 +32,7 @@ use Rattle.node_moves.specs.world_base.Reading.{changes, open_at, reads, reads_a
 use Rattle.node_moves.specs.world_base.Step.{node_step, settled}
 use Rattle.node_moves.specs.world_base.Effects.{has_room, is_message, proposes, without_messages, repeated, with_effect, then_also}
 use Rattle.node_moves.proofs.Views.{each_kept}
-use Rattle.escaping.specs.Asking.{ConnectIsProposed, asked_now, proposal_at, with_asked}
+use Rattle.escaping.specs.Asking.{ConnectIsProposed, asked_now, proposal_at, with_asked_connect}
 use Rattle.escaping.specs.Delivery.{ReportsItsLosses}
 use Rattle.escaping.proofs.OneDelivery.{calm_finds, none_lost, none_handled, only_messages, with_replica}
 
@@ -194,20 +194,20 @@ module _ (core : CoreState) (port : Port) (now : ℕ) (piece : List ℕ) (c : Co
   after_calm : ReportsItsLosses after
   after_calm = each_kept (λ (d : Connection). has_failed d ≡ false) (is_open_at port) (asked_now now connect.keep_alive) core.connections (λ d e. refl) calm
 
-  settled_after : settled after ≡ with_asked now port connect command core
+  settled_after : settled after ≡ with_asked_connect now port connect command core
   unfolding settled
   settled_after =
       ap (λ (b : Bool). let k : CoreState = record after { connections = filter is_listed (if b then after.connections else map closed_connection after.connections) } in k)
       (proposed_serves core command room)
 
-  pub is_proposed : node_step (Bytes port piece now) core ≡ record { core = with_asked now port connect command core; messages = (proposal_at core command).effects }
+  pub is_proposed : node_step (Bytes port piece now) core ≡ record { core = with_asked_connect now port connect command core; messages = (proposal_at core command).effects }
   unfolding changes
   is_proposed =
       ap (λ (u : StepOutcome). let v : StepOutcome = record { core = settled (loses_all_failed u.core).core; messages = u.messages ++ (loses_all_failed u.core).messages } in v) all_read
       ∙ ap (λ (u : StepOutcome). let v : StepOutcome = record { core = settled u.core; messages = (proposal_at core command).effects ++ u.messages } in v)
       (none_lost (length after.connections) after (calm_finds after.connections after_calm))
       ∙ ap (λ (k : CoreState). let v : StepOutcome = record { core = k; messages = (proposal_at core command).effects ++ [] } in v) settled_after
-      ∙ ap (λ (l : List (Effect Command Output)). let v : StepOutcome = record { core = with_asked now port connect command core; messages = l } in v)
+      ∙ ap (λ (l : List (Effect Command Output)). let v : StepOutcome = record { core = with_asked_connect now port connect command core; messages = l } in v)
       (append-nil (proposal_at core command).effects)
 
 pub connect_is_proposed : ConnectIsProposed

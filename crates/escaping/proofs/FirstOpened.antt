@@ -14,7 +14,7 @@ use Rattle.node_moves.specs.world_base.Core.{CoreState, StepOutcome, serves}
 use Rattle.node_moves.specs.world_base.Failing.{loses_all_failed}
 use Rattle.node_moves.specs.world_base.Step.{next_name, with_next_connection, settled}
 use Rattle.node_moves.specs.world_base.Effects.{without_messages}
-use Rattle.escaping.specs.Opening.{FirstIsOpened, first_name, with_first}
+use Rattle.escaping.specs.Opening.{FirstIsOpened, first_name_of_node, with_first_connection}
 use Rattle.escaping.proofs.OneDelivery.{calm_finds, none_lost}
 
 both : (x y : Bool) → x ≡ true → y ≡ true → (x && y) ≡ true
@@ -22,9 +22,9 @@ both x y e f = rw (e, f) refl
 
 -- the node with the connection, before it is settled
 abbrev with_new : Port → CoreState → CoreState
-with_new port core = record core { last_name = first_name core; connections = core.connections ++ fresh port (first_name core) ∷ [] }
+with_new port core = record core { last_name = first_name_of_node core; connections = core.connections ++ fresh port (first_name_of_node core) ∷ [] }
 
-next_is_first : (core : CoreState) → core.last_name.ballot < core.replica.state.joined → next_name core ≡ first_name core
+next_is_first : (core : CoreState) → core.last_name.ballot < core.replica.state.joined → next_name core ≡ first_name_of_node core
 next_is_first core low =
     ap (λ (b : Bool). let x : ConnectionName = record { ballot = core.replica.state.joined; count = (if b then core.last_name.count else 0) + 1 } in x)
     (ne_eqb core.last_name.ballot core.replica.state.joined (λ e. let z = low in omega (arith, e, z)))
@@ -47,21 +47,21 @@ opens_first core port leads low most new =
     opened : ConnectionName → CoreState
     opened x = record core { last_name = x; connections = core.connections ++ fresh port x ∷ [] }
 
-settled_new : (core : CoreState) (port : Port) → serves core ≡ true → settled (with_new port core) ≡ with_first port core
+settled_new : (core : CoreState) (port : Port) → serves core ≡ true → settled (with_new port core) ≡ with_first_connection port core
 unfolding settled
 settled_new core port leads =
     ap (λ (b : Bool). let k : CoreState = record (with_new port core) {
       connections = filter is_listed (if b then (with_new port core).connections else map closed_connection (with_new port core).connections);
     } in k) leads
     ∙ ap (λ (l : List Connection). let k : CoreState = record (with_new port core) { connections = l } in k)
-    (filter-append is_listed core.connections (fresh port (first_name core) ∷ []))
+    (filter-append is_listed core.connections (fresh port (first_name_of_node core) ∷ []))
 
 pub first_is_opened : FirstIsOpened
 first_is_opened core port now leads calm low most new =
     ap (λ (k : CoreState). ending (without_messages k)) (opens_first core port leads low most new)
     ∙ ap (λ (t : StepOutcome). let u : StepOutcome = record { core = settled t.core; messages = [] ++ t.messages } in u)
     (none_lost (length (with_new port core).connections) (with_new port core) (calm_finds (with_new port core).connections
-    (each_append (λ (c : Connection). has_failed c ≡ false) core.connections (fresh port (first_name core) ∷ []) calm (refl, tt))))
+    (each_append (λ (c : Connection). has_failed c ≡ false) core.connections (fresh port (first_name_of_node core) ∷ []) calm (refl, tt))))
     ∙ ap without_messages (settled_new core port leads)
   where
     ending : StepOutcome → StepOutcome

@@ -32,8 +32,8 @@ abbrev pub proposal_at : CoreState → Command → Outcome State Command Output
 proposal_at core command = proposed rules core.replica.state command
 
 -- the node that has proposed it, if that has no output yet
-abbrev pub with_asked : ℕ → Port → Connect → Command → CoreState → CoreState
-with_asked now port connect command core =
+abbrev pub with_asked_connect : ℕ → Port → Connect → Command → CoreState → CoreState
+with_asked_connect now port connect command core =
     record core {
       replica = record core.replica { state = (proposal_at core command).state };
       connections = filter is_listed
@@ -50,7 +50,7 @@ ConnectIsProposed =
     verdict piece ≡ Ok (packets.Connect connect, []) →
     outputs (proposal_at core (commands.Connect c.name connect.client connect.clean)).effects ≡ [] →
     node_step (Bytes port piece now) core ≡ record {
-      core = with_asked now port connect
+      core = with_asked_connect now port connect
           (commands.Connect c.name connect.client connect.clean) core;
       messages = (proposal_at core (commands.Connect c.name connect.client connect.clean)).effects;
     }

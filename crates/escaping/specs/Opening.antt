@@ -11,15 +11,15 @@ use Rattle.node_moves.specs.world_base.Effects.{without_messages}
 use Rattle.escaping.specs.Delivery.{ReportsItsLosses}
 
 -- the first name of the ballot that the node joined
-abbrev pub first_name : CoreState → ConnectionName
-first_name core = record { ballot = core.replica.state.joined; count = 1 }
+abbrev pub first_name_of_node : CoreState → ConnectionName
+first_name_of_node core = record { ballot = core.replica.state.joined; count = 1 }
 
 -- the node with a connection of that name at this port, and no other change
-abbrev pub with_first : Port → CoreState → CoreState
-with_first port core =
+abbrev pub with_first_connection : Port → CoreState → CoreState
+with_first_connection port core =
     record core {
-      last_name = first_name core;
-      connections = filter is_listed core.connections ++ fresh port (first_name core) ∷ [];
+      last_name = first_name_of_node core;
+      connections = filter is_listed core.connections ++ fresh port (first_name_of_node core) ∷ [];
     }
 
 -- a node that serves clients, is calm and gave no name in its ballot opens a connection at a port
@@ -29,4 +29,4 @@ FirstIsOpened =
     (core : CoreState) (port : Port) (now : ℕ) → serves core ≡ true → ReportsItsLosses core →
     core.last_name.ballot < core.replica.state.joined →
     core.replica.state.joined ≤ max_ballot → list_any (is_at port) core.connections ≡ false →
-    node_step (Opened port now) core ≡ without_messages (with_first port core)
+    node_step (Opened port now) core ≡ without_messages (with_first_connection port core)

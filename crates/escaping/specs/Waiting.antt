@@ -16,9 +16,9 @@ use Rattle.node_moves.specs.world_base.Core.{CoreState}
 use Rattle.node_moves.specs.world_base.Handing.{hands_over, listed_at}
 use Rattle.node_moves.specs.world_base.Reading.{open_at}
 use Rattle.node_moves.specs.world_base.Step.{node_step}
-use Rattle.escaping.specs.Asking.{with_asked}
+use Rattle.escaping.specs.Asking.{with_asked_connect}
 use Rattle.escaping.specs.Delivery.{ReportsItsLosses, heard_by}
-use Rattle.escaping.specs.Opening.{first_name, with_first}
+use Rattle.escaping.specs.Opening.{first_name_of_node, with_first_connection}
 
 -- a connection of this name at this port is open, and nothing was queued for it
 pub record AwaitsAnswer (port : Port) (x : ConnectionName) (core : CoreState) : Type 0 where
@@ -58,8 +58,8 @@ pub record AwaitsConnect (port : Port) (x : ConnectionName) (core : CoreState) :
 abbrev pub FirstAwaitsConnect : Type 0
 FirstAwaitsConnect =
     (port : Port) (core : CoreState) → list_any (is_at port) core.connections ≡ false →
-    find (is_open_named (first_name core)) core.connections ≡ None →
-    AwaitsConnect port (first_name core) (with_first port core)
+    find (is_open_named (first_name_of_node core)) core.connections ≡ None →
+    AwaitsConnect port (first_name_of_node core) (with_first_connection port core)
 
 -- a connection still awaits its CONNECT after bytes were handed over, at whichever port
 abbrev pub HandingKeepsTheConnect : Type 0
@@ -72,4 +72,4 @@ abbrev pub AskedAwaitsAnswer : Type 0
 AskedAwaitsAnswer =
     (port : Port) (x : ConnectionName) (core : CoreState) (now : ℕ) (connect : Connect)
     (command : Command) → AwaitsConnect port x core →
-    AwaitsAnswer port x (with_asked now port connect command core)
+    AwaitsAnswer port x (with_asked_connect now port connect command core)

@@ -24,7 +24,7 @@ use Rattle.escaping.specs.ballot_base.declared.message.Effect.TheVariants.{Out}
 use Rattle.escaping.specs.broker_base.State.{State}
 use Rattle.escaping.specs.ballot_base.declared.config.Config.{Config}
 use Rattle.escaping.specs.Answering.{PutsOutFirst}
-use Rattle.escaping.specs.Asking.{proposal_at, with_asked}
+use Rattle.escaping.specs.Asking.{proposal_at, with_asked_connect}
 use Rattle.escaping.specs.Delivery.{ReportsItsLosses, heard_by}
 use Rattle.escaping.specs.Waiting.{AwaitsAnswer}
 use Rattle.escaping.specs.Welcome.{IsWelcomedBack}
@@ -239,11 +239,11 @@ module _ (config : Config) (a : Moment State Command Output) (past : List (Momen
     abbrev first : NodesState
     first = after_node_call index node (takes (Bytes port piece now)) n
 
-    stepped : outcome ≡ record { core = with_asked now port connect c core; messages = (proposal_at core c).effects }
+    stepped : outcome ≡ record { core = with_asked_connect now port connect c core; messages = (proposal_at core c).effects }
     stepped =
         connect_is_proposed core port now piece connection connect room calm can.awaits.opened can.awaits.first can.awaits.unread can.is_connect
         (ap (λ (d : Command). outputs (proposal_at core d).effects) proposes_c ∙ h.no_outputs)
-        ∙ ap (λ (d : Command). let t : StepOutcome = record { core = with_asked now port connect d core; messages = (proposal_at core d).effects } in t) proposes_c
+        ∙ ap (λ (d : Command). let t : StepOutcome = record { core = with_asked_connect now port connect d core; messages = (proposal_at core d).effects } in t) proposes_c
 
     seen_first : IsSeen (after_outcome index o a) first
     seen_first =

@@ -11,7 +11,7 @@ use Rattle.escaping.specs.broker_spec.Connection.{ConnectionName}
 use Rattle.escaping.specs.broker_spec.declared.command.Output.{Output}
 use Rattle.escaping.specs.broker_base.State.{State}
 use Rattle.escaping.specs.Delivery.{ReportsItsLosses}
-use Rattle.escaping.specs.Opening.{first_name, with_first}
+use Rattle.escaping.specs.Opening.{first_name_of_node, with_first_connection}
 use Rattle.escaping.specs.Waiting.{AwaitsConnect}
 use Rattle.world_nodes.specs.node_group.Group.{replica_of}
 use Rattle.escaping.specs.node_moves.Moves.NodeCall.{takes, gives}
@@ -50,13 +50,13 @@ module _ (a : Moment State Command Output) (n : NodesState) (ballot index : ℕ)
   joined : core.replica.state.joined ≡ ballot
   joined = can.serves.leads.joined
 
-  named : first_name core ≡ first_of ballot
+  named : first_name_of_node core ≡ first_of ballot
   named = ap first_of joined
 
   leads : serves core ≡ true
   leads = ap (λ (b : Bool). b && not core.replica.state.stopped) (ap is_active can.serves.leads.role) ∙ ap not can.serves.leads.runs
 
-  step : node_step (Opened port now) core ≡ without_messages (with_first port core)
+  step : node_step (Opened port now) core ≡ without_messages (with_first_connection port core)
   step =
       first_is_opened core port now leads (calm_there ballot node joined (can.calm index node can.stands))
       (subst (λ (b : ℕ). core.last_name.ballot < b) (sym joined) can.low) (subst (λ (b : ℕ). b ≤ 2 ^ 32) (sym joined) can.most) can.free
@@ -82,7 +82,7 @@ module _ (a : Moment State Command Output) (n : NodesState) (ballot index : ℕ)
         stands = get_set n.nodes index node after can.stands;
         serves = subst (λ (r : CountedReplica State Command). Serves ballot log others_of (index + 1) (whole a.world.archive r.state)) (sym same) can.serves;
         awaits = subst (λ (x : ConnectionName). AwaitsConnect port x after.core) named
-            (subst (λ (t : StepOutcome). AwaitsConnect port (first_name core) t.core) (sym step)
+            (subst (λ (t : StepOutcome). AwaitsConnect port (first_name_of_node core) t.core) (sym step)
             (first_awaits_connect port core can.free (ap (λ (x : ConnectionName). find (is_open_named x) core.connections) named ∙ can.unnamed)));
       }
 
