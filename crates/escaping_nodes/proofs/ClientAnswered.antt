@@ -57,7 +57,7 @@ use Rattle.ways_out.specs.Following.{Follows}
 use Rattle.ways_out.specs.lists.Lists.{In}
 use Rattle.ways_out.specs.Answering.{AnswersCommand, IsHeldByAll}
 use Rattle.ways_out.proofs.CutGroupsAnswer.{cut_groups_answer}
-use Rattle.escaping_nodes.specs.Answered.{CanAsk, OthersLetTheClientBeAnswered, PutsOutAtLast, SoleMemberAnswersTheClient, begun, last_held, session_present}
+use Rattle.escaping_nodes.specs.Answered.{CanAsk, OthersLetTheClientBeAnswered, PutsOutAtLast, SoleMemberAnswersTheClient, begun_log, last_answer, session_present}
 use Rattle.escaping_nodes.specs.Coming.{AreCalm, Come, IsSeen}
 use Rattle.escaping_nodes.specs.Coming.Come.{all_came as none_comes, to_node as comes_to_node, to_master as comes_to_master, hands}
 use Rattle.escaping_nodes.proofs.LeadsOn.{LeadsAt, leads_on, leads_proposing}
@@ -176,7 +176,7 @@ module _ (config : Config) (a : Moment State Command Output) (past : List (Momen
   r = replica_of core
 
   abbrev log : List Command
-  log = begun list start
+  log = begun_log list start
 
   abbrev c : Command
   c = commands.Connect x connect.client false
@@ -287,20 +287,20 @@ module _ (config : Config) (a : Moment State Command Output) (past : List (Momen
       seen_last : IsSeen h.before new
       seen_last = (deliveries_are_followed ballot (after_outcome index o a) h.before _ delivered first new comes seen_first calm_first).seen
 
-      pub with_others : PutsOutAtLast index (length n.sent + 2 * length front + 1) port (last_held last ballot log) new
+      pub with_others : PutsOutAtLast index (length n.sent + 2 * length front + 1) port (last_answer last ballot log) new
       with_others = by (waits_on ballot index port x (after_outcome index o a) h.before _ delivered first new comes seen_first calm_first waits_first)
         where
-          by : StillWaits ballot index port x new → PutsOutAtLast index (length n.sent + 2 * length front + 1) port (last_held last ballot log) new
+          by : StillWaits ballot index port x new → PutsOutAtLast index (length n.sent + 2 * length front + 1) port (last_answer last ballot log) new
           by w =
               record {
                 node = w.node;
                 stands = w.stands;
                 runs = w.leads.runs;
                 comes = ap (λ (l : List (ℕ × Message Command)). slice_get l (length n.sent + 2 * length front + 1)) (sym seen_last.sent)
-                    ∙ subst (λ (l : List (ℕ × Message Command)). slice_get h.before.world.sent (length l + 2 * length front + 1) ≡ Some (index + 1, last_held last ballot log)) can.seen.sent h.comes;
-                puts = answer_is_put_out w.node.core (last_held last ballot log) port x w.waits.connection (length log) session_present welcomed.rest h.primary.answers.rest w.leads.runs
+                    ∙ subst (λ (l : List (ℕ × Message Command)). slice_get h.before.world.sent (length l + 2 * length front + 1) ≡ Some (index + 1, last_answer last ballot log)) can.seen.sent h.comes;
+                puts = answer_is_put_out w.node.core (last_answer last ballot log) port x w.waits.connection (length log) session_present welcomed.rest h.primary.answers.rest w.leads.runs
                     w.waits.listed w.waits.named w.waits.none
-                    (subst (λ (s : ReplicaState State Command). (received rules s last (last_held last ballot log).body).effects ≡ map (Out (length log)) (Send x session_present ∷ welcomed.rest) ++ h.primary.answers.rest)
+                    (subst (λ (s : ReplicaState State Command). (received rules s last (last_answer last ballot log).body).effects ≡ map (Out (length log)) (Send x session_present ∷ welcomed.rest) ++ h.primary.answers.rest)
                     (some_one (slice_get h.before.world.nodes index) h.primary.replica (replica_of w.node.core) h.primary.stands (replica_at h.before new seen_last index w.node w.stands))
                     (begins _ h.primary.answers.rest h.primary.answers.gives)) some_spelled short_spelled;
               }
@@ -308,13 +308,13 @@ module _ (config : Config) (a : Moment State Command Output) (past : List (Momen
 pub sole_member_answers_the_client : SoleMemberAnswersTheClient
 sole_member_answers_the_client config a past came n ballot index node port x list start now piece connect can =
     alone config a past came n ballot index node [] port x list start now piece connect can
-    ((cut_groups_answer rules config a past came ballot index (replica_of node.core) (begun list start) [] (commands.Connect x connect.client false)
+    ((cut_groups_answer rules config a past came ballot index (replica_of node.core) (begun_log list start) [] (commands.Connect x connect.client false)
     (replica_at a n can.seen index node can.stands) can.serves can.room).0 refl)
 
 pub others_let_the_client_be_answered : OthersLetTheClientBeAnswered
 others_let_the_client_be_answered config a past came n new ballot index node front last port x list start now piece connect can apart out each comes =
     let h =
-    (cut_groups_answer rules config a past came ballot index (replica_of node.core) (begun list start) (front ++ last ∷ []) (commands.Connect x connect.client false)
+    (cut_groups_answer rules config a past came ballot index (replica_of node.core) (begun_log list start) (front ++ last ∷ []) (commands.Connect x connect.client false)
     (replica_at a n can.seen index node can.stands) can.serves can.room).1 front last refl apart out each in
     with_others config a past came n ballot index node (front ++ last ∷ []) port x list start now piece connect can front last h new comes
 
@@ -322,11 +322,11 @@ others_let_the_client_be_answered config a past came n new ballot index node fro
 pub others_are_awaited : (config : Config) (a : Moment State Command Output) (past : List (Moment State Command Output)) → Moments rules config (a ∷ past) → (n : NodesState) (ballot index : ℕ)
     (node : CountedCore) (front : List ℕ) (last : ℕ) (port : Port) (x : ConnectionName) (list : List Command) (start now : ℕ) (piece : List ℕ) (connect : Connect) →
     CanAsk a n ballot index node (front ++ last ∷ []) port x list start piece connect → NumbersAreApart (front ++ last ∷ []) → (In (index + 1) (front ++ last ∷ []) → ⊥) →
-    ((m : ℕ) → In m (front ++ last ∷ []) → NodeIs (Follows ballot (begun list start)) (whole_moment a).world.nodes m) →
+    ((m : ℕ) → In m (front ++ last ∷ []) → NodeIs (Follows ballot (begun_log list start)) (whole_moment a).world.nodes m) →
     AwaitsOthers ballot index port x (numbers_from (length n.sent) (length front + 1) ++ numbers_from (length n.sent + (length front + 1)) (length front))
     (after_node_call index node (takes (Bytes port piece now)) n)
 others_are_awaited config a past came n ballot index node front last port x list start now piece connect can apart out each =
     let h =
-    (cut_groups_answer rules config a past came ballot index (replica_of node.core) (begun list start) (front ++ last ∷ []) (commands.Connect x connect.client false)
+    (cut_groups_answer rules config a past came ballot index (replica_of node.core) (begun_log list start) (front ++ last ∷ []) (commands.Connect x connect.client false)
     (replica_at a n can.seen index node can.stands) can.serves can.room).1 front last refl apart out each in
     awaits_others config a past came n ballot index node (front ++ last ∷ []) port x list start now piece connect can front last h

@@ -39,8 +39,8 @@ abbrev pub session_present : Packet
 session_present = packets.Connack (connacks.Accepted true)
 
 -- the log of a ballot that began after these commands
-abbrev pub begun : List Command → ℕ → List Command
-begun list start = list ++ commands.Start start ∷ []
+abbrev pub begun_log : List Command → ℕ → List Command
+begun_log list start = list ++ commands.Start start ∷ []
 
 -- the node at an index leads a ballot, with the commands of this list before the ballot's start; a
 -- connection awaits its CONNECT there; and the bytes are a CONNECT of a client whose session exists
@@ -52,9 +52,9 @@ pub record CanAsk (a : Moment State Command Output) (n : NodesState) (ballot ind
   pub seen : IsSeen a n
   pub calm : AreCalm ballot n
   pub stands : slice_get n.nodes index ≡ Some node
-  pub serves : Serves ballot (begun list start) others_of (index + 1)
+  pub serves : Serves ballot (begun_log list start) others_of (index + 1)
       (whole a.world.archive (replica_of node.core))
-  pub room : length (begun list start) < max_places
+  pub room : length (begun_log list start) < max_places
   pub awaits : AwaitsConnect port x node.core
   pub session : session_of (past_of usual_limits list) connect.client ≡ Some false
   pub is_connect : verdict piece ≡ Ok (packets.Connect connect, [])
@@ -71,8 +71,8 @@ SoleMemberAnswersTheClient =
     PutsOutFirst port (spelling session_present) (node_step (Bytes port piece now) node.core).core
 
 -- the last answer of another member
-abbrev pub last_held : ℕ → ℕ → List Command → Message Command
-last_held last ballot log = record { from = last; body = Held ballot (length log + 1) }
+abbrev pub last_answer : ℕ → ℕ → List Command → Message Command
+last_answer last ballot log = record { from = last; body = Held ballot (length log + 1) }
 
 -- this message was sent to the node at the index, which runs, and queues the CONNACK first when the
 -- message comes
@@ -96,9 +96,9 @@ OthersLetTheClientBeAnswered =
     CanAsk a n ballot index node (front ++ last ∷ []) port x list start piece connect →
     NumbersAreApart (front ++ last ∷ []) → (In (index + 1) (front ++ last ∷ []) → ⊥) →
     ((m : ℕ) → In m (front ++ last ∷ []) →
-    NodeIs (Follows ballot (begun list start)) (whole_moment a).world.nodes m) →
+    NodeIs (Follows ballot (begun_log list start)) (whole_moment a).world.nodes m) →
     Come (after_node_call index node (takes (Bytes port piece now)) n)
     (numbers_from (length n.sent) (length front + 1)
     ++ numbers_from (length n.sent + (length front + 1)) (length front)) new →
     PutsOutAtLast index (length n.sent + 2 * length front + 1) port
-    (last_held last ballot (begun list start)) new
+    (last_answer last ballot (begun_log list start)) new

@@ -7,7 +7,7 @@ use Rattle.headline.specs.broker_spec.Connection.{ConnectionName}
 use Rattle.headline.specs.broker_spec.declared.command.Output.{Output}
 use Rattle.headline.specs.broker_base.State.{State}
 use Rattle.escaping_client.specs.client.Core.{Core}
-use Rattle.escaping_nodes.specs.Answered.{CanAsk, begun}
+use Rattle.escaping_nodes.specs.Answered.{CanAsk, begun_log}
 use Rattle.ways_out.specs.CutDeliveries.Delivered.{all_came}
 use Rattle.ways_out.specs.Deliveries.{NumbersAreApart, NodeIs}
 use Rattle.ways_out.specs.Following.{Follows}
@@ -81,7 +81,7 @@ module _ (name : List ℕ) (i at number place : ℕ) (core : Core) (up : List �
 
   module _ (front : List ℕ) (last : ℕ) (can : CanAsk a w.nodes ballot place node (front ++ last ∷ []) (port_at_node number) x list start piece connect)
       (apart : NumbersAreApart (front ++ last ∷ [])) (out : In (place + 1) (front ++ last ∷ []) → ⊥)
-      (each : (m : ℕ) → In m (front ++ last ∷ []) → NodeIs (Follows ballot (begun list start)) (whole_moment a).world.nodes m)
+      (each : (m : ℕ) → In m (front ++ last ∷ []) → NodeIs (Follows ballot (begun_log list start)) (whole_moment a).world.nodes m)
       (more : List Event) (new : WorldState) where
     abbrev ks : List ℕ
     ks = numbers_before (length w.nodes.sent) (length front)
@@ -115,6 +115,6 @@ module _ (name : List ℕ) (i at number place : ℕ) (core : Core) (up : List �
     answers_with_others run none =
         let b = others_answer run none in
         let f = deliveries_are_followed ballot awaits.moment awaits.before ks awaits.delivered taken b.mid.nodes b.passes.come awaits.seen awaits.calm in
-        answers_last name ks i at number place core up index last ballot (begun list start) more (with_nodes taken w) new positive b
+        answers_last name ks i at number place core up index last ballot (begun_log list start) more (with_nodes taken w) new positive b
         (others_let_the_client_be_answered config a past came w.nodes b.mid.nodes ballot place node front last (port_at_node number) x list start 0 piece connect can apart out each b.passes.come)
         first w.nodes (nodes_go_join w.nodes taken b.mid.nodes goes b.passes.nodes) (sym f.seen.master ∙ awaits.master)

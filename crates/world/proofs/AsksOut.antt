@@ -13,7 +13,7 @@ use Rattle.headline.specs.broker_spec.declared.command.Output.{Output}
 use Rattle.headline.specs.broker_spec.Past.{session_of}
 use Rattle.headline.specs.broker_base.State.{State}
 use Rattle.escaping_client.specs.client.Core.{Core}
-use Rattle.escaping_nodes.specs.Answered.{CanAsk, begun}
+use Rattle.escaping_nodes.specs.Answered.{CanAsk, begun_log}
 use Rattle.escaping_nodes.specs.Opened.{IsOpened, first_of}
 use Rattle.ways_out.specs.Deliveries.{NumbersAreApart, NodeIs, asked_and_answered}
 use Rattle.ways_out.specs.Following.{Follows}
@@ -64,10 +64,10 @@ split (x ∷ xs) = by (split xs)
 module _ (name : List ℕ) (v : WorldState) (i at number place : ℕ) (core : Core) (up : List ℕ) (positive : 0 < number) (newest : IsNewest i at number (suc place) core up [] true v)
     (housed : SlotsAreValid (targets_of_clients v.clients) v.connections) (first : position (is_named name) v.clients ≡ Some i)
     (config : Config) (a : Moment State Command Output) (past : List (Moment State Command Output)) (came : Moments rules config (a ∷ past)) (ballot : ℕ) (os : List ℕ)
-    (list : List Command) (o : IsOpened a v.nodes ballot place os (begun list ballot) (port_at_node number)) (room : length list + 2 ≤ max_places) (connect : Connect)
+    (list : List Command) (o : IsOpened a v.nodes ballot place os (begun_log list ballot) (port_at_node number)) (room : length list + 2 ≤ max_places) (connect : Connect)
     (session : session_of (past_of usual_limits list) connect.client ≡ Some false) (is_connect : verdict up ≡ Ok (packets.Connect connect, [])) (kept : connect.clean ≡ false)
     (count : ℕ) (many : length up ≡ count) (some : 0 < count) (apart : NumbersAreApart os) (out : In (place + 1) os → ⊥)
-    (each : (m : ℕ) → In m os → NodeIs (Follows ballot (begun list ballot)) (whole_moment a).world.nodes m) (more : List Event) (new : WorldState) where
+    (each : (m : ℕ) → In m os → NodeIs (Follows ballot (begun_log list ballot)) (whole_moment a).world.nodes m) (more : List Event) (new : WorldState) where
   asks : CanAsk a v.nodes ballot place o.node os (port_at_node number) (first_of ballot) list ballot up connect
   asks =
       record {
@@ -116,7 +116,7 @@ module _ (name : List ℕ) (v : WorldState) (i at number place : ℕ) (core : Co
       (first_of ballot) list connect e.front e.last
       (subst (λ (xs : List ℕ). CanAsk a v.nodes ballot place o.node xs (port_at_node number) (first_of ballot) list ballot up connect) e.is asks)
       (subst NumbersAreApart e.is apart) (subst (λ (xs : List ℕ). In (place + 1) xs → ⊥) e.is out)
-      (subst (λ (xs : List ℕ). (m : ℕ) → In m xs → NodeIs (Follows ballot (begun list ballot)) (whole_moment a).world.nodes m) e.is each)
+      (subst (λ (xs : List ℕ). (m : ℕ) → In m xs → NodeIs (Follows ballot (begun_log list ballot)) (whole_moment a).world.nodes m) e.is each)
       more new (subst (λ (es : List Event). EventsHappen es f.after new) in_parts f.rest) f.whole
     where
       counted : length os ≡ length e.front + 1

@@ -11,7 +11,7 @@ use Rattle.headline.specs.broker_spec.Place.{Client}
 use Rattle.headline.specs.broker_base.State.{State}
 use Rattle.escaping_client.specs.client.Core.{AppendsAll, Core}
 use Rattle.escaping_client.specs.client_base.State.{is_open}
-use Rattle.escaping_nodes.specs.Answered.{begun}
+use Rattle.escaping_nodes.specs.Answered.{begun_log}
 use Rattle.escaping_nodes.specs.Opened.{CanOpen}
 use Rattle.ways_out.specs.Deliveries.{asked_and_answered}
 use Rattle.headline.specs.node_group.Group.{Group, moment_of_nodes}
@@ -72,7 +72,7 @@ module _ (name : Client) (w : WorldState) (housed : SlotsAreValid (targets_of_cl
   list = whole_log_of w.nodes can.source
 
   abbrev log : List Command
-  log = begun list ballot
+  log = begun_log list ballot
 
   abbrev number : ℕ
   number = suc (length w.connections)

@@ -13,7 +13,7 @@ use Rattle.headline.specs.broker_spec.Connection.{ConnectionName}
 use Rattle.headline.specs.broker_spec.declared.command.Output.{Output}
 use Rattle.headline.specs.broker_spec.Place.{Client}
 use Rattle.headline.specs.broker_base.State.{State}
-use Rattle.escaping_nodes.specs.Answered.{begun}
+use Rattle.escaping_nodes.specs.Answered.{begun_log}
 use Rattle.escaping_nodes.specs.Opened.{CanOpen}
 use Rattle.ways_out.specs.Deliveries.{NumbersAreApart, NodeIs}
 use Rattle.ways_out.specs.Following.{Follows, Serves}
@@ -80,7 +80,7 @@ module _ (config : Config) {nodes : ℕ} {cs : List Client} (m : World) (trail :
   ballot = m.group.master.given + 1
 
   abbrev log : List Command
-  log = begun (whole_log_of w.nodes can.source) ballot
+  log = begun_log (whole_log_of w.nodes can.source) ballot
 
   abbrev b : Moment State Command Output
   b = l.way.last

@@ -6,7 +6,7 @@ use Rattle.std.proofs.lemmas.Option.{none-some, same_Some}
 use Rattle.headline.specs.ballot_base.declared.message.Message.{Message}
 use Rattle.headline.specs.broker_spec.declared.command.Command.{Command}
 use Rattle.escaping_client.specs.client.Core.{Core}
-use Rattle.escaping_nodes.specs.Answered.{PutsOutAtLast, last_held, session_present}
+use Rattle.escaping_nodes.specs.Answered.{PutsOutAtLast, last_answer, session_present}
 use Rattle.escaping_nodes.specs.Coming.{Come}
 use Rattle.escaping_nodes.specs.Coming.Come.{all_came as none_comes, hands}
 use Rattle.ways_out.specs.Deliveries.{asked_and_answered, numbers_from}
@@ -116,10 +116,10 @@ pub record BeforeLast (ks : List ℕ) (i at number place : ℕ) (core : Core) (u
   pub whole : WorldLosesNothing mid new
 
 module _ (name : List ℕ) (ks : List ℕ) (i at number place : ℕ) (core : Core) (up : List ℕ) (index last ballot : ℕ) (log : List Command) (more : List Event) (w new : WorldState)
-    (positive : 0 < number) (b : BeforeLast ks i at number place core up index more w new) (p : PutsOutAtLast place index (port_at_node number) (last_held last ballot log) b.mid.nodes)
+    (positive : 0 < number) (b : BeforeLast ks i at number place core up index more w new) (p : PutsOutAtLast place index (port_at_node number) (last_answer last ballot log) b.mid.nodes)
     (first : position (is_named name) w.clients ≡ Some i) where
   abbrev message : Message Command
-  message = last_held last ballot log
+  message = last_answer last ballot log
 
   cannot : ComesToNobody (slice_get b.mid.nodes.sent index) b.mid.nodes → ⊥
   cannot none =
