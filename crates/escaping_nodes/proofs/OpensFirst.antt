@@ -30,7 +30,7 @@ use Rattle.escaping.proofs.AnswerAwaited.{first_awaits_connect, handing_keeps_th
 use Rattle.escaping.proofs.FirstOpened.{first_is_opened}
 use Rattle.world_nodes.specs.ExactSteps.{after_node_call}
 use Rattle.world_nodes.specs.Nodes.{NodesState, cores_of}
-use Rattle.ways_out.specs.Following.{Serves}
+use Rattle.ways_out.specs.Following.{LeadsWhole}
 use Rattle.escaping_nodes.specs.Coming.{AreCalm, Come, IsSeen}
 use Rattle.escaping_nodes.specs.Coming.Come.{all_came as none_comes, hands}
 use Rattle.escaping_nodes.specs.Opened.{CanOpen, ConnectionsOpenFirst, IsOpened, first_of}
@@ -80,7 +80,7 @@ module _ (a : Moment State Command Output) (n : NodesState) (ballot index : ℕ)
         calm = set_calm ballot n.nodes index node after can.stands (inl (each_loss_is_reported (Opened port now) core)) can.calm;
         node = after;
         stands = get_set n.nodes index node after can.stands;
-        serves = subst (λ (r : CountedReplica State Command). Serves ballot log others_of (index + 1) (whole a.world.archive r.state)) (sym same) can.serves;
+        serves = subst (λ (r : CountedReplica State Command). LeadsWhole ballot log others_of (index + 1) (whole a.world.archive r.state)) (sym same) can.serves;
         awaits = subst (λ (x : ConnectionName). AwaitsConnect port x after.core) named
             (subst (λ (t : StepOutcome). AwaitsConnect port (first_name_of_node core) t.core) (sym step)
             (first_awaits_connect port core can.free (ap (λ (x : ConnectionName). find (is_open_named x) core.connections) named ∙ can.unnamed)));
@@ -110,8 +110,8 @@ handed a n ballot index others_of log port at other p there o = by (cases_eq ind
           calm = calm;
           node = after;
           stands = ap (slice_get (slice_set n.nodes at after)) same ∙ get_set n.nodes at other after there;
-          serves = subst (λ (r : CountedReplica State Command). Serves ballot log others_of (index + 1) (whole a.world.archive r.state)) (sym (hands_keep p other.core).0)
-              (subst (λ (c : CountedCore). Serves ballot log others_of (index + 1) (whole a.world.archive (replica_of c.core))) one o.serves);
+          serves = subst (λ (r : CountedReplica State Command). LeadsWhole ballot log others_of (index + 1) (whole a.world.archive r.state)) (sym (hands_keep p other.core).0)
+              (subst (λ (c : CountedCore). LeadsWhole ballot log others_of (index + 1) (whole a.world.archive (replica_of c.core))) one o.serves);
           awaits = handing_keeps_the_connect port p (first_of ballot) other.core (subst (λ (c : CountedCore). AwaitsConnect port (first_of ballot) c.core) one o.awaits);
         }
 

@@ -31,7 +31,7 @@ use Rattle.escaping.specs.world_base.Step.{node_step}
 use Rattle.world_nodes.specs.ExactSteps.{after_node_call}
 use Rattle.world_nodes.specs.Nodes.{NodesState}
 use Rattle.ways_out.specs.Deliveries.{NumbersAreApart, NodeIs, numbers_from}
-use Rattle.ways_out.specs.Following.{Follows, Serves}
+use Rattle.ways_out.specs.Following.{Follows, LeadsWhole}
 use Rattle.escaping_nodes.specs.Coming.{AreCalm, Come, IsSeen}
 
 -- CONNACK 0 with session present (MQTT 3.2.2.2)
@@ -52,7 +52,7 @@ pub record CanAsk (a : Moment State Command Output) (n : NodesState) (ballot ind
   pub seen : IsSeen a n
   pub calm : AreCalm ballot n
   pub stands : slice_get n.nodes index ≡ Some node
-  pub serves : Serves ballot (begun_log list start) others_of (index + 1)
+  pub serves : LeadsWhole ballot (begun_log list start) others_of (index + 1)
       (whole a.world.archive (replica_of node.core))
   pub room : length (begun_log list start) < max_places
   pub awaits : AwaitsConnect port x node.core

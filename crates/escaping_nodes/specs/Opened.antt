@@ -20,7 +20,7 @@ use Rattle.escaping.specs.world_base.Core.{CountedCore}
 use Rattle.world_nodes.specs.Asking.{welcomes_back}
 use Rattle.world_nodes.specs.ExactSteps.{after_node_call}
 use Rattle.world_nodes.specs.Nodes.{NodesState}
-use Rattle.ways_out.specs.Following.{Serves}
+use Rattle.ways_out.specs.Following.{LeadsWhole}
 use Rattle.escaping_nodes.specs.Coming.{AreCalm, Come, IsSeen}
 
 -- the first name that is given in a ballot
@@ -35,7 +35,7 @@ pub record CanOpen (a : Moment State Command Output) (n : NodesState) (ballot in
   pub seen : IsSeen a n
   pub calm : AreCalm ballot n
   pub stands : slice_get n.nodes index ≡ Some node
-  pub serves : Serves ballot log others_of (index + 1)
+  pub serves : LeadsWhole ballot log others_of (index + 1)
       (whole a.world.archive (replica_of node.core))
   pub low : node.core.last_name.ballot < ballot
   pub most : ballot ≤ max_ballot
@@ -50,7 +50,7 @@ pub record IsOpened (a : Moment State Command Output) (n : NodesState) (ballot i
   pub calm : AreCalm ballot n
   pub node : CountedCore
   pub stands : slice_get n.nodes index ≡ Some node
-  pub serves : Serves ballot log others_of (index + 1)
+  pub serves : LeadsWhole ballot log others_of (index + 1)
       (whole a.world.archive (replica_of node.core))
   pub awaits : AwaitsConnect port (first_of ballot) node.core
 

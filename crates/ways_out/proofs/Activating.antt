@@ -19,7 +19,7 @@ use Rattle.snapshots.proofs.of_agreement.Effects.{outputs_of_messages}
 use Rattle.snapshots.specs.lists.Lists.{In}
 use Rattle.ways_out.specs.Deliveries.{NumbersAreApart, Delivered, NodeIs, after_activate, numbers_from}
 use Rattle.ways_out.specs.Deliveries.Delivered.{to_master}
-use Rattle.ways_out.specs.Following.{Follows, Serves}
+use Rattle.ways_out.specs.Following.{Follows, LeadsWhole}
 use Rattle.ways_out.specs.Inside.{installing, known}
 use Rattle.ways_out.proofs.AllCome.{Taken, takes_one, then_come}
 use Rattle.ways_out.proofs.Broadcasts.{to_each}
@@ -48,7 +48,7 @@ pub record IsActivated {S C O : Type 0} (rules : Rules S C O) (b : ℕ) (log : L
   pub delivered : Delivered rules b a ks after
   pub master : after.master ≡ with_active b config a.master
   pub last : length after.world.sent ≡ long
-  pub primary : NodeIs (Serves b log os) after.world.nodes (index + 1)
+  pub primary : NodeIs (LeadsWhole b log os) after.world.nodes (index + 1)
   pub each : (m : ℕ) → In m os → NodeIs (Follows b log) after.world.nodes m
   pub told : (m : ℕ) → In m os → In (index + 1, record { from = m; body = Held b (length log) }) after.world.sent
 

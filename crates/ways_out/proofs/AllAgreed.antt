@@ -18,7 +18,7 @@ use Rattle.snapshots.proofs.of_agreement.Agreed.PastAgrees.{agreed_known, has_ag
 use Rattle.snapshots.proofs.of_agreement.Agreed.PastIsKnown.{IsKnown}
 use Rattle.snapshots.proofs.of_agreement.Agreed.PastKnown.{past_known}
 use Rattle.ways_out.specs.Deliveries.{NodeIs}
-use Rattle.ways_out.specs.Following.{Serves}
+use Rattle.ways_out.specs.Following.{LeadsWhole}
 use Rattle.ways_out.specs.AnswerLaws.{WhatAllHoldIsAgreed}
 
 -- lists that begin one another are one
@@ -31,7 +31,7 @@ prefix_both {X = X} xs ys p q = by p.rest p.is (prefix_length q)
 
 module _ {S C O : Type 0} (rules : Rules S C O) (config : Config) (a : Moment S C O) (past : List (Moment S C O)) (came : Moments rules config (a ∷ past))
     (index : ℕ) (r : ReplicaState S C) (log : List C) (os : List ℕ) (stands : slice_get a.world.nodes index ≡ Some r)
-    (serves : Serves a.master.active log os (index + 1) r) (member : In (index + 1) a.master.members)
+    (serves : LeadsWhole a.master.active log os (index + 1) r) (member : In (index + 1) a.master.members)
     (named : (m : ℕ) → In m a.master.members → (m ≡ index + 1 → ⊥) → In m os) where
   pub known : IsKnown rules config a past
   known = past_known rules config a past came
@@ -88,7 +88,7 @@ pub what_all_hold_is_agreed : {S C O : Type 0} (rules : Rules S C O) → WhatAll
 what_all_hold_is_agreed {S = S} {C = C} {O = O} rules config a past came primary log os h =
     by_agreed (has_agreed rules config a past came)
   where
-    at : NodeIs (Serves a.master.active log os) a.world.nodes primary
+    at : NodeIs (LeadsWhole a.master.active log os) a.world.nodes primary
     at = h.primary_serves
 
     number : primary ≡ at.index + 1
@@ -98,7 +98,7 @@ what_all_hold_is_agreed {S = S} {C = C} {O = O} rules config a past came primary
     by_agreed (xs, agreed) =
         subst (λ (us : List C). IsAgreed config (a ∷ past) us)
         (agreed_is rules config a past came at.index at.replica log os at.stands
-        (subst (λ m. Serves a.master.active log os m at.replica) number at.is)
+        (subst (λ m. LeadsWhole a.master.active log os m at.replica) number at.is)
         (subst (λ m. In m a.master.members) number h.member)
         (λ m i ne. h.all_named m i (λ e. ne (e ∙ number)))
         (λ m i. told_by_held primary (length log) (h.told m i) (omega arith)) xs agreed) agreed

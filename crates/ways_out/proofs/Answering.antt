@@ -23,7 +23,7 @@ use Rattle.snapshots.specs.agreement.World.{messages, outputs}
 use Rattle.snapshots.proofs.of_agreement.Agreed.PastAgrees.{machines_replay}
 use Rattle.snapshots.proofs.of_agreement.Effects.{outputs_of_messages}
 use Rattle.ways_out.specs.Deliveries.{after_outcome, NumbersAreApart, Delivered, NodeIs, numbers_from}
-use Rattle.ways_out.specs.Following.{Follows, LeadsIn, Serves}
+use Rattle.ways_out.specs.Following.{Follows, LeadsIn, LeadsWhole}
 use Rattle.ways_out.specs.Inside.{known}
 use Rattle.ways_out.specs.AnswerLaws.{AnswersCommand, CommandsAreAnswered, IsHeldByAll}
 use Rattle.ways_out.proofs.AllCome.{front_stands, last_stands, then_come}
@@ -36,7 +36,7 @@ use Rattle.ways_out.proofs.Rows.{append_answers, messages_to_followed}
 use Rattle.ways_out.proofs.Standing.{StandFrom, stand_at, stand_in, stand_new}
 
 module _ {S C O : Type 0} (rules : Rules S C O) (b index : ℕ) (r : ReplicaState S C) (log : List C) (os : List ℕ) (c : C)
-    (serves : Serves b log os (index + 1) r) (room : length log < max_places) (machine : r.machine ≡ replay rules log) where
+    (serves : LeadsWhole b log os (index + 1) r) (room : length log < max_places) (machine : r.machine ≡ replay rules log) where
   abbrev longer : ReplicaState S C
   longer = record r { log = r.log ++ c ∷ [] }
 

@@ -1,7 +1,7 @@
 -- Numbers that follow one another, and how many they are.
 use Rattle.std.proofs.Common.{◌≡◌, ℕ, zero, suc, ◌+◌, ◌*◌, List, [], ◌∷◌, ◌++◌, length, refl, sym, ap, ◌∙◌, arith, append_assoc}
 use Rattle.std.proofs.lemmas.List.{length-append}
-use Rattle.ways_out.specs.Deliveries.{asked_and_answered, asked_at, numbers_from, way_out}
+use Rattle.ways_out.specs.Deliveries.{asked_and_answered, activate_number, numbers_from, way_out}
 use Rattle.ways_out.specs.Lengths.{WaysAreShort}
 
 -- ---- one more
@@ -33,7 +33,7 @@ asked_many k others =
 pub ways_are_short : WaysAreShort
 ways_are_short sent members index others =
     let first = asked_many (sent + members + 2) others in
-    let last = asked_many (asked_at sent members others + 2) others in
+    let last = asked_many (activate_number sent members others + 2) others in
     let both = length-append (asked_and_answered (sent + members + 2) others)
-    (asked_at sent members others ∷ (asked_at sent members others + 1) ∷ asked_and_answered (asked_at sent members others + 2) others) in
+    (activate_number sent members others ∷ (activate_number sent members others + 1) ∷ asked_and_answered (activate_number sent members others + 2) others) in
     ((let e : length (way_out sent members index others) ≡ 5 + 4 * others = omega (arith, first, last, both) in e), asked_many sent others)

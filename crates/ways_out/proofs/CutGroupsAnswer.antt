@@ -40,7 +40,7 @@ use Rattle.snapshots.proofs.PastsKept.{StandsFor, past_stands}
 use Rattle.snapshots.proofs.Views.{get_whole, outputs_whole}
 use Rattle.ways_out.specs.Deliveries.{NumbersAreApart, Delivered as WholeDelivered, NodeIs, numbers_from}
 use Rattle.ways_out.specs.Deliveries.{after_outcome as whole_after_outcome}
-use Rattle.ways_out.specs.Following.{Follows, Serves}
+use Rattle.ways_out.specs.Following.{Follows, LeadsWhole}
 use Rattle.ways_out.specs.AnswerLaws.{AnswersCommand as WholeAnswers, IsHeldByAll as WholeHeldByAll}
 use Rattle.ways_out.proofs.Answering.{commands_are_answered}
 use Rattle.ways_out.specs.Answering.{AnswersCommand, AnswersLast, CutGroupsAnswer, IsHeldByAll}
@@ -122,7 +122,7 @@ answers_cut rules archive ballot log c os m ow o z like =
 
 module _ {S C O : Type 0} (rules : Rules S C O) (config : Config) (a : Moment S C O) (past : List (Moment S C O)) (came : Moments rules config (a ∷ past)) (ballot index : ℕ)
     (r : ReplicaState S C) (log : List C) (os : List ℕ) (c : C) (stands : slice_get a.world.nodes index ≡ Some r)
-    (serves : Serves ballot log os (index + 1) (whole a.world.archive r)) (room : length log < max_places) where
+    (serves : LeadsWhole ballot log os (index + 1) (whole a.world.archive r)) (room : length log < max_places) where
   q : StandsFor rules config a past
   q = past_stands rules config a past came
 

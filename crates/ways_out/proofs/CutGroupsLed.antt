@@ -28,7 +28,7 @@ use Rattle.snapshots.proofs.PastsKept.{StandsFor, past_stands}
 use Rattle.snapshots.proofs.Views.{get_whole}
 use Rattle.ways_out.specs.Deliveries.{Delivered as WholeDelivered, NodeIs, way_out}
 use Rattle.ways_out.specs.Deliveries.{assigned_moment as whole_assigned}
-use Rattle.ways_out.specs.Following.{Follows, Serves}
+use Rattle.ways_out.specs.Following.{Follows, LeadsWhole}
 use Rattle.ways_out.specs.Laws.{CanBeLed, IsLed, StartsGiveNothing}
 use Rattle.ways_out.specs.Laws.{LeadsOut as WholeLeadsOut}
 use Rattle.ways_out.proofs.AllAgreed.{what_all_hold_is_agreed}
@@ -66,8 +66,8 @@ assign_like rules ballot a new =
 
 -- ---- at the end
 
-pub serves_still : {S C O : Type 0} (rules : Rules S C O) (ballot b : ℕ) (log : List C) (os : List ℕ) (m : ℕ) (p s : WholeState S C) → IsLike rules ballot p s → Serves b log os m p → Serves b log os m s
-serves_still {S = S} {C = C} rules ballot b log os m p s (inl same) z = subst (λ (x : WholeState S C). Serves b log os m x) (sym same) z
+pub serves_still : {S C O : Type 0} (rules : Rules S C O) (ballot b : ℕ) (log : List C) (os : List ℕ) (m : ℕ) (p s : WholeState S C) → IsLike rules ballot p s → LeadsWhole b log os m p → LeadsWhole b log os m s
+serves_still {S = S} {C = C} rules ballot b log os m p s (inl same) z = subst (λ (x : WholeState S C). LeadsWhole b log os m x) (sym same) z
 serves_still rules ballot b log os m p s (inr a) z = absurd (both_ways (is_active p.role) a.passive (ap is_active z.leads.role))
 
 pub follows_still : {S C O : Type 0} (rules : Rules S C O) (ballot b : ℕ) (log : List C) (m : ℕ) (p s : WholeState S C) → IsLike rules ballot p s → Follows b log m p → Follows b log m s
@@ -127,7 +127,7 @@ module _ {S C O : Type 0} (rules : Rules S C O) (silent : StartsGiveNothing rule
       record {
         active = ap (λ (m : MasterState). m.active) w.like.master ∙ out.led.active;
         members = ap (λ (m : MasterState). m.members) w.like.master ∙ out.led.members;
-        primary = node_still rules ballot (Serves ballot longer (others new.primary new.members)) new.primary out.last w.end w.like
+        primary = node_still rules ballot (LeadsWhole ballot longer (others new.primary new.members)) new.primary out.last w.end w.like
             (serves_still rules ballot ballot longer (others new.primary new.members) new.primary) out.led.primary;
         each = λ m i. node_still rules ballot (Follows ballot longer) m out.last w.end w.like (follows_still rules ballot ballot longer m) (out.led.each m i);
       }
@@ -138,7 +138,7 @@ module _ {S C O : Type 0} (rules : Rules S C O) (silent : StartsGiveNothing rule
       agreed_back config (map whole_moment (w.end ∷ (w.goes.between ++ (a ∷ past)))) (whole_moment w.end ∷ q.earlier) longer q.covers
       (what_all_hold_is_agreed rules config (whole_moment w.end) q.earlier q.kept.came new.primary longer (others new.primary new.members)
       (record {
-        primary_serves = subst (λ b. NodeIs (Serves b longer (others new.primary new.members)) (whole_moment w.end).world.nodes new.primary) (sym led.active) led.primary;
+        primary_serves = subst (λ b. NodeIs (LeadsWhole b longer (others new.primary new.members)) (whole_moment w.end).world.nodes new.primary) (sym led.active) led.primary;
         member = subst (λ ms. In new.primary ms) (sym led.members) (lawful_is new (not_refused a.master new can.granted).0).0;
         all_named = λ m i ne. others_of m (subst (λ ms. In m ms) led.members i) ne;
         told = λ m i. subst (λ (us : List (ℕ × WholeMessage C)). In (new.primary, record { from = m; body = Held (whole_moment w.end).master.active (length longer) }) us) (sym w.like.sent)

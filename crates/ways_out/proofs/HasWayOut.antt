@@ -13,7 +13,7 @@ use Rattle.snapshots.specs.agreement.Moments.{Moment, Moments, IsAgreed}
 use Rattle.snapshots.proofs.of_agreement.Changing.OtherMembers.{in_others, not_others, others_in}
 use Rattle.snapshots.proofs.of_agreement.Masters.Assigns.{lawful_is, not_refused}
 use Rattle.ways_out.specs.Deliveries.{Delivered, NodeIs, assigned_moment, way_out}
-use Rattle.ways_out.specs.Following.{IsRunning, RunsWith, Serves}
+use Rattle.ways_out.specs.Following.{IsRunning, RunsWith, LeadsWhole}
 use Rattle.ways_out.specs.Inside.{CanTake}
 use Rattle.ways_out.specs.Laws.{CanBeLed, HasWayOut, LeadsOut, StartsGiveNothing}
 use Rattle.ways_out.proofs.Activating.{with_active}
@@ -88,7 +88,7 @@ module _ {S C O : Type 0} (rules : Rules S C O) (silent : StartsGiveNothing rule
             led = record {
               active = ap (λ (m : MasterState). m.active) o.master_is;
               members = ap (λ (m : MasterState). m.members) o.master_is;
-              primary = subst (λ m. NodeIs (Serves (a.master.given + 1) longer (others new.primary new.members)) o.after.world.nodes m) (sym first.number) o.primary;
+              primary = subst (λ m. NodeIs (LeadsWhole (a.master.given + 1) longer (others new.primary new.members)) o.after.world.nodes m) (sym first.number) o.primary;
               each = o.each;
             };
             told = λ m i. subst (λ p. In (p, record { from = m; body = Held (a.master.given + 1) (length log + 1) }) o.after.world.sent) (sym first.number)
@@ -117,7 +117,7 @@ module _ {S C O : Type 0} (rules : Rules S C O) (silent : StartsGiveNothing rule
           agrees =
               what_all_hold_is_agreed rules config o.after (goes.between ++ (a ∷ past)) goes.came (first.index + 1) longer (others new.primary new.members)
               (record {
-                primary_serves = subst (λ b. NodeIs (Serves b longer (others new.primary new.members)) o.after.world.nodes (first.index + 1))
+                primary_serves = subst (λ b. NodeIs (LeadsWhole b longer (others new.primary new.members)) o.after.world.nodes (first.index + 1))
                     (sym (ap (λ (m : MasterState). m.active) o.master_is)) o.primary;
                 member = subst (λ ms. In (first.index + 1) ms) (sym (ap (λ (m : MasterState). m.members) o.master_is)) (subst (λ m. In m new.members) first.number led);
                 all_named = λ m i ne. others_of m (subst (λ ms. In m ms) (ap (λ (m : MasterState). m.members) o.master_is) i) ne;

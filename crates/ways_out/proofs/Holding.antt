@@ -16,7 +16,7 @@ use Rattle.snapshots.specs.lists.Lists.{In}
 use Rattle.snapshots.specs.lists.Lists.In.{here, there}
 use Rattle.snapshots.proofs.of_lists.Members.{in_left, in_right}
 use Rattle.ways_out.specs.Deliveries.{NumbersAreApart, Delivered, NodeIs, numbers_from}
-use Rattle.ways_out.specs.Following.{Follows, LeadsIn, Serves}
+use Rattle.ways_out.specs.Following.{Follows, LeadsIn, LeadsWhole}
 use Rattle.ways_out.specs.Inside.{known}
 use Rattle.ways_out.proofs.AllCome.{Taken, all_come, then_come}
 use Rattle.ways_out.proofs.Broadcasts.{Answered, all_answer, from_each, to_each}
@@ -33,7 +33,7 @@ pub record AllHold {S C O : Type 0} (rules : Rules S C O) (b : ℕ) (log : List 
   pub delivered : Delivered rules b a ks after
   pub master : after.master ≡ a.master
   pub last : length after.world.sent ≡ long
-  pub primary : NodeIs (Serves b log os) after.world.nodes (index + 1)
+  pub primary : NodeIs (LeadsWhole b log os) after.world.nodes (index + 1)
   pub each : (m : ℕ) → In m os → NodeIs (Follows b log) after.world.nodes m
   pub told : (m : ℕ) → In m os → In (index + 1, record { from = m; body = Held b (length log) }) after.world.sent
 

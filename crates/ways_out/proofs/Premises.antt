@@ -16,7 +16,7 @@ use Rattle.snapshots.proofs.of_agreement.Agreed.PastAgrees.{has_agreed, nodes_ag
 use Rattle.snapshots.proofs.of_agreement.Agreed.PastIsKnown.{IsKnown}
 use Rattle.snapshots.proofs.of_agreement.Agreed.PastKnown.{past_known}
 use Rattle.snapshots.proofs.of_agreement.Frame.Bases.{chosen_told}
-use Rattle.ways_out.specs.Following.{whole_log}
+use Rattle.ways_out.specs.Following.{whole_log_of_node}
 use Rattle.ways_out.specs.Inside.{CanTake}
 use Rattle.ways_out.proofs.Fetching.{CanGive}
 
@@ -44,7 +44,7 @@ module _ {S C O : Type 0} (rules : Rules S C O) (config : Config) (a : Moment S 
 
   -- what a node applied is no longer than the log of a member of the active configuration
   applied_low : (n source : ℕ) (r rs : ReplicaState S C) → slice_get a.world.nodes n ≡ Some r → slice_get a.world.nodes source ≡ Some rs →
-      In (source + 1) a.master.members → r.committed ≤ length (whole_log rs)
+      In (source + 1) a.master.members → r.committed ≤ length (whole_log_of_node rs)
   applied_low n source r rs stands gives_stands member =
       let p = prefix_length (agrees.1.applied n r stands) in
       let q = prefix_length (agrees.1.held source rs gives_stands member) in
@@ -53,7 +53,7 @@ module _ {S C O : Type 0} (rules : Rules S C O) (config : Config) (a : Moment S 
 
   -- each node that runs can take that log
   pub can_take : (n source : ℕ) (r rs : ReplicaState S C) → slice_get a.world.nodes n ≡ Some r → slice_get a.world.nodes source ≡ Some rs →
-      In (source + 1) a.master.members → r.stopped ≡ false → CanTake (a.master.given + 1) (length (whole_log rs)) (n + 1) r
+      In (source + 1) a.master.members → r.stopped ≡ false → CanTake (a.master.given + 1) (length (whole_log_of_node rs)) (n + 1) r
   can_take n source r rs stands gives_stands member runs =
       record {
         runs = runs;
@@ -78,6 +78,6 @@ module _ {S C O : Type 0} (rules : Rules S C O) (config : Config) (a : Moment S 
 
   -- so it can give that log
   pub can_give : (source : ℕ) (rs : ReplicaState S C) → slice_get a.world.nodes source ≡ Some rs → In (source + 1) a.master.members → rs.stopped ≡ false →
-      CanGive (a.master.given + 1) a.master.active (whole_log rs) (source + 1) rs
+      CanGive (a.master.given + 1) a.master.active (whole_log_of_node rs) (source + 1) rs
   can_give source rs stands member runs =
       record { can = can_take source source rs rs stands stands member runs; holds = holds_active source rs stands member; log_is = refl }

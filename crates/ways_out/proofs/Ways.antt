@@ -9,8 +9,8 @@ use Rattle.snapshots.specs.whole.Replica.{ReplicaState, others}
 use Rattle.snapshots.specs.whole.Serving.{max_places}
 use Rattle.snapshots.specs.agreement.MasterState.{MasterState, assigning}
 use Rattle.snapshots.specs.agreement.Moments.{Moment}
-use Rattle.ways_out.specs.Deliveries.{NumbersAreApart, Delivered, NodeIs, asked_at, assigned_moment, numbers_from, way_out}
-use Rattle.ways_out.specs.Following.{Follows, Serves}
+use Rattle.ways_out.specs.Deliveries.{NumbersAreApart, Delivered, NodeIs, activate_number, assigned_moment, numbers_from, way_out}
+use Rattle.ways_out.specs.Following.{Follows, LeadsWhole}
 use Rattle.ways_out.specs.Inside.{CanTake, fetching}
 use Rattle.ways_out.proofs.Activating.{IsActivated, activated_alone, activated_all, with_active}
 use Rattle.ways_out.proofs.AllCome.{then_come}
@@ -27,12 +27,12 @@ numbers_count k (suc count) = ap suc (numbers_count (k + 1) count)
 pub way_out_count : (sent members index count : ℕ) → length (way_out sent members index count) ≡ 4 * count + 5
 way_out_count sent members index count =
     let one = length-append (numbers_from (sent + members + 2) count ++ numbers_from (sent + members + 2 + count) count)
-    (asked_at sent members count ∷ (asked_at sent members count + 1)
-    ∷ (numbers_from (asked_at sent members count + 2) count ++ numbers_from (asked_at sent members count + 2 + count) count)) in
+    (activate_number sent members count ∷ (activate_number sent members count + 1)
+    ∷ (numbers_from (activate_number sent members count + 2) count ++ numbers_from (activate_number sent members count + 2 + count) count)) in
     let two = length-append (numbers_from (sent + members + 2) count) (numbers_from (sent + members + 2 + count) count) in
-    let three = length-append (numbers_from (asked_at sent members count + 2) count) (numbers_from (asked_at sent members count + 2 + count) count) in
+    let three = length-append (numbers_from (activate_number sent members count + 2) count) (numbers_from (activate_number sent members count + 2 + count) count) in
     let a = numbers_count (sent + members + 2) count in let b = numbers_count (sent + members + 2 + count) count in
-    let c = numbers_count (asked_at sent members count + 2) count in let d = numbers_count (asked_at sent members count + 2 + count) count in
+    let c = numbers_count (activate_number sent members count + 2) count in let d = numbers_count (activate_number sent members count + 2 + count) count in
     omega (arith, one, two, three, a, b, c, d)
 
 -- ---- the three parts, one after another
@@ -44,7 +44,7 @@ pub record IsOut {S C O : Type 0} (rules : Rules S C O) (b : ℕ) (log : List C)
   pub delivered : Delivered rules b a ks after
   pub master_is : after.master ≡ master
   pub last : length after.world.sent ≡ long
-  pub primary : NodeIs (Serves b log os) after.world.nodes (index + 1)
+  pub primary : NodeIs (LeadsWhole b log os) after.world.nodes (index + 1)
   pub each : (m : ℕ) → In m os → NodeIs (Follows b log) after.world.nodes m
   pub told : (m : ℕ) → In m os → In (index + 1, record { from = m; body = Held b (length log) }) after.world.sent
 
@@ -83,7 +83,7 @@ module _ {S C O : Type 0} (rules : Rules S C O) (silent : (s : S) (b : ℕ) → 
         master_is = h.master ∙ ap (with_active (a.master.given + 1) config) (g.master ∙ f.master_is);
         last = h.last ∙ (let z = f.last in let y = ap length none in
             let e : length f.after.world.sent + 2 ≡ length a.world.sent + length a.master.members + 4 + 5 * length os = omega (arith, z, y) in e);
-        primary = subst (λ l. NodeIs (Serves (a.master.given + 1) (log ++ rules.start_of (a.master.given + 1) ∷ []) l) h.after.world.nodes (index + 1)) (sym none) h.primary;
+        primary = subst (λ l. NodeIs (LeadsWhole (a.master.given + 1) (log ++ rules.start_of (a.master.given + 1) ∷ []) l) h.after.world.nodes (index + 1)) (sym none) h.primary;
         each = λ m j. absurd (no_member m (subst (λ l. In m l) none j));
         told = λ m j. absurd (no_member m (subst (λ l. In m l) none j));
       }
@@ -105,7 +105,7 @@ module _ {S C O : Type 0} (rules : Rules S C O) (silent : (s : S) (b : ℕ) → 
           ≡ way_out (length a.world.sent) (length a.master.members) i (length os)
       numbers =
           ap (λ z. length a.world.sent ∷ (length a.world.sent + 1 + i) ∷ (length a.world.sent + 1 + length a.master.members) ∷ z ∷ (z + 1) ∷ [])
-          (let z = f.last in let e : length f.after.world.sent ≡ asked_at (length a.world.sent) (length a.master.members) 0 = omega (arith, z) in e)
+          (let z = f.last in let e : length f.after.world.sent ≡ activate_number (length a.world.sent) (length a.master.members) 0 = omega (arith, z) in e)
           ∙ ap (λ (l : List ℕ). way_out (length a.world.sent) (length a.master.members) i (length l)) (sym none)
 
   -- with others
@@ -118,7 +118,7 @@ module _ {S C O : Type 0} (rules : Rules S C O) (silent : (s : S) (b : ℕ) → 
         last = h.last ∙ (let z = f.last in let y = ap length some in
             let e : length f.after.world.sent + (length (x ∷ xs) + length (x ∷ xs)) + 2 + length (x ∷ xs) + (length (x ∷ xs) + length (x ∷ xs))
             ≡ length a.world.sent + length a.master.members + 4 + 5 * length os = omega (arith, z, y) in e);
-        primary = subst (λ l. NodeIs (Serves (a.master.given + 1) (log ++ rules.start_of (a.master.given + 1) ∷ []) l) h.after.world.nodes (index + 1)) (sym some) h.primary;
+        primary = subst (λ l. NodeIs (LeadsWhole (a.master.given + 1) (log ++ rules.start_of (a.master.given + 1) ∷ []) l) h.after.world.nodes (index + 1)) (sym some) h.primary;
         each = λ m j. h.each m (subst (λ l. In m l) some j);
         told = λ m j. h.told m (subst (λ l. In m l) some j);
       }

@@ -15,12 +15,12 @@ use Rattle.snapshots.specs.whole.Serving.{max_places}
 use Rattle.snapshots.specs.agreement.Moments.{Moment, Moments, IsAgreed}
 use Rattle.snapshots.specs.agreement.World.{outputs}
 use Rattle.ways_out.specs.Deliveries.{NumbersAreApart, Delivered, NodeIs, after_outcome, numbers_from}
-use Rattle.ways_out.specs.Following.{Follows, Serves}
+use Rattle.ways_out.specs.Following.{Follows, LeadsWhole}
 
 -- all other members of the active ballot have acknowledged the whole log of its active primary
 pub record AllHoldIt {S C O : Type 0} (a : Moment S C O) (primary : ℕ) (log : List C)
     (others_of : List ℕ) : Type 0 where
-  pub primary_serves : NodeIs (Serves a.master.active log others_of) a.world.nodes primary
+  pub primary_serves : NodeIs (LeadsWhole a.master.active log others_of) a.world.nodes primary
   pub member : In primary a.master.members
   pub all_named : (m : ℕ) → In m a.master.members → (m ≡ primary → ⊥) → In m others_of
   pub told : (m : ℕ) → In m others_of →
@@ -40,7 +40,7 @@ pub record AnswersCommand {S C O : Type 0} (rules : Rules S C O) (ballot : ℕ) 
   pub rest : List (Effect C O)
   pub silent : outputs rest ≡ []
   pub gives : o.effects ≡ map (Out (length log)) (rules.gives (replay rules log) c) ++ rest
-  pub serves : Serves ballot (log ++ c ∷ []) others_of primary o.state
+  pub serves : LeadsWhole ballot (log ++ c ∷ []) others_of primary o.state
 
 -- a proposal to the primary at an index, whose replica this is, when others follow: it outputs
 -- nothing. The others are sent the command, and answer; the primary takes all answers except the
@@ -72,7 +72,7 @@ CommandsAreAnswered {S} {C} {O} rules =
     (config : Config) (a : Moment S C O) (past : List (Moment S C O)) →
     Moments rules config (a ∷ past) → (ballot index : ℕ) (r : ReplicaState S C) (log : List C)
     (others_of : List ℕ) (c : C) → slice_get a.world.nodes index ≡ Some r →
-    Serves ballot log others_of (index + 1) r → length log < max_places →
+    LeadsWhole ballot log others_of (index + 1) r → length log < max_places →
     (others_of ≡ [] → AnswersCommand rules ballot log c [] (index + 1)
     (replica_step rules r (Proposes c)))
     × ((front : List ℕ) (last : ℕ) → others_of ≡ front ++ last ∷ [] → NumbersAreApart others_of →

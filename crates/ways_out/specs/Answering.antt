@@ -17,7 +17,7 @@ use Rattle.snapshots.specs.Moments.{Moment, Moments, whole_moment}
 use Rattle.snapshots.specs.Whole.{whole}
 use Rattle.snapshots.specs.World.{outputs}
 use Rattle.ways_out.specs.Deliveries.{NumbersAreApart, NodeIs, numbers_from}
-use Rattle.ways_out.specs.Following.{Follows, Serves}
+use Rattle.ways_out.specs.Following.{Follows, LeadsWhole}
 use Rattle.ways_out.specs.CutDeliveries.{Delivered, after_outcome}
 
 -- a step of the primary that answers a command after a log: it outputs what the machine answers
@@ -28,7 +28,7 @@ pub record AnswersCommand {S C O : Type 0} (rules : Rules S C O) (archive : List
   pub rest : List (Effect C O)
   pub silent : outputs rest ≡ []
   pub gives : o.effects ≡ map (Out (length log)) (rules.gives (replay rules log) c) ++ rest
-  pub serves : Serves ballot (log ++ c ∷ []) others_of primary (whole archive o.state)
+  pub serves : LeadsWhole ballot (log ++ c ∷ []) others_of primary (whole archive o.state)
 
 -- the primary at an index takes the last answer, and answers the command
 pub record AnswersLast {S C O : Type 0} (rules : Rules S C O) (a : Moment S C O) (index ballot : ℕ)
@@ -67,7 +67,8 @@ CutGroupsAnswer {S} {C} {O} rules =
     (config : Config) (a : Moment S C O) (past : List (Moment S C O)) →
     Moments rules config (a ∷ past) → (ballot index : ℕ) (r : ReplicaState S C) (log : List C)
     (others_of : List ℕ) (c : C) → slice_get a.world.nodes index ≡ Some r →
-    Serves ballot log others_of (index + 1) (whole a.world.archive r) → length log < max_places →
+    LeadsWhole ballot log others_of (index + 1) (whole a.world.archive r) →
+    length log < max_places →
     (others_of ≡ [] → AnswersCommand rules a.world.archive ballot log c [] (index + 1)
     (replica_step rules r (Proposes c)))
     × ((front : List ℕ) (last : ℕ) → others_of ≡ front ++ last ∷ [] → NumbersAreApart others_of →

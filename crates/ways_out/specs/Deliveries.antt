@@ -78,8 +78,8 @@ asked_and_answered k others = numbers_from k others ++ numbers_from (k + others)
 
 -- the number of the Activate, by the count of messages sent before, the count of members of the
 -- active ballot, and that of the members of the new one besides its primary
-abbrev pub asked_at : ℕ → ℕ → ℕ → ℕ
-asked_at sent members others = sent + members + 2 + (others + others)
+abbrev pub activate_number : ℕ → ℕ → ℕ → ℕ
+activate_number sent members others = sent + members + 2 + (others + others)
 
 -- the messages of a way out, if the member at this index of the active ballot is asked for its log:
 -- NewBallot, Join, State; Install and Installed; Activate, Activated; Append and Held
@@ -87,5 +87,5 @@ abbrev pub way_out : ℕ → ℕ → ℕ → ℕ → List ℕ
 way_out sent members index others =
     sent ∷ (sent + 1 + index) ∷ (sent + 1 + members)
     ∷ (asked_and_answered (sent + members + 2) others
-    ++ asked_at sent members others ∷ (asked_at sent members others + 1)
-    ∷ asked_and_answered (asked_at sent members others + 2) others)
+    ++ activate_number sent members others ∷ (activate_number sent members others + 1)
+    ∷ asked_and_answered (activate_number sent members others + 2) others)

@@ -4,8 +4,8 @@ use Rattle.snapshots.specs.ballot_base.declared.status.Role.TheVariants.{Backup,
 use Rattle.snapshots.specs.whole.Replica.{ReplicaState, progress_at}
 
 -- the whole list of commands of a node's log
-abbrev pub whole_log : {S C : Type 0} → ReplicaState S C → List C
-whole_log r = r.log
+abbrev pub whole_log_of_node : {S C : Type 0} → ReplicaState S C → List C
+whole_log_of_node r = r.log
 
 -- the node of a number runs
 pub record IsRunning {S C : Type 0} (m : ℕ) (r : ReplicaState S C) : Type 0 where
@@ -14,7 +14,7 @@ pub record IsRunning {S C : Type 0} (m : ℕ) (r : ReplicaState S C) : Type 0 wh
 -- the node runs, and its whole log is this one
 pub record RunsWith {S C : Type 0} (log : List C) (m : ℕ) (r : ReplicaState S C) : Type 0 where
   pub runs : r.stopped ≡ false
-  pub log_is : whole_log r ≡ log
+  pub log_is : whole_log_of_node r ≡ log
 
 -- the node runs as a backup of a ballot, and holds this log there
 pub record Follows {S C : Type 0} (ballot : ℕ) (log : List C) (m : ℕ)
@@ -24,7 +24,7 @@ pub record Follows {S C : Type 0} (ballot : ℕ) (log : List C) (m : ℕ)
   pub joined : r.joined ≡ ballot
   pub held : r.held_in ≡ ballot
   pub role : r.role ≡ Backup
-  pub log_is : whole_log r ≡ log
+  pub log_is : whole_log_of_node r ≡ log
 
 -- the node runs as the active primary of a ballot
 pub record LeadsIn {S C : Type 0} (ballot : ℕ) (r : ReplicaState S C) : Type 0 where
@@ -34,11 +34,11 @@ pub record LeadsIn {S C : Type 0} (ballot : ℕ) (r : ReplicaState S C) : Type 0
 
 -- the node leads the ballot, has applied all of this log, and knows that these others hold all of
 -- it
-pub record Serves {S C : Type 0} (ballot : ℕ) (log : List C) (others_of : List ℕ) (m : ℕ)
+pub record LeadsWhole {S C : Type 0} (ballot : ℕ) (log : List C) (others_of : List ℕ) (m : ℕ)
     (r : ReplicaState S C) : Type 0 where
   pub leads : LeadsIn ballot r
   pub id : r.id ≡ m
   pub held : r.held_in ≡ ballot
-  pub log_is : whole_log r ≡ log
+  pub log_is : whole_log_of_node r ≡ log
   pub applied : r.committed ≡ length log
   pub progress_is : r.progress ≡ progress_at (length log) others_of

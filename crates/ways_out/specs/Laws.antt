@@ -11,7 +11,7 @@ use Rattle.snapshots.specs.whole.Serving.{max_places}
 use Rattle.snapshots.specs.agreement.MasterState.{refusal}
 use Rattle.snapshots.specs.agreement.Moments.{Moment, Moments, IsAgreed}
 use Rattle.ways_out.specs.Deliveries.{Delivered, NodeIs, assigned_moment, way_out}
-use Rattle.ways_out.specs.Following.{Follows, IsRunning, RunsWith, Serves}
+use Rattle.ways_out.specs.Following.{Follows, IsRunning, RunsWith, LeadsWhole}
 
 -- the machine outputs nothing at the start of a ballot
 abbrev pub StartsGiveNothing : {S C O : Type 0} → Rules S C O → Type 0
@@ -34,7 +34,7 @@ pub record IsLed {S C O : Type 0} (ballot : ℕ) (new : Config) (log : List C)
     (b : Moment S C O) : Type 0 where
   pub active : b.master.active ≡ ballot
   pub members : b.master.members ≡ new.members
-  pub primary : NodeIs (Serves ballot log (others new.primary new.members)) b.world.nodes
+  pub primary : NodeIs (LeadsWhole ballot log (others new.primary new.members)) b.world.nodes
       new.primary
   pub each : (m : ℕ) → In m (others new.primary new.members) →
       NodeIs (Follows ballot log) b.world.nodes m

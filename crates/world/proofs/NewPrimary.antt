@@ -16,7 +16,7 @@ use Rattle.headline.specs.broker_base.State.{State}
 use Rattle.escaping_nodes.specs.Answered.{begun_log}
 use Rattle.escaping_nodes.specs.Opened.{CanOpen}
 use Rattle.ways_out.specs.Deliveries.{NumbersAreApart, NodeIs}
-use Rattle.ways_out.specs.Following.{Follows, Serves}
+use Rattle.ways_out.specs.Following.{Follows, LeadsWhole}
 use Rattle.escaping_nodes.proofs.LedOut.{low_before}
 use Rattle.ways_out.proofs.RisingMembers.{rising_apart}
 use Rattle.ways_out.proofs.Rows.{others_first}
@@ -88,8 +88,8 @@ module _ (config : Config) {nodes : ℕ} {cs : List Client} (m : World) (trail :
   others_are : others first (first ∷ os) ≡ os
   others_are = others_first first os (not_among first os lawful)
 
-  primary : NodeIs (Serves ballot log os) (whole_moment b).world.nodes first
-  primary = subst (λ (xs : List ℕ). NodeIs (Serves ballot log xs) (whole_moment b).world.nodes first) others_are l.way.led.primary
+  primary : NodeIs (LeadsWhole ballot log os) (whole_moment b).world.nodes first
+  primary = subst (λ (xs : List ℕ). NodeIs (LeadsWhole ballot log xs) (whole_moment b).world.nodes first) others_are l.way.led.primary
 
   each : (k : ℕ) → In k os → NodeIs (Follows ballot log) (whole_moment b).world.nodes k
   each k i = l.way.led.each k (subst (λ (xs : List ℕ). In k xs) (sym others_are) i)
@@ -104,7 +104,7 @@ module _ (config : Config) {nodes : ℕ} {cs : List Client} (m : World) (trail :
   record Standing : Type 0 where
     node : CountedCore
     stands : slice_get l.mid.nodes.nodes index ≡ Some node
-    serves : Serves ballot log os (index + 1) (whole b.world.archive (replica_of node.core))
+    serves : LeadsWhole ballot log os (index + 1) (whole b.world.archive (replica_of node.core))
 
   standing : Standing
   standing =
@@ -117,7 +117,7 @@ module _ (config : Config) {nodes : ℕ} {cs : List Client} (m : World) (trail :
       record {
         node = node.x;
         stands = node.found;
-        serves = subst (λ (r : WholeState State Command). Serves ballot log os (index + 1) r) (sym same) (subst (λ (k : ℕ). Serves ballot log os k primary.replica) primary.number primary.is);
+        serves = subst (λ (r : WholeState State Command). LeadsWhole ballot log os (index + 1) r) (sym same) (subst (λ (k : ℕ). LeadsWhole ballot log os k primary.replica) primary.number primary.is);
       }
 
   abbrev node : CountedCore
