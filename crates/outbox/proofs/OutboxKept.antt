@@ -11,7 +11,7 @@ use Rattle.master.proofs.of_lists.OfEach.{each_append}
 use Rattle.outbox.specs.Given.{Addressed}
 use Rattle.outbox.specs.Queued.{IsQueued, WasAnswered}
 use Rattle.outbox.specs.Queued.MayQueue.{of_master}
-use Rattle.outbox.specs.Waiting.{Waiting, Waits, has_room, is_of_node, of_nodes}
+use Rattle.outbox.specs.Waiting.{Waiting, Waits, may_be_queued, is_of_node, of_nodes}
 
 one : Item → ℕ
 one item = if is_of_node item then 1 else 0
@@ -53,7 +53,7 @@ roomy true count size room least bounded = grind (arith, room, least, bounded)
 roomy false count size room least bounded = grind (arith, bounded)
 
 waits_more : (number : ℕ) (item : Item) (items : List Item)
-    → IsQueued number item → has_room item items ≡ true → Waits number items → Waits number (items ++ item ∷ [])
+    → IsQueued number item → may_be_queued item items ≡ true → Waits number items → Waits number (items ++ item ∷ [])
 waits_more number item items queued room waits = record {
   queued = each_append (IsQueued number) items (item ∷ []) waits.queued (queued, tt);
   bounded = subst (λ (count : ℕ). count ≤ 524288) (sym (of_nodes_more items item))
@@ -62,7 +62,7 @@ waits_more number item items queued room waits = record {
 
 pub queued_more : (outbox : Waiting) (number : ℕ) (item : Item) (kept : Bool) (old new : List Item)
     → record { number = number; items = old } ≡ outbox
-    → IsQueued outbox.number item → has_room item old ≡ true → Waits number old
+    → IsQueued outbox.number item → may_be_queued item old ≡ true → Waits number old
     → new ≡ (if kept then old ++ item ∷ [] else old) → Waits number new
 queued_more outbox number item true old new view queued room waits is =
     subst (λ (items : List Item). Waits number items) (sym is)

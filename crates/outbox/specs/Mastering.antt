@@ -17,9 +17,9 @@ answer_to master from (Activate ballot) = Some (activated Command master ballot 
 answer_to master from _ = None
 
 -- the state of the master after an outcome, if there was one
-abbrev pub master_after : MasterState → Option (MasterOutcome Command) → MasterState
-master_after master (Some outcome) = outcome.state
-master_after master None = master
+abbrev pub master_after_outcome : MasterState → Option (MasterOutcome Command) → MasterState
+master_after_outcome master (Some outcome) = outcome.state
+master_after_outcome master None = master
 
 -- the message about an outcome, with its receiver
 abbrev pub message_of : MasterOutcome Command → Addressed

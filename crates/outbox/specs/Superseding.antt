@@ -28,8 +28,8 @@ supersedes (Peer newer) (Peer older) = newer.from == older.from && covers newer.
 supersedes _ _ = false
 
 -- the newest of the items that wait
-abbrev pub newest : List Item → Option Item
-newest items = slice_get items (length items - 1)
+abbrev pub newest_item : List Item → Option Item
+newest_item items = slice_get items (length items - 1)
 
 -- whether an item supersedes this one, if there is one
 abbrev pub supersedes_one : Item → Option Item → Bool
@@ -39,4 +39,4 @@ supersedes_one item None = false
 -- what still waits when an item is queued: everything, except the newest if the item supersedes it
 abbrev pub still_waiting : Item → List Item → List Item
 still_waiting item items =
-    if supersedes_one item (newest items) then take (length items - 1) items else items
+    if supersedes_one item (newest_item items) then take (length items - 1) items else items

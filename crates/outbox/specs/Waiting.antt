@@ -32,8 +32,8 @@ max_waiting = 524288
 
 -- Whether an item may be queued after these: a message of another node while fewer than
 -- `max_waiting` items wait, and a message of the master or an order whatever waits.
-abbrev pub has_room : Item → List Item → Bool
-has_room item items = not (is_of_node item) || nat_lt (length items) max_waiting
+abbrev pub may_be_queued : Item → List Item → Bool
+may_be_queued item items = not (is_of_node item) || nat_lt (length items) max_waiting
 
 -- What may wait for the node of a number: what was queued for it, and at most `max_waiting`
 -- messages of other nodes.

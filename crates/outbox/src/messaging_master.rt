@@ -7,7 +7,7 @@ ghost use Rattle.master.specs.ballot_base.LawfulConfig.{is_lawful};
 ghost use Rattle.master.specs.snapshots.Masters.{assigned};
 ghost use Rattle.node.specs.broker_spec.declared.command.Command.{Command};
 ghost use Rattle.outbox.specs.Queued.{WasAnswered, WasGivenToMaster};
-ghost use Rattle.outbox.specs.Mastering.{MayGet, answer_to, master_after, message_if, message_of};
+ghost use Rattle.outbox.specs.Mastering.{MayGet, answer_to, master_after_outcome, message_if, message_of};
 
 use crate::order_error::OrderError;
 use crate::outbox::Outbox;
@@ -140,7 +140,7 @@ impl MessagingMaster {
         requires { WasGivenToMaster asked }
         ensures answer { result ≡ message_if (answer_to self.old asked.from asked.body) }
         ensures state { self.new
-            ≡ master_after self.old (answer_to self.old asked.from asked.body) }
+            ≡ master_after_outcome self.old (answer_to self.old asked.from asked.body) }
     {
         let Body::Activate(ballot) = asked.body else {
             return None;

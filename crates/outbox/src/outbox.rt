@@ -10,8 +10,8 @@ ghost use Rattle.node.specs.declared.Item.TheVariants.{Peer};
 ghost use Rattle.master.specs.snapshots.Masters.{assigned};
 ghost use Rattle.outbox.specs.Queued.{IsPosted, IsQueued};
 ghost use Rattle.outbox.specs.Mastering.{MayGet, message_of};
-ghost use Rattle.outbox.specs.Superseding.{newest, still_waiting, supersedes_one};
-ghost use Rattle.outbox.specs.Waiting.{AreUnchanged, has_room, is_of_node};
+ghost use Rattle.outbox.specs.Superseding.{newest_item, still_waiting, supersedes_one};
+ghost use Rattle.outbox.specs.Waiting.{AreUnchanged, may_be_queued, is_of_node};
 ghost use Rattle.outbox.specs.Waking.{is_long, wakes};
 
 use crate::messaging_master::{Answer, MessagingMaster};
@@ -102,7 +102,8 @@ impl Outbox {
             self.new ≡ record self.old { items = still_waiting item self.old.items ++ item ∷ [] } }
         ensures lost { result ≡ false →
             self.new ≡ record self.old { items = still_waiting item self.old.items } }
-        ensures full { has_room item (still_waiting item self.old.items) ≡ false → result ≡ false }
+        ensures full { may_be_queued item (still_waiting item self.old.items) ≡ false → result
+            ≡ false }
     {
         self.push(item)
     }
@@ -168,7 +169,8 @@ impl Outbox {
             self.new ≡ record self.old { items = still_waiting item self.old.items ++ item ∷ [] } }
         ensures lost { result ≡ false →
             self.new ≡ record self.old { items = still_waiting item self.old.items } }
-        ensures full { has_room item (still_waiting item self.old.items) ≡ false → result ≡ false }
+        ensures full { may_be_queued item (still_waiting item self.old.items) ≡ false → result
+            ≡ false }
     {
         self.drop_superseded(&item);
         if !self.has_room(&item) {
@@ -179,7 +181,7 @@ impl Outbox {
 
     // Says whether an item may be queued after those that wait.
     fn has_room(&self, item: &Item) -> bool
-        ensures { result ≡ has_room item.now self.now.items }
+        ensures { result ≡ may_be_queued item.now self.now.items }
     {
         !is_of_node(item) || self.items.len() < MAX_WAITING
     }
@@ -196,7 +198,7 @@ impl Outbox {
 
     // Says whether this item supersedes the newest that waits.
     fn is_newest_superseded(&self, item: &Item) -> bool
-        ensures { result ≡ supersedes_one item.now (newest self.now.items) }
+        ensures { result ≡ supersedes_one item.now (newest_item self.now.items) }
     {
         match self.items.last() {
             Some(newest) => supersedes(item, newest),

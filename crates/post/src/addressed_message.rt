@@ -6,7 +6,7 @@ ghost use Rattle.node.specs.ballot_base.declared.message.Effect.TheVariants.{To}
 ghost use Rattle.node.specs.declared.Item.TheVariants.{Peer};
 ghost use Rattle.outbox.specs.Given.{IsMaster};
 ghost use Rattle.outbox.specs.Queued.{WasGiven};
-ghost use Rattle.outbox.specs.Mastering.{answer_to, master_after, message_if};
+ghost use Rattle.outbox.specs.Mastering.{answer_to, master_after_outcome, message_if};
 ghost use Rattle.outbox.specs.Superseding.{still_waiting};
 
 use crate::cluster::Cluster;
@@ -73,7 +73,8 @@ impl AddressedMessage {
         ensures answer { result
             ≡ message_if (answer_to master.old self.message.from self.message.body) }
         ensures state { master.new
-            ≡ master_after master.old (answer_to master.old self.message.from self.message.body) }
+            ≡ master_after_outcome master.old
+            (answer_to master.old self.message.from self.message.body) }
     {
         let AddressedMessage {
             receiver: _receiver,
