@@ -27,8 +27,8 @@ use Rattle.ballot.specs.ballot_base.declared.message.Body.{Body}
 use Rattle.ballot.specs.ballot_base.declared.message.Body.TheVariants.{NewBallot, Join, State, Install, Installed, Activate, Activated, Superseded, Append, Held, Commit}
 use Rattle.master.specs.Outcomes.EventOutcome.{by_node, by_cut, by_master, unheeded}
 use Rattle.master.specs.Group.{GroupState}
-use Rattle.master.specs.Exact.{takes, hears, comes, gives, outcome_of, after, group_step}
-use Rattle.master.specs.Outcomes.{NodeOutcome, EventOutcome, running, can_take, taking, stopping, cut_outcome, cutting}
+use Rattle.master.specs.Exact.{takes, hears, comes, gives, event_outcome, moment_after_event, group_step}
+use Rattle.master.specs.Outcomes.{NodeOutcome, EventOutcome, running, can_take, outcome_of_taking, stopping, cut_outcome, outcome_of_cutting}
 use Rattle.master.specs.Steps.{Freezes, Happens, StepsBy, GroupLosesNothing}
 use Rattle.master.specs.Steps.Happens.{nothing_happens, node_goes, master_goes}
 use Rattle.master.specs.Inside.{RunsAt, asks_for}
@@ -39,18 +39,18 @@ pub takes_turn : {S C O : Type 0} (rules : Rules S C O) (w : World S C O) (node 
     can_take x.replica input ≡ true →
     takes rules w node input ≡ Some (by_node (record { index = at; before = x.replica; outcome = replica_step rules x.replica input }))
 takes_turn {S = S} {C = C} {O = O} rules w node at input x can =
-    ap (λ o. taking rules (node - 1) o input) x.runs
+    ap (λ o. outcome_of_taking rules (node - 1) o input) x.runs
     ∙ ap (λ b. cond b (Some (by_node (record { index = node - 1; before = x.replica; outcome = replica_step rules x.replica input }))) None) can
     ∙ ap (λ n. let t : NodeOutcome S C O = record { index = n; before = x.replica; outcome = replica_step rules x.replica input } in Some (by_node t)) (sym x.index)
 
 pub takes_nothing : {S C O : Type 0} (rules : Rules S C O) (w : World S C O) (node : ℕ) (input : Input C) →
     running w.nodes node ≡ None → takes rules w node input ≡ None
-takes_nothing rules w node input idle = ap (λ o. taking rules (node - 1) o input) idle
+takes_nothing rules w node input idle = ap (λ o. outcome_of_taking rules (node - 1) o input) idle
 
 pub cannot_take : {S C O : Type 0} (rules : Rules S C O) (w : World S C O) (node at : ℕ) (input : Input C) (x : RunsAt w.nodes node at) →
     can_take x.replica input ≡ false → takes rules w node input ≡ None
 cannot_take {S = S} {C = C} {O = O} rules w node at input x can =
-    ap (λ o. taking rules (node - 1) o input) x.runs
+    ap (λ o. outcome_of_taking rules (node - 1) o input) x.runs
     ∙ ap (λ b. cond b (Some (by_node (record { index = node - 1; before = x.replica; outcome = replica_step rules x.replica input }))) None) can
 
 pub stops_turn : {S C O : Type 0} (rules : Rules S C O) (nodes : List (ReplicaState S C)) (node at : ℕ) (x : RunsAt nodes node at) →
@@ -61,16 +61,16 @@ stops_turn {S = S} {C = C} {O = O} rules nodes node at x =
 
 -- the outcome of a cut
 pub cuts_turn : {S C O : Type 0} (rules : Rules S C O) (nodes : List (ReplicaState S C)) (node at : ℕ) (x : RunsAt nodes node at) → can_cut x.replica ≡ true →
-    cutting rules (node - 1) (running nodes node) ≡ Some (by_cut (cut_outcome rules at x.replica))
+    outcome_of_cutting rules (node - 1) (running nodes node) ≡ Some (by_cut (cut_outcome rules at x.replica))
 cuts_turn {S = S} {C = C} {O = O} rules nodes node at x can =
-    ap (cutting rules (node - 1)) x.runs
+    ap (outcome_of_cutting rules (node - 1)) x.runs
     ∙ ap (λ b. let t : Option (EventOutcome S C O) = cond b (Some (by_cut (cut_outcome rules (node - 1) x.replica))) None in t) can
     ∙ ap (λ n. let t : Option (EventOutcome S C O) = Some (by_cut (cut_outcome rules n x.replica)) in t) (sym x.index)
 
 pub cuts_nothing : {S C O : Type 0} (rules : Rules S C O) (nodes : List (ReplicaState S C)) (node at : ℕ) (x : RunsAt nodes node at) → can_cut x.replica ≡ false →
-    cutting rules (node - 1) (running nodes node) ≡ None
+    outcome_of_cutting rules (node - 1) (running nodes node) ≡ None
 cuts_nothing {S = S} {C = C} {O = O} rules nodes node at x cannot =
-    ap (cutting rules (node - 1)) x.runs
+    ap (outcome_of_cutting rules (node - 1)) x.runs
     ∙ ap (λ b. let t : Option (EventOutcome S C O) = cond b (Some (by_cut (cut_outcome rules (node - 1) x.replica))) None in t) cannot
 
 -- what a cut froze, by the outcome
@@ -83,7 +83,7 @@ some_idle a b = let e = sym a ∙ b in cc
 
 -- an outcome for a node is the step of its event
 pub steps_turn : {S C O : Type 0} (rules : Rules S C O) (old new : GroupState S C O) (event : Event C) (t : NodeOutcome S C O) →
-    outcome_of rules old.moment event ≡ Some (by_node t) → TookStep rules old t new → StepsBy rules old event new
+    event_outcome rules old.moment event ≡ Some (by_node t) → TookStep rules old t new → StepsBy rules old event new
 steps_turn {S = S} {C = C} {O = O} rules old new event t e took =
     record { way = by_way took.way; freezes = inl (freezes_as rules (sym e) tt) }
   where
@@ -95,14 +95,14 @@ steps_turn {S = S} {C = C} {O = O} rules old new event t e took =
         inl (
           took.moment ∙ ap (λ (s : ReplicaState S C). let z : Moment S C O = record old.moment { world = moved old.moment.world t.index s took.given } in z) a
               ∙ ap (λ (us : List (Effect C O)). let z : Moment S C O = record old.moment { world = moved old.moment.world t.index t.outcome.state us } in z) b
-              ∙ ap (after old.moment) (sym e),
+              ∙ ap (moment_after_event old.moment) (sym e),
           c,
         )
     by_way (inr (a, b)) = inr (subst (λ (v : Moment S C O). Happens rules old.moment event v) (sym took.moment) (node_goes t e a), b)
 
 -- and the same for one of the master
 pub steps_master : {S C O : Type 0} (rules : Rules S C O) (old new : GroupState S C O) (event : Event C) (o : MasterOutcome C) →
-    outcome_of rules old.moment event ≡ Some (by_master o) → MasterTook old o new → StepsBy rules old event new
+    event_outcome rules old.moment event ≡ Some (by_master o) → MasterTook old o new → StepsBy rules old event new
 steps_master {S = S} {C = C} {O = O} rules old new event o e took =
     record { way = by_way took.way; freezes = inl (freezes_as rules (sym e) tt) }
   where
@@ -110,7 +110,7 @@ steps_master {S = S} {C = C} {O = O} rules old new event o e took =
         ⊎ ((new.moment ≡ record old.moment { master = o.state }) × (new.losses ≡ one_more old.losses)) →
         ((new.moment ≡ group_step rules event old.moment) × (new.losses ≡ old.losses))
         ⊎ (Happens rules old.moment event new.moment × (new.losses ≡ one_more old.losses))
-    by_way (inl (a, b)) = inl (a ∙ ap (after old.moment) (sym e), b)
+    by_way (inl (a, b)) = inl (a ∙ ap (moment_after_event old.moment) (sym e), b)
     by_way (inr (a, b)) = inr (subst (λ (v : Moment S C O). Happens rules old.moment event v) (sym a) (master_goes o e), b)
 
 -- nothing happened, because memory ran out
@@ -122,23 +122,23 @@ steps_lost {S = S} {C = C} {O = O} rules old new event e =
 
 -- and the same for a cut
 pub steps_cut : {S C O : Type 0} (rules : Rules S C O) (old new : GroupState S C O) (event : Event C) (t : NodeOutcome S C O) →
-    outcome_of rules old.moment event ≡ Some (by_cut t) → TookCut rules old t new → StepsBy rules old event new
+    event_outcome rules old.moment event ≡ Some (by_cut t) → TookCut rules old t new → StepsBy rules old event new
 steps_cut {S = S} {C = C} {O = O} rules old new event t e took = by_way took.way
   where
-    by_way : ((new.moment ≡ after old.moment (Some (by_cut t))) × (new.losses ≡ old.losses) × Freezes rules (Some (by_cut t)))
+    by_way : ((new.moment ≡ moment_after_event old.moment (Some (by_cut t))) × (new.losses ≡ old.losses) × Freezes rules (Some (by_cut t)))
         ⊎ (new ≡ record old { losses = one_more old.losses }) → StepsBy rules old event new
     by_way (inl (a, b, c)) =
-        record { way = inl (a ∙ ap (after old.moment) (sym e), b); freezes = inl (freezes_as rules (sym e) c) }
+        record { way = inl (a ∙ ap (moment_after_event old.moment) (sym e), b); freezes = inl (freezes_as rules (sym e) c) }
     by_way (inr lost) = steps_lost rules old new event lost
 
 -- an event that does nothing
 pub steps_idle : {S C O : Type 0} (rules : Rules S C O) (old : GroupState S C O) (event : Event C) →
-    outcome_of rules old.moment event ≡ None → StepsBy rules old event old
-steps_idle rules old event e = record { way = inl (sym (ap (after old.moment) e), refl); freezes = inr refl }
+    event_outcome rules old.moment event ≡ None → StepsBy rules old event old
+steps_idle rules old event e = record { way = inl (sym (ap (moment_after_event old.moment) e), refl); freezes = inr refl }
 
 pub steps_unheeded : {S C O : Type 0} (rules : Rules S C O) (old : GroupState S C O) (event : Event C) →
-    outcome_of rules old.moment event ≡ Some unheeded → StepsBy rules old event old
-steps_unheeded rules old event e = record { way = inl (sym (ap (after old.moment) e), refl); freezes = inr refl }
+    event_outcome rules old.moment event ≡ Some unheeded → StepsBy rules old event old
+steps_unheeded rules old event e = record { way = inl (sym (ap (moment_after_event old.moment) e), refl); freezes = inr refl }
 
 -- a count that did not rise lost nothing
 pub steps_exactly : {S C O : Type 0} (rules : Rules S C O) (old new : GroupState S C O) (event : Event C) →
@@ -153,24 +153,24 @@ steps_exactly rules old new event s exact = by_way s.way
 
 -- a message that was sent to a node, and one that was not sent
 came : {S C O : Type 0} (rules : Rules S C O) (a : Moment S C O) (k : ℕ) (x : ℕ × Message C) → 0 < x.0 → slice_get a.world.sent k ≡ Some x →
-    outcome_of rules a (Deliver k) ≡ takes rules a.world x.0 (Receives x.1)
+    event_outcome rules a (Deliver k) ≡ takes rules a.world x.0 (Receives x.1)
 came rules a k (zero, m) positive e = absurd (omega (arith, positive))
 came rules a k (suc n, m) positive e = ap (comes rules a) e
 
 pub delivers_turn : {S C O : Type 0} (rules : Rules S C O) (a : Moment S C O) (k at : ℕ) (x : ℕ × Message C) (m : Message C) →
     slice_get a.world.sent k ≡ Some x → m ≡ x.1 → (y : RunsAt a.world.nodes x.0 at) →
-    outcome_of rules a (Deliver k) ≡ Some (by_node (record { index = at; before = y.replica; outcome = replica_step rules y.replica (Receives m) }))
+    event_outcome rules a (Deliver k) ≡ Some (by_node (record { index = at; before = y.replica; outcome = replica_step rules y.replica (Receives m) }))
 delivers_turn {S = S} {C = C} {O = O} rules a k at x m e same y =
     came rules a k x y.positive e ∙ takes_turn rules a.world x.0 at (Receives x.1) y refl
     ∙ ap (λ z. let t : NodeOutcome S C O = record { index = at; before = y.replica; outcome = replica_step rules y.replica (Receives z) } in Some (by_node t)) (sym same)
 
 pub delivers_nothing : {S C O : Type 0} (rules : Rules S C O) (a : Moment S C O) (k : ℕ) (x : ℕ × Message C) → 0 < x.0 →
-    slice_get a.world.sent k ≡ Some x → running a.world.nodes x.0 ≡ None → outcome_of rules a (Deliver k) ≡ None
+    slice_get a.world.sent k ≡ Some x → running a.world.nodes x.0 ≡ None → event_outcome rules a (Deliver k) ≡ None
 delivers_nothing rules a k x positive e idle = came rules a k x positive e ∙ takes_nothing rules a.world x.0 (Receives x.1) idle
 
 -- a message that was sent to the master
 pub delivers_to_master : {S C O : Type 0} (rules : Rules S C O) (a : Moment S C O) (k : ℕ) (x : ℕ × Message C) → x.0 ≡ 0 → slice_get a.world.sent k ≡ Some x →
-    outcome_of rules a (Deliver k) ≡ Some (hears rules a.master x.1.from x.1.body)
+    event_outcome rules a (Deliver k) ≡ Some (hears rules a.master x.1.from x.1.body)
 delivers_to_master rules a k (zero, m) zero_is e = ap (comes rules a) e
 delivers_to_master rules a k (suc n, m) zero_is e = absurd (omega (arith, zero_is))
 
@@ -202,7 +202,7 @@ hears_nothing rules m from (Append b place command) e = refl
 hears_nothing rules m from (Held b held) e = refl
 hears_nothing rules m from (Commit b held) e = refl
 
-pub not_sent : {S C O : Type 0} (rules : Rules S C O) (a : Moment S C O) (k : ℕ) → slice_get a.world.sent k ≡ None → outcome_of rules a (Deliver k) ≡ None
+pub not_sent : {S C O : Type 0} (rules : Rules S C O) (a : Moment S C O) (k : ℕ) → slice_get a.world.sent k ≡ None → event_outcome rules a (Deliver k) ≡ None
 not_sent rules a k e = ap (comes rules a) e
 
 pub get_there : {X : Type 0} (xs : List X) (k : ℕ) (x : X) → k < length xs → x ≡ get_or xs k x → slice_get xs k ≡ Some x
@@ -234,7 +234,7 @@ proposal_taken r status active command e a on room =
 
 -- a ballot that is given
 pub gives_turn : {S C O : Type 0} (rules : Rules S C O) (a : Moment S C O) (config : Config) → refusal a.master config ≡ None →
-    outcome_of rules a (Assign config) ≡ Some (by_master (assigned C a.master config))
+    event_outcome rules a (Assign config) ≡ Some (by_master (assigned C a.master config))
 gives_turn rules a config granted = ap (gives rules a.master config) granted
 
 -- whom the master is asked by

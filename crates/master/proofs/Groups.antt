@@ -36,9 +36,9 @@ use Rattle.master.specs.Group.{GroupState}
 use Rattle.snapshots.specs.Masters.{MasterOutcome}
 use Rattle.master.specs.declared.activation.Activation.{Activation}
 use Rattle.master.specs.declared.activation.Activation.TheVariants.{Activated as Granted, Superseded as Refused}
-use Rattle.master.specs.Inside.{HasCounted, IsGroup, ToldIn, answer_of, least_but_one, next_least, moment_of, world_of}
+use Rattle.master.specs.Inside.{HasCounted, IsGroup, ToldIn, activation_answer, least_but_one, next_least, moment_of, world_of}
 use Rattle.master.specs.Inside.Losing.{MasterTook, TookCut, TookStep}
-use Rattle.master.specs.Exact.{after}
+use Rattle.master.specs.Exact.{moment_after_event}
 use Rattle.master.specs.Outcomes.{cut_outcome}
 use Rattle.master.specs.Outcomes.EventOutcome.{by_cut}
 use Rattle.master.specs.Steps.{Freezes}
@@ -327,18 +327,18 @@ world_is (inr (e, f)) = inr e
 
 -- what the master answers
 pub answer_is : {C : Type 0} (b : ℕ) (granted : Bool) (activation : Activation) (body : Body C) → activation ≡ cond granted Granted Refused →
-    body ≡ answer_of activation b → body ≡ cond granted (Activated b) (Superseded b)
-answer_is b true activation body e is = is ∙ ap (λ a. answer_of a b) e
-answer_is b false activation body e is = is ∙ ap (λ a. answer_of a b) e
+    body ≡ activation_answer activation b → body ≡ cond granted (Activated b) (Superseded b)
+answer_is b true activation body e is = is ∙ ap (λ a. activation_answer a b) e
+answer_is b false activation body e is = is ∙ ap (λ a. activation_answer a b) e
 
 -- which counters correspond to the active ballot after an Activate
-pub turned : (told next told' next' : ToldIn) (before after : ℕ) →
-    (before ≡ after → (told' ≡ told) × (next' ≡ next)) → ((before ≡ after → ⊥) → (told' ≡ next) × (next' ≡ told)) →
-    ((after ≡ before) × (told' ≡ told) × (next' ≡ next)) ⊎ ((after ≡ before → ⊥) × (told' ≡ next) × (next' ≡ told))
-turned told next told' next' before after stays turns = by_ballot (cases_eq before after)
+pub turned : (told next told' next' : ToldIn) (before moment_after_event : ℕ) →
+    (before ≡ moment_after_event → (told' ≡ told) × (next' ≡ next)) → ((before ≡ moment_after_event → ⊥) → (told' ≡ next) × (next' ≡ told)) →
+    ((moment_after_event ≡ before) × (told' ≡ told) × (next' ≡ next)) ⊎ ((moment_after_event ≡ before → ⊥) × (told' ≡ next) × (next' ≡ told))
+turned told next told' next' before moment_after_event stays turns = by_ballot (cases_eq before moment_after_event)
   where
-    by_ballot : (before ≡ after) ⊎ (before ≡ after → ⊥) →
-        ((after ≡ before) × (told' ≡ told) × (next' ≡ next)) ⊎ ((after ≡ before → ⊥) × (told' ≡ next) × (next' ≡ told))
+    by_ballot : (before ≡ moment_after_event) ⊎ (before ≡ moment_after_event → ⊥) →
+        ((moment_after_event ≡ before) × (told' ≡ told) × (next' ≡ next)) ⊎ ((moment_after_event ≡ before → ⊥) × (told' ≡ next) × (next' ≡ told))
     by_ballot (inl e) = inl (sym e, (stays e).0, (stays e).1)
     by_ballot (inr ne) = inr (λ e. ne (sym e), (turns ne).0, (turns ne).1)
 
@@ -477,11 +477,11 @@ pub group_cuts : {S C O : Type 0} (rules : Rules S C O) (a v : Moment S C O) (to
     IsGroup rules v told next
 group_cuts {S = S} {C = C} {O = O} rules a v told next old new n r g is_old is_new stands can took sent_is = by_way took.way
   where
-    by_way : ((new.moment ≡ after old.moment (Some (by_cut (cut_outcome rules n r)))) × (new.losses ≡ old.losses) × Freezes rules (Some (by_cut (cut_outcome rules n r))))
+    by_way : ((new.moment ≡ moment_after_event old.moment (Some (by_cut (cut_outcome rules n r)))) × (new.losses ≡ old.losses) × Freezes rules (Some (by_cut (cut_outcome rules n r))))
         ⊎ (new ≡ record old { losses = one_more old.losses }) → IsGroup rules v told next
     by_way (inl (is, same, freezes)) =
-        let so : v ≡ after a (Some (by_cut (cut_outcome rules n r))) =
-        sym is_new ∙ is ∙ ap (λ (u : Moment S C O). after u (Some (by_cut (cut_outcome rules n r)))) is_old in
+        let so : v ≡ moment_after_event a (Some (by_cut (cut_outcome rules n r))) =
+        sym is_new ∙ is ∙ ap (λ (u : Moment S C O). moment_after_event u (Some (by_cut (cut_outcome rules n r)))) is_old in
         group_goes rules a v told next told next g
         (subst (λ (u : Moment S C O). MayGo rules a u) (sym so)
         (cut_may rules a.master a.world (cut_outcome rules n r) (record { stands = stands; can = can; is = refl }) freezes))

@@ -28,8 +28,8 @@ use Rattle.std.proofs.lemmas.Bool.{and_parts, ltb-true}
 use Rattle.master.specs.declared.event.Event.{Event}
 use Rattle.master.specs.declared.event.Event.TheVariants.{Propose, Assign, Deliver, Tick, Cut, Crash}
 use Rattle.master.specs.Group.{GroupState}
-use Rattle.master.specs.Exact.{takes, hears, comes, comes_to, gives, outcome_of, after, group_step}
-use Rattle.master.specs.Outcomes.{NodeOutcome, EventOutcome, running, unless_stopped, can_take, taking, stopping, cut_outcome, cutting}
+use Rattle.master.specs.Exact.{takes, hears, comes, comes_to, gives, event_outcome, moment_after_event, group_step}
+use Rattle.master.specs.Outcomes.{NodeOutcome, EventOutcome, running, unless_stopped, can_take, outcome_of_taking, stopping, cut_outcome, outcome_of_cutting}
 use Rattle.master.specs.Outcomes.EventOutcome.{by_node, by_cut, by_master, unheeded}
 use Rattle.master.specs.Steps.{Freezes, Happens, StepsBy}
 use Rattle.master.specs.Steps.Happens.{nothing_happens, node_goes, master_goes}
@@ -60,7 +60,7 @@ running_is {S = S} {C = C} (Some x) r e = by_stop x.stopped refl e
     by_stop false f g = let same : x ≡ r = cc in (g, ap (λ (y : ReplicaState S C). y.stopped) (sym same) ∙ f)
 
 taking_is : {S C O : Type 0} (rules : Rules S C O) (w : World S C O) (n : ℕ) (o : Option (ReplicaState S C)) (input : Input C) (t : NodeOutcome S C O) →
-    unless_stopped (slice_get w.nodes n) ≡ o → MayTake w n input → taking rules n o input ≡ Some (by_node t) → IsTurn rules w t
+    unless_stopped (slice_get w.nodes n) ≡ o → MayTake w n input → outcome_of_taking rules n o input ≡ Some (by_node t) → IsTurn rules w t
 taking_is rules w n None input t is may e = cc
 taking_is {S = S} {C = C} {O = O} rules w n (Some r) input t is may e = by_room (can_take r input) e
   where
@@ -80,7 +80,7 @@ takes_is rules w zero input t may e = cc
 takes_is {S = S} {C = C} {O = O} rules w (suc n) input t may e =
     let same : suc n - 1 ≡ n = omega arith in
     taking_is rules w n (running w.nodes (suc n)) input t refl (may n refl)
-    (subst (λ k. taking rules k (running w.nodes (suc n)) input ≡ Some (by_node t)) same e)
+    (subst (λ k. outcome_of_taking rules k (running w.nodes (suc n)) input ≡ Some (by_node t)) same e)
 
 stopping_is : {S C O : Type 0} (rules : Rules S C O) (w : World S C O) (node : ℕ) (t : NodeOutcome S C O) →
     stopping rules (node - 1) (running w.nodes node) ≡ Some (by_node t) → IsTurn rules w t
@@ -114,7 +114,7 @@ hears_no_node rules m from (Commit b held) t e = cc
 
 -- an outcome for a node, whatever the event
 pub turn_is : {S C O : Type 0} (rules : Rules S C O) (a : Moment S C O) (e : Event C) (t : NodeOutcome S C O) →
-    outcome_of rules a e ≡ Some (by_node t) → IsTurn rules a.world t
+    event_outcome rules a e ≡ Some (by_node t) → IsTurn rules a.world t
 turn_is rules a (Propose node command) t is = takes_is rules a.world node (Proposes command) t (λ n f. tt) is
 turn_is {S = S} {C = C} {O = O} rules a (Assign config) t is = by_refusal (refusal a.master config) is
   where
@@ -140,7 +140,7 @@ turn_is {S = S} {C = C} {O = O} rules a (Cut node) t is = absurd (no_turn (runni
     by_need r true f = cc
     by_need r false f = cc
 
-    no_turn : (o : Option (ReplicaState S C)) → cutting rules (node - 1) o ≡ Some (by_node t) → ⊥
+    no_turn : (o : Option (ReplicaState S C)) → outcome_of_cutting rules (node - 1) o ≡ Some (by_node t) → ⊥
     no_turn None f = cc
     no_turn (Some r) f = by_need r (can_cut r) f
 turn_is rules a (Crash node) t is = stopping_is rules a.world node t is
@@ -152,12 +152,12 @@ pub record IsCut {S C O : Type 0} (rules : Rules S C O) (w : World S C O) (t : N
   pub is : t.outcome ≡ record { state = cut rules t.before; effects = [] }
 
 cutting_is : {S C O : Type 0} (rules : Rules S C O) (w : World S C O) (node : ℕ) (t : NodeOutcome S C O) →
-    cutting rules (node - 1) (running w.nodes node) ≡ Some (by_cut t) → IsCut rules w t
+    outcome_of_cutting rules (node - 1) (running w.nodes node) ≡ Some (by_cut t) → IsCut rules w t
 cutting_is rules w zero t e = cc
 cutting_is {S = S} {C = C} {O = O} rules w (suc n) t e =
     let same : suc n - 1 ≡ n = omega arith in
     by_node_there (unless_stopped (slice_get w.nodes n)) refl
-    (subst (λ k. cutting rules k (running w.nodes (suc n)) ≡ Some (by_cut t)) same e)
+    (subst (λ k. outcome_of_cutting rules k (running w.nodes (suc n)) ≡ Some (by_cut t)) same e)
   where
     by_need : (r : ReplicaState S C) (b : Bool) → can_cut r ≡ b → slice_get w.nodes n ≡ Some r →
         cond b (Some (by_cut (cut_outcome rules n r))) None ≡ Some (by_cut t) → IsCut rules w t
@@ -166,13 +166,13 @@ cutting_is {S = S} {C = C} {O = O} rules w (suc n) t e =
         subst (λ (x : NodeOutcome S C O). IsCut rules w x) is (record { stands = stands; can = can; is = refl })
     by_need r false can stands f = cc
 
-    by_node_there : (o : Option (ReplicaState S C)) → unless_stopped (slice_get w.nodes n) ≡ o → cutting rules n o ≡ Some (by_cut t) → IsCut rules w t
+    by_node_there : (o : Option (ReplicaState S C)) → unless_stopped (slice_get w.nodes n) ≡ o → outcome_of_cutting rules n o ≡ Some (by_cut t) → IsCut rules w t
     by_node_there None f g = cc
     by_node_there (Some r) f g = by_need r (can_cut r) refl (running_is (slice_get w.nodes n) r f).0 g
 
 -- no other event cuts a log
 no_cut_taking : {S C O : Type 0} (rules : Rules S C O) (n : ℕ) (o : Option (ReplicaState S C)) (input : Input C) (t : NodeOutcome S C O) →
-    taking rules n o input ≡ Some (by_cut t) → ⊥
+    outcome_of_taking rules n o input ≡ Some (by_cut t) → ⊥
 no_cut_taking rules n None input t e = cc
 no_cut_taking {S = S} {C = C} {O = O} rules n (Some r) input t e = by_room (can_take r input) e
   where
@@ -200,7 +200,7 @@ hears_no_cut rules m from (Held b held) t e = cc
 hears_no_cut rules m from (Commit b held) t e = cc
 
 pub cut_is : {S C O : Type 0} (rules : Rules S C O) (a : Moment S C O) (e : Event C) (t : NodeOutcome S C O) →
-    outcome_of rules a e ≡ Some (by_cut t) → IsCut rules a.world t
+    event_outcome rules a e ≡ Some (by_cut t) → IsCut rules a.world t
 cut_is rules a (Propose node command) t is = absurd (no_cut_taking rules (node - 1) (running a.world.nodes node) (Proposes command) t is)
 cut_is {S = S} {C = C} {O = O} rules a (Assign config) t is = by_refusal (refusal a.master config) is
   where
@@ -284,7 +284,7 @@ hears_is rules a from (Held b held) o i e = cc
 hears_is rules a from (Commit b held) o i e = cc
 
 no_master_turn : {S C O : Type 0} (rules : Rules S C O) (n : ℕ) (r : Option (ReplicaState S C)) (input : Input C) (o : MasterOutcome C) →
-    taking rules n r input ≡ Some (by_master o) → ⊥
+    outcome_of_taking rules n r input ≡ Some (by_master o) → ⊥
 no_master_turn rules n None input o e = cc
 no_master_turn {S = S} {C = C} {O = O} rules n (Some r) input o e = by_room (can_take r input) e
   where
@@ -299,7 +299,7 @@ no_stop rules n (Some r) o e = cc
 
 -- an outcome for the master, whatever the event
 pub master_turn_is : {S C O : Type 0} (rules : Rules S C O) (a : Moment S C O) (e : Event C) (o : MasterOutcome C) →
-    outcome_of rules a e ≡ Some (by_master o) → IsMasterTurn a o
+    event_outcome rules a e ≡ Some (by_master o) → IsMasterTurn a o
 master_turn_is rules a (Propose node command) o is = absurd (no_master_turn rules (node - 1) (running a.world.nodes node) (Proposes command) o is)
 master_turn_is {S = S} {C = C} {O = O} rules a (Assign config) o is = by_refusal (refusal a.master config) refl is
   where
@@ -324,7 +324,7 @@ master_turn_is {S = S} {C = C} {O = O} rules a (Cut node) o is = absurd (no_mast
     by_need r true f = cc
     by_need r false f = cc
 
-    no_master_turn_there : (x : Option (ReplicaState S C)) → cutting rules (node - 1) x ≡ Some (by_master o) → ⊥
+    no_master_turn_there : (x : Option (ReplicaState S C)) → outcome_of_cutting rules (node - 1) x ≡ Some (by_master o) → ⊥
     no_master_turn_there None f = cc
     no_master_turn_there (Some r) f = by_need r (can_cut r) f
 master_turn_is rules a (Crash node) o is = absurd (no_stop rules (node - 1) (running a.world.nodes node) o is)
@@ -356,8 +356,8 @@ happens_may rules {a = a} {e = e} (node_goes t {new = new} {given = given} is lo
 happens_may rules {a = a} {e = e} (master_goes o is) = master_turn_lost rules a o (master_turn_is rules a e o is)
 
 -- and what it comes to
-exactly_may : {S C O : Type 0} (rules : Rules S C O) (a : Moment S C O) (e : Event C) (t : Option (EventOutcome S C O)) → outcome_of rules a e ≡ t →
-    Freezes rules t → MayGo rules a (after a t)
+exactly_may : {S C O : Type 0} (rules : Rules S C O) (a : Moment S C O) (e : Event C) (t : Option (EventOutcome S C O)) → event_outcome rules a e ≡ t →
+    Freezes rules t → MayGo rules a (moment_after_event a t)
 exactly_may rules a e None is f = nothing_may rules a
 exactly_may rules a e (Some (by_node t)) is f =
     node_may rules a.master a.world t t.outcome.state t.outcome.effects (turn_is rules a e t is) (inl (refl, Thinned-same t.outcome.effects))
@@ -370,11 +370,11 @@ pub step_may : {S C O : Type 0} (rules : Rules S C O) (old new : GroupState S C 
     MayGo rules old.moment new.moment
 step_may {S = S} {C = C} {O = O} rules old new e s = by_frozen s.freezes
   where
-    by_way : Freezes rules (outcome_of rules old.moment e) → ((new.moment ≡ group_step rules e old.moment) × (new.losses ≡ old.losses))
+    by_way : Freezes rules (event_outcome rules old.moment e) → ((new.moment ≡ group_step rules e old.moment) × (new.losses ≡ old.losses))
         ⊎ (Happens rules old.moment e new.moment × (new.losses ≡ one_more old.losses)) → MayGo rules old.moment new.moment
-    by_way f (inl (a, b)) = subst (λ (v : Moment S C O). MayGo rules old.moment v) (sym a) (exactly_may rules old.moment e (outcome_of rules old.moment e) refl f)
+    by_way f (inl (a, b)) = subst (λ (v : Moment S C O). MayGo rules old.moment v) (sym a) (exactly_may rules old.moment e (event_outcome rules old.moment e) refl f)
     by_way f (inr (a, b)) = happens_may rules a
 
-    by_frozen : Freezes rules (outcome_of rules old.moment e) ⊎ (new.moment ≡ old.moment) → MayGo rules old.moment new.moment
+    by_frozen : Freezes rules (event_outcome rules old.moment e) ⊎ (new.moment ≡ old.moment) → MayGo rules old.moment new.moment
     by_frozen (inl f) = by_way f s.way
     by_frozen (inr same) = subst (λ (v : Moment S C O). MayGo rules old.moment v) (sym same) (nothing_may rules old.moment)

@@ -22,7 +22,7 @@ use Rattle.snapshots.specs.World.{World, moved}
 use Rattle.master.specs.declared.event.Event.{Event}
 use Rattle.master.specs.declared.event.Event.TheVariants.{Assign, Cut, Deliver, Tick, Crash}
 use Rattle.master.specs.Group.{GroupState}
-use Rattle.master.specs.Exact.{after, gives, outcome_of}
+use Rattle.master.specs.Exact.{moment_after_event, gives, event_outcome}
 use Rattle.master.specs.Outcomes.{NodeOutcome, EventOutcome, can_take}
 use Rattle.master.specs.Outcomes.EventOutcome.{by_node, by_cut, by_master, unheeded}
 use Rattle.master.specs.Copying.{has_numbers_alone}
@@ -35,17 +35,17 @@ use Rattle.master.proofs.Counting.{delivers_turn, some_idle, stops_turn, takes_t
 
 -- an event that changes nothing is done by doing nothing
 same_moment : {S C O : Type 0} (rules : Rules S C O) (old : GroupState S C O) (event : Event C) (x : Option (EventOutcome S C O)) →
-    outcome_of rules old.moment event ≡ x → after old.moment x ≡ old.moment → old ≡ done_exactly rules old event
+    event_outcome rules old.moment event ≡ x → moment_after_event old.moment x ≡ old.moment → old ≡ done_exactly rules old event
 same_moment {S = S} {C = C} {O = O} rules old event x e f =
     ap (λ (a : Moment S C O). let z : GroupState S C O = record { moment = a; losses = old.losses } in z)
-    (sym f ∙ ap (after old.moment) (sym e))
+    (sym f ∙ ap (moment_after_event old.moment) (sym e))
 
 pub exactly_none : {S C O : Type 0} (rules : Rules S C O) (old : GroupState S C O) (event : Event C) →
-    outcome_of rules old.moment event ≡ None → old ≡ done_exactly rules old event
+    event_outcome rules old.moment event ≡ None → old ≡ done_exactly rules old event
 exactly_none rules old event e = same_moment rules old event None e refl
 
 pub exactly_unheeded : {S C O : Type 0} (rules : Rules S C O) (old : GroupState S C O) (event : Event C) →
-    outcome_of rules old.moment event ≡ Some unheeded → old ≡ done_exactly rules old event
+    event_outcome rules old.moment event ≡ Some unheeded → old ≡ done_exactly rules old event
 exactly_unheeded rules old event e = same_moment rules old event (Some unheeded) e refl
 
 set_same : {X : Type 0} (xs : List X) (n : ℕ) (x : X) → slice_get xs n ≡ Some x → set xs n x ≡ xs
@@ -61,7 +61,7 @@ moved_same {S = S} {C = C} {O = O} w n r stands =
 
 -- a node that does nothing by the protocol
 pub exactly_nothing : {S C O : Type 0} (rules : Rules S C O) (old : GroupState S C O) (event : Event C) (n : ℕ) (r : ReplicaState S C) (o : Outcome S C O) →
-    outcome_of rules old.moment event ≡ Some (by_node (record { index = n; before = r; outcome = o })) →
+    event_outcome rules old.moment event ≡ Some (by_node (record { index = n; before = r; outcome = o })) →
     slice_get old.moment.world.nodes n ≡ Some r → o ≡ nothing_done O r → old ≡ done_exactly rules old event
 exactly_nothing {S = S} {C = C} {O = O} rules old event n r o e stands nothing =
     same_moment rules old event _ e
@@ -76,7 +76,7 @@ steps_exactly_done {S = S} {C = C} {O = O} rules old event e =
 
 -- a node's step needs no memory if it is quiet, or if the node stops
 pub node_needs : {S C O : Type 0} {P : Type 0} (rules : Rules S C O) (a : Moment S C O) (event : Event C) (t : NodeOutcome S C O) →
-    outcome_of rules a event ≡ Some (by_node t) → ((node : ℕ) → event ≡ Crash node → P) → (SendsAndAddsNothing t.before t.outcome → P) →
+    event_outcome rules a event ≡ Some (by_node t) → ((node : ℕ) → event ≡ Crash node → P) → (SendsAndAddsNothing t.before t.outcome → P) →
     GroupTakesNoMemory rules a event → P
 node_needs rules a event t e stops quiet (comes_to_nobody f) = some_idle e f
 node_needs rules a event t e stops quiet (goes_unheeded f) = let g = sym e ∙ f in cc
@@ -87,19 +87,19 @@ node_needs {S = S} {C = C} {O = O} rules a event t e stops quiet (sends_and_adds
 
 -- a step that is quiet was done exactly
 pub turn_quiet : {S C O : Type 0} (rules : Rules S C O) (old new : GroupState S C O) (event : Event C) (t : NodeOutcome S C O) →
-    outcome_of rules old.moment event ≡ Some (by_node t) → TookStep rules old t new → SendsAndAddsNothing t.before t.outcome → new ≡ done_exactly rules old event
+    event_outcome rules old.moment event ≡ Some (by_node t) → TookStep rules old t new → SendsAndAddsNothing t.before t.outcome → new ≡ done_exactly rules old event
 turn_quiet {S = S} {C = C} {O = O} rules old new event t e took quiet =
     let z = took.quiet quiet in
     ap (λ (a : Moment S C O). let g : GroupState S C O = record { moment = a; losses = new.losses } in g)
     (took.moment
     ∙ ap (λ (s : ReplicaState S C). let a : Moment S C O = record old.moment { world = moved old.moment.world t.index s took.given } in a) z.0
     ∙ ap (λ (us : List (Effect C O)). let a : Moment S C O = record old.moment { world = moved old.moment.world t.index t.outcome.state us } in a) z.1
-    ∙ ap (after old.moment) (sym e))
-    ∙ ap (λ k. let g : GroupState S C O = record { moment = after old.moment (outcome_of rules old.moment event); losses = k } in g) z.2
+    ∙ ap (moment_after_event old.moment) (sym e))
+    ∙ ap (λ k. let g : GroupState S C O = record { moment = moment_after_event old.moment (event_outcome rules old.moment event); losses = k } in g) z.2
 
 -- a cut needs some
 pub cut_needs : {S C O : Type 0} {P : Type 0} (rules : Rules S C O) (a : Moment S C O) (node : ℕ) (t : NodeOutcome S C O) →
-    outcome_of rules a (Cut node) ≡ Some (by_cut t) → GroupTakesNoMemory rules a (Cut node) → P
+    event_outcome rules a (Cut node) ≡ Some (by_cut t) → GroupTakesNoMemory rules a (Cut node) → P
 cut_needs rules a node t e (comes_to_nobody f) = some_idle e f
 cut_needs rules a node t e (goes_unheeded f) = let g = sym e ∙ f in cc
 cut_needs rules a node t e (stops_a_node other f) = cc
@@ -107,7 +107,7 @@ cut_needs rules a node t e (sends_and_adds_nothing s f still) = let g = sym e �
 
 -- and one of the master needs some
 pub master_needs : {S C O : Type 0} {P : Type 0} (rules : Rules S C O) (a : Moment S C O) (event : Event C) (o : MasterOutcome C) →
-    outcome_of rules a event ≡ Some (by_master o) → ((node : ℕ) → event ≡ Crash node → P) → GroupTakesNoMemory rules a event → P
+    event_outcome rules a event ≡ Some (by_master o) → ((node : ℕ) → event ≡ Crash node → P) → GroupTakesNoMemory rules a event → P
 master_needs rules a event o e stops (comes_to_nobody f) = some_idle e f
 master_needs rules a event o e stops (goes_unheeded f) = let g = sym e ∙ f in cc
 master_needs rules a event o e stops (stops_a_node node f) = stops node f
@@ -128,7 +128,7 @@ tick_nothing {S = S} {C = C} {O = O} rules r quiet =
 
 -- a tick, if the node would say something and if not
 tick_goes : {S C O : Type 0} (rules : Rules S C O) (old : GroupState S C O) (node at : ℕ) (x : RunsAt old.moment.world.nodes node at) →
-    outcome_of rules old.moment (Tick node) ≡ Some (by_node (record { index = at; before = x.replica; outcome = replica_step rules x.replica Ticks }))
+    event_outcome rules old.moment (Tick node) ≡ Some (by_node (record { index = at; before = x.replica; outcome = replica_step rules x.replica Ticks }))
 tick_goes rules old node at x = takes_turn rules old.moment.world node at Ticks x refl
 
 pub tick_silent : {S C O : Type 0} (rules : Rules S C O) (old : GroupState S C O) (node at : ℕ) (x : RunsAt old.moment.world.nodes node at)
@@ -190,7 +190,7 @@ pub exactly_stopped : {S C O : Type 0} (rules : Rules S C O) (old new : GroupSta
     new ≡ done_exactly rules old (Crash node)
 exactly_stopped {S = S} {C = C} {O = O} rules old new node at x e =
     e ∙ ap (λ (a : Moment S C O). let z : GroupState S C O = record { moment = a; losses = old.losses } in z)
-    (ap (after old.moment) (sym (stops_turn rules old.moment.world.nodes node at x)))
+    (ap (moment_after_event old.moment) (sym (stops_turn rules old.moment.world.nodes node at x)))
 
 -- the same event by another name
 pub quiet_as : {S C O : Type 0} (rules : Rules S C O) (old new : GroupState S C O) (e event : Event C) → event ≡ e →
@@ -201,9 +201,9 @@ quiet_as {C = C} rules old new e event same quiet =
 -- a configuration that the master refuses
 pub refused_turn : {S C O : Type 0} (rules : Rules S C O) (a : Moment S C O) (config : Config) (can : Bool) →
     (can ≡ true → refusal a.master config ≡ None) × (refusal a.master config ≡ None → can ≡ true) → can ≡ false →
-    outcome_of rules a (Assign config) ≡ None
+    event_outcome rules a (Assign config) ≡ None
 refused_turn {S = S} {C = C} {O = O} rules a config can exactly off = by_refusal (refusal a.master config) refl
   where
-    by_refusal : (why : Option AssignRefusal) → refusal a.master config ≡ why → outcome_of rules a (Assign config) ≡ None
+    by_refusal : (why : Option AssignRefusal) → refusal a.master config ≡ why → event_outcome rules a (Assign config) ≡ None
     by_refusal (Some why) e = ap (gives rules a.master config) e
     by_refusal None e = absurd (both_ways can off (exactly.1 e))

@@ -16,12 +16,12 @@ use Rattle.master.specs.declared.event.Event.{Event}
 use Rattle.master.specs.declared.event.Event.TheVariants.{Propose, Assign, Deliver, Tick}
 use Rattle.master.specs.declared.event.Event.TheVariants.{Cut, Crash}
 use Rattle.master.specs.Outcomes.EventOutcome.{by_node, by_cut, by_master, unheeded}
-use Rattle.master.specs.Outcomes.{EventOutcome, cutting, running, stopping, taking}
+use Rattle.master.specs.Outcomes.{EventOutcome, outcome_of_cutting, running, stopping, outcome_of_taking}
 
 -- a node takes an input
 abbrev pub takes : {S C O : Type 0} →
     Rules S C O → World S C O → ℕ → Input C → Option (EventOutcome S C O)
-takes rules w node input = taking rules (node - 1) (running w.nodes node) input
+takes rules w node input = outcome_of_taking rules (node - 1) (running w.nodes node) input
 
 -- the master answers an Activate, and ignores every other message
 abbrev pub hears : {S C O : Type 0} → Rules S C O → MasterState → ℕ → Body C → EventOutcome S C O
@@ -47,32 +47,34 @@ gives rules m config (Some why) = None
 gives {C = C} rules m config None = Some (by_master (assigned C m config))
 
 -- what an event does; none if it is idle
-abbrev pub outcome_of : {S C O : Type 0} →
+abbrev pub event_outcome : {S C O : Type 0} →
     Rules S C O → Moment S C O → Event C → Option (EventOutcome S C O)
-outcome_of rules a (Propose node command) = takes rules a.world node (Proposes command)
-outcome_of rules a (Assign config) = gives rules a.master config (refusal a.master config)
-outcome_of rules a (Deliver number) = comes rules a (slice_get a.world.sent number)
-outcome_of rules a (Tick node) = takes rules a.world node Ticks
-outcome_of rules a (Cut node) = cutting rules (node - 1) (running a.world.nodes node)
-outcome_of rules a (Crash node) = stopping rules (node - 1) (running a.world.nodes node)
+event_outcome rules a (Propose node command) = takes rules a.world node (Proposes command)
+event_outcome rules a (Assign config) = gives rules a.master config (refusal a.master config)
+event_outcome rules a (Deliver number) = comes rules a (slice_get a.world.sent number)
+event_outcome rules a (Tick node) = takes rules a.world node Ticks
+event_outcome rules a (Cut node) = outcome_of_cutting rules (node - 1) (running a.world.nodes node)
+event_outcome rules a (Crash node) = stopping rules (node - 1) (running a.world.nodes node)
 
 -- the step of a group if memory suffices, and its steps one after another
-abbrev pub after : {S C O : Type 0} → Moment S C O → Option (EventOutcome S C O) → Moment S C O
-after a None = a
-after a (Some (by_node t)) =
+abbrev pub moment_after_event : {S C O : Type 0} → Moment S C O → Option (EventOutcome S C O) →
+    Moment S C O
+moment_after_event a None = a
+moment_after_event a (Some (by_node t)) =
     record a { world = moved a.world t.index t.outcome.state t.outcome.effects }
-after a (Some (by_cut t)) =
+moment_after_event a (Some (by_cut t)) =
     record a {
       world = record (moved a.world t.index t.outcome.state t.outcome.effects) {
         archive = recorded a.world.archive t.before;
       };
     }
-after a (Some (by_master o)) = record { master = o.state; world = sends_from_master a.world o }
-after a (Some unheeded) = a
+moment_after_event a (Some (by_master o)) =
+    record { master = o.state; world = sends_from_master a.world o }
+moment_after_event a (Some unheeded) = a
 
 -- the moment after an event
 abbrev pub group_step : {S C O : Type 0} → Rules S C O → Event C → Moment S C O → Moment S C O
-group_step rules event a = after a (outcome_of rules a event)
+group_step rules event a = moment_after_event a (event_outcome rules a event)
 
 -- the moment after events
 abbrev pub group_run : {S C O : Type 0} →

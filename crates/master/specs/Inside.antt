@@ -110,6 +110,6 @@ asks_for (Activate ballot) = Some ballot
 asks_for _ = None
 
 -- what the master answers to the node that asked it to activate a ballot
-abbrev pub answer_of : {C : Type 0} → Activation → ℕ → Body C
-answer_of activation.Activated ballot = Activated ballot
-answer_of activation.Superseded ballot = Superseded ballot
+abbrev pub activation_answer : {C : Type 0} → Activation → ℕ → Body C
+activation_answer activation.Activated ballot = Activated ballot
+activation_answer activation.Superseded ballot = Superseded ballot

@@ -43,10 +43,10 @@ can_take r (Receives message) = true
 can_take r Ticks = true
 
 -- the outcome for a node that takes an input, unless it refuses
-abbrev pub taking : {S C O : Type 0} →
+abbrev pub outcome_of_taking : {S C O : Type 0} →
     Rules S C O → ℕ → Option (ReplicaState S C) → Input C → Option (EventOutcome S C O)
-taking rules n None input = None
-taking rules n (Some r) input =
+outcome_of_taking rules n None input = None
+outcome_of_taking rules n (Some r) input =
     if can_take r input
     then Some (by_node (record { index = n; before = r; outcome = replica_step rules r input }))
     else None
@@ -68,7 +68,8 @@ cut_outcome rules n r =
     record { index = n; before = r; outcome = record { state = cut rules r; effects = [] } }
 
 -- the cut of a node's log, if the node runs
-abbrev pub cutting : {S C O : Type 0} →
+abbrev pub outcome_of_cutting : {S C O : Type 0} →
     Rules S C O → ℕ → Option (ReplicaState S C) → Option (EventOutcome S C O)
-cutting rules n None = None
-cutting rules n (Some r) = if can_cut r then Some (by_cut (cut_outcome rules n r)) else None
+outcome_of_cutting rules n None = None
+outcome_of_cutting rules n (Some r) =
+    if can_cut r then Some (by_cut (cut_outcome rules n r)) else None

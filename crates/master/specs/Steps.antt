@@ -10,7 +10,7 @@ use Rattle.snapshots.specs.World.{moved}
 use Rattle.master.specs.declared.event.Event.{Event}
 use Rattle.master.specs.declared.event.Event.TheVariants.{Crash}
 use Rattle.master.specs.Group.{GroupState}
-use Rattle.master.specs.Exact.{outcome_of, group_step}
+use Rattle.master.specs.Exact.{event_outcome, group_step}
 use Rattle.master.specs.Outcomes.{NodeOutcome, EventOutcome}
 use Rattle.master.specs.Outcomes.EventOutcome.{by_node, by_cut, by_master, unheeded}
 
@@ -23,12 +23,13 @@ pub data Happens {S C O : Type 0} (rules : Rules S C O) :
   -- the node of the event takes its step, with losses
   node_goes : {a : Moment S C O} {e : Event C} (t : NodeOutcome S C O)
       {new : ReplicaState S C} {given : List (Effect C O)} →
-      outcome_of rules a e ≡ Some (by_node t) →
+      event_outcome rules a e ≡ Some (by_node t) →
       Loses rules t.before t.outcome new given →
       Happens rules a e (record a { world = moved a.world t.index new given })
   -- the master goes on, and its message is lost
   master_goes : {a : Moment S C O} {e : Event C} (o : MasterOutcome C) →
-      outcome_of rules a e ≡ Some (by_master o) → Happens rules a e (record a { master = o.state })
+      event_outcome rules a e ≡ Some (by_master o) →
+      Happens rules a e (record a { master = o.state })
 
 -- an event that needs no memory: it reaches no node, or a master that ignores it; or, by the
 -- protocol, its node sends nothing, keeps its log and applies nothing, though it may learn
@@ -36,11 +37,11 @@ pub data Happens {S C O : Type 0} (rules : Rules S C O) :
 pub data GroupTakesNoMemory {S C O : Type 0} (rules : Rules S C O) (a : Moment S C O)
     (e : Event C) : Type 0 where
   -- no node gets it
-  comes_to_nobody : outcome_of rules a e ≡ None → GroupTakesNoMemory rules a e
+  comes_to_nobody : event_outcome rules a e ≡ None → GroupTakesNoMemory rules a e
   -- the master ignores it
-  goes_unheeded : outcome_of rules a e ≡ Some unheeded → GroupTakesNoMemory rules a e
+  goes_unheeded : event_outcome rules a e ≡ Some unheeded → GroupTakesNoMemory rules a e
   -- its node sends nothing, keeps its log and applies nothing
-  sends_and_adds_nothing : (t : NodeOutcome S C O) → outcome_of rules a e ≡ Some (by_node t) →
+  sends_and_adds_nothing : (t : NodeOutcome S C O) → event_outcome rules a e ≡ Some (by_node t) →
       SendsAndAddsNothing t.before t.outcome → GroupTakesNoMemory rules a e
   -- a node crashes
   stops_a_node : (node : ℕ) → e ≡ Crash node → GroupTakesNoMemory rules a e
@@ -66,7 +67,7 @@ pub record StepsBy {S C O : Type 0} (rules : Rules S C O) (old : GroupState S C 
     (event : Event C) (new : GroupState S C O) : Type 0 where
   pub way : ((new.moment ≡ group_step rules event old.moment) × (new.losses ≡ old.losses))
       ⊎ (Happens rules old.moment event new.moment × (new.losses ≡ one_more old.losses))
-  pub freezes : Freezes rules (outcome_of rules old.moment event) ⊎ (new.moment ≡ old.moment)
+  pub freezes : Freezes rules (event_outcome rules old.moment event) ⊎ (new.moment ≡ old.moment)
 
 -- events one after another, each done exactly or with losses that were counted: no loss excuses
 -- another event

@@ -14,7 +14,7 @@ ghost use Rattle.snapshots.specs.World.{MayTake};
 ghost use Rattle.snapshots.specs.agreement.World.{can_open};
 ghost use Rattle.master.specs.Agreement.{AgreesAfter};
 ghost use Rattle.master.specs.Copying.{has_numbers_alone};
-ghost use Rattle.master.specs.Exact.{outcome_of, group_step, group_run};
+ghost use Rattle.master.specs.Exact.{event_outcome, group_step, group_run};
 ghost use Rattle.master.specs.Outcomes.{running};
 ghost use Rattle.master.specs.Inside.{HoldsAt, IsShort, RunsAt, held_by};
 ghost use Rattle.master.specs.Inside.Losing.{TookStep, input_of};
@@ -129,7 +129,7 @@ impl<M: Machine> Group<M> {
         ensures step { StepsBy M.rules self.old event.now self.new }
         ensures exact { GroupLosesNothing self.old self.new →
             self.new.moment ≡ group_step M.rules event.now self.old.moment }
-        ensures idle { IsErr result ↔ (outcome_of M.rules self.old.moment event.now ≡ None) }
+        ensures idle { IsErr result ↔ (event_outcome M.rules self.old.moment event.now ≡ None) }
         ensures same { OnErr result (self.new ≡ self.old) }
         // What needs no memory is done exactly, however little there is, and counts as no loss.
         ensures quiet { GroupTakesNoMemory M.rules self.old.moment event.now →

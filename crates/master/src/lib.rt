@@ -22,5 +22,5 @@ pub use inputs::counted;
 pub use master::Master;
 pub use opening::can_open;
 pub use recording::record;
-pub use sending::{answer_of, asks_for, send};
+pub use sending::{activation_answer, asks_for, send};
 pub use told::{Told, follow_ballot};

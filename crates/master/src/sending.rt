@@ -3,7 +3,7 @@
 ghost use Rattle.std.specs.Prelude.{◌≡◌, ◌++◌, ◌∷◌, []};
 ghost use Rattle.std.specs.Bool.{OnTrue, OnFalse};
 ghost use Rattle.ballot.specs.ballot_base.Sending.{master};
-ghost use Rattle.master.specs.Inside.{answer_of, asks_for};
+ghost use Rattle.master.specs.Inside.{activation_answer, asks_for};
 
 use crate::activation::Activation;
 use ballot::{Body, MASTER, Message};
@@ -21,8 +21,8 @@ pub fn send<C: Drop>(sent: &mut Vec<(u8, Message<C>)>, receiver: u8, body: Body<
 }
 
 /// Returns what the master answers about a ballot.
-pub fn answer_of<C>(activation: Activation, ballot: u64) -> Body<C>
-    ensures { result ≡ answer_of activation ballot }
+pub fn activation_answer<C>(activation: Activation, ballot: u64) -> Body<C>
+    ensures { result ≡ activation_answer activation ballot }
 {
     match activation {
         Activation::Activated => Body::Activated(ballot),

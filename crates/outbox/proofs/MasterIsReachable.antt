@@ -7,7 +7,7 @@ use Rattle.master.specs.agreement.MasterState.AssignRefusal.{bad_members, ballot
 use Rattle.master.specs.declared.activation.Activation.{Activation}
 use Rattle.master.specs.declared.activation.Activation.TheVariants as activation
 use Rattle.master.specs.declared.error.AssignError.{AssignError}
-use Rattle.master.specs.Inside.{answer_of}
+use Rattle.master.specs.Inside.{activation_answer}
 use Rattle.master.proofs.Groups.{answer_is}
 use Rattle.node.specs.broker_spec.declared.command.Command.{Command}
 use Rattle.node.specs.ballot_base.declared.message.Message.{Message}
@@ -57,7 +57,7 @@ reachable_by_node old new asked ballot reachable given asks is =
 pub answered_node : (old : MasterState) (asked : Message Command) (ballot : ℕ) (body : Body Command) (given : Activation)
     → IsReachable old → WasGivenToMaster asked → asked.body ≡ Activate ballot
     → given ≡ (if is_granted old ballot old.waiting then activation.Activated else activation.Superseded)
-    → body ≡ answer_of given ballot
+    → body ≡ activation_answer given ballot
     → WasAnswered asked.from (record { from = 0; body = body })
 answered_node old asked ballot body given reachable was asks answer is = record {
   master = old;

@@ -12,7 +12,7 @@ ghost use Rattle.outbox.specs.Mastering.{MayGet, answer_to, master_after_outcome
 use crate::order_error::OrderError;
 use crate::outbox::Outbox;
 use ballot::MASTER;
-use master::{AssignError, Master, answer_of};
+use master::{AssignError, Master, activation_answer};
 use node::{Body, Command, Config, Members, Message};
 use std::alloc::Global;
 use std::marker::Model;
@@ -145,7 +145,7 @@ impl MessagingMaster {
         let Body::Activate(ballot) = asked.body else {
             return None;
         };
-        let body = answer_of(self.master.activate(ballot), ballot);
+        let body = activation_answer(self.master.activate(ballot), ballot);
         Some(Answer {
             receiver: asked.from,
             message: Message { from: MASTER, body },

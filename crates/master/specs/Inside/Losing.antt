@@ -15,7 +15,7 @@ use Rattle.snapshots.specs.World.{messages, outputs, moved}
 use Rattle.master.specs.declared.inputs.Input.{Input as InputInCode}
 use Rattle.master.specs.declared.inputs.Input.TheVariants.{Received, Proposed, Ticked}
 use Rattle.master.specs.Group.{GroupState}
-use Rattle.master.specs.Exact.{after}
+use Rattle.master.specs.Exact.{moment_after_event}
 use Rattle.master.specs.Outcomes.{NodeOutcome}
 use Rattle.master.specs.Outcomes.EventOutcome.{by_cut}
 use Rattle.master.specs.Steps.{Freezes}
@@ -45,9 +45,10 @@ TookExactly rules old input new given =
 -- greatest number, the step was whole.
 pub record TookIn {S C O : Type 0} (rules : Rules S C O) (old : CountedReplica S C)
     (input : Input C)
-    (new : CountedReplica S C) (before after : List (Effect C O)) (whole : Bool) : Type 0 where
+    (new : CountedReplica S C) (before moment_after_event : List (Effect C O))
+    (whole : Bool) : Type 0 where
   pub given : List (Effect C O)
-  pub appended : after ≡ before ++ given
+  pub appended : moment_after_event ≡ before ++ given
   pub loses : Loses rules old.state (replica_step rules old.state input) new.state given
   pub exact : whole ≡ true → TookExactly rules old input new given
   pub counted : (new.losses ≡ old.losses) ⊎ (new.losses ≡ one_more old.losses)
@@ -89,7 +90,7 @@ pub record TookStep {S C O : Type 0} (rules : Rules S C O) (old : GroupState S C
 -- a group after a cut of one node's log, or one for which memory ran out, which was counted
 pub record TookCut {S C O : Type 0} (rules : Rules S C O) (old : GroupState S C O)
     (t : NodeOutcome S C O) (new : GroupState S C O) : Type 0 where
-  pub way : ((new.moment ≡ after old.moment (Some (by_cut t)))
+  pub way : ((new.moment ≡ moment_after_event old.moment (Some (by_cut t)))
       × (new.losses ≡ old.losses)
       × Freezes rules (Some (by_cut t)))
       ⊎ (new ≡ record old { losses = one_more old.losses })

@@ -8,7 +8,7 @@ ghost use Rattle.ballot.specs.ballot_base.Replica.{ReplicaState};
 ghost use Rattle.ballot.specs.lists.Lists.{In};
 ghost use Rattle.snapshots.specs.Masters.{activated, assigned};
 ghost use Rattle.snapshots.specs.agreement.MasterState.{refusal};
-ghost use Rattle.master.specs.Exact.{outcome_of};
+ghost use Rattle.master.specs.Exact.{event_outcome};
 ghost use Rattle.master.specs.Outcomes.{cut_outcome};
 ghost use Rattle.master.specs.Inside.Losing.{MasterTook, TookCut};
 ghost use Rattle.master.specs.Steps.{StepsBy, GroupTakesNoMemory, done_exactly};
@@ -18,7 +18,7 @@ use crate::copying::{config_of, copy_of};
 use crate::event::{Event, Idle};
 use crate::inputs::{Input, counted};
 use crate::recording::record;
-use crate::sending::{answer_of, asks_for, send};
+use crate::sending::{activation_answer, asks_for, send};
 use crate::told::follow_ballot;
 use ballot::{Body, Config, MAX_PLACES, Members};
 use machine::{Machine, Memory};
@@ -28,7 +28,7 @@ impl<M: Machine> Group<M> {
     pub(super) fn propose(&mut self, node: u8, command: &M::Command) -> Result<(), Idle>
         ensures step { StepsBy M.rules self.old (Event.Propose node command.now) self.new }
         ensures idle { IsErr result ↔
-            (outcome_of M.rules self.old.moment (Event.Propose node command.now) ≡ None) }
+            (event_outcome M.rules self.old.moment (Event.Propose node command.now) ≡ None) }
         ensures same { OnErr result (self.new ≡ self.old) }
         ensures quiet { GroupTakesNoMemory
             M.rules self.old.moment (Event.Propose node command.now) →
@@ -52,7 +52,7 @@ impl<M: Machine> Group<M> {
     pub(super) fn assign(&mut self, config: &Config) -> Result<(), Idle>
         ensures step { StepsBy M.rules self.old (Event.Assign config.now) self.new }
         ensures idle { IsErr result ↔
-            (outcome_of M.rules self.old.moment (Event.Assign config.now) ≡ None) }
+            (event_outcome M.rules self.old.moment (Event.Assign config.now) ≡ None) }
         ensures same { OnErr result (self.new ≡ self.old) }
         ensures quiet { GroupTakesNoMemory M.rules self.old.moment (Event.Assign config.now) →
             self.new ≡ done_exactly M.rules self.old (Event.Assign config.now) }
@@ -91,7 +91,7 @@ impl<M: Machine> Group<M> {
     pub(super) fn deliver(&mut self, number: u64) -> Result<(), Idle>
         ensures step { StepsBy M.rules self.old (Event.Deliver number) self.new }
         ensures idle { IsErr result ↔
-            (outcome_of M.rules self.old.moment (Event.Deliver number) ≡ None) }
+            (event_outcome M.rules self.old.moment (Event.Deliver number) ≡ None) }
         ensures same { OnErr result (self.new ≡ self.old) }
         ensures quiet { GroupTakesNoMemory M.rules self.old.moment (Event.Deliver number) →
             self.new ≡ done_exactly M.rules self.old (Event.Deliver number) }
@@ -131,7 +131,7 @@ impl<M: Machine> Group<M> {
         let activation = self.master.activate(ballot);
         let (after, _) = self.master.active();
         follow_ballot(&mut self.told, &mut self.next, before, after);
-        let kept = send(&mut self.sent, from, answer_of(activation, ballot));
+        let kept = send(&mut self.sent, from, activation_answer(activation, ballot));
         self.losses = counted(self.losses, kept, true);
     }
 
@@ -139,7 +139,7 @@ impl<M: Machine> Group<M> {
     pub(super) fn tick(&mut self, node: u8) -> Result<(), Idle>
         ensures step { StepsBy M.rules self.old (Event.Tick node) self.new }
         ensures idle { IsErr result ↔
-            (outcome_of M.rules self.old.moment (Event.Tick node) ≡ None) }
+            (event_outcome M.rules self.old.moment (Event.Tick node) ≡ None) }
         ensures same { OnErr result (self.new ≡ self.old) }
         ensures quiet { GroupTakesNoMemory M.rules self.old.moment (Event.Tick node) →
             self.new ≡ done_exactly M.rules self.old (Event.Tick node) }
@@ -157,7 +157,8 @@ impl<M: Machine> Group<M> {
     /// Lets a node cut its log; [`Idle`] comes if it does not run or has nothing to cut.
     pub(super) fn cut(&mut self, node: u8) -> Result<(), Idle>
         ensures step { StepsBy M.rules self.old (Event.Cut node) self.new }
-        ensures idle { IsErr result ↔ (outcome_of M.rules self.old.moment (Event.Cut node) ≡ None) }
+        ensures idle { IsErr result ↔ (event_outcome M.rules self.old.moment (Event.Cut node)
+            ≡ None) }
         ensures same { OnErr result (self.new ≡ self.old) }
         ensures quiet { GroupTakesNoMemory M.rules self.old.moment (Event.Cut node) →
             self.new ≡ done_exactly M.rules self.old (Event.Cut node) }
@@ -209,7 +210,7 @@ impl<M: Machine> Group<M> {
     pub(super) fn crash(&mut self, node: u8) -> Result<(), Idle>
         ensures step { StepsBy M.rules self.old (Event.Crash node) self.new }
         ensures idle { IsErr result ↔
-            (outcome_of M.rules self.old.moment (Event.Crash node) ≡ None) }
+            (event_outcome M.rules self.old.moment (Event.Crash node) ≡ None) }
         ensures same { OnErr result (self.new ≡ self.old) }
         ensures quiet { GroupTakesNoMemory M.rules self.old.moment (Event.Crash node) →
             self.new ≡ done_exactly M.rules self.old (Event.Crash node) }

@@ -1,7 +1,7 @@
 use Rattle.std.proofs.Common.{◌≡◌, ◌-◌, true, false, ap, sym, ◌∙◌, refl, rules as rules_of}
 use Rattle.ballot.specs.ballot_base.Cutting.{can_cut}
 use Rattle.master.specs.declared.event.Event.TheVariants.{Cut}
-use Rattle.master.specs.Outcomes.{cut_outcome, cutting}
+use Rattle.master.specs.Outcomes.{cut_outcome, outcome_of_cutting}
 use Rattle.master.proofs.Counting.{cuts_nothing, cuts_turn, some_idle, steps_cut, steps_idle}
 use Rattle.master.proofs.Quiet.{cut_needs, exactly_none}
 use Rattle.master.proofs.StepsOfNodes.{same_replica}
@@ -10,19 +10,19 @@ use Rattle.master.proofs.group.Group.cut.Goals as goal
 pub returns-in_default-clause-step : goal.returns-in_default-clause-step
 returns-in_default-clause-step g c =
     let rules = g.M.Machine.rules in
-    let none = ap (cutting rules (c.args.node - 1)) (c.in_default.ensures.none refl) in
+    let none = ap (outcome_of_cutting rules (c.args.node - 1)) (c.in_default.ensures.none refl) in
     steps_idle rules c.args.self.now (Cut c.args.node) none
 
 pub returns-in_default-clause-idle : goal.returns-in_default-clause-idle
 returns-in_default-clause-idle g c =
     let rules = g.M.Machine.rules in
-    let none = ap (cutting rules (c.args.node - 1)) (c.in_default.ensures.none refl) in
+    let none = ap (outcome_of_cutting rules (c.args.node - 1)) (c.in_default.ensures.none refl) in
     (λ h. none, λ e. search rules_of)
 
 pub returns-in_default-clause-quiet : goal.returns-in_default-clause-quiet
 returns-in_default-clause-quiet g c =
     let rules = g.M.Machine.rules in
-    λ q. exactly_none rules c.args.self.now (Cut c.args.node) (ap (cutting rules (c.args.node - 1)) (c.in_default.ensures.none refl))
+    λ q. exactly_none rules c.args.self.now (Cut c.args.node) (ap (outcome_of_cutting rules (c.args.node - 1)) (c.in_default.ensures.none refl))
 
 pub returns-then-not-can_cut-clause-step : goal.returns-then-not-can_cut-clause-step
 returns-then-not-can_cut-clause-step g c =

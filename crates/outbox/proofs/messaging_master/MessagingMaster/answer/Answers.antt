@@ -4,7 +4,7 @@ use Rattle.outbox.proofs.messaging_master.MessagingMaster.answer.Goals as goal
 pub invariant_of-result : goal.invariant_of-result
 invariant_of-result c =
     answered_node c.self.inside.master c.args.asked c.in-Activate.ballot _ c.activate.result c.self.invariant c.requires
-    c.in-Activate.is c.activate.ensures.answer c.answer_of-body.ensures
+    c.in-Activate.is c.activate.ensures.answer c.activation_answer-body.ensures
 
 pub invariant_of-self : goal.invariant_of-self
 invariant_of-self c =
