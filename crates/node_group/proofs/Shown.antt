@@ -20,7 +20,7 @@ use Rattle.packet_world.specs.snapshots.World.{outputs}
 use Rattle.packet_world.proofs.of_agreement.Given.Places.{none_between}
 use Rattle.packet_world.proofs.of_agreement.Given.StepGives.{from_active}
 use Rattle.packet_world.specs.snapshots.Whole.{whole}
-use Rattle.packet_world.specs.PutOut.{answered, broker_rules}
+use Rattle.packet_world.specs.PutOut.{outputs_alone, broker_rules}
 use Rattle.packet_world.proofs.Answers.{put_front, put_push}
 use Rattle.packet_world.proofs.Lists.{take_next, there_is}
 use Rattle.packet_world.proofs.PutOut.{between, given_more}
@@ -44,7 +44,7 @@ answers_front x xs ys front =
 
 -- what the machine gives at places is what the connection is sent there
 abbrev sent_between : ConnectionName → List Command → ℕ → ℕ → List ℕ
-sent_between x agreed first past = spelled (sends_to x (answered (between agreed first past)))
+sent_between x agreed first past = spelled (sends_to x (outputs_alone (between agreed first past)))
 
 answers_between : (x : ConnectionName) (agreed : List Command) (first k past : ℕ) → past ≡ k + first → past ≤ length agreed
     → answers_to x (take past agreed) ≡ answers_to x (take first agreed) ++ sent_between x agreed first past
@@ -52,7 +52,7 @@ answers_between x agreed first zero past is low =
     let same : past ≡ first = omega (arith, is) in
     ap (λ n. answers_to x (take n agreed)) same
     ∙ sym (ap (λ n. answers_to x (take first agreed) ++ sent_between x agreed first n) same
-    ∙ ap (λ l. answers_to x (take first agreed) ++ spelled (sends_to x (answered l))) (none_between broker_rules agreed first) ∙ append-nil (answers_to x (take first agreed)))
+    ∙ ap (λ l. answers_to x (take first agreed) ++ spelled (sends_to x (outputs_alone l))) (none_between broker_rules agreed first) ∙ append-nil (answers_to x (take first agreed)))
 answers_between x agreed first (suc k) past is low =
     let next : past ≡ suc (k + first) = omega (arith, is) in
     let within : suc (k + first) ≤ length agreed = omega (arith, next, low) in
@@ -72,8 +72,8 @@ answers_between x agreed first (suc k) past is low =
         ∙ ap (λ l. l ++ spelled (sends_to x now)) so_far
         ∙ append_assoc (answers_to x (take first agreed)) (sent_between x agreed first place) (spelled (sends_to x now))
         ∙ ap (λ l. answers_to x (take first agreed) ++ l)
-        (sym (spelled_joined (sends_to x (answered (between agreed first place))) (sends_to x now))
-        ∙ ap spelled (sym (sends_append x (answered (between agreed first place)) now)
+        (sym (spelled_joined (sends_to x (outputs_alone (between agreed first place))) (sends_to x now))
+        ∙ ap spelled (sym (sends_append x (outputs_alone (between agreed first place)) now)
         ∙ ap (sends_to x) (sym (given_more agreed first place command above (omega (arith, within)) at))))
 
 -- ---- what a node gives
@@ -88,7 +88,7 @@ pub record Sends (x : ConnectionName) (old new : ReplicaState State Command) (ag
   pub next : is_active new.role ≡ true → answers_to x (take new.committed agreed) ≡ answers_to x (take from agreed) ++ bytes
   pub inside : new.committed ≤ length agreed
 
-outputs_same : (effects : List (Effect Command Output)) → outputs_of effects ≡ answered (outputs effects)
+outputs_same : (effects : List (Effect Command Output)) → outputs_of effects ≡ outputs_alone (outputs effects)
 outputs_same [] = refl
 outputs_same (Out place output ∷ effects) = ap (λ l. output ∷ l) (outputs_same effects)
 outputs_same (To receiver message ∷ effects) = outputs_same effects
@@ -102,7 +102,7 @@ gives_answers_to x archive later old new agreed effects g =
     from = gives_from (whole archive old)
 
     idle : is_active new.role ≡ false → spelled (sends_to x (outputs_of effects)) ≡ []
-    idle e = ap (λ l. spelled (sends_to x l)) (outputs_same effects ∙ ap answered (g.idle e))
+    idle e = ap (λ l. spelled (sends_to x l)) (outputs_same effects ∙ ap outputs_alone (g.idle e))
 
     past : (a b : ℕ) → b ≤ a → (k : ℕ) × (a ≡ k + b)
     past a zero low = (a, omega arith)
@@ -116,4 +116,4 @@ gives_answers_to x archive later old new agreed effects g =
         let more = past new.committed (gives_from (whole archive old)) low in
         let is = more.1 in
         answers_between x agreed (gives_from (whole archive old)) more.0 new.committed is inside
-        ∙ ap (λ l. answers_to x (take (gives_from (whole archive old)) agreed) ++ spelled (sends_to x l)) (sym (outputs_same effects ∙ ap answered (g.next e)))
+        ∙ ap (λ l. answers_to x (take (gives_from (whole archive old)) agreed) ++ spelled (sends_to x l)) (sym (outputs_same effects ∙ ap outputs_alone (g.next e)))

@@ -21,7 +21,7 @@ use Rattle.packet_world.specs.World.{End, ClientEnds, World, with_client}
 use Rattle.packet_world.specs.Steps.{Reached, shown}
 use Rattle.packet_world.specs.Steps.Goes.{answers}
 use Rattle.packet_world.specs.Steps.Reached.{goes_on}
-use Rattle.packet_world.specs.PutOut.{GivenIsPutOut, answered, broker_rules, end_given}
+use Rattle.packet_world.specs.PutOut.{GivenIsPutOut, outputs_alone, broker_rules, end_given}
 use Rattle.packet_world.proofs.BrokerRules.{gives_answers}
 
 -- ---- lists
@@ -52,27 +52,27 @@ one_place (y ∷ xs) (suc n) x e = one_place xs n x e
 abbrev pub between : List Command → ℕ → ℕ → List (ℕ × Output)
 between agreed first past = outputs (outputs_between broker_rules agreed first past)
 
-outs_of : (place : ℕ) (os : List Output) → answered (outputs {C = Command} (map (Out place) os)) ≡ os
+outs_of : (place : ℕ) (os : List Output) → outputs_alone (outputs {C = Command} (map (Out place) os)) ≡ os
 outs_of place [] = refl
 outs_of place (o ∷ os) = ap (λ rest. o ∷ rest) (outs_of place os)
 
 -- at one place
 place_gives : (agreed : List Command) (place : ℕ) (command : Command) → slice_get agreed place ≡ Some command
-    → answered (between agreed place (suc place)) ≡ answers_of usual_limits (past_of usual_limits (take place agreed)) command
+    → outputs_alone (between agreed place (suc place)) ≡ answers_of usual_limits (past_of usual_limits (take place agreed)) command
 place_gives agreed place command e =
     let state = replay broker_rules (take place agreed) in
     let os = (step usual_limits 64 state command).1 in
-    ap (λ (us : List Command). answered (outputs (outputs_from broker_rules state place us))) (one_place agreed place command e)
-    ∙ ap (λ (es : List (Effect Command Output)). answered (outputs es)) (append-nil (map (Out place) os))
+    ap (λ (us : List Command). outputs_alone (outputs (outputs_from broker_rules state place us))) (one_place agreed place command e)
+    ∙ ap (λ (es : List (Effect Command Output)). outputs_alone (outputs es)) (append-nil (map (Out place) os))
     ∙ outs_of place os
     ∙ gives_answers (take place agreed) command
 
 pub given_more : (agreed : List Command) (first place : ℕ) (command : Command) → first ≤ place → place ≤ length agreed → slice_get agreed place ≡ Some command
-    → answered (between agreed first (suc place)) ≡ answered (between agreed first place) ++ answers_of usual_limits (past_of usual_limits (take place agreed)) command
+    → outputs_alone (between agreed first (suc place)) ≡ outputs_alone (between agreed first place) ++ answers_of usual_limits (past_of usual_limits (take place agreed)) command
 given_more agreed first place command low within e =
-    ap answered (sym (between_joins broker_rules agreed first place (suc place) low (omega arith) within))
+    ap outputs_alone (sym (between_joins broker_rules agreed first place (suc place) low (omega arith) within))
     ∙ map-append (λ (row : ℕ × Output). row.1) (between agreed first place) (between agreed place (suc place))
-    ∙ ap (λ us. answered (between agreed first place) ++ us) (place_gives agreed place command e)
+    ∙ ap (λ us. outputs_alone (between agreed first place) ++ us) (place_gives agreed place command e)
 
 -- the end continues by a place
 end_more : (agreed : List Command) (x : ConnectionName) (place : ℕ) (command : Command) (e : End) → e.seen ≤ place → place ≤ length agreed
@@ -80,8 +80,8 @@ end_more : (agreed : List Command) (x : ConnectionName) (place : ℕ) (command :
 end_more agreed x place command e low within at =
     let now = answers_of usual_limits (past_of usual_limits (take place agreed)) command in
     ap (λ (l : List _). let z : End = record e { seen = suc place; put = l } in z)
-    (append_assoc e.put (sends_to x (answered (between agreed e.seen place))) (sends_to x now)
-    ∙ ap (λ us. e.put ++ us) (sym (sends_append x (answered (between agreed e.seen place)) now)
+    (append_assoc e.put (sends_to x (outputs_alone (between agreed e.seen place))) (sends_to x now)
+    ∙ ap (λ us. e.put ++ us) (sym (sends_append x (outputs_alone (between agreed e.seen place)) now)
     ∙ ap (sends_to x) (sym (given_more agreed e.seen place command low within at))))
 
 -- ---- the law

@@ -37,13 +37,13 @@ broker_rules =
     }
 
 -- the outputs that a node gave, without their places
-abbrev pub answered : List (ℕ × Output) → List Output
-answered given = map (λ (row : ℕ × Output). row.1) given
+abbrev pub outputs_alone : List (ℕ × Output) → List Output
+outputs_alone given = map (λ (row : ℕ × Output). row.1) given
 
 -- the end of a connection whose node has applied the list up to a place and output this, of which
 -- it sent what is for the connection
 abbrev pub end_given : ConnectionName → ℕ → List (ℕ × Output) → End → End
-end_given x past given e = record e { seen = past; put = e.put ++ sends_to x (answered given) }
+end_given x past given e = record e { seen = past; put = e.put ++ sends_to x (outputs_alone given) }
 
 -- The outputs of the machine at the next places of the agreed list, none left out, may be sent on
 -- an open end: the world reaches a state that has them.
