@@ -30,7 +30,7 @@ use Rattle.byte_world.specs.Carried.{trace_of}
 use Rattle.byte_world.specs.Steps.{Reached, WorldStep}
 use Rattle.byte_world.specs.Steps.Reached.{begins, goes_on}
 use Rattle.byte_world.specs.Steps.WorldStep.{goes_on as group_goes, calls, connects, is_taken_back, comes_up, goes_down, arrives, handles}
-use Rattle.byte_world.specs.Published.{from_client, published_by, published_in, published_of, published_on}
+use Rattle.byte_world.specs.Published.{from_client, published_by_call, published_in_step, published_of, published_on_way}
 use Rattle.byte_world.specs.World.{ClientPipes, World, new_client}
 use Rattle.headline.proofs.GoesBeside.{GoesBeside}
 use Rattle.headline.proofs.LivedBeside.{lived_beside}
@@ -81,7 +81,7 @@ said_more keeper p =
     same true false = refl
     same false on = refl
 
-call_says : {s t : Story} (h : StoryStep usual_limits s t) → is_call h ≡ true → own_publications (all_own t.keeper) ≡ own_publications (all_own s.keeper) ++ published_by h
+call_says : {s t : Story} (h : StoryStep usual_limits s t) → is_call h ≡ true → own_publications (all_own t.keeper) ≡ own_publications (all_own s.keeper) ++ published_by_call h
 call_says (takes i κ w stands next) call = absurd (both_ways false refl call)
 call_says (others_take command other none) call = absurd (both_ways false refl call)
 call_says (receives κ others packet are opened next) call = absurd (both_ways false refl call)
@@ -129,9 +129,9 @@ becomes v clients asked j c later more are at says all i d there = by (set_get v
         ∙ sym (of_both i asked (from_client j more))
 
 step_says : {nodes : ℕ} {config : Config} {cs : List Client} → ClientsAreApart cs → (v w : World) (went : GroupTrace nodes config v.group) → GoesBeside nodes config cs v went
-    → (asked : List (ℕ × Publication)) → AllPublished v asked → (step : WorldStep v w) → AllPublished w (asked ++ published_in step)
+    → (asked : List (ℕ × Publication)) → AllPublished v asked → (step : WorldStep v w) → AllPublished w (asked ++ published_in_step step)
 step_says apart v w went s asked all (group_goes node_call d is_apart) = still w asked all
-step_says apart v w went s asked all (calls j c t h at call spelled) = becomes v w.clients asked j c _ (published_by h) refl at (call_says h call) all
+step_says apart v w went s asked all (calls j c t h at call spelled) = becomes v w.clients asked j c _ (published_by_call h) refl at (call_says h call) all
 step_says apart v w went s asked all (connects j n c port now d core end at unused after there_so spelled) =
     becomes v w.clients asked j c _ [] refl at (sym (append-nil (own_publications (all_own c.keeper)))) all
 step_says apart v w went s asked all (is_taken_back n port now d core unused after none) = still w asked all
@@ -148,7 +148,7 @@ none_published cs i c at =
 
 -- what a client published is what the steps on the way say about it
 pub own_published : {nodes : ℕ} {config : Config} {cs : List Client} → ClientsAreApart cs → (w : World) (trail : Reached nodes config cs w) (i : ℕ) (c : ClientPipes)
-    → slice_get w.clients i ≡ Some c → own_publications (all_own c.keeper) ≡ published_of i (published_on trail)
+    → slice_get w.clients i ≡ Some c → own_publications (all_own c.keeper) ≡ published_of i (published_on_way trail)
 own_published {cs = cs} apart w (begins can) i c at = none_published cs i c at
 own_published apart w (goes_on {v = v} before step) i c at =
-    step_says apart v w (trace_of before) (goes_beside apart v before) (published_on before) (own_published apart v before) step i c at
+    step_says apart v w (trace_of before) (goes_beside apart v before) (published_on_way before) (own_published apart v before) step i c at

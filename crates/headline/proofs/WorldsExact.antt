@@ -23,7 +23,7 @@ use Rattle.byte_world.specs.node_group.Group.{moment_of_nodes}
 use Rattle.byte_world.specs.node_group.Steps.{GroupTrace}
 use Rattle.byte_world.proofs.of_node_group.Placed.{get_mapped}
 use Rattle.byte_world.specs.Carried.{trace_of}
-use Rattle.byte_world.specs.Published.{published_of, published_on}
+use Rattle.byte_world.specs.Published.{published_of, published_on_way}
 use Rattle.byte_world.specs.World.{ClientPipes, World}
 use Rattle.byte_world.proofs.PipesInOrder.{in_order}
 use Rattle.headline.specs.Exact.{IsExactBy, IsExactInStep, IsInOneSession, IsShownBy, WorldsAreExact, story_of}
@@ -107,5 +107,5 @@ worlds_are_exact nodes config cs w apart trail =
       agreed = list.0;
       is_agreed = list.1;
       exact = λ agreed is. exact_by apart w (trace_of trail) s agreed is;
-      promises = λ agreed is i c state at shown. promised apart w (trace_of trail) s agreed is (published_of i (published_on trail)) i c state at (own_published apart w trail i c at) shown;
+      promises = λ agreed is i c state at shown. promised apart w (trace_of trail) s agreed is (published_of i (published_on_way trail)) i c state at (own_published apart w trail i c at) shown;
     }

@@ -24,7 +24,7 @@ use Rattle.byte_world.specs.node_group.Pasts.{HasPast}
 use Rattle.byte_world.specs.World.{ClientPipes, HasPipe, Pipe, World}
 use Rattle.byte_world.specs.Carried.{trace_of}
 use Rattle.byte_world.specs.Accepted.{accepted_once}
-use Rattle.byte_world.specs.Published.{published_of, published_on}
+use Rattle.byte_world.specs.Published.{published_of, published_on_way}
 use Rattle.byte_world.specs.Steps.{Reached}
 use Rattle.byte_world.specs.InPipes.{IsInOrder}
 use Rattle.headline.specs.Promise.{Promise}
@@ -75,7 +75,7 @@ pub record IsExact {nodes : ℕ} {config : Config} {cs : List Client} {w : World
       IsAgreed config (moment_of_nodes w.group ∷ of.earlier) list →
       (i : ℕ) (c : ClientPipes) (state : ClientState) →
       slice_get w.clients i ≡ Some c → IsShownBy c state →
-      Promise c.connections (published_of i (published_on trail)) list state
+      Promise c.connections (published_of i (published_on_way trail)) list state
 
 -- each world of clients with identifiers of their own is exact, whatever its steps
 abbrev pub WorldsAreExact : Type 0

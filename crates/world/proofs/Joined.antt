@@ -10,7 +10,7 @@ use Rattle.session_base.specs.declared.publication.Publication.{Publication}
 use Rattle.headline.specs.byte_world.World.{World}
 use Rattle.headline.specs.byte_world.Steps.{Reached}
 use Rattle.headline.specs.byte_world.Steps.Reached.{goes_on as reached_more}
-use Rattle.headline.specs.byte_world.Published.{published_in, published_on}
+use Rattle.headline.specs.byte_world.Published.{published_in_step, published_on_way}
 use Rattle.world_nodes.specs.Nodes.{NodesState, NodesStandFor}
 use Rattle.world.specs.Trace.{WorldLosesNothing, KeepsGroup}
 use Rattle.world.specs.Inside.Steps.{IsTrace, IsTraceAsking}
@@ -31,18 +31,18 @@ pub along_join : {m n o : World} (one : WorldSteps m n) (two : WorldSteps n o) �
 unfolding steps_join
 along_join one rests = sym (append-nil (published_along one))
 along_join one (goes_on two step) =
-    ap (λ (l : List (ℕ × Publication)). l ++ published_in step) (along_join one two) ∙ append_assoc (published_along one) (published_along two) (published_in step)
+    ap (λ (l : List (ℕ × Publication)). l ++ published_in_step step) (along_join one two) ∙ append_assoc (published_along one) (published_along two) (published_in_step step)
 
 pub reached_on : {nodes : ℕ} {config : Config} {cs : List Client} {m n : World} → Reached nodes config cs m → WorldSteps m n → Reached nodes config cs n
 reached_on trail rests = trail
 reached_on trail (goes_on steps step) = reached_more (reached_on trail steps) step
 
 pub reached_asked : {nodes : ℕ} {config : Config} {cs : List Client} {m n : World} (trail : Reached nodes config cs m) (steps : WorldSteps m n)
-    → published_on (reached_on trail steps) ≡ published_on trail ++ published_along steps
+    → published_on_way (reached_on trail steps) ≡ published_on_way trail ++ published_along steps
 unfolding reached_on
-reached_asked trail rests = sym (append-nil (published_on trail))
+reached_asked trail rests = sym (append-nil (published_on_way trail))
 reached_asked trail (goes_on steps step) =
-    ap (λ (l : List (ℕ × Publication)). l ++ published_in step) (reached_asked trail steps) ∙ append_assoc (published_on trail) (published_along steps) (published_in step)
+    ap (λ (l : List (ℕ × Publication)). l ++ published_in_step step) (reached_asked trail steps) ∙ append_assoc (published_on_way trail) (published_along steps) (published_in_step step)
 
 -- ---- worlds in code
 
@@ -130,7 +130,7 @@ is_reached nodes config cs m w apart trail stands =
     record { apart = apart; world = m; trail = trail; stands = stands; exact = worlds_are_exact nodes config cs m apart trail }
 
 pub is_reached_asked : (nodes : ℕ) (config : Config) (cs : List Client) (m : World) (w : WorldState) (apart : ClientsAreApart cs) (trail : Reached nodes config cs m) (stands : WorldStandsFor m w)
-    → asked_on (is_reached nodes config cs m w apart trail stands) ≡ published_on trail
+    → asked_on (is_reached nodes config cs m w apart trail stands) ≡ published_on_way trail
 unfolding is_reached
 is_reached_asked nodes config cs m w apart trail stands = refl
 
@@ -138,5 +138,5 @@ pub keeps_reached : (asked : List (ℕ × Publication)) (old new : WorldState) �
 keeps_reached asked old new goes nodes config cs r =
     let to = goes nodes config cs r.world r.trail r.stands in (
       is_reached nodes config cs to.after new r.apart (reached_on r.trail to.steps) to.stands,
-      is_reached_asked nodes config cs to.after new r.apart (reached_on r.trail to.steps) to.stands ∙ reached_asked r.trail to.steps ∙ ap (λ (l : List (ℕ × Publication)). published_on r.trail ++ l) to.asked_is,
+      is_reached_asked nodes config cs to.after new r.apart (reached_on r.trail to.steps) to.stands ∙ reached_asked r.trail to.steps ∙ ap (λ (l : List (ℕ × Publication)). published_on_way r.trail ++ l) to.asked_is,
     )

@@ -8,7 +8,7 @@ use Rattle.headline.specs.exactly_once.Sides.{ClientConnection}
 use Rattle.headline.specs.Exact.{IsExact}
 use Rattle.headline.specs.byte_world.World.{ClientPipes, World}
 use Rattle.headline.specs.byte_world.Steps.{Reached, WorldStep}
-use Rattle.headline.specs.byte_world.Published.{published_in, published_on}
+use Rattle.headline.specs.byte_world.Published.{published_in_step, published_on_way}
 use Rattle.world_nodes.specs.Nodes.{NodesStandFor}
 use Rattle.world.specs.World.{WorldState}
 use Rattle.world_clients.specs.Clients.{ClientsStand}
@@ -31,7 +31,7 @@ pub data WorldSteps (m : World) : World → Type 0 where
 -- what clients publish in these steps, the oldest first
 abbrev pub published_along : {m n : World} → WorldSteps m n → List (ℕ × Publication)
 published_along rests = []
-published_along (goes_on steps step) = published_along steps ++ published_in step
+published_along (goes_on steps step) = published_along steps ++ published_in_step step
 
 -- A world of the model moves by steps in which its clients publish this, and the world in code
 -- corresponds to the one after them.
@@ -69,7 +69,7 @@ pub record IsReached (nodes : ℕ) (config : Config) (cs : List Client)
 -- what its clients published until then: each publication with the index of its client
 abbrev pub asked_on : {nodes : ℕ} {config : Config} {cs : List Client} {w : WorldState} →
     IsReached nodes config cs w → List (ℕ × Publication)
-asked_on reached = published_on reached.trail
+asked_on reached = published_on_way reached.trail
 
 -- the connections of a client of the model's world, the newest first: history
 abbrev pub connections_in : Option ClientPipes → List ClientConnection

@@ -9,7 +9,7 @@ ghost use Rattle.world.specs.Found.{core_named, slot_numbered, way_of};
 ghost use Rattle.world_clients.specs.Clients.{is_named};
 ghost use Rattle.world.specs.Trace.{AreReached};
 ghost use Rattle.headline.specs.Promise.{Promise};
-ghost use Rattle.headline.specs.byte_world.Published.{published_of, published_on};
+ghost use Rattle.headline.specs.byte_world.Published.{published_of, published_on_way};
 ghost use Rattle.world.specs.StandsFor.{IsReached, connections_at};
 
 use crate::world::World;
@@ -62,7 +62,8 @@ impl World {
             (reached : IsReached nodes config clients self.now) (at : ℕ) →
             position (is_named client.now) self.now.clients ≡ Some at → IfSome result (λ core.
             Promise (connections_at at reached.world)
-            (published_of at (published_on reached.trail)) reached.exact.agreed core.now.state) }
+            (published_of at (published_on_way reached.trail)) reached.exact.agreed
+            core.now.state) }
     {
         let at = self.index_of_client(client)?;
         let found = self.clients.get(at)?;

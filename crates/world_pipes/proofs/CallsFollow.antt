@@ -15,7 +15,7 @@ use Rattle.client.specs.session_base.declared.publication.Publication.{Publicati
 use Rattle.byte_world.specs.exactly_once.Sides.{ClientConnection}
 use Rattle.byte_world.specs.World.{ClientPipes, Pipe, after_writing, newly_written, sent_up}
 use Rattle.byte_world.specs.ClientSteps.{WritesCanBeSpelled}
-use Rattle.byte_world.specs.Published.{published_by}
+use Rattle.byte_world.specs.Published.{published_by_call}
 use Rattle.byte_world.proofs.OnTheWay.{newly_is}
 use Rattle.world_pipes.specs.declared.sending.Sending.{Sending}
 use Rattle.world_pipes.specs.declared.sending.Sending.TheVariants as sendings
@@ -113,7 +113,7 @@ pub record HasCall (published : List Publication) (outcome : ClientOutcome) (old
   pub unread : is_open core.state.stage ≡ true → core.unread ≡ old.core.unread
   pub fits : CanGoOut old.core.state → AllSpelled outcome
   pub accepts_none : outcome.state.accepted ≡ old.core.state.accepted
-  pub too : (m : ClientPipes) → history.KeeperStandsFor m.keeper old.core.state → old.core.state.keep_alive ≡ 0 → (c : IsCalled outcome m) × (published_by c.call ≡ published)
+  pub too : (m : ClientPipes) → history.KeeperStandsFor m.keeper old.core.state → old.core.state.keep_alive ≡ 0 → (c : IsCalled outcome m) × (published_by_call c.call ≡ published)
 
 -- a call of a client that holds a connection
 pub up_follows : (published : List Publication) (outcome : ClientOutcome) (old : Piped) (core : Core) (sending : Sending) (new : Piped) → is_holding old ≡ true → HasCall published outcome old core →
@@ -140,7 +140,7 @@ up_follows published outcome old core sendings.Lost new up has is = λ m s.
     record {
       next = after_losing m₁;
       goes = ClientGoes.goes_on (ClientGoes.goes_on ClientGoes.stays step) (losing m₁);
-      publishes = ap (λ l. published_by c.call ++ l) (losing_silent m₁) ∙ append-nil (published_by c.call) ∙ called.1;
+      publishes = ap (λ l. published_by_call c.call ++ l) (losing_silent m₁) ∙ append-nil (published_by_call c.call) ∙ called.1;
       stands = subst (λ p. ClientStandsFor p (after_losing m₁)) (sym (is ∙ ap (λ l. broken core l) held.ways))
           (lost_stands outcome core held.older held.way m c h);
     }

@@ -28,7 +28,7 @@ use Rattle.byte_world.specs.exactly_once.Sides.{ClientConnection}
 use Rattle.byte_world.specs.exactly_once.Story.{StoryStep}
 use Rattle.byte_world.specs.World.{ClientPipes, packets_of}
 use Rattle.byte_world.specs.ClientSteps.{story_alone}
-use Rattle.byte_world.specs.Published.{published_by}
+use Rattle.byte_world.specs.Published.{published_by_call}
 use Rattle.world_pipes.proofs.NotRefused.{asked_so, is_published, not_refused}
 
 -- a call of the model's client, and what it writes on its newest connection
@@ -65,7 +65,7 @@ publishes_too p m state s zero taken =
     }
 
 pub publishes_it : (p : Publication) (m : ClientPipes) (state : ClientState) (s : history.KeeperStandsFor m.keeper state) (zero : state.keep_alive ≡ 0)
-    (taken : (keeper_step (Call.Publishes p) state).refusal ≡ None) → published_by (publishes_too p m state s zero taken).call ≡ p ∷ []
+    (taken : (keeper_step (Call.Publishes p) state).refusal ≡ None) → published_by_call (publishes_too p m state s zero taken).call ≡ p ∷ []
 unfolding publishes_too
 publishes_it p m state s zero taken = refl
 
@@ -89,7 +89,7 @@ subscribes_too filter qos m state s zero taken =
     }
 
 pub subscribes_silently : (filter : List ℕ) (qos : QoS) (m : ClientPipes) (state : ClientState) (s : history.KeeperStandsFor m.keeper state) (zero : state.keep_alive ≡ 0)
-    (taken : (keeper_step (Call.Subscribes filter qos) state).refusal ≡ None) → published_by (subscribes_too filter qos m state s zero taken).call ≡ []
+    (taken : (keeper_step (Call.Subscribes filter qos) state).refusal ≡ None) → published_by_call (subscribes_too filter qos m state s zero taken).call ≡ []
 unfolding subscribes_too
 subscribes_silently filter qos m state s zero taken = refl
 
@@ -110,7 +110,7 @@ unsubscribes_too filter m state s zero taken =
     }
 
 pub unsubscribes_silently : (filter : List ℕ) (m : ClientPipes) (state : ClientState) (s : history.KeeperStandsFor m.keeper state) (zero : state.keep_alive ≡ 0)
-    (taken : (keeper_step (Call.Unsubscribes filter) state).refusal ≡ None) → published_by (unsubscribes_too filter m state s zero taken).call ≡ []
+    (taken : (keeper_step (Call.Unsubscribes filter) state).refusal ≡ None) → published_by_call (unsubscribes_too filter m state s zero taken).call ≡ []
 unfolding unsubscribes_too
 unsubscribes_silently filter m state s zero taken = refl
 
@@ -140,7 +140,7 @@ leaves_too m state s zero taken =
     }
 
 pub leaves_silently : (m : ClientPipes) (state : ClientState) (s : history.KeeperStandsFor m.keeper state) (zero : state.keep_alive ≡ 0)
-    (taken : (keeper_step Call.Disconnects state).refusal ≡ None) → published_by (leaves_too m state s zero taken).call ≡ []
+    (taken : (keeper_step Call.Disconnects state).refusal ≡ None) → published_by_call (leaves_too m state s zero taken).call ≡ []
 unfolding leaves_too
 leaves_silently m state s zero taken = refl
 

@@ -12,7 +12,7 @@ use Rattle.byte_world.specs.exactly_once.Story.{StoryStep, Story}
 use Rattle.world_base.specs.declared.Port.{Port}
 use Rattle.byte_world.specs.World.{ClientPipes, after_writing}
 use Rattle.byte_world.specs.ClientSteps.{WritesCanBeSpelled, after_connecting, story_alone}
-use Rattle.byte_world.specs.Published.{published_by}
+use Rattle.byte_world.specs.Published.{published_by_call}
 use Rattle.world_pipes.specs.declared.sending.Sending.{Sending}
 use Rattle.world_pipes.specs.declared.sending.Sending.TheVariants as sendings
 use Rattle.world_pipes.specs.Steps.{ClientGoes, published_along}
@@ -70,7 +70,7 @@ pub record FollowsCalling (published : List Publication) (m : ClientPipes)
   pub story : Story
   pub call : StoryStep usual_limits (story_alone m) story
   pub is_one : is_call call ≡ true
-  pub publishes : published_by call ≡ published
+  pub publishes : published_by_call call ≡ published
   pub spelled : WritesCanBeSpelled m.connections story.connections
   pub stands : ClientStandsFor new (after_writing story.keeper story.connections m)
 

@@ -11,7 +11,7 @@ use Rattle.byte_world.specs.packet_world.Steps.{is_call}
 use Rattle.byte_world.specs.World.{ClientPipes, Pipe, World, after_writing, with_client, with_pipe}
 use Rattle.byte_world.specs.Steps.{WorldStep}
 use Rattle.byte_world.specs.ClientSteps.{WritesCanBeSpelled, after_packet, story_alone}
-use Rattle.byte_world.specs.Published.{from_client, published_by, published_in}
+use Rattle.byte_world.specs.Published.{from_client, published_by_call, published_in_step}
 
 -- a step of a world, as the client that takes it sees it
 pub data ClientStep (c : ClientPipes) : ClientPipes → Type 0 where
@@ -47,7 +47,7 @@ pub data ClientGoes (c : ClientPipes) : ClientPipes → Type 0 where
 
 -- what a client publishes in a step
 abbrev pub published_with : {c d : ClientPipes} → ClientStep c d → List Publication
-published_with (ClientStep.calls t h is spelled) = published_by h
+published_with (ClientStep.calls t h is spelled) = published_by_call h
 published_with (ClientStep.arrives j κ p piece rest connection pipe down) = []
 published_with (ClientStep.handles κ others p pipes packet left connections are up cut spelled) = []
 
@@ -62,7 +62,7 @@ published_along (ClientGoes.goes_on goes step) = published_along goes ++ publish
 -- published there
 pub record StepsIn (w : World) (i : ℕ) {c d : ClientPipes} (step : ClientStep c d) : Type 0 where
   pub is : WorldStep w (with_client i d w)
-  pub published : published_in is ≡ from_client i (published_with step)
+  pub published : published_in_step is ≡ from_client i (published_with step)
 
 -- each step of each client is a step of its world
 abbrev pub ClientsStepInWorlds : Type 0

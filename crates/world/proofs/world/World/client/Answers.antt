@@ -1,7 +1,7 @@
 use Rattle.std.proofs.Common.{◌≡◌, ℕ, List, Some, slice_get, sym, subst, ◌∙◌}
 use Rattle.escaping_client.specs.client.Core.{Core}
 use Rattle.headline.specs.Promise.{Promise}
-use Rattle.headline.specs.byte_world.Published.{published_of, published_on}
+use Rattle.headline.specs.byte_world.Published.{published_of, published_on_way}
 use Rattle.escaping_nodes.proofs.of_master.Counting.{get_there}
 use Rattle.world_clients.specs.declared.world_client.WorldClient.{WorldClient}
 use Rattle.world.specs.StandsFor.{connections_at}
@@ -23,6 +23,6 @@ returns-clause-promised c =
     } in
     rw (← c.self.view_is)
     (λ nodes config clients r at first.
-    subst (λ (k : Core). Promise (connections_at at r.world) (published_of at (published_on r.trail)) r.exact.agreed k.state) (sym c.core.ensures)
-    (subst (λ (i : ℕ). Promise (connections_at i r.world) (published_of i (published_on r.trail)) r.exact.agreed c.in_ok-found.found.now.piped.core.state) (same_place c.in_ok-at.at at (here ∙ first))
+    subst (λ (k : Core). Promise (connections_at at r.world) (published_of at (published_on_way r.trail)) r.exact.agreed k.state) (sym c.core.ensures)
+    (subst (λ (i : ℕ). Promise (connections_at i r.world) (published_of i (published_on_way r.trail)) r.exact.agreed c.in_ok-found.found.now.piped.core.state) (same_place c.in_ok-at.at at (here ∙ first))
     (promise_shown nodes config clients old r c.in_ok-at.at c.in_ok-found.found.now found)))
