@@ -6,7 +6,7 @@ use Rattle.headline.specs.byte_world.World.{ClientPipes, World, with_client}
 use Rattle.headline.specs.byte_world.Published.{from_client}
 use Rattle.session_base.specs.declared.publication.Publication.{Publication}
 use Rattle.world_pipes.specs.Following.{FollowsAll, FollowsBy}
-use Rattle.world_pipes.specs.Steps.{ClientGoes, published_along as published_with, published_with as published_with_one}
+use Rattle.world_pipes.specs.Steps.{ClientGoes, published_in_steps as published_with, published_with as published_with_one}
 use Rattle.world_pipes.specs.Piped.{Piped}
 use Rattle.world_pipes.proofs.StepsInWorlds.{steps_in_worlds}
 use Rattle.world_clients.specs.declared.connection_slot.ConnectionSlot.{ConnectionSlot}

@@ -16,7 +16,7 @@ use Rattle.escaping_client.proofs.of_lists.Places.{get_pushed, get_set}
 use Rattle.packet.specs.Spelling.{spelling}
 use Rattle.packet.specs.Verdict.{verdict}
 use Rattle.world_pipes.specs.declared.way.Way.{Way}
-use Rattle.world_pipes.specs.Piped.{CarriesDown, Piped, broken, come_down, sent_up}
+use Rattle.world_pipes.specs.Piped.{CarriesDown, Piped, broken, come_down, piped_up}
 use Rattle.world_events.specs.declared.event.Event.TheVariants as events
 use Rattle.world_clients.specs.declared.connection_slot.ConnectionSlot.{ConnectionSlot}
 use Rattle.world_clients.specs.declared.world_client.WorldClient.{WorldClient}
@@ -74,7 +74,7 @@ module _ (name : List ℕ) (i at number node : ℕ) (core : Core) (up down : Lis
     hears_it : IsServed piped.core
     hears_it = by h.goes_up
       where
-        by : ((result ≡ h.read) × (piped ≡ sent_up h.core h.older (come_down 4 h.way)))
+        by : ((result ≡ h.read) × (piped ≡ piped_up h.core h.older (come_down 4 h.way)))
             ⊎ ((result ≡ Err errors.Memory) × (piped ≡ broken h.core (h.older ++ come_down 4 h.way ∷ []))) → IsServed piped.core
         by (inl (same, is)) =
             let z = read_is (λ e. enough (same ∙ e)) in

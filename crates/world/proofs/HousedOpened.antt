@@ -5,7 +5,7 @@ use Rattle.escaping_client.specs.client.Core.{Core}
 use Rattle.headline.proofs.of_node_group.Placed.{get_mapped}
 use Rattle.world_base.specs.declared.Port.{Port}
 use Rattle.world_pipes.specs.declared.way.Way.{Way}
-use Rattle.world_pipes.specs.Piped.{Piped, new_way, sent_up}
+use Rattle.world_pipes.specs.Piped.{Piped, new_way, piped_up}
 use Rattle.world_clients.specs.declared.connection_slot.ConnectionSlot.{ConnectionSlot}
 use Rattle.world_clients.specs.declared.world_client.WorldClient.{WorldClient}
 use Rattle.world_clients.specs.SlotsAreValid.{SlotsAreValid, connection_targets, targets_of_clients}
@@ -16,7 +16,7 @@ lead way = (way.node, way.port)
 
 -- the new one is after those that the client had
 pub housed_opened : (clients : List WorldClient) (connections : List ConnectionSlot) (i : ℕ) (client : WorldClient) (piped : Piped) (node number : ℕ) (place : ConnectionSlot) (core : Core)
-    → slice_get clients i ≡ Some client → piped ≡ sent_up core client.piped.ways (new_way node (record { 0 = number })) → number ≡ suc (length connections) → place.client ≡ i
+    → slice_get clients i ≡ Some client → piped ≡ piped_up core client.piped.ways (new_way node (record { 0 = number })) → number ≡ suc (length connections) → place.client ≡ i
     → place.at ≡ length client.piped.ways → suc node ≡ place.node → SlotsAreValid (targets_of_clients clients) connections
     → SlotsAreValid (targets_of_clients (set clients i (record client { piped = piped }))) (connections ++ place ∷ [])
 housed_opened clients connections i client piped node number place core at is counted client_is last numbered h =

@@ -86,7 +86,7 @@ has_called outcome old core older way m c s up splits whole same appends unread 
 
 -- it went up
 sent_stands : (outcome : ClientOutcome) (core : Core) (older : List Way) (way : Way) (m : ClientPipes) (c : IsCalled outcome m) → HasCalled outcome core older way m c →
-    ClientStandsFor (pipings.sent_up core older way) (after_writing c.keeper c.connections m)
+    ClientStandsFor (pipings.piped_up core older way) (after_writing c.keeper c.connections m)
 sent_stands outcome core older way m c h =
     let up = way.up ++ core.out in
     finished older way way.up core (record core { out = [] }) (after_writing c.keeper c.connections m) h.others h.pipe h.further up [] h.left refl h.many h.ways

@@ -16,8 +16,8 @@ use Rattle.byte_world.specs.exactly_once.Sides.{ClientConnection}
 use Rattle.byte_world.specs.World.{ClientPipes, Pipe, with_pipe}
 use Rattle.world_pipes.specs.declared.way.Way.{Way}
 use Rattle.world_pipes.specs.Following.{ModelFollows, CarryingFollows, after_losing}
-use Rattle.world_pipes.specs.Steps.{ClientGoes, ClientStep, published_along, published_with}
-use Rattle.world_pipes.specs.Piped.{CarriesDown, Piped, broken, come_down, piped, sent_up}
+use Rattle.world_pipes.specs.Steps.{ClientGoes, ClientStep, published_in_steps, published_with}
+use Rattle.world_pipes.specs.Piped.{CarriesDown, Piped, broken, come_down, piped, piped_up}
 use Rattle.byte_world.specs.exactly_once.Acceptance.{accepted_on}
 use Rattle.world_pipes.specs.StandsFor.{AreWays, CanGoOut, IsWay, ClientStandsFor}
 use Rattle.byte_world.specs.Accepted.{accepted_once}
@@ -43,7 +43,7 @@ pub record IsLeft (before : List ℕ) (core : Core) (m : ClientPipes) (others : 
 record Leaves (before : List ℕ) (core : Core) (m : ClientPipes) (others : List ClientConnection) (p₀ : Pipe) (further : List Pipe) : Type 0 where
   pub last : ClientPipes
   pub steps : ClientGoes m last
-  pub silent : published_along steps ≡ []
+  pub silent : published_in_steps steps ≡ []
   pub left : IsLeft before core last others p₀ further
 
 left_so : (before : List ℕ) (core : Core) (m : ClientPipes) (others : List ClientConnection) (p₀ : Pipe) (further : List Pipe) →
@@ -163,14 +163,14 @@ first_then : {c d e : ClientPipes} → ClientStep c d → ClientGoes d e → Cli
 first_then step ClientGoes.stays = ClientGoes.goes_on ClientGoes.stays step
 first_then step (ClientGoes.goes_on goes later) = ClientGoes.goes_on (first_then step goes) later
 
-then_along : {c d e : ClientPipes} (step : ClientStep c d) (goes : ClientGoes d e) → published_along (first_then step goes) ≡ published_with step ++ published_along goes
+then_along : {c d e : ClientPipes} (step : ClientStep c d) (goes : ClientGoes d e) → published_in_steps (first_then step goes) ≡ published_with step ++ published_in_steps goes
 unfolding first_then
 then_along step ClientGoes.stays = sym (append-nil (published_with step))
 then_along step (ClientGoes.goes_on goes later) =
-    ap (λ a. a ++ published_with later) (then_along step goes) ∙ append_assoc (published_with step) (published_along goes) (published_with later)
+    ap (λ a. a ++ published_with later) (then_along step goes) ∙ append_assoc (published_with step) (published_in_steps goes) (published_with later)
 
 -- if no step publishes anything
-then_silent : {c d e : ClientPipes} (step : ClientStep c d) (goes : ClientGoes d e) → published_with step ≡ [] → published_along goes ≡ [] → published_along (first_then step goes) ≡ []
+then_silent : {c d e : ClientPipes} (step : ClientStep c d) (goes : ClientGoes d e) → published_with step ≡ [] → published_in_steps goes ≡ [] → published_in_steps (first_then step goes) ≡ []
 then_silent step goes silent none = then_along step goes ∙ ap₂ (λ a b. a ++ b) silent none
 
 pub carrying_follows : CarryingFollows
@@ -211,7 +211,7 @@ carrying_follows count old new result m s up h =
     shown : (count : ℕ) (old new : Piped) (result : Result (Unit {0}) ClientError) (m : ClientPipes) (h : CarriesDown count old result new) (others : List ClientConnection)
         (further : List Pipe) (p₁ : Pipe) (m₁ : ClientPipes) → length others ≡ length further → AreWays (reverse h.older) further → p₁.node ≡ h.way.node →
         p₁.port ≡ h.way.port → p₁.down ≡ drop count h.way.down → (coming : ClientStep m m₁) → published_with coming ≡ [] → Leaves h.way.up h.core m₁ others p₁ further →
-        ((result ≡ h.read) × (new ≡ sent_up h.core h.older (come_down count h.way)))
+        ((result ≡ h.read) × (new ≡ piped_up h.core h.older (come_down count h.way)))
         ⊎ ((result ≡ Err errors.Memory) × (new ≡ broken h.core (h.older ++ come_down count h.way ∷ []))) → ModelFollows [] m new
     shown count old new result m h others further p₁ m₁ many ways node port down coming silent l (inl end) =
         let up = h.way.up ++ h.core.out in

@@ -22,7 +22,7 @@ use Rattle.byte_world.specs.ClientSteps.{after_connecting}
 use Rattle.world_pipes.specs.declared.way.Way.{Way}
 use Rattle.world_pipes.specs.Following.{ConnectingFollows, FollowsAll}
 use Rattle.world_pipes.specs.Steps.{ClientGoes}
-use Rattle.world_pipes.specs.Piped.{SendsConnect, Piped, is_holding, new_piped, new_way, piped, sent_up}
+use Rattle.world_pipes.specs.Piped.{SendsConnect, Piped, is_holding, new_piped, new_way, piped, piped_up}
 use Rattle.byte_world.specs.exactly_once.Acceptance.{accepted_on}
 use Rattle.world_pipes.specs.StandsFor.{AreWays, CanGoOut, ClientStandsFor}
 use Rattle.byte_world.specs.Accepted.{accepted_once}
@@ -88,7 +88,7 @@ opened_fits : (state : ClientState) → CanGoOut state → CanGoOut (keeper_step
 opened_fits state fits = record { keep_alive = fits.keep_alive; client = fits.client; released = fits.released; sent = fits.sent; unsent = fits.unsent }
 
 connected : (node : ℕ) (port : Port) (old : Piped) (core : Core) (m : ClientPipes) (x : ConnectionName) → ClientStandsFor old m →
-    OpensConnection (keeper_step Call.Opens old.core.state) old.core (Ok tt) core → ClientStandsFor (sent_up core old.ways (new_way node port)) (after_connecting x node port m)
+    OpensConnection (keeper_step Call.Opens old.core.state) old.core (Ok tt) core → ClientStandsFor (piped_up core old.ways (new_way node port)) (after_connecting x node port m)
 connected node port old core m x s opens =
     let client : old.core.state.client ≡ m.keeper.client = s.keeper.client in
     let is : packets.Connect (record { client = old.core.state.client; clean = false; keep_alive = old.core.state.keep_alive })

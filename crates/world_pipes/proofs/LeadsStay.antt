@@ -9,7 +9,7 @@ use Rattle.world_base.specs.declared.Port.{Port}
 use Rattle.world_pipes.specs.declared.sending.Sending.{Sending}
 use Rattle.world_pipes.specs.declared.sending.Sending.TheVariants as sendings
 use Rattle.world_pipes.specs.declared.way.Way.{Way}
-use Rattle.world_pipes.specs.Piped.{Calls, GoesUp, GoesUpWhere, CarriesDown, Piped, TakesLeave, broken, come_down, is_holding, sent_up}
+use Rattle.world_pipes.specs.Piped.{Calls, GoesUp, GoesUpWhere, CarriesDown, Piped, TakesLeave, broken, come_down, is_holding, piped_up}
 
 -- to which node, by which port
 abbrev pub leads : List Way → List (ℕ × Port)
@@ -45,7 +45,7 @@ carrying_leads count old result new h = by h.goes_up
     taken : leads (h.older ++ come_down count h.way ∷ []) ≡ leads old.ways
     taken = one_same h.older h.way (come_down count h.way) refl refl ∙ ap leads (sym h.newest)
 
-    by : ((result ≡ h.read) × (new ≡ sent_up h.core h.older (come_down count h.way)))
+    by : ((result ≡ h.read) × (new ≡ piped_up h.core h.older (come_down count h.way)))
         ⊎ ((result ≡ Err errors.Memory) × (new ≡ broken h.core (h.older ++ come_down count h.way ∷ []))) → leads new.ways ≡ leads old.ways
     by (inl end) =
         ap (λ (p : Piped). leads p.ways) end.1

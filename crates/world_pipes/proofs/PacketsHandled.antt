@@ -20,7 +20,7 @@ use Rattle.byte_world.specs.exactly_once.Sides.{ClientConnection, Side}
 use Rattle.byte_world.specs.World.{ClientPipes, Pipe, newly_written}
 use Rattle.byte_world.specs.ClientSteps.{after_packet}
 use Rattle.byte_world.proofs.OnTheWay.{newly_is}
-use Rattle.world_pipes.specs.Steps.{ClientGoes, ClientStep, published_along, published_with}
+use Rattle.world_pipes.specs.Steps.{ClientGoes, ClientStep, published_in_steps, published_with}
 use Rattle.byte_world.specs.exactly_once.Acceptance.{accepted_on}
 use Rattle.world_pipes.specs.StandsFor.{CanGoOut}
 use Rattle.byte_world.specs.Accepted.{accepted_once}
@@ -112,7 +112,7 @@ one_goes before core next after m others p₀ further packet up s reads done =
 pub record GoFar (before : List ℕ) (core : Core) (m : ClientPipes) (others : List ClientConnection) (p₀ : Pipe) (further : List Pipe) : Type 0 where
   pub last : ClientPipes
   pub steps : ClientGoes m last
-  pub silent : published_along steps ≡ []
+  pub silent : published_in_steps steps ≡ []
   pub stands : IsInMidst before core last others p₀ further
 
 pub all_go : (before : List ℕ) (start last : Core) (m : ClientPipes) (others : List ClientConnection) (p₀ : Pipe) (further : List Pipe) → is_open start.state.stage ≡ true →

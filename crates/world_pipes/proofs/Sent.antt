@@ -16,7 +16,7 @@ use Rattle.world_pipes.specs.declared.sending.Sending.{Sending}
 use Rattle.world_pipes.specs.declared.sending.Sending.TheVariants as sendings
 use Rattle.world_pipes.specs.Held.{IsHeld}
 use Rattle.world_pipes.specs.Inside.{MovesUp, SendsUp, CarriesToClient, stays_open}
-use Rattle.world_pipes.specs.Piped.{Calls, TakesLeave, GoesUp, GoesUpWhere, CarriesDown, Piped, broken, come_down, piped, sent_up}
+use Rattle.world_pipes.specs.Piped.{Calls, TakesLeave, GoesUp, GoesUpWhere, CarriesDown, Piped, broken, come_down, piped, piped_up}
 use Rattle.world_pipes.proofs.Newest.{last_set, last_splits}
 use Rattle.world_pipes.proofs.StaysOpen.{heard_stays}
 
@@ -154,7 +154,7 @@ held_carrying count old new result holds up h is = held_end count old new result
 
     held_end : (count : ℕ) (old new : Piped) (result : Result (Unit {0}) ClientError) (holds : Bool) → is_open old.core.state.stage ≡ true
         → (h : CarriesDown count old result new) → holds ≡ stays_open result
-        → ((result ≡ h.read) × (new ≡ sent_up h.core h.older (come_down count h.way)))
+        → ((result ≡ h.read) × (new ≡ piped_up h.core h.older (come_down count h.way)))
         ⊎ ((result ≡ Err errors.Memory) × (new ≡ broken h.core (h.older ++ come_down count h.way ∷ [])))
         → IsHeld holds new.core new.ways
     held_end count old new result holds up h is (inl end) =

@@ -13,7 +13,7 @@ use Rattle.byte_world.specs.World.{ClientPipes, Pipe, newly_written, sent_up}
 use Rattle.byte_world.proofs.OnTheWay.{newly_is}
 use Rattle.world_pipes.specs.declared.way.Way.{Way}
 use Rattle.world_pipes.specs.Following.{FollowsLosing, after_losing}
-use Rattle.world_pipes.specs.Steps.{ClientGoes, ClientStep, published_along, published_with}
+use Rattle.world_pipes.specs.Steps.{ClientGoes, ClientStep, published_in_steps, published_with}
 use Rattle.world_pipes.specs.Piped.{Piped, piped}
 use Rattle.world_pipes.specs.StandsFor.{AreWays, CanGoOut, IsWay}
 use Rattle.world_pipes.proofs.Newest.{last_index}
@@ -61,7 +61,7 @@ losing_silent m = refl
 pub losing_goes : (m : ClientPipes) → ClientGoes m (after_losing m)
 losing_goes m = ClientGoes.goes_on ClientGoes.stays (losing m)
 
-pub losing_publishes : (m : ClientPipes) → published_along (losing_goes m) ≡ []
+pub losing_publishes : (m : ClientPipes) → published_in_steps (losing_goes m) ≡ []
 unfolding losing_goes losing
 losing_publishes m = refl
 

@@ -15,7 +15,7 @@ use Rattle.byte_world.specs.ClientSteps.{WritesCanBeSpelled, after_connecting, s
 use Rattle.byte_world.specs.Published.{published_by_call}
 use Rattle.world_pipes.specs.declared.sending.Sending.{Sending}
 use Rattle.world_pipes.specs.declared.sending.Sending.TheVariants as sendings
-use Rattle.world_pipes.specs.Steps.{ClientGoes, published_along}
+use Rattle.world_pipes.specs.Steps.{ClientGoes, published_in_steps}
 use Rattle.world_pipes.specs.Piped.{CarriesDown, Piped, is_holding}
 use Rattle.world_pipes.specs.StandsFor.{ClientStandsFor}
 
@@ -25,7 +25,7 @@ pub record ModelFollows (published : List Publication) (m : ClientPipes) (new : 
     : Type 0 where
   pub next : ClientPipes
   pub goes : ClientGoes m next
-  pub publishes : published_along goes ≡ published
+  pub publishes : published_in_steps goes ≡ published
   pub stands : ClientStandsFor new next
 
 -- each client of the model that corresponded to it before follows, and publishes this
@@ -48,7 +48,7 @@ abbrev pub FollowsLosing : Piped → Piped → Type 0
 FollowsLosing old new =
     (m : ClientPipes) → ClientStandsFor old m →
     ClientStandsFor new (after_losing m) × (goes : ClientGoes m (after_losing m))
-    × (published_along goes ≡ [])
+    × (published_in_steps goes ≡ [])
 
 -- ---- a new connection: the model's, under any name that its node gives it
 

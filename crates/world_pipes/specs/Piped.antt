@@ -36,8 +36,8 @@ new_piped client = piped (new_core client 0) []
 -- ---- what is written goes up
 
 -- what the client wrote is after what is in transit on its newest connection
-abbrev pub sent_up : Core → List Way → Way → Piped
-sent_up core older way =
+abbrev pub piped_up : Core → List Way → Way → Piped
+piped_up core older way =
     piped (record core { out = [] }) (older ++ record way { up = way.up ++ core.out } ∷ [])
 
 -- there was no memory for what the client wrote: the connection is lost
@@ -47,7 +47,7 @@ broken core ways = piped (gone core) ways
 -- what a client wrote goes up on the last of its connections
 abbrev pub GoesUp : Core → List Way → Sending → Piped → Type 0
 GoesUp core ways sendings.Sent new =
-    (older : List Way) × (way : Way) × (ways ≡ older ++ way ∷ []) × (new ≡ sent_up core older way)
+    (older : List Way) × (way : Way) × (ways ≡ older ++ way ∷ []) × (new ≡ piped_up core older way)
 GoesUp core ways sendings.Lost new = new ≡ broken core ways
 
 -- there is anything to send up only while a client holds a connection
@@ -78,7 +78,7 @@ abbrev pub SendsConnect :
     ℕ → Port → ClientOutcome → Piped → Result (Unit {0}) ClientError → Piped → Type 0
 SendsConnect node port outcome old (Ok done) new =
     (core : Core) × OpensConnection outcome old.core (Ok tt) core
-    × (new ≡ sent_up core old.ways (new_way node port))
+    × (new ≡ piped_up core old.ways (new_way node port))
 SendsConnect node port outcome old (Err cause) new = (cause ≡ errors.Memory) × (new.ways ≡ old.ways)
     × ((new.core ≡ old.core)
     ⊎ ((core : Core) × OpensConnection outcome old.core (Ok tt) core × (new.core ≡ gone core)))
@@ -104,5 +104,5 @@ pub record CarriesDown (count : ℕ) (old : Piped) (result : Result (Unit {0}) C
   pub read : Result (Unit {0}) ClientError
   pub carried : OnBytes (take count way.down) old.core.state.stage old.core read core
   pub goes_up :
-      ((result ≡ read) × (new ≡ sent_up core older (come_down count way)))
+      ((result ≡ read) × (new ≡ piped_up core older (come_down count way)))
       ⊎ ((result ≡ Err errors.Memory) × (new ≡ broken core (older ++ come_down count way ∷ [])))

@@ -52,9 +52,9 @@ published_with (ClientStep.arrives j κ p piece rest connection pipe down) = []
 published_with (ClientStep.handles κ others p pipes packet left connections are up cut spelled) = []
 
 -- what a client publishes in steps, one after another, the oldest first
-abbrev pub published_along : {c d : ClientPipes} → ClientGoes c d → List Publication
-published_along ClientGoes.stays = []
-published_along (ClientGoes.goes_on goes step) = published_along goes ++ published_with step
+abbrev pub published_in_steps : {c d : ClientPipes} → ClientGoes c d → List Publication
+published_in_steps ClientGoes.stays = []
+published_in_steps (ClientGoes.goes_on goes step) = published_in_steps goes ++ published_with step
 
 -- ---- in a world
 
