@@ -3,7 +3,7 @@ use Rattle.std.proofs.Common.{◌≡◌, ℕ, ◌^◌, ◌<◌, Some, rules}
 use Rattle.std.proofs.lemmas.Nat.{from_be_bytes-to_be_bytes_8}
 use Rattle.machine.specs.declared.tally.TallyCommand.{TallyCommand}
 use Rattle.machine.specs.declared.tally.TallyCommand.TheVariants.{Add, Start}
-use Rattle.machine.specs.Tally.{total_after, bytes_of, tally_of}
+use Rattle.machine.specs.Tally.{total_after, total_bytes, tally_of}
 
 -- a tally begins below 2^64
 pub IsTotal-opening : 0 < 2 ^ 64
@@ -17,5 +17,5 @@ IsTotal-after total (Start ballot) below = below
 
 -- a total comes back from its bytes
 pub tally_of-bytes_of : (total : ℕ) →
-    total < 2 ^ 64 → tally_of (bytes_of total) ≡ Some (record { total = total })
+    total < 2 ^ 64 → tally_of (total_bytes total) ≡ Some (record { total = total })
 tally_of-bytes_of total below = rw (from_be_bytes-to_be_bytes_8 total below)

@@ -23,8 +23,8 @@ IsTallyCommand (Add number) = number < 2 ^ 64
 IsTallyCommand (Start ballot) = ballot < 2 ^ 64
 
 -- a total as its eight bytes, the most significant first
-abbrev pub bytes_of : ℕ → List ℕ
-bytes_of total = to_be_bytes w64 total
+abbrev pub total_bytes : ℕ → List ℕ
+total_bytes total = to_be_bytes w64 total
 
 -- the tally of eight bytes; no other bytes thaw
 abbrev pub tally_of : List ℕ → Option Tally
@@ -39,6 +39,6 @@ tally_rules =
       start_of = Start;
       after = λ s c. record { total = total_after s.total c };
       gives = λ s c. totals_given s.total c;
-      frozen = λ s. bytes_of s.total;
+      frozen = λ s. total_bytes s.total;
       thawed = tally_of;
     }

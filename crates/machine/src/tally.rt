@@ -21,7 +21,7 @@ pub enum TallyCommand {
 
 impl Machine for Tally {
     ghost use Rattle.std.specs.Prelude.{ℕ, List, Option, Some, None, ◌≡◌, ◌<◌, ◌^◌};
-    ghost use Rattle.machine.specs.Tally.{tally_rules, bytes_of, tally_of, IsTallyCommand};
+    ghost use Rattle.machine.specs.Tally.{tally_rules, total_bytes, tally_of, IsTallyCommand};
     ghost use Rattle.machine.specs.Inside.{IsTotal-opening, IsTotal-after, tally_of-bytes_of};
 
     type Command = TallyCommand;
