@@ -7,7 +7,7 @@ use Rattle.toml.specs.View.{items_of}
 use Rattle.ballot_base.specs.LawfulConfig.{is_lawful}
 use Rattle.command_line.specs.declared.node_table.ListeningNode.{ListeningNode}
 use Rattle.command_line.specs.declared.node_table.NodeTable.{NodeTable}
-use Rattle.command_line.specs.Tables.{are_told_apart, document_of, has, is_lawful_table, node_data, number}
+use Rattle.command_line.specs.Tables.{are_told_apart, document_of, has_node, is_lawful_table, node_data, number_value}
 
 abbrev number_in : Data → ℕ
 number_in (integer (pos n)) = n
@@ -34,7 +34,7 @@ abbrev all_in : (Data → ℕ) → Items → List ℕ
 all_in reads no_items = []
 all_in reads (item d ds) = reads d ∷ all_in reads ds
 
-numbers_said : (ns : List ℕ) → all_in number_in (items_of (map number ns)) ≡ ns
+numbers_said : (ns : List ℕ) → all_in number_in (items_of (map number_value ns)) ≡ ns
 numbers_said [] = refl
 numbers_said (n ∷ ns) = ap (λ rest. n ∷ rest) (numbers_said ns)
 
@@ -53,7 +53,7 @@ abbrev are_apart : List ℕ → Bool
 are_apart [] = true
 are_apart (n ∷ ns) = (nat_le 1 n && nat_le n 15) && (not (has_id ns n) && are_apart ns)
 
-has_by_ids : (nodes : List ListeningNode) (id : ℕ) → has nodes id ≡ has_id (ids nodes) id
+has_by_ids : (nodes : List ListeningNode) (id : ℕ) → has_node nodes id ≡ has_id (ids nodes) id
 has_by_ids [] id = refl
 has_by_ids (node ∷ nodes) id = ap (λ rest. (node.id == id) || rest) (has_by_ids nodes id)
 
@@ -62,7 +62,7 @@ apart_by_ids [] = refl
 apart_by_ids (node ∷ nodes) =
     ap₂ (λ a b. (nat_le 1 node.id && nat_le node.id 15) && (not a && b)) (has_by_ids nodes node.id) (apart_by_ids nodes)
 
-all_by_ids : (nodes : List ListeningNode) (ms : List ℕ) → list_all (has nodes) ms ≡ list_all (has_id (ids nodes)) ms
+all_by_ids : (nodes : List ListeningNode) (ms : List ℕ) → list_all (has_node nodes) ms ≡ list_all (has_id (ids nodes)) ms
 all_by_ids nodes [] = refl
 all_by_ids nodes (m ∷ ms) = ap₂ (λ a b. a && b) (has_by_ids nodes m) (all_by_ids nodes ms)
 

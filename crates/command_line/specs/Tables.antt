@@ -9,8 +9,8 @@ use Rattle.command_line.specs.declared.node_table.ListeningNode.{ListeningNode}
 use Rattle.command_line.specs.declared.node_table.NodeTable.{NodeTable}
 
 -- a number as a value of TOML
-abbrev pub number : ℕ → Data
-number n = integer (pos n)
+abbrev pub number_value : ℕ → Data
+number_value n = integer (pos n)
 
 -- a list of values, each written by `says`
 abbrev pub list_data : {X : Type 0} → (X → Data) → List X → Data
@@ -18,29 +18,29 @@ list_data says xs = array (items_of (map says xs))
 
 -- `id = 1` and `listen = "127.0.0.1:1883"`, in the order of their keys
 abbrev pub node_data : ListeningNode → Data
-node_data node = table (member (codes "id") (number node.id)
+node_data node = table (member (codes "id") (number_value node.id)
     (member (codes "listen") (string (string_bytes node.listen)) no_members))
 
 -- `members = [1]`, a table `[[node]]` for each node, and `primary = 1`, in the order of their keys
 abbrev pub document_of : NodeTable → Members
-document_of t = member (codes "members") (list_data number t.config.members)
+document_of t = member (codes "members") (list_data number_value t.config.members)
     (member (codes "node") (list_data node_data t.nodes.items)
-    (member (codes "primary") (number t.config.primary) no_members))
+    (member (codes "primary") (number_value t.config.primary) no_members))
 
 -- one of the nodes has this number
-abbrev pub has : List ListeningNode → ℕ → Bool
-has nodes id = list_any (λ (node : ListeningNode). node.id == id) nodes
+abbrev pub has_node : List ListeningNode → ℕ → Bool
+has_node nodes id = list_any (λ (node : ListeningNode). node.id == id) nodes
 
 -- each number is from 1 to the greatest of a node, and none occurs twice
 abbrev pub are_told_apart : List ListeningNode → Bool
 are_told_apart [] = true
 are_told_apart (node ∷ nodes) = (nat_le 1 node.id && nat_le node.id max_node)
-    && (not (has nodes node.id) && are_told_apart nodes)
+    && (not (has_node nodes node.id) && are_told_apart nodes)
 
 -- the nodes can be told apart, and the members of ballot 1 are among them
 abbrev pub is_lawful_table : NodeTable → Bool
 is_lawful_table t = are_told_apart t.nodes.items
-    && (list_all (has t.nodes.items) t.config.members
+    && (list_all (has_node t.nodes.items) t.config.members
     && is_lawful t.config.members t.config.primary)
 
 -- the text is a TOML document with this table and no more

@@ -6,8 +6,8 @@ ghost use Rattle.toml.specs.Data.{Data, Members as Entries, member};
 ghost use Rattle.toml.specs.View.{members_view, table_view, view};
 ghost use Rattle.command_line.specs.declared.node_table.ListeningNode.{ListeningNode};
 ghost use Rattle.command_line.specs.declared.node_table.NodeTable.{NodeTable};
-ghost use Rattle.command_line.specs.Tables.{document_of, list_data, node_data, number};
-ghost use Rattle.command_line.specs.Inside.Documents.{IsSmall, has_small_id, is_small};
+ghost use Rattle.command_line.specs.Tables.{document_of, list_data, node_data, number_value};
+ghost use Rattle.command_line.specs.Inside.Documents.{IsSmall, has_small_id, may_be_node_number};
 
 use crate::fault::TableFault;
 use crate::node_table::{ListeningNode, NodeTable};
@@ -58,8 +58,9 @@ fn next_value<'a>(entries: &mut Iter<'a, String, Value>, key: &str) -> Option<&'
 
 // Returns a number from 0 to the greatest of a node.
 fn small_number(value: &Value) -> Option<u8>
-    ensures some { IfSome result (λ n. view value.now ≡ number n) }
-    ensures none { IsNone result → (n : ℕ) → is_small n ≡ true → view value.now ≡ number n → ⊥ }
+    ensures some { IfSome result (λ n. view value.now ≡ number_value n) }
+    ensures none { IsNone result → (n : ℕ) → may_be_node_number n ≡ true → view value.now
+        ≡ number_value n → ⊥ }
 {
     let number = value.as_integer()?;
     if 0 <= number && number <= MAX_NODE {
@@ -71,9 +72,10 @@ fn small_number(value: &Value) -> Option<u8>
 
 // Returns a list of numbers from 0 to the greatest of a node.
 fn numbers_of(alloc: Global, value: &Value) -> Result<Members, TableFault>
-    ensures value { IfOk result (λ numbers. view value.now ≡ list_data number numbers) }
-    ensures shape { IsErrOf result TableFault.Shape → (ns : List ℕ) → list_all is_small ns ≡ true
-        → view value.now ≡ list_data number ns → ⊥ }
+    ensures value { IfOk result (λ numbers. view value.now ≡ list_data number_value numbers) }
+    ensures shape { IsErrOf result TableFault.Shape → (ns : List ℕ) → list_all may_be_node_number ns
+        ≡ true
+        → view value.now ≡ list_data number_value ns → ⊥ }
 {
     let values = value.as_array().ok_or(TableFault::Shape)?;
     let mut numbers = Vec::new(alloc);

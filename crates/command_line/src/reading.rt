@@ -3,7 +3,7 @@
 ghost use Rattle.std.specs.Prelude.{◌≡◌, IfOk, IsErrOf};
 ghost use Rattle.std.specs.List.{list_all};
 ghost use Rattle.command_line.specs.declared.node_table.NodeTable.{NodeTable};
-ghost use Rattle.command_line.specs.Tables.{IsTableText, are_told_apart, has, is_lawful_table};
+ghost use Rattle.command_line.specs.Tables.{IsTableText, are_told_apart, has_node, is_lawful_table};
 
 use crate::document::document_table;
 use crate::fault::TableFault;
@@ -46,19 +46,19 @@ fn are_told_apart(nodes: &[ListeningNode]) -> bool
     let Some((node, others)) = nodes.split_first() else {
         return true;
     };
-    (1 <= node.id && node.id <= MAX_NODE) && (!has(others, node.id) && are_told_apart(others))
+    (1 <= node.id && node.id <= MAX_NODE) && (!has_node(others, node.id) && are_told_apart(others))
 }
 
 // Says whether each of these is a node.
 fn are_nodes(nodes: &[ListeningNode], members: &[u8]) -> bool
-    ensures { result ≡ list_all (has nodes.now) members.now }
+    ensures { result ≡ list_all (has_node nodes.now) members.now }
 {
-    members.iter().all(|member| has(nodes, *member))
+    members.iter().all(|member| has_node(nodes, *member))
 }
 
 // Says whether a node has this number.
-fn has(nodes: &[ListeningNode], id: u8) -> bool
-    ensures { result ≡ has nodes.now id }
+fn has_node(nodes: &[ListeningNode], id: u8) -> bool
+    ensures { result ≡ has_node nodes.now id }
 {
     nodes.iter().any(|node| node.id == id)
 }

@@ -1,8 +1,8 @@
 use Rattle.std.proofs.Common.{◌≡◌, ◌++◌, ◌∷◌, [], Some, ap, rules, sym, ◌∙◌}
 use Rattle.toml.specs.Data.{array}
 use Rattle.toml.specs.View.{items_view, view}
-use Rattle.command_line.specs.Tables.{number}
-use Rattle.command_line.specs.Inside.Documents.{is_small}
+use Rattle.command_line.specs.Tables.{number_value}
+use Rattle.command_line.specs.Inside.Documents.{may_be_node_number}
 use Rattle.command_line.proofs.Listed.{is_array, items_said, said_at, said_more}
 use Rattle.command_line.proofs.document.numbers_of.Goals as goal
 
@@ -13,13 +13,13 @@ returns-in_err-number-clause-shape c _ all small same =
     is_array _ _ (rw got at c.as_array.ensures) in
     let listed : view c.args.value.now ≡ array (items_view c.deref-one-items.result.now) =
     rw c.deref-one-items.ensures.value is in
-    let at = said_at number is_small c.deref-one-items.result.now all c.loop-one.one-index c.one-item.result c.loop-one-test.true small
-    (items_said number c.deref-one-items.result.now c.args.value.now all listed same) in
+    let at = said_at number_value may_be_node_number c.deref-one-items.result.now all c.loop-one.one-index c.one-item.result c.loop-one-test.true small
+    (items_said number_value c.deref-one-items.result.now c.args.value.now all listed same) in
     c.small_number.ensures.none (search rules) at.one at.passed (ap view c.one-item.is ∙ at.said)
 
 pub loop-one-preserved : goal.loop-one-preserved
 loop-one-preserved c =
-    let said : view c.one-item.result ≡ number c.in_ok-number.number = search rules in
+    let said : view c.one-item.result ≡ number_value c.in_ok-number.number = search rules in
     let pushed : c.push.new.self.items ≡ c.loop-one.numbers.items ++ c.in_ok-number.number ∷ [] = search rules in
-    rw pushed (said_more number c.deref-one-items.result.now c.loop-one.one-index c.one-item.result c.loop-one.numbers.items c.in_ok-number.number
+    rw pushed (said_more number_value c.deref-one-items.result.now c.loop-one.one-index c.one-item.result c.loop-one.numbers.items c.in_ok-number.number
     c.loop-one-test.true c.one-item.is c.loop-one.invariant said)
