@@ -9,7 +9,7 @@ use Rattle.world_base.specs.declared.item.Item.{Item}
 use Rattle.world_base.specs.declared.item.Item.TheVariants.{Opened, Bytes, Ended}
 use Rattle.connection.specs.declared.ending.Ending.{Ending}
 use Rattle.connection.specs.declared.ending.Ending.TheVariants as endings
-use Rattle.connection.specs.Hearing.{Came, Hears, Rises, joined, pieces_reported}
+use Rattle.connection.specs.Hearing.{Came, Hears, Rises, all_bytes, pieces_reported}
 use Rattle.connection.specs.Hearing.Rises.{opens, comes}
 use Rattle.connection.specs.Inside.{HearsOn, HearsPiece, HearsPieces, HearsSome}
 
@@ -46,10 +46,10 @@ pieces_join port a b c first second lost x y z h k =
     ∙ ap (λ l. l ++ pieces_reported port second) h.reported
     ∙ append_assoc a (pieces_reported port first) (pieces_reported port second)
     ∙ ap (λ l. a ++ l) (sym (map-append (λ (piece : Came). Bytes port piece.bytes piece.now) first second)) in
-    let first_gave : Consumes x y (joined first) = rw append-nil at h.gave in
-    let both = consumes_join x y z (joined first) (joined second ++ lost) first_gave k.gave in
+    let first_gave : Consumes x y (all_bytes first) = rw append-nil at h.gave in
+    let both = consumes_join x y z (all_bytes first) (all_bytes second ++ lost) first_gave k.gave in
     let bytes =
-    sym (append_assoc (joined first) (joined second) lost)
+    sym (append_assoc (all_bytes first) (all_bytes second) lost)
     ∙ ap (λ l. l ++ lost) (sym (flat_map-append (λ (piece : Came). piece.bytes) first second)) in
     record { reported = reported; gave = subst (λ l. Consumes x z l) bytes both }
 

@@ -33,8 +33,8 @@ abbrev pub report_of : Port → ℕ → List Came → List Item
 report_of port opened pieces = Opened port opened ∷ (pieces_reported port pieces ++ Ended port ∷ [])
 
 -- the bytes of all pieces, in order
-abbrev pub joined : List Came → List ℕ
-joined pieces = flat_map (λ (piece : Came). piece.bytes) pieces
+abbrev pub all_bytes : List Came → List ℕ
+all_bytes pieces = flat_map (λ (piece : Came). piece.bytes) pieces
 
 -- How it ended, with the pieces that came, what was read and not reported, and what the device has
 -- left: a byte is lost only if memory ran out.
@@ -68,7 +68,7 @@ pub record Hears
   pub pieces : List Came
   pub lost : List ℕ
   pub reported : new ≡ old ++ report_of port opened pieces
-  pub gave : Consumes before after (joined pieces ++ lost)
+  pub gave : Consumes before after (all_bytes pieces ++ lost)
   pub ends : EndsSo ending pieces lost after
   pub last : ℕ
   pub times : Rises opened pieces last

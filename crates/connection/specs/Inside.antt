@@ -4,7 +4,7 @@ use Rattle.std.specs.Io.KnownBytes.{Consumes}
 use Rattle.world_base.specs.declared.Port.{Port}
 use Rattle.world_base.specs.declared.item.Item.{Item}
 use Rattle.connection.specs.declared.ending.Ending.{Ending}
-use Rattle.connection.specs.Hearing.{Came, EndsSo, Rises, faults_after, joined, pieces_reported}
+use Rattle.connection.specs.Hearing.{Came, EndsSo, Rises, faults_after, all_bytes, pieces_reported}
 
 -- these pieces were reported, and what was read is these and what was lost
 pub record HearsPieces
@@ -12,7 +12,7 @@ pub record HearsPieces
     (before after : Option (List ℕ))
     : Type 0 where
   pub reported : new ≡ old ++ pieces_reported port pieces
-  pub gave : Consumes before after (joined pieces ++ lost)
+  pub gave : Consumes before after (all_bytes pieces ++ lost)
 
 -- pieces were reported, for a connection opened at a time, and then it ended so
 pub record HearsOn
