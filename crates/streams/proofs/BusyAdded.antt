@@ -3,7 +3,7 @@ use Rattle.std.proofs.Common.{◌≡◌, ℕ, zero, suc, ◌+◌, ◌≤◌, Boo
 use Rattle.std.proofs.lemmas.Bool.{cond-false, cond-true, le-leb, lt-leb}
 use Rattle.node.specs.lists.Lists.{Each}
 use Rattle.slab.specs.Slab.{Slab, get}
-use Rattle.streams.specs.Listing.{AddsBusy, busy_at, busy_between, is_idle, listed_at}
+use Rattle.streams.specs.Listing.{AddsBusy, busy_at, busy_between, is_lane_idle, connection_listed_at}
 use Rattle.streams.specs.declared.idle_lanes.IdleLanes.{IdleLanes}
 use Rattle.streams.specs.declared.link.Link.{Link}
 
@@ -25,9 +25,9 @@ pub adds_at : {A : Type 0} (link_of : A → Link) (idle : IdleLanes) (before aft
     → AddsBusy idle 1 before after
 adds_at link_of idle before after false slot is same = adds_none idle 1 before after (same refl)
 adds_at link_of idle before after true None is same = adds_none idle 1 before after (is refl ∙ append-nil before)
-adds_at link_of idle before after true (Some link) is same = by (is_idle idle (link_of link).port) refl (is refl)
+adds_at link_of idle before after true (Some link) is same = by (is_lane_idle idle (link_of link).port) refl (is refl)
   where
-    by : (b : Bool) → is_idle idle (link_of link).port ≡ b
+    by : (b : Bool) → is_lane_idle idle (link_of link).port ≡ b
         → after ≡ before ++ (if b then [] else link_of link ∷ []) → AddsBusy idle 1 before after
     by true idles is = adds_none idle 1 before after (is ∙ append-nil before)
     by false busy is = record { added = link_of link ∷ []; is = is; busy = (busy, tt); few = omega arith }
@@ -37,17 +37,17 @@ pub between_none : {A : Type 0} (link_of : A → Link) (idle : IdleLanes) (slots
     → busy_between link_of idle slots first first ≡ []
 between_none link_of idle slots zero = refl
 between_none link_of idle slots (suc n) =
-    cond-false (nat_le (suc n) n) (busy_between link_of idle slots (suc n) n ++ busy_at link_of idle (listed_at (get slots n))) []
+    cond-false (nat_le (suc n) n) (busy_between link_of idle slots (suc n) n ++ busy_at link_of idle (connection_listed_at (get slots n))) []
     (lt-leb (suc n) n (omega arith))
 
 -- one index more
 pub between_more : {A : Type 0} (link_of : A → Link) (idle : IdleLanes) (slots : Slab (Option A)) (first at : ℕ)
     (before mid after : List Link) → first ≤ at
     → mid ≡ before ++ busy_between link_of idle slots first at
-    → after ≡ mid ++ busy_at link_of idle (listed_at (get slots at))
+    → after ≡ mid ++ busy_at link_of idle (connection_listed_at (get slots at))
     → after ≡ before ++ busy_between link_of idle slots first (at + 1)
 between_more link_of idle slots first at before mid after least was adds =
-    let one = busy_at link_of idle (listed_at (get slots at)) in
+    let one = busy_at link_of idle (connection_listed_at (get slots at)) in
     let others = busy_between link_of idle slots first at in
     adds
     ∙ (ap (λ (links : List Link). links ++ one) was
@@ -63,7 +63,7 @@ pub adds_join : (idle : IdleLanes) (few more most : ℕ) (before between after :
 adds_join idle few more most before between after first next sum = record {
   added = first.added ++ next.added;
   is = next.is ∙ (ap (λ (links : List Link). links ++ next.added) first.is ∙ append_assoc before first.added next.added);
-  busy = each_join (λ (link : Link). is_idle idle link.port ≡ false) first.added next.added first.busy next.busy;
+  busy = each_join (λ (link : Link). is_lane_idle idle link.port ≡ false) first.added next.added first.busy next.busy;
   few = let a = first.few in let b = next.few in omega (arith, length-append first.added next.added, a, b, sum);
 }
 

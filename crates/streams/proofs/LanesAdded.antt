@@ -9,7 +9,7 @@ use Rattle.std.proofs.lemmas.List.Folds.{list_any_more}
 use Rattle.std.proofs.lemmas.Nat.{and_le_l, and_or_apart, and_or_self, pow_pos}
 use Rattle.std.proofs.lemmas.Nat.Bits.{and_pow, bit_at-pow_other}
 use Rattle.node.specs.declared.Port.{Port}
-use Rattle.streams.specs.Listing.{is_idle}
+use Rattle.streams.specs.Listing.{is_lane_idle}
 use Rattle.streams.specs.Ports.{is_of_lane}
 use Rattle.streams.specs.declared.idle_lanes.IdleLanes.{IdleLanes}
 
@@ -57,9 +57,9 @@ none_of port =
 
 -- the lanes of one port more
 pub one_more : (lanes more : IdleLanes) (ports : List Port) (i : ℕ) (d port : Port) → i < length ports
-    → is_idle more port ≡ (is_idle lanes port || is_of_lane port (get_or ports i d))
-    → is_idle lanes port ≡ list_any (is_of_lane port) (take i ports)
-    → is_idle more port ≡ list_any (is_of_lane port) (take (i + 1) ports)
+    → is_lane_idle more port ≡ (is_lane_idle lanes port || is_of_lane port (get_or ports i d))
+    → is_lane_idle lanes port ≡ list_any (is_of_lane port) (take i ports)
+    → is_lane_idle more port ≡ list_any (is_of_lane port) (take (i + 1) ports)
 one_more lanes more ports i d port below adds was =
     adds
     ∙ (ap (λ (b : Bool). b || is_of_lane port (get_or ports i d)) was
@@ -67,6 +67,6 @@ one_more lanes more ports i d port below adds was =
 
 -- the lanes of all ports
 pub of_all : (lanes : IdleLanes) (ports : List Port) (i : ℕ) (port : Port) → length ports ≤ i
-    → is_idle lanes port ≡ list_any (is_of_lane port) (take i ports)
-    → is_idle lanes port ≡ list_any (is_of_lane port) ports
+    → is_lane_idle lanes port ≡ list_any (is_of_lane port) (take i ports)
+    → is_lane_idle lanes port ≡ list_any (is_of_lane port) ports
 of_all lanes ports i port all was = was ∙ ap (list_any (is_of_lane port)) (take_all i ports all)

@@ -8,33 +8,33 @@ use Rattle.streams.specs.declared.link.Link.{Link}
 use Rattle.streams.specs.declared.idle_lanes.IdleLanes.{IdleLanes}
 
 -- the lane of a port is one of these lanes
-abbrev pub is_idle : IdleLanes → Port → Bool
-is_idle lanes port = not (bit_and lanes.0 (2 ^ (port.0 % 64)) == 0)
+abbrev pub is_lane_idle : IdleLanes → Port → Bool
+is_lane_idle lanes port = not (bit_and lanes.0 (2 ^ (port.0 % 64)) == 0)
 
 -- Connections were added to a list, after what was there: at most as many as `most` says, and none
 -- whose lane is idle.
 pub record AddsBusy (idle : IdleLanes) (most : ℕ) (before after : List Link) : Type 0 where
   pub added : List Link
   pub is : after ≡ before ++ added
-  pub busy : Each (λ link. is_idle idle link.port ≡ false) added
+  pub busy : Each (λ link. is_lane_idle idle link.port ≡ false) added
   pub few : length added ≤ most
 
 -- the connection that is listed at an index, by what is there: an index may be taken by one that is
 -- not yet listed
-abbrev pub listed_at : {A : Type 0} → Option (Option A) → Option A
-listed_at None = None
-listed_at (Some listed) = listed
+abbrev pub connection_listed_at : {A : Type 0} → Option (Option A) → Option A
+connection_listed_at None = None
+connection_listed_at (Some listed) = listed
 
 module _ {A : Type 0} (link_of : A → Link) where
   -- a connection, unless its lane is idle
   abbrev pub busy_at : IdleLanes → Option A → List Link
   busy_at idle None = []
-  busy_at idle (Some link) = if is_idle idle (link_of link).port then [] else link_of link ∷ []
+  busy_at idle (Some link) = if is_lane_idle idle (link_of link).port then [] else link_of link ∷ []
 
   -- the connections that are listed from one index up to another, except those of idle lanes
   abbrev pub busy_between : IdleLanes → Slab (Option A) → ℕ → ℕ → List Link
   busy_between idle slots first zero = []
   busy_between idle slots first (suc end) =
       if nat_le first end
-      then busy_between idle slots first end ++ busy_at idle (listed_at (get slots end))
+      then busy_between idle slots first end ++ busy_at idle (connection_listed_at (get slots end))
       else []

@@ -12,12 +12,12 @@ use node::Port;
 pub struct IdleLanes(pub u64);
 
 impl IdleLanes {
-    ghost use Rattle.streams.specs.Listing.{is_idle};
+    ghost use Rattle.streams.specs.Listing.{is_lane_idle};
     ghost use Rattle.streams.specs.Ports.{is_of_lane};
 
     /// Returns the lanes of these ports, and no others.
     pub fn of(ports: &[Port]) -> IdleLanes
-        ensures { (port : Port) → is_idle result port ≡ list_any (is_of_lane port) ports.now }
+        ensures { (port : Port) → is_lane_idle result port ≡ list_any (is_of_lane port) ports.now }
     {
         let mut lanes = IdleLanes(0);
         for port in ports {
@@ -29,14 +29,14 @@ impl IdleLanes {
     // Returns these lanes and that of a port.
     fn add(self, port: Port) -> IdleLanes
         ensures { (other : Port) →
-            is_idle result other ≡ (is_idle self other || is_of_lane other port) }
+            is_lane_idle result other ≡ (is_lane_idle self other || is_of_lane other port) }
     {
         IdleLanes(self.0 | bit(port))
     }
 
     /// Says whether the lane of a port is one of these.
     pub fn has(self, port: Port) -> bool
-        ensures { result ≡ is_idle self port }
+        ensures { result ≡ is_lane_idle self port }
     {
         self.0 & bit(port) != 0
     }

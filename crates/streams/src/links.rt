@@ -48,7 +48,7 @@ impl TakenIndex {
 }
 
 impl Links {
-    ghost use Rattle.streams.specs.Listing.{AddsBusy, busy_at, busy_between, listed_at};
+    ghost use Rattle.streams.specs.Listing.{AddsBusy, busy_at, busy_between, connection_listed_at};
 
     /// Returns a table without connections, with memory for all. The only error is that memory runs
     /// out.
@@ -113,13 +113,13 @@ impl Links {
     /// Returns the first connection that is listed at this index or after it, with its index.
     pub(crate) fn first_from(&self, first: usize) -> Option<(usize, &Arc<Link, Global>)>
         ensures found { IfSome result (λ found.
-            listed_at (get self.now.slots found.0) ≡ Some found.1.now) }
+            connection_listed_at (get self.now.slots found.0) ≡ Some found.1.now) }
         ensures from { IfSome result (λ found. first ≤ found.0) }
         ensures below { IfSome result (λ found. found.0 < MAX_CONNECTIONS) }
         ensures before { IfSome result (λ found. (index : ℕ) → first ≤ index → index < found.0
-            → listed_at (get self.now.slots index) ≡ None) }
+            → connection_listed_at (get self.now.slots index) ≡ None) }
         ensures none { IfNone result ((index : ℕ) → first ≤ index → index < MAX_CONNECTIONS
-            → listed_at (get self.now.slots index) ≡ None) }
+            → connection_listed_at (get self.now.slots index) ≡ None) }
     {
         for index in first..usize::from(MAX_CONNECTIONS) {
             if let Some(link) = self.at(index) {
@@ -131,7 +131,7 @@ impl Links {
 
     // Returns the connection that is listed at an index.
     fn at(&self, index: usize) -> Option<&Arc<Link, Global>>
-        ensures { option_copied result ≡ listed_at (get self.now.slots index) }
+        ensures { option_copied result ≡ connection_listed_at (get self.now.slots index) }
     {
         match self.slots.get(index) {
             Some(Some(link)) => Some(link),
@@ -190,7 +190,7 @@ impl Links {
     fn add_at(&self, idle: IdleLanes, index: usize, busy: &mut Vec<Arc<Link, Global>>) -> bool
         ensures added { result ≡ true → map arc_value busy.new.items
             ≡ map arc_value busy.old.items
-            ++ busy_at arc_value idle (listed_at (get self.now.slots index)) }
+            ++ busy_at arc_value idle (connection_listed_at (get self.now.slots index)) }
         ensures left { result ≡ false → busy.new.items ≡ busy.old.items }
     {
         let Some(link) = self.at(index) else {

@@ -1,7 +1,7 @@
 use Rattle.std.proofs.Common.{◌≡◌, ℕ, ◌<◌, ◌≤◌, None}
 use Rattle.slab.specs.Slab.{get}
-use Rattle.streams.specs.Listing.{listed_at}
+use Rattle.streams.specs.Listing.{connection_listed_at}
 use Rattle.streams.proofs.links.Links.first_from.Given as goal
 
 abbrev pub invariant-loop-index : goal.invariant-loop-index
-invariant-loop-index l = (index : ℕ) → l.first ≤ index → index < l.index → listed_at (get l.self.slots index) ≡ None
+invariant-loop-index l = (index : ℕ) → l.first ≤ index → index < l.index → connection_listed_at (get l.self.slots index) ≡ None
