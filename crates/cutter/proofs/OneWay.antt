@@ -4,8 +4,8 @@ use Rattle.std.proofs.lemmas.List.{append_cancel_left}
 use Rattle.packet.specs.Laws.{NoneBeginsAnother}
 use Rattle.packet.specs.declared.packet.Packet.{Packet}
 use Rattle.cutter.specs.Stream.{Stream, GoesOnWith, CutsInto}
-use Rattle.cutter.specs.Laws.{OneCut, Ran, PacketsOfTheStream}
-use Rattle.cutter.specs.Laws.Ran.{begins, feeds, gives, answers}
+use Rattle.cutter.specs.Laws.{OneCut, CutterRan, PacketsOfTheStream}
+use Rattle.cutter.specs.Laws.CutterRan.{begins, feeds, gives, answers}
 
 -- if two packets are at the front, they are equal, and so is what follows
 same-front : NoneBeginsAnother → (bytes : List ℕ) (p q : Packet) (x y : List ℕ) → GoesOnWith bytes p x → GoesOnWith bytes q y → (p ≡ q) × (x ≡ y)
@@ -40,7 +40,7 @@ begins-last : (bytes : List ℕ) (ps : List Packet) (p : Packet) (rest left : Li
 begins-last bytes [] p rest left b g = (left, subst (λ (z : List ℕ). GoesOnWith z p left) (sym b) g, refl)
 begins-last bytes (q ∷ ps) p rest left (l, h, more) g = (l, h, begins-last l ps p rest left more g)
 
-pub ran-begins : (fed : List ℕ) (given : List Packet) (s : Stream) → Ran fed given s → Begins fed given s.bytes
+pub ran-begins : (fed : List ℕ) (given : List Packet) (s : Stream) → CutterRan fed given s → Begins fed given s.bytes
 ran-begins fed given s begins = refl
 ran-begins fed given s (feeds {fed = f} {s = t} piece r) = begins-more f given t.bytes piece (ran-begins f given t r)
 ran-begins fed given s (gives {given = g} {s = t} p r k) = begins-last fed g p t.bytes s.bytes (ran-begins fed g t r) k.2

@@ -13,23 +13,25 @@ OneCut = (bytes : List ℕ) (packets others : List Packet) (rest left : List ℕ
 
 -- A cutter after some calls, with all bytes that it was fed and all packets that it gave. A call
 -- that changes nothing needs no case.
-pub data Ran : List ℕ → List Packet → Stream → Type 0 where
+pub data CutterRan : List ℕ → List Packet → Stream → Type 0 where
   -- no call yet
-  begins : Ran [] [] (record { bytes = []; failed = false })
+  begins : CutterRan [] [] (record { bytes = []; failed = false })
   -- it is fed a piece
   feeds : {fed : List ℕ} {given : List Packet} {s : Stream} (piece : List ℕ)
-      → Ran fed given s → Ran (fed ++ piece) given (record s { bytes = s.bytes ++ piece })
+      → CutterRan fed given s → CutterRan (fed ++ piece) given
+      (record s { bytes = s.bytes ++ piece })
   -- it gives a packet
   gives : {fed : List ℕ} {given : List Packet} {s t : Stream} (packet : Packet)
-      → Ran fed given s → Takes s (Ok (Some packet)) t → Ran fed (given ++ packet ∷ []) t
+      → CutterRan fed given s → Takes s (Ok (Some packet)) t →
+      CutterRan fed (given ++ packet ∷ []) t
   -- it answers that no whole packet is there, or that there is a fault
   answers : {fed : List ℕ} {given : List Packet} {s t : Stream}
       (result : Result (Option Packet) CutError)
-      → Ran fed given s → t.bytes ≡ s.bytes → Takes s result t → Ran fed given t
+      → CutterRan fed given s → t.bytes ≡ s.bytes → Takes s result t → CutterRan fed given t
 
 -- what was given is a prefix of the packets of the bytes that were fed
 abbrev pub PacketsOfTheStream : Type 0
-PacketsOfTheStream = (fed : List ℕ) (given : List Packet) (s : Stream) → Ran fed given s
+PacketsOfTheStream = (fed : List ℕ) (given : List Packet) (s : Stream) → CutterRan fed given s
     → (packets : List Packet) (rest : List ℕ) → CutsInto fed packets rest
     → (later : List Packet) × (packets ≡ given ++ later)
 
@@ -42,11 +44,12 @@ EveryStreamIsCut = (bytes : List ℕ) → AreBytes bytes
 -- were fed, and what is not taken is the rest
 abbrev pub NoPacketIsLeft : Type 0
 NoPacketIsLeft =
-    (fed : List ℕ) (given : List Packet) (s t : Stream) → Ran fed given s → Takes s (Ok None) t
+    (fed : List ℕ) (given : List Packet) (s t : Stream) → CutterRan fed given s →
+    Takes s (Ok None) t
     → CutsInto fed given s.bytes
 
 -- two cutters that were fed the same bytes, cut anywhere, gave the same and hold the same
 abbrev pub CuttingsAgree : Type 0
 CuttingsAgree = (fed : List ℕ) (given others : List Packet) (s t u v : Stream)
-    → Ran fed given s → Takes s (Ok None) t → Ran fed others u → Takes u (Ok None) v
+    → CutterRan fed given s → Takes s (Ok None) t → CutterRan fed others u → Takes u (Ok None) v
     → (given ≡ others) × (s.bytes ≡ u.bytes)
