@@ -12,7 +12,7 @@ use Rattle.whole.specs.Changing.{on_join}
 use Rattle.agreement.specs.World.{World, messages, moved}
 use Rattle.whole.specs.lists.Lists.{In}
 use Rattle.whole.specs.lists.Lists.In.{here, there}
-use Rattle.agreement.specs.Inside.Ballots.{Given, History, Applied, Sealed, AreLines}
+use Rattle.agreement.specs.Inside.Ballots.{Given, History, Applied, Sealed, BallotListsStand}
 use Rattle.agreement.specs.Inside.Ballots.Applied.{nothing, in_ballot}
 use Rattle.agreement.specs.Inside.Keeps.{KeepsSoundness}
 use Rattle.agreement.specs.Inside.Sound.{IsSoundNode, IsSoundWorld}
@@ -109,7 +109,7 @@ join_answered {S = S} {C = C} {O = O} rules w h n r new from b a s stands (g, is
         let e = answers_joined r new b way in let f = answers_log r new b way in
         let at : slice_get v.nodes n ≡ Some new = get_set w.nodes n r new stands in
         let t = node given q in
-        let lines : AreLines v h = quiet_lines w h n r new given q (within_of rules w h s) s.lines in (
+        let lines : BallotListsStand v h = quiet_lines w h n r new given q (within_of rules w h s) s.lines in (
           g,
           is_of,
           is_from,

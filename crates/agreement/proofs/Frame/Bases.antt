@@ -3,7 +3,7 @@ use Rattle.std.proofs.Common.{◌≡◌, ℕ, ◌+◌, List, [], ◌∷◌, leng
 use Rattle.agreement.specs.World.{World}
 use Rattle.whole.specs.lists.Lists.{In, IsPrefixOf}
 use Rattle.whole.specs.lists.Lists.In.{here, there}
-use Rattle.agreement.specs.Inside.Ballots.{Given, Line, History, Told, IsChosenIn, Sealed, IsChain, AreLines}
+use Rattle.agreement.specs.Inside.Ballots.{Given, Line, History, Told, IsChosenIn, Sealed, IsChain, BallotListsStand}
 use Rattle.whole.proofs.of_lists.Prefixes.{prefix_then, take_prefix}
 
 -- there is one list of a ballot
@@ -52,7 +52,7 @@ base_is l p = take_prefix (length l.base) p (omega arith) ∙ all_of l.base
     all_of (x ∷ xs) = ap (λ us. x ∷ us) (all_of xs)
 
 -- what is chosen in the activated ballot before one begins the base of that one
-next_base : {S C O : Type 0} (w : World S C O) (h : History C) → AreLines w h → (b p : ℕ) (older : List ℕ) →
+next_base : {S C O : Type 0} (w : World S C O) (h : History C) → BallotListsStand w h → (b p : ℕ) (older : List ℕ) →
     IsChain h (b ∷ (p ∷ older)) → (k : ℕ) → IsChosenIn w h p k → (lp lb : Line C) → h.line p ≡ Some lp → h.line b ≡ Some lb →
     IsPrefixOf (take k lp.list) lb.base
 next_base {S = S} {C = C} {O = O} w h lines b p older chain k chosen lp lb e f =
@@ -62,7 +62,7 @@ next_base {S = S} {C = C} {O = O} w h lines b p older chain k chosen lp lb e f =
     sealed_bounds w h p k lb.base lp e s chosen
 
 -- what is chosen in an older activated ballot begins the base of each later one
-pub before_base : {S C O : Type 0} (w : World S C O) (h : History C) → AreLines w h → (b : ℕ) (older : List ℕ) →
+pub before_base : {S C O : Type 0} (w : World S C O) (h : History C) → BallotListsStand w h → (b : ℕ) (older : List ℕ) →
     IsChain h (b ∷ older) → ((x : ℕ) → In x (b ∷ older) → In x h.activated) → (c k : ℕ) → In c older →
     IsChosenIn w h c k → (lc lb : Line C) → h.line c ≡ Some lc → h.line b ≡ Some lb →
     IsPrefixOf (take k lc.list) lb.base

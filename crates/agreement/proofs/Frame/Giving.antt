@@ -12,7 +12,7 @@ use Rattle.whole.specs.Applying.{outputs_from, outputs_between}
 use Rattle.agreement.specs.World.{World, outputs, moved}
 use Rattle.whole.specs.lists.Lists.{In, IsPrefixOf}
 use Rattle.whole.specs.lists.Lists.In.{here, there}
-use Rattle.agreement.specs.Inside.Ballots.{Given, Line, History, IsChosenIn, AreBallots, AreLines}
+use Rattle.agreement.specs.Inside.Ballots.{Given, Line, History, IsChosenIn, AreBallots, BallotListsStand}
 use Rattle.agreement.specs.Inside.Extending.{Extends, AcknowledgedIsWithin}
 use Rattle.agreement.specs.Inside.MovesAt.{MovesAt, with_lines}
 use Rattle.agreement.specs.Inside.Sound.{LeftIs, IsSoundWorld}
@@ -86,7 +86,7 @@ left_more {S = S} {C = C} {O = O} rules w h line n old new given q s b first pas
     ballots : AreBallots (with_lines h line)
     ballots = ballots_same h line s.ballots
 
-    lines : AreLines (moved w n new given) (with_lines h line)
+    lines : BallotListsStand (moved w n new given) (with_lines h line)
     lines = move_lines w h line n old new given q (within_of rules w h s) s.lines
 
     within : AcknowledgedIsWithin (moved w n new given) (with_lines h line)

@@ -5,7 +5,7 @@ use Rattle.whole.specs.Messages.{Effect}
 use Rattle.whole.specs.Replica.{ReplicaState}
 use Rattle.agreement.specs.World.{World, moved}
 use Rattle.whole.specs.lists.Lists.{In, IsPrefixOf}
-use Rattle.agreement.specs.Inside.Ballots.{TellsHere, Given, Line, History, Told, IsChosenIn, Sealed, AreLines}
+use Rattle.agreement.specs.Inside.Ballots.{TellsHere, Given, Line, History, Told, IsChosenIn, Sealed, BallotListsStand}
 use Rattle.agreement.specs.Inside.Extending.{AcknowledgedIsWithin}
 use Rattle.agreement.specs.Inside.MovesAt.{MovesAt, with_lines, LineGoesOn, TellsNow}
 use Rattle.agreement.specs.Inside.MovesAt.LineGoesOn.{stays, grows, begins}
@@ -17,7 +17,7 @@ use Rattle.agreement.proofs.Frame.Framing.{move_extends}
 -- the rows on lists
 pub move_lines : {S C O : Type 0} (w : World S C O) (h : History C) (line : ℕ → Option (Line C)) (n : ℕ)
     (old new : ReplicaState S C) (given : List (Effect C O)) → MovesAt w h line n old new given → AcknowledgedIsWithin w h →
-    AreLines w h → AreLines (moved w n new given) (with_lines h line)
+    BallotListsStand w h → BallotListsStand (moved w n new given) (with_lines h line)
 move_lines {S = S} {C = C} {O = O} w h line n old new given q within s =
     record {
       lined = λ b k e. lined b k (q.goes_on b k e);

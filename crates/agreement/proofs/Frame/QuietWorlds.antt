@@ -8,7 +8,7 @@ use Rattle.whole.specs.Messages.{Message, Effect}
 use Rattle.whole.specs.Replica.{ReplicaState}
 use Rattle.agreement.specs.World.{World, messages, moved}
 use Rattle.whole.specs.lists.Lists.{In}
-use Rattle.agreement.specs.Inside.Ballots.{Given, History, AreLines}
+use Rattle.agreement.specs.Inside.Ballots.{Given, History, BallotListsStand}
 use Rattle.agreement.specs.Inside.Extending.{Extends, AcknowledgedIsWithin}
 use Rattle.agreement.specs.Inside.Sound.{IsSoundNode, IsSoundWorld}
 use Rattle.agreement.specs.Inside.Saying.{SpeaksTruth}
@@ -21,7 +21,7 @@ use Rattle.agreement.proofs.Frame.Joining.{MovesQuietly, told_back, quiet_extend
 
 -- the rows on lists after such a move
 pub quiet_lines : {S C O : Type 0} (w : World S C O) (h : History C) (n : ℕ) (old new : ReplicaState S C) (given : List (Effect C O)) →
-    MovesQuietly w n old new given → AcknowledgedIsWithin w h → AreLines w h → AreLines (moved w n new given) h
+    MovesQuietly w n old new given → AcknowledgedIsWithin w h → BallotListsStand w h → BallotListsStand (moved w n new given) h
 quiet_lines w h n old new given q within s =
     let x = quiet_extends w h n old new given q in
     record {

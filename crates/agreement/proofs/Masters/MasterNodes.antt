@@ -4,7 +4,7 @@ use Rattle.std.proofs.lemmas.Bool.{cases_lt}
 use Rattle.whole.specs.Replica.{ReplicaState}
 use Rattle.agreement.specs.World.{World}
 use Rattle.whole.specs.lists.Lists.{In}
-use Rattle.agreement.specs.Inside.Ballots.{Given, Line, History, Told, AreLines}
+use Rattle.agreement.specs.Inside.Ballots.{Given, Line, History, Told, BallotListsStand}
 use Rattle.agreement.specs.Inside.Extending.{Extends, AcknowledgedIsWithin}
 use Rattle.agreement.specs.Inside.Sound.{IsSoundNode}
 use Rattle.agreement.proofs.Frame.Later.{told_kept, applied_kept}
@@ -18,7 +18,7 @@ pub node_with_ballots : {S C O : Type 0} (w v : World S C O) (h : History C) (gi
     ((c : ℕ) (g : Given) → given c ≡ Some g → (x : Given) × (h.given c ≡ Some x) → h.given c ≡ Some g) →
     ((c : ℕ) (g : Given) → given c ≡ Some g → 0 < c) →
     ((c k : ℕ) → Told v (record h { given = given; activated = activated }) (n + 1) c k → Told w h (n + 1) c k) →
-    AreLines w h → IsSoundNode w h n r → IsSoundNode v (record h { given = given; activated = activated }) n r
+    BallotListsStand w h → IsSoundNode w h n r → IsSoundNode v (record h { given = given; activated = activated }) n r
 node_with_ballots {S = S} {C = C} {O = O} w v h given activated n r x active within back positive told_back lines s =
     record {
       id = s.id;

@@ -88,7 +88,7 @@ pub record AreBallots {C : Type 0} (h : History C) : Type 0 where
   pub led : (b : ℕ) (g : Given) → h.given b ≡ Some g → In g.primary g.members
 
 -- the rows on a ballot's lists
-pub record AreLines {S C O : Type 0} (w : World S C O) (h : History C) : Type 0 where
+pub record BallotListsStand {S C O : Type 0} (w : World S C O) (h : History C) : Type 0 where
   pub lined : (b : ℕ) (l : Line C) → h.line b ≡ Some l → (g : Given) × (h.given b ≡ Some g)
   pub prefix : (b : ℕ) (l : Line C) → h.line b ≡ Some l → IsPrefixOf l.base l.list
   pub sealed : (b : ℕ) (g : Given) (l : Line C) → h.given b ≡ Some g → 0 < g.previous →

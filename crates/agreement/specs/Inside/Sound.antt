@@ -11,7 +11,7 @@ use Rattle.whole.specs.Applying.{outputs_between}
 use Rattle.agreement.specs.World.{World, outputs}
 use Rattle.whole.specs.lists.Lists.{In, IsPrefixOf}
 use Rattle.agreement.specs.Inside.Ballots.{Given, Line, History, Told, IsChosenIn, AreBallots}
-use Rattle.agreement.specs.Inside.Ballots.{AreLines, IsPlaced, Applied}
+use Rattle.agreement.specs.Inside.Ballots.{BallotListsStand, IsPlaced, Applied}
 use Rattle.agreement.specs.Leaving.{AreInOrder, Segment}
 use Rattle.agreement.specs.Inside.Saying.{IsOf, SpeaksTruth}
 
@@ -98,7 +98,7 @@ pub record LeftIs {S C O : Type 0} (rules : Rules S C O) (w : World S C O)
 pub record IsSoundWorld {S C O : Type 0} (rules : Rules S C O) (w : World S C O)
     (h : History C) : Type 0 where
   pub ballots : AreBallots h
-  pub lines : AreLines w h
+  pub lines : BallotListsStand w h
   pub within : (m b k : ℕ) → Told w h m b k → (k ≡ 0) ⊎ ((l : Line C) × (h.line b ≡ Some l)
       × (k ≤ length l.list))
   pub said : (to : ℕ) (m : Message C) → In (to, m) w.sent → SpeaksTruth w h to m.from m.body
