@@ -45,7 +45,7 @@ use Rattle.byte_world.proofs.of_exactly_once.carrying.PlacesSay.{PlacesSay, Says
 use Rattle.byte_world.proofs.of_exactly_once.sessions.InTurn.{flat_map_same}
 use Rattle.byte_world.proofs.of_exactly_once.sessions.LivesExact.{all_well, lives_exact}
 use Rattle.headline.specs.Promise.{PromiseBy, PromiseInStep}
-use Rattle.headline.specs.Shown.{AcceptsInOrder, IsAnswered, new_of}
+use Rattle.headline.specs.Shown.{AcceptsInSessionOrder, IsAnswered, new_of}
 use Rattle.byte_world.specs.Accepted.{accepted_once}
 use Rattle.headline.proofs.NewByPlace.{all_new}
 use Rattle.headline.proofs.FirstKept.{first_kept}
@@ -151,7 +151,7 @@ module _ (s : Story) (lived : Lived usual_limits s.keeper.client s) (step : IsIn
   new_all = all_new usual_limits c ps s.connections s.past carried.places own carried.marked
 
   -- what it accepted, session after session
-  accepted : (state : ClientState) → accepted_once state.accepted ≡ accepted_on s.connections → ExactlyOnceOverSessions usual_limits s → AcceptsInOrder c s.past state
+  accepted : (state : ClientState) → accepted_once state.accepted ≡ accepted_on s.connections → ExactlyOnceOverSessions usual_limits s → AcceptsInSessionOrder c s.past state
   accepted state shown exact =
       record {
         session = λ start. let a = exact.subscribers start in record { prefix = a.prefix; others = a.others; entries = a.is; rest = a.rest };

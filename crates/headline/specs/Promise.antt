@@ -20,7 +20,7 @@ use Rattle.byte_world.specs.broker_spec.Times.{entries_of}
 use Rattle.byte_world.specs.client_base.State.{ClientState}
 use Rattle.byte_world.specs.exactly_once.InStep.{AreWelcome, IsFirstSession, sessions_begun}
 use Rattle.byte_world.specs.exactly_once.Sides.{ClientConnection}
-use Rattle.headline.specs.Shown.{AcceptsInOrder, AreNewInOrder, AreUnacknowledged, IsAnswered, at_two, new_of, unacknowledged_of}
+use Rattle.headline.specs.Shown.{AcceptsInSessionOrder, AreNewInOrder, AreUnacknowledged, IsAnswered, at_two, new_of, unacknowledged_of}
 
 -- for client c, as long as it is in step, by the places of the list
 pub record PromiseInStep (c : Client) (published : List Publication) (past : Past)
@@ -43,7 +43,7 @@ pub record PromiseInStep (c : Client) (published : List Publication) (past : Pas
       In (publication_of p) published × (place.mark ≡ Mark.Taken c)
   -- in each of its sessions it accepted at QoS 2 a prefix of the QoS 2 entries, each once, with
   -- every one that is released
-  pub accepts : AcceptsInOrder c past state
+  pub accepts : AcceptsInSessionOrder c past state
 
 -- for each client, with its connections, the newest first
 pub record PromiseBy (c : Client) (connections : List ClientConnection)

@@ -89,7 +89,7 @@ pub record HasPrefix (c : Client) (past : Past) (start : ℕ) : Type 0 where
 
 -- What the client accepted at QoS 2 is, session after session, a prefix of the QoS 2 entries of
 -- each, by the place at which it began.
-pub record AcceptsInOrder (c : Client) (past : Past) (state : ClientState) : Type 0 where
+pub record AcceptsInSessionOrder (c : Client) (past : Past) (state : ClientState) : Type 0 where
   pub session : (start : ℕ) → HasPrefix c past start
   pub accepted : accepted_once state.accepted
       ≡ flat_map (λ start. map publication_in (session start).prefix) (starts_of past c)
