@@ -54,5 +54,5 @@ pub cut_does : (old new : RunningStep) (replica : CountedReplica State Command) 
 cut_does old new replica result before r losses kept none quiet =
     let z = none quiet in
     let below : old.core.replica.losses < 2 ^ 64 - 1 = (let b = z.1.1 in omega (arith, losses, b)) in
-    ap₂ (λ (k : CoreState) (w : Bool). let x : Running = record { core = k; out_of_memory = w } in x)
+    ap₂ (λ (k : CoreState) (w : Bool). let x : RunningStep = record { core = k; out_of_memory = w } in x)
     (kept ∙ cut_exactly old.core replica result r (z.1.0 ∙ losses) below) (quiet ∙ sym z.0)

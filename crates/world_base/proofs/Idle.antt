@@ -88,7 +88,7 @@ nothing_changes port change core none =
     ap (λ (l : List Connection). record core { connections = l }) (unchanged (is_open_at port) change core.connections none)
 
 pub closes_nothing : (port : Port) (r : RunningStep) → open_at port r.core ≡ None → r ≡ record r { core = changes port closed_connection r.core }
-closes_nothing port r none = ap (λ (k : CoreState). let r2 : Running = record r { core = k } in r2) (sym (nothing_changes port closed_connection r.core none))
+closes_nothing port r none = ap (λ (k : CoreState). let r2 : RunningStep = record r { core = k } in r2) (sym (nothing_changes port closed_connection r.core none))
 
 -- one whose CONNECT was proposed counts as told
 pub proposed_then : {X : Type 0} (o : Option Connection) (c : Connection) → o ≡ Some c → is_proposed c.stage ≡ true → was_proposed o ≡ false → X

@@ -70,7 +70,7 @@ module _ (before : List Publication) (side : Side) (state : ClientState) (alike 
       (record {
         keeper = record side.keeper { received = id ∷ side.keeper.received };
         connection = record side.connection { accepted = side.connection.accepted ++ publication_of p ∷ [] };
-      }) state (record (accepting p state) { received = state.received ++ id ∷ [] }) (has_id id state.received) (has_id id side.keeper.received) (client_receives id) alike
+      }) state (record (accepting p state) { received = state.received ++ id ∷ [] }) (has_id id state.received) (has_id id side.keeper.received) (received id) alike
       (at_two (accepted_of state.session p) (publication_of p) refl)
 
   -- a test by which neither accepts
@@ -94,7 +94,7 @@ module _ (before : List Publication) (side : Side) (state : ClientState) (alike 
   pubrec_still id = outcome_still (list_any (awaits_pubrec id) state.sent) _ _ refl refl
 
   later_alike : (packet : Packet) → ((id : ℕ) → has_id id state.received ≡ has_id id side.keeper.received) → Alike before (handled_online packet side) (on_later packet state).state
-  later_alike (packets.Publish p) received = published_alike p.topic p.payload p.retain p.delivery client_receives
+  later_alike (packets.Publish p) received = published_alike p.topic p.payload p.retain p.delivery received
   later_alike (packets.Pubrec id) received = still (pubrec_answered id side) (on_pubrec id state).state (releasing_still id) (pubrec_still id)
   later_alike (packets.Puback id) received = alike
   later_alike (packets.Pubcomp id) received = alike

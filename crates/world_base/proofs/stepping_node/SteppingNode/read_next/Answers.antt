@@ -27,7 +27,7 @@ returns-in-More-clause-exact c =
 
 pub returns-in-More-clause-done : goal.returns-in-More-clause-done
 returns-in-More-clause-done c = λ _ _.
-    let after : Running = record {
+    let after : RunningStep = record {
       core = record {
         replica = c.self.inside.replica;
         last_name = record { ballot = c.self.inside.last_ballot; count = c.self.inside.last_count };
