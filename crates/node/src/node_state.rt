@@ -47,7 +47,7 @@ impl<J: NodeNaming> Model for NodeState<J> {
 
     ghost invariant = { λ state.
         Replays (J.first_of state.receiver.inbox) state.receiver.taken state.core
-        × (state.grown ≡ counted (bytes_since_cut state.receiver.taken)) };
+        × (state.grown ≡ saturated (bytes_since_cut state.receiver.taken)) };
 }
 
 impl<J: NodeNaming> NodeState<J> {
@@ -247,7 +247,7 @@ impl<J: NodeNaming> NodeState<J> {
 
         // What was taken and what is left over are, lane by lane and in order, all that was sent.
         ensures whole { All (ReportsWhole self.taker.taken result) lanes.new }
-        ensures saturated { CountsTaken self.taker result.taken.items }
+        ensures counted { CountsTaken self.taker result.taken.items }
         ensures lanes { map unmet lanes.new ≡ map unmet lanes.old }
 
         // The node that ends is a replay of all that was taken.

@@ -173,14 +173,14 @@ impl Outbox {
             ≡ false }
     {
         self.drop_superseded(&item);
-        if !self.has_room(&item) {
+        if !self.may_be_queued(&item) {
             return false;
         }
         self.items.push(item).is_ok()
     }
 
     // Says whether an item may be queued after those that wait.
-    fn has_room(&self, item: &Item) -> bool
+    fn may_be_queued(&self, item: &Item) -> bool
         ensures { result ≡ may_be_queued item.now self.now.items }
     {
         !is_of_node(item) || self.items.len() < MAX_WAITING

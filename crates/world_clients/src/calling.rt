@@ -16,7 +16,7 @@ use world_pipes::{ClientError, PipedClient, Sending};
 pub fn lose_connection(piped: &mut PipedClient)
     ensures lost { LosesConnection piped.old piped.new }
     ensures goes { FollowsAll piped.old piped.new }
-    ensures connection_targets { connection_targets piped.new.ways
+    ensures leads { connection_targets piped.new.ways
         ≡ connection_targets piped.old.ways }
 {
     piped.abandon();
@@ -27,7 +27,7 @@ pub fn leave(piped: &mut PipedClient) -> Result<Sending, ClientError>
     ensures leaves { TakesLeave (keeper_step Call.Disconnects piped.old.core.state)
         piped.old result piped.new }
     ensures goes { CallingFollows [] piped.old result piped.new }
-    ensures connection_targets { connection_targets piped.new.ways
+    ensures leads { connection_targets piped.new.ways
         ≡ connection_targets piped.old.ways }
 {
     piped.disconnect()
@@ -40,7 +40,7 @@ pub fn publish_copy(
 ) -> Result<Sending, ClientError>
     ensures calls { IsCall (Call.Publishes publication.now) piped.old result piped.new }
     ensures goes { CallingFollows (publication.now ∷ []) piped.old result piped.new }
-    ensures connection_targets { connection_targets piped.new.ways
+    ensures leads { connection_targets piped.new.ways
         ≡ connection_targets piped.old.ways }
 {
     let copied = publication.clone()?;
@@ -56,7 +56,7 @@ pub fn subscribe_copy(
 ) -> Result<Sending, ClientError>
     ensures calls { IsCall (Call.Subscribes filter.now qos) piped.old result piped.new }
     ensures goes { CallingFollows [] piped.old result piped.new }
-    ensures connection_targets { connection_targets piped.new.ways
+    ensures leads { connection_targets piped.new.ways
         ≡ connection_targets piped.old.ways }
 {
     let copied = filter.clone()?;
@@ -67,7 +67,7 @@ pub fn subscribe_copy(
 pub fn unsubscribe_copy(piped: &mut PipedClient, filter: &Filter) -> Result<Sending, ClientError>
     ensures calls { IsCall (Call.Unsubscribes filter.now) piped.old result piped.new }
     ensures goes { CallingFollows [] piped.old result piped.new }
-    ensures connection_targets { connection_targets piped.new.ways
+    ensures leads { connection_targets piped.new.ways
         ≡ connection_targets piped.old.ways }
 {
     let copied = filter.clone()?;

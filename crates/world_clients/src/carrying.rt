@@ -27,7 +27,7 @@ pub fn carry_to_node(
     ensures carries { IfOk result (λ had.
         CarriesUpWhere had slot port count nodes.old piped.old nodes.new piped.new) }
     ensures idle { OnErr result (CannotCarryUp slot count nodes.old piped.old) }
-    ensures connection_targets { connection_targets piped.new.ways
+    ensures leads { connection_targets piped.new.ways
         ≡ connection_targets piped.old.ways }
     ensures same { OnErr result (nodes.new ≡ nodes.old) }
     ensures still { OnErr result (piped.new ≡ piped.old) }
@@ -53,7 +53,7 @@ pub fn carry_to_node(
 pub fn carry_down_on(piped: &mut PipedClient, at: usize, count: u64) -> Result<bool, Idle>
     requires { at < length piped.old.ways }
     ensures goes { FollowsAll piped.old piped.new }
-    ensures connection_targets { connection_targets piped.new.ways
+    ensures leads { connection_targets piped.new.ways
         ≡ connection_targets piped.old.ways }
     ensures carries { IfOk result (λ had. CarriesDownOn had at count piped.old piped.new) }
     ensures idle { OnErr result (CannotCarryDown at count piped.old) }

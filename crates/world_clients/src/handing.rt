@@ -25,7 +25,7 @@ pub fn hand_down(
     ensures quiet { StaysQuiet node nodes.old nodes.new }
     ensures may { MayPutDown at node port nodes.old piped.old nodes.new piped.new }
     ensures puts { PutsDown at node port nodes.old piped.old nodes.new piped.new result }
-    ensures connection_targets { connection_targets piped.new.ways
+    ensures leads { connection_targets piped.new.ways
         ≡ connection_targets piped.old.ways }
 {
     let mut bytes = Vec::new(alloc);

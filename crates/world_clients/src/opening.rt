@@ -17,7 +17,7 @@ pub fn open_pipe(nodes: &mut Nodes, piped: &mut PipedClient, node: u8, port: Por
     requires free { is_holding piped.old ≡ false }
     ensures nodes { NodesGoOn nodes.old nodes.new }
     ensures reaches { Reaches result node port nodes.old piped.old nodes.new piped.new }
-    ensures connection_targets { result ≡ false → connection_targets piped.new.ways
+    ensures leads { result ≡ false → connection_targets piped.new.ways
         ≡ connection_targets piped.old.ways }
 {
     match piped.open(node as usize - 1, port) {

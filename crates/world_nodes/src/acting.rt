@@ -17,7 +17,7 @@ ghost use Rattle.world_nodes.specs.Inside.{IsPassedOver, RunsAt, ItemWasSent};
 
 use crate::nodes::Nodes;
 use crate::stepping::{cut_back, pass_over, step_node};
-use master::{Idle, answer_of, config_of, counted, record, send};
+use master::{Idle, activation_answer, config_of, counted, record, send};
 use world_base::{Body, BrokerMachine, Command, Config, Item, Members, Memory, Message};
 
 impl Nodes {
@@ -156,7 +156,7 @@ impl Nodes {
         let activation = self.master.activate(ballot);
         let (after, _) = self.master.active();
         self.counters.follow_ballot(before, after);
-        let kept = send(&mut self.sent, from, answer_of(activation, ballot));
+        let kept = send(&mut self.sent, from, activation_answer(activation, ballot));
         self.losses = counted(self.losses, kept, true);
     }
 
