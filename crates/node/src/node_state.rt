@@ -1,15 +1,15 @@
 // A node with its inbox.
 
-ghost use Rattle.std.specs.Prelude.{◌≡◌, ◌≤◌, ◌++◌, ◌*◌, ◌↔◌, [], length, map, take, true, false, All, IfOk, IsTrue, OnErr, OnOk};
+ghost use Rattle.std.specs.Prelude.{◌≡◌, ◌≤◌, ◌++◌, ◌*◌, ◌↔◌, [], length, map, slice_index, take, true, false, All, EachIndex, IfOk, IsTrue, OnErr, OnOk};
 ghost use Rattle.mailbox.specs.Delivery.{items_of_lane, no_bounds};
-ghost use Rattle.mailbox.specs.Ends.{AreAllLanes, HasArrived, WasEmpty, unmet};
+ghost use Rattle.mailbox.specs.Ends.{AreAllLanes, ArrivesWhole, HasArrived, WasEmpty, unmet};
 ghost use Rattle.mailbox.specs.declared.lane.TheConstants.{MAX_SENT};
 ghost use Rattle.world_base.specs.ballot_base.Replica.{status_of};
 ghost use Rattle.world_base.specs.lists.Lists.{IsPrefixOf};
 ghost use Rattle.world_base.specs.node_connections.Stands.{standing_of};
 ghost use Rattle.world_base.specs.Handing.{handed_after, pending_bytes, hands_over, idle_ports, listed_at};
 ghost use Rattle.node.specs.Growth.{wants_cut};
-ghost use Rattle.node.specs.Report.{CountsTaken, HasCapacity, ReportsWhole};
+ghost use Rattle.node.specs.Report.{HasCapacity, ReportsAll};
 ghost use Rattle.node.specs.State.{Replays, TakesOne, next_taking};
 
 use crate::growth::{grown, is_large};
@@ -246,11 +246,17 @@ impl<J: NodeNaming> NodeState<J> {
         requires capacity { HasCapacity self.taker.lanes report }
 
         // What was taken and what is left over are, lane by lane and in order, all that was sent.
-        ensures whole { All (ReportsWhole self.taker.taken result) lanes.new }
-        ensures counted { CountsTaken self.taker result.taken.items }
+        ensures whole { All (ArrivesWhole result.taken.items result.left.items) lanes.new }
         ensures lanes { map unmet lanes.new ≡ map unmet lanes.old }
 
-        // The node that ends is a replay of all that was taken.
+        // What the node replayed and what is left over are, lane by lane and in order, all that was
+        // sent.
+        ensures all { All (ReportsAll self.taker.taken result.left.items) lanes.new }
+
+        // For each lane, the count of taken items is that of the replay.
+        ensures counted { EachIndex result.taken.items (λ lane.
+            slice_index result.taken.items lane ≡ length (items_of_lane lane self.taker.taken)) }
+        ensures each { length result.taken.items ≡ self.taker.lanes }
         ensures replays { Replays (J.first_of self.taker.inbox) self.taker.taken self.node }
 
         ensures base { result.base ≡ self.node.core.replica.state.log.base }

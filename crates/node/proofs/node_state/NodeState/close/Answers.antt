@@ -1,4 +1,4 @@
-use Rattle.std.proofs.Common.{rules, All, EachIndex, ℕ, length, slice_index, ◌≡◌, ◌∙◌, ap, subst, sym, arith}
+use Rattle.std.proofs.Common.{All, EachIndex, ℕ, length, slice_index, ◌≡◌, ◌∙◌, ap, subst, sym, arith}
 use Rattle.std.specs.Prelude.{slice_index_or}
 use Rattle.mailbox.specs.Delivery.{items_of_lane}
 use Rattle.mailbox.specs.Ends.{ArrivesWhole, Taker}
@@ -10,23 +10,24 @@ use Rattle.node.proofs.WrittenBack.{written_back}
 use Rattle.node.proofs.node_state.NodeState.close.Goals as goal
 
 pub returns-clause-whole : goal.returns-clause-whole
-returns-clause-whole g c = λ place other within. record {
-  replayed = subst (λ (s : Seen). ReportsAll s.taker.taken c.take_rest.new.left.items (slice_index_or c.take_rest.new.lanes place other))
-      c.self.view_is
-      (let lane : ℕ = (slice_index_or c.take_rest.new.lanes place other).lane in
-      sym (items_of-append lane _ c.take_rest.new.left.items)
-      ∙ sym (ap (λ (r : Taker Item). items_of_lane lane r.taken) c.take_rest.ensures.taken)
-      ∙ c.take_rest.ensures.arrived place other within);
-  counted = subst (λ counts. ArrivesWhole counts c.take_rest.new.left.items (slice_index_or c.take_rest.new.lanes place other))
-      (sym (written_back c.args.report.taken.len c.take_rest.new.counts c.args.report.taken.items (omega (arith, c.as_mut_slice.ensures.len))))
-      (c.take_rest.ensures.whole place other within);
-}
+returns-clause-whole g c =
+    subst (λ counts. All (ArrivesWhole counts c.take_rest.new.left.items) c.take_rest.new.lanes)
+    (sym (written_back c.args.report.taken.len c.take_rest.new.counts c.args.report.taken.items (omega (arith, c.as_mut_slice.ensures.len))))
+    c.take_rest.ensures.whole
 
 pub returns-clause-counted : goal.returns-clause-counted
-returns-clause-counted g c = record {
-  each = search rules;
-  exact = subst (λ counts. EachIndex counts (λ lane. slice_index counts lane ≡ length (items_of_lane lane c.args.self.taker.taken)))
-      (sym (written_back c.args.report.taken.len c.take_rest.new.counts c.args.report.taken.items (omega (arith, c.as_mut_slice.ensures.len))))
-      (subst (λ (s : Seen). EachIndex c.take_rest.new.counts (λ lane. slice_index c.take_rest.new.counts lane ≡ length (items_of_lane lane s.taker.taken)))
-      c.self.view_is c.take_rest.ensures.counted);
-}
+returns-clause-counted g c =
+    subst (λ counts. EachIndex counts (λ lane. slice_index counts lane ≡ length (items_of_lane lane c.args.self.taker.taken)))
+    (sym (written_back c.args.report.taken.len c.take_rest.new.counts c.args.report.taken.items (omega (arith, c.as_mut_slice.ensures.len))))
+    (subst (λ (s : Seen). EachIndex c.take_rest.new.counts (λ lane. slice_index c.take_rest.new.counts lane ≡ length (items_of_lane lane s.taker.taken)))
+    c.self.view_is c.take_rest.ensures.counted)
+
+pub returns-clause-all : goal.returns-clause-all
+returns-clause-all g c =
+    subst (λ (s : Seen). All (ReportsAll s.taker.taken c.take_rest.new.left.items) c.take_rest.new.lanes)
+    c.self.view_is
+    (λ place other within.
+    let lane : ℕ = (slice_index_or c.take_rest.new.lanes place other).lane in
+    sym (items_of-append lane _ c.take_rest.new.left.items)
+    ∙ sym (ap (λ (r : Taker Item). items_of_lane lane r.taken) c.take_rest.ensures.taken)
+    ∙ c.take_rest.ensures.arrived place other within)
