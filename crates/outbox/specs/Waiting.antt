@@ -12,9 +12,9 @@ pub record Waiting : Type 0 where
   pub items : List Item
 
 -- an order was not done: what waits for the node and the state of the master are as before
-pub record AreUnchanged (old new : Waiting) (master after : MasterState) : Type 0 where
+pub record AreUnchanged (old new : Waiting) (before after : MasterState) : Type 0 where
   pub outbox : new ≡ old
-  pub master : after ≡ master
+  pub master : after ≡ before
 
 -- whether an item is a message of another node; the master's number is 0
 abbrev pub is_of_node : Item → Bool
