@@ -115,11 +115,10 @@ impl Written {
     }
 }
 
-/// Has `sub` wait for this many publications, and takes down what it prints and its fault.
-pub(super) fn hears<R, O>(rt: &R, address: &str, count: u32, heard: &mut O)
+/// Has `sub` wait for a publication, and takes down what it prints and its fault.
+pub(super) fn hears<R>(rt: &R, address: &str, heard: &mut Vec<u8>)
 where
     R: Clock + AllocGlobal + Net<Stream = TcpStream>,
-    O: Write + Drop,
 {
     let mut addresses = Vec::new(rt.alloc());
     if addresses.push(address).is_err() {
@@ -130,7 +129,7 @@ where
         id: "meter",
         filter: "t/#",
         qos: QoS::ExactlyOnce,
-        count,
+        count: 1,
         tries: 10,
         addresses,
     };
@@ -139,8 +138,8 @@ where
     }
 }
 
-/// Has `pub` publish what the server is to keep, and takes down its fault.
-pub(super) fn publishes<R>(rt: &R, address: &str, told: &mut Vec<u8>)
+// Has `pub` publish what the server is to keep, and takes down its fault.
+fn publishes<R>(rt: &R, address: &str, told: &mut Vec<u8>)
 where
     R: Clock + AllocGlobal + Net<Stream = TcpStream>,
 {
@@ -171,7 +170,7 @@ where
 {
     thread::sleep(rt, Duration::from_millis(500));
     publishes(rt, address, &mut written.told);
-    hears(rt, address, 1, &mut written.heard);
+    hears(rt, address, &mut written.heard);
 }
 
 // Gives the orders, by a pipe that then ends, and has the clients talk between them. Says whether
@@ -201,12 +200,12 @@ impl Given {
     // Says whether the orders are given.
     fn is_done<R>(self, rt: &R, orders: PipeWriter, address: &str, written: &mut Written) -> bool
     where
-        R: Threads + Wait + Clock + Sync + AllocGlobal,
+        R: Threads + Clock + Sync + AllocGlobal,
         R: Net<Listener = TcpListener, Stream = TcpStream>,
     {
         match self {
             Given::Orders => order_all(rt, orders, address, written),
-            Given::Expels => talks(rt, orders, address, written),
+            Given::Expels => talks(rt, orders, address, &mut written.heard),
         }
     }
 }
