@@ -98,9 +98,9 @@ const CONNECT_B_SUBSCRIBE: &[u8] = &[
     0x08, 0x00, 0x01, 0x00, 0x03, 0x74, 0x2F, 0x23, 0x02,
 ];
 
-// What comes behind a CONNECT before its CONNACK is not processed if that refuses, and is answered
+// What comes after a CONNECT before its CONNACK is not processed if that refuses, and is answered
 // after it otherwise (MQTT 3.1.4).
-const BEHIND: &[Row<'static>] = &[
+const AFTER_CONNECT: &[Row<'static>] = &[
     (0, 1, Act::Open, NOTHING, true),
     (
         0,
@@ -120,8 +120,8 @@ const BEHIND: &[Row<'static>] = &[
 ];
 
 #[test]
-fn packets_behind_a_connect_wait_for_its_answer(rt: HostRuntime) {
-    assert_eq!(rt; first_fault(rt.alloc(), BEHIND), None);
+fn packets_after_a_connect_wait_for_its_answer(rt: HostRuntime) {
+    assert_eq!(rt; first_fault(rt.alloc(), AFTER_CONNECT), None);
 }
 
 // QoS 2 with a repeat before PUBREL, and PUBREL twice.
@@ -247,7 +247,7 @@ pub const TABLES: &[&[Row<'static>]] = &[
     TAKEN_OVER,
     REFUSED,
     NO_CONNECT,
-    BEHIND,
+    AFTER_CONNECT,
     REPEATED,
     RETAINED,
     TWO_FILTERS,
