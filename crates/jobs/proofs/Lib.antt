@@ -1,2 +1,3 @@
 pub mod NumbersSaid
 pub mod FieldsGiven
+pub mod OrdersRefused

@@ -65,11 +65,30 @@ pub data Orders : List Text → Order → Type 0 where
       → AreNumbers m config.members → named_node p ≡ Some config.primary
       → Orders (codes "assign" ∷ m ∷ p ∷ []) (orders.Assign config)
 
--- what a line orders; after `expel` and one blank everything is the identifier
+-- the words are no order
+abbrev pub OrderNothing : List Text → Type 0
+OrderNothing words = (order : Order) → Orders words order → ⊥
+
+-- after `expel` and one blank everything is the identifier
+abbrev pub IsExpel : Text → Text → Type 0
+IsExpel line client = line ≡ codes "expel " ++ client
+
+-- the line does not begin with `expel` and a blank
+abbrev pub IsNoExpel : Text → Type 0
+IsNoExpel line = (client : Text) → IsExpel line client → ⊥
+
+-- what a line orders: to expel a client, whose identifier has no fault, or what its words are
 abbrev pub IsOrder : Text → Order → Type 0
 IsOrder line order =
-    ((client : Text) × (line ≡ codes "expel " ++ client) × (order ≡ orders.Expel client))
-    ⊎ Orders (fields_of line) order
+    ((client : Text)
+    × IsExpel line client × (client_fault client ≡ None) × (order ≡ orders.Expel client))
+    ⊎ (IsNoExpel line × Orders (fields_of line) order)
+
+-- how a line is refused: an identifier to expel by its fault, or words that are no order
+abbrev pub RefusesLine : Text → WordFault → Type 0
+RefusesLine line fault =
+    ((client : Text) × IsExpel line client × IsWordRefused client fault)
+    ⊎ (IsNoExpel line × IsNoOrder (OrderNothing (fields_of line)) fault)
 
 -- the word for a role in a ballot
 abbrev pub word_of : Role → Text

@@ -4,8 +4,8 @@ ghost use Rattle.std.specs.Prelude.{◌≡◌, Some, None, IfErr, IfOk, OnOk};
 ghost use Rattle.command_line.specs.packet_base.ClientId.{client_fault};
 ghost use Rattle.std.specs.Char.{is_ascii_digit};
 ghost use Rattle.std.specs.List.{list_all};
-ghost use Rattle.script.specs.Fields.{is_decimal};
-ghost use Rattle.jobs.specs.Orders.{AreNumbers, IsNoOrder, IsOrder, IsWordRefused, LacksNumber, no_order, named_node, role_of};
+ghost use Rattle.script.specs.Fields.{is_decimal, texts};
+ghost use Rattle.jobs.specs.Orders.{AreNumbers, IsNoOrder, IsOrder, IsWordRefused, LacksNumber, OrderNothing, Orders, RefusesLine, no_order, named_node, role_of};
 ghost use Rattle.jobs.specs.declared.obeying.Order.TheVariants as orders;
 
 use crate::job_error::JobError;
@@ -83,7 +83,8 @@ fn next_order<I: BufRead>(
 
 // Returns what a line orders, or why it is refused.
 fn order_of(alloc: Global, line: &str) -> Result<Order, WordFault>
-    ensures { IfOk result (IsOrder line.now) }
+    ensures order { IfOk result (IsOrder line.now) }
+    ensures refused { IfErr result (RefusesLine line.now) }
 {
     if let Some(client) = line.strip_prefix("expel ") {
         return expel_of(alloc, client);
@@ -91,7 +92,15 @@ fn order_of(alloc: Global, line: &str) -> Result<Order, WordFault>
     let Ok(fields) = fields_of(alloc, line) else {
         return Err(WordFault::Memory);
     };
-    match fields.as_slice() {
+    order_of_words(alloc, fields.as_slice())
+}
+
+// Returns what the words of a line order that expels no client, or why they are refused.
+fn order_of_words(alloc: Global, words: &[&str]) -> Result<Order, WordFault>
+    ensures order { IfOk result (Orders (texts words.now)) }
+    ensures refused { IfErr result (IsNoOrder (OrderNothing (texts words.now))) }
+{
+    match words {
         ["quit"] => Ok(Order::Quit),
         ["status"] => Ok(Order::Status),
         ["crash", node] => Ok(Order::Crash(named_node(node)?)),
