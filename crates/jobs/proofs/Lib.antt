@@ -1,3 +1,4 @@
 pub mod NumbersSaid
 pub mod FieldsGiven
 pub mod OrdersRefused
+pub mod JobsEnd

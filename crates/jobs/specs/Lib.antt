@@ -1,3 +1,5 @@
+pub mod Done
+pub mod Failing
 pub mod Faults
 pub mod Orders
 pub mod Transcripts

@@ -1,6 +1,8 @@
 // Doing a job.
 
-ghost use Rattle.std.specs.Prelude.{◌≡◌};
+ghost use Rattle.std.specs.Prelude.{◌≡◌, ◌≢◌, IfErr, OnOk};
+ghost use Rattle.jobs.specs.Done.{IsJobDone};
+ghost use Rattle.jobs.specs.Failing.{EndsByFault, FailsAt};
 ghost use Rattle.jobs.specs.Faults.{exit_status};
 
 use crate::job_error::JobError;
@@ -28,16 +30,39 @@ where
     I: BufRead + Drop,
     O: Write + Drop,
     E: Write + Drop,
+    ensures done { result ≡ 0
+        → IsJobDone O.contents job.now (I.remaining input.old) output.old output.new }
+    ensures failed { result ≢ 0 → EndsByFault job.now result }
 {
-    let done = match job {
+    match do_job(rt, job, input, output, faults) {
+        Ok(()) => 0,
+        Err(fault) => print_fault(faults, &fault),
+    }
+}
+
+// Does a job over one reader and two writers.
+fn do_job<R, I, O, E>(
+    rt: &R,
+    job: &Job<'_>,
+    input: &mut I,
+    output: &mut O,
+    faults: &mut E,
+) -> Result<(), JobError>
+where
+    R: Files + Threads + Wait + Clock + Sync + AllocGlobal,
+    R: Net<Listener = TcpListener, Stream = TcpStream>,
+    I: BufRead + Drop,
+    O: Write + Drop,
+    E: Write + Drop,
+    ensures done { OnOk result
+        (IsJobDone O.contents job.now (I.remaining input.old) output.old output.new) }
+    ensures failed { IfErr result (FailsAt job.now) }
+{
+    match job {
         Job::Serve(job) => serving_table::run(rt, job, input, output, faults),
         Job::Publish(job) => talking::publish(rt, job),
         Job::Subscribe(job) => talking::subscribe(rt, job, output),
         Job::Play(job) => scripts::run(rt, job, input, output),
-    };
-    match done {
-        Ok(()) => 0,
-        Err(fault) => print_fault(faults, &fault),
     }
 }
 

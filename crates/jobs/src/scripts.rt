@@ -7,7 +7,7 @@ ghost use Rattle.script.specs.declared.error.ScriptFault.TheVariants.{Line};
 ghost use Rattle.command_line.specs.packet_base.ClientId.{client_fault};
 ghost use Rattle.play.specs.Ways.{HasNoWay};
 ghost use Rattle.jobs.specs.Orders.{IsWordRefused};
-ghost use Rattle.jobs.specs.Transcripts.{Prints, PrintsWay};
+ghost use Rattle.jobs.specs.Transcripts.{IsScriptText, PlaysScript, Prints, PrintsWay, PrintsWayOf};
 
 use crate::job_error::JobError;
 use crate::obeying::members_of;
@@ -33,14 +33,26 @@ where
     R: Files + AllocGlobal,
     I: BufRead,
     O: Write,
+    ensures { OnOk result (PlaysScript job.now (I.remaining input.old)
+        (O.contents output.old) (O.contents output.new)) }
 {
-    let text = match job.script {
-        Some(file) => bytes_of(rt, file)?,
-        None => rest_of(rt.alloc(), input)?,
-    };
+    let text = text_of(rt, job, input)?;
     match &job.escape {
         Some(escape) => print_way(rt.alloc(), text.as_slice(), escape, output),
         None => play_text(rt.alloc(), text.as_slice(), output),
+    }
+}
+
+// Returns the text of the script of a file, or of the input if no file is named.
+fn text_of<R, I>(rt: &R, job: &Play<'_>, input: &mut I) -> Result<Vec<u8>, JobError>
+where
+    R: Files + AllocGlobal,
+    I: BufRead,
+    ensures { IfOk result (λ text. IsScriptText job.now (I.remaining input.old) text.items) }
+{
+    match job.script {
+        Some(file) => bytes_of(rt, file),
+        None => rest_of(rt.alloc(), input),
     }
 }
 
@@ -51,7 +63,10 @@ fn print_way<O: Write>(
     text: &[u8],
     job: &Escape<'_>,
     output: &mut O,
-) -> Result<(), JobError> {
+) -> Result<(), JobError>
+    ensures { OnOk result
+        (PrintsWayOf job.now text.now (O.contents output.old) (O.contents output.new)) }
+{
     let members = match members_of(alloc, job.members) {
         Ok(members) => members,
         Err(WordFault::Memory) => return Err(JobError::Memory),
@@ -135,8 +150,8 @@ pub fn play_text<O: Write>(alloc: Global, text: &[u8], output: &mut O) -> Result
     }
 }
 
-// Writes all of the bytes.
-fn write<O: Write>(bytes: &[u8], output: &mut O) -> Result<(), JobError>
+/// Writes all of the bytes.
+pub(crate) fn write<O: Write>(bytes: &[u8], output: &mut O) -> Result<(), JobError>
     ensures whole { OnOk result
         (Appends (O.contents output.old) (O.contents output.new) bytes.now) }
     ensures fault { OnErr result (IsErrOf result JobError.Output) }

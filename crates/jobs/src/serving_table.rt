@@ -1,8 +1,13 @@
 // Nodes that serve clients over TCP.
 
+ghost use Rattle.std.specs.Prelude.{◌≡◌, IfErr, OnOk};
+ghost use Rattle.jobs.specs.Done.{SaysBye};
+ghost use Rattle.jobs.specs.Failing.{FailsToServe, IsTable};
+
 use crate::job_error::JobError;
 use crate::obeying::obey;
 use crate::reading::bytes_of;
+use crate::scripts::write;
 use command_line::{ListeningNode, NodeTable, Serve, table};
 use server::{Listener, MAX_CONNECTIONS, serve_while};
 use std::fs::File;
@@ -33,6 +38,7 @@ where
     I: BufRead,
     O: Write,
     E: Write,
+    ensures { OnOk result (SaysBye O.contents output.new) }
 {
     let bytes = bytes_of(rt, job.config)?;
     let text = str::from_utf8(bytes.as_slice())
@@ -71,6 +77,13 @@ where
     I: BufRead,
     O: Write,
     E: Write,
+    ensures ok { OnOk result (IsTable text.now) }
+    ensures bye { OnOk result (SaysBye O.contents output.new) }
+
+    // A text that is no table is refused, and nothing is printed.
+    ensures refused { IfErr result (FailsToServe text.now) }
+    ensures untouched { (IsTable text.now → ⊥) → O.contents output.new ≡ O.contents output.old }
+    ensures unsaid { (IsTable text.now → ⊥) → E.contents faults.new ≡ E.contents faults.old }
 {
     serve_nodes(rt, &table(rt.alloc(), text)?, input, output, faults)
 }
@@ -89,6 +102,7 @@ where
     I: BufRead,
     O: Write,
     E: Write,
+    ensures { OnOk result (SaysBye O.contents output.new) }
 {
     let nodes = table.nodes.as_slice();
     let listeners = listen_all(rt, nodes, faults)?;
@@ -99,7 +113,7 @@ where
         &table.config,
         |cluster| { obey(rt, cluster, nodes, input, output) },
     )??;
-    writeln!(output, "bye").ok().ok_or(JobError::Output)
+    write(b"bye\n", output)
 }
 
 // Listens where each node has to listen, and then prints it.

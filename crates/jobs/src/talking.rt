@@ -1,5 +1,9 @@
 // The two clients, over TCP.
 
+ghost use Rattle.std.specs.Prelude.{◌≡◌, IfErr, OnOk};
+ghost use Rattle.jobs.specs.Done.{PrintsAll};
+ghost use Rattle.jobs.specs.Failing.{CanPublish, CanSubscribe, FailsToPublish, FailsToSubscribe};
+
 use crate::job_error::JobError;
 use command_line::{Publish, Subscribe};
 use std::io::Write;
@@ -46,6 +50,8 @@ impl<'a, R: Net<Stream = TcpStream> + Clock> Servers for TcpServers<'a, R> {
 pub fn publish<R>(rt: &R, job: &Publish<'_>) -> Result<(), JobError>
 where
     R: Clock + AllocGlobal + Net<Stream = TcpStream>,
+    ensures ok { OnOk result (CanPublish job.now) }
+    ensures refused { IfErr result (FailsToPublish job.now) }
 {
     let mut publisher = Publisher::new(
         rt.alloc(),
@@ -69,6 +75,14 @@ pub fn subscribe<R, O>(rt: &R, job: &Subscribe<'_>, output: &mut O) -> Result<()
 where
     R: Clock + AllocGlobal + Net<Stream = TcpStream>,
     O: Write + Drop,
+    ensures ok { OnOk result (CanSubscribe job.now) }
+    ensures printed { OnOk result
+        (PrintsAll job.now.id.now job.now.count (O.contents output.old) (O.contents output.new)) }
+
+    // Words that are refused print nothing.
+    ensures refused { IfErr result (FailsToSubscribe job.now) }
+    ensures untouched { (CanSubscribe job.now → ⊥)
+        → O.contents output.new ≡ O.contents output.old }
 {
     let mut subscriber = Subscriber::new(rt.alloc(), job.id, job.filter, job.qos, job.count)?;
     let mut servers = TcpServers {

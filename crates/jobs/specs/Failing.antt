@@ -1,0 +1,71 @@
+-- What has to be right in what the user wrote, and how a job fails if it is not.
+use Rattle.std.specs.Prelude.{◌≡◌, ◌⊎◌, ℕ, List, None}
+use Rattle.command_line.specs.Tables.{IsTableText}
+use Rattle.command_line.specs.packet_base.ClientId.{client_fault}
+use Rattle.command_line.specs.declared.job.Job.{Job}
+use Rattle.command_line.specs.declared.job.Job.TheVariants as jobs
+use Rattle.command_line.specs.declared.job.Publish.{Publish}
+use Rattle.command_line.specs.declared.job.Subscribe.{Subscribe}
+use Rattle.command_line.specs.declared.node_table.NodeTable.{NodeTable}
+use Rattle.script.specs.session_base.declared.publication.Publication.{Publication}
+use Rattle.topics.specs.Text.{filter_fault}
+use Rattle.user_client.specs.Refusals.{IsPublishable, RefusesListener, RefusesPublisher}
+use Rattle.user_client.specs.declared.user_client_error.UserClientError.{UserClientError}
+use Rattle.jobs.specs.Faults.{client_fault_of, exit_status}
+use Rattle.jobs.specs.declared.job_error.JobError.{JobError}
+use Rattle.jobs.specs.declared.job_error.JobError.TheVariants as faults
+
+-- the text is a TOML document of a lawful table of nodes
+abbrev pub IsTable : List ℕ → Type 0
+IsTable text = (table : NodeTable) × IsTableText text table
+
+-- if the text is no table, the fault says so, or memory ran out
+abbrev pub FailsToServe : List ℕ → JobError → Type 0
+FailsToServe text fault = (IsTable text → ⊥) → (fault ≡ faults.Config) ⊎ (fault ≡ faults.Memory)
+
+-- the publication that the words of `pub` ask for
+abbrev pub asked_publication : Publish → Publication
+asked_publication job = record {
+  retain = job.retain;
+  qos = job.qos;
+  topic = job.topic.now;
+  payload = job.message.now;
+}
+
+-- nothing is wrong with the identifier and the topic of `pub`, and the packet is not too large
+abbrev pub CanPublish : Publish → Type 0
+CanPublish job = IsPublishable job.id.now (asked_publication job)
+
+-- the fault is that of the first that is wrong, or memory ran out
+abbrev pub RefusesToPublish : Publish → JobError → Type 0
+RefusesToPublish job fault = (cause : UserClientError)
+    × RefusesPublisher job.id.now (asked_publication job) cause × (fault ≡ client_fault_of cause)
+
+-- `pub` may fail with this fault: if its words are refused, it is theirs
+abbrev pub FailsToPublish : Publish → JobError → Type 0
+FailsToPublish job fault = (CanPublish job → ⊥) → RefusesToPublish job fault
+
+-- nothing is wrong with the identifier and the filter of `sub`
+abbrev pub CanSubscribe : Subscribe → Type 0
+CanSubscribe job = (client_fault job.id.now ≡ None) × (filter_fault job.filter.now ≡ None)
+
+-- the fault is that of the first that is wrong, or memory ran out
+abbrev pub RefusesToSubscribe : Subscribe → JobError → Type 0
+RefusesToSubscribe job fault = (cause : UserClientError)
+    × RefusesListener job.id.now job.filter.now cause × (fault ≡ client_fault_of cause)
+
+-- `sub` may fail with this fault: if its words are refused, it is theirs
+abbrev pub FailsToSubscribe : Subscribe → JobError → Type 0
+FailsToSubscribe job fault = (CanSubscribe job → ⊥) → RefusesToSubscribe job fault
+
+-- a job may fail with this fault; `serve` and `play` are told files, which may have any text
+abbrev pub FailsAt : Job → JobError → Type 0
+FailsAt (jobs.Serve job) fault = Unit {0}
+FailsAt (jobs.Publish job) fault = FailsToPublish job fault
+FailsAt (jobs.Subscribe job) fault = FailsToSubscribe job fault
+FailsAt (jobs.Play job) fault = Unit {0}
+
+-- the exit status is that of a fault with which the job may fail
+abbrev pub EndsByFault : Job → ℕ → Type 0
+EndsByFault job status =
+    (fault : JobError) × FailsAt job fault × (status ≡ exit_status fault)
