@@ -1,8 +1,8 @@
 // Clients over real sockets: their bytes, and those that MQTT 3.1.1 answers.
 
-use std::io::{Read, Write};
+use crate::came::{Came, StreamState};
+use crate::hearing::{hear, limit_reads, send};
 use std::net::{Net, TcpStream};
-use std::time::Duration;
 use streams::Listener;
 
 /// SUBSCRIBE to `t/#` at QoS 2.
@@ -25,30 +25,21 @@ pub fn publish(first: u8, id: u8, payload: u8) -> [u8; 10] {
 }
 
 /// Opens a stream to a listener. A read of it ends after ten seconds.
-pub fn open<R>(rt: &R, listener: Option<&Listener>) -> Option<TcpStream>
+pub fn open<R>(rt: &R, listener: Option<&Listener>) -> Result<TcpStream, Came>
 where
     R: Net<Stream = TcpStream>,
 {
-    let stream = TcpStream::connect(rt, listener?.address().ok()?).ok()?;
-    if waits_for(&stream, 10_000) {
-        Some(stream)
-    } else {
-        None
-    }
+    let stream = opened(rt, listener).ok_or(Came::nothing(StreamState::Unopened))?;
+    limit_reads(&stream, 10_000)?;
+    Ok(stream)
 }
 
-// Says whether a read of this stream ends after this many milliseconds from now on.
-fn waits_for(stream: &TcpStream, milliseconds: u64) -> bool {
-    stream
-        .set_read_timeout(Some(Duration::from_millis(milliseconds)))
-        .is_ok()
-}
-
-/// Says whether a write on this stream ends after this many milliseconds from now on.
-pub fn waits_to_write(stream: &TcpStream, milliseconds: u64) -> bool {
-    stream
-        .set_write_timeout(Some(Duration::from_millis(milliseconds)))
-        .is_ok()
+// Returns a stream to a listener.
+fn opened<R>(rt: &R, listener: Option<&Listener>) -> Option<TcpStream>
+where
+    R: Net<Stream = TcpStream>,
+{
+    TcpStream::connect(rt, listener?.address().ok()?).ok()
 }
 
 /// Opens a stream of the client of this letter. There is none unless its CONNECT is accepted and
@@ -58,17 +49,14 @@ pub fn join<R>(
     listener: Option<&Listener>,
     letter: u8,
     has_session: bool,
-) -> Option<TcpStream>
+) -> Result<TcpStream, Came>
 where
     R: Net<Stream = TcpStream>,
 {
     let mut stream = open(rt, listener)?;
     let accepted = [0x20, 2, u8::from(has_session), 0];
-    if is_answered(&mut stream, &connect(letter, false), &accepted) {
-        Some(stream)
-    } else {
-        None
-    }
+    exchange(&mut stream, &connect(letter, false), &accepted)?;
+    Ok(stream)
 }
 
 /// The streams of a subscriber, client `h`, and a publisher, client `s`.
@@ -80,58 +68,35 @@ pub struct Pair {
 
 impl Pair {
     /// Opens both, as `join` does.
-    pub fn join<R>(rt: &R, listener: Option<&Listener>, has_session: bool) -> Option<Pair>
+    pub fn join<R>(rt: &R, listener: Option<&Listener>, has_session: bool) -> Result<Pair, Came>
     where
         R: Net<Stream = TcpStream>,
     {
         let hearer = join(rt, listener, b'h', has_session)?;
-        match join(rt, listener, b's', has_session) {
-            Some(speaker) => Some(Pair { hearer, speaker }),
-            None => None,
-        }
+        let speaker = join(rt, listener, b's', has_session)?;
+        Ok(Pair { hearer, speaker })
     }
 
-    /// Says whether the subscriber subscribes to `t/#` at QoS 2.
-    pub fn subscribes(&mut self) -> bool {
-        is_answered(&mut self.hearer, &SUBSCRIBE, &SUBSCRIBED)
+    /// Has the subscriber subscribe to `t/#` at QoS 2.
+    pub fn subscribe(&mut self) -> Result<(), Came> {
+        exchange(&mut self.hearer, &SUBSCRIBE, &SUBSCRIBED)
     }
 }
 
-/// Says whether these bytes are answered by those, of which there are at most ten.
-pub fn is_answered(stream: &mut TcpStream, sent: &[u8], wanted: &[u8]) -> bool {
-    let mut buffer = [0; 10];
-    let is_filled = match buffer.get_mut(..wanted.len()) {
-        Some(got) => fills(stream, sent, got),
-        None => false,
-    };
-    is_filled && buffer.starts_with(wanted)
+/// Sends these bytes, and awaits those, of which there are at most 24.
+pub fn exchange(stream: &mut TcpStream, sent: &[u8], wanted: &[u8]) -> Result<(), Came> {
+    send(stream, sent)?;
+    hear(stream, wanted)
 }
 
-/// Says whether a publication at QoS 2 is answered by PUBREC, and its PUBREL by PUBCOMP.
-pub fn is_delivered(speaker: &mut TcpStream, publish: [u8; 10]) -> bool {
+/// Sends a PINGREQ, and awaits its PINGRESP.
+pub fn ping(stream: &mut TcpStream) -> Result<(), Came> {
+    exchange(stream, &[0xC0, 0], &[0xD0, 0])
+}
+
+/// Publishes at QoS 2: awaits PUBREC, sends PUBREL and awaits PUBCOMP.
+pub fn deliver(speaker: &mut TcpStream, publish: [u8; 10]) -> Result<(), Came> {
     let id = publish[8];
-    is_answered(speaker, &publish, &[0x50, 2, 0, id])
-        && is_answered(speaker, &[0x62, 2, 0, id], &[0x70, 2, 0, id])
-}
-
-/// Says whether these bytes are answered by as many as fill the buffer.
-pub fn fills(stream: &mut TcpStream, sent: &[u8], buffer: &mut [u8]) -> bool {
-    stream.write_all(sent).is_ok() && stream.read_exact(buffer).is_ok()
-}
-
-/// Says whether nothing comes for a third of a second, and the stream stays open.
-pub fn is_silent(stream: &mut TcpStream) -> bool {
-    is_open_for(stream, 333)
-}
-
-/// Says whether nothing comes for this many milliseconds, and the stream stays open.
-pub fn is_open_for(stream: &mut TcpStream, milliseconds: u64) -> bool {
-    let mut byte = [0; 1];
-    waits_for(stream, milliseconds) && stream.read(&mut byte).is_err() && waits_for(stream, 10_000)
-}
-
-/// Says whether the server ends the stream within five seconds, and sends nothing.
-pub fn is_closed(stream: &mut TcpStream) -> bool {
-    let mut byte = [0; 1];
-    waits_for(stream, 5_000) && matches!(stream.read(&mut byte), Ok(0))
+    exchange(speaker, &publish, &[0x50, 2, 0, id])?;
+    exchange(speaker, &[0x62, 2, 0, id], &[0x70, 2, 0, id])
 }

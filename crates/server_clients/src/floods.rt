@@ -1,8 +1,9 @@
 // What a server takes a while to read: many small packets, and large ones.
 
-use crate::client::Pair;
+use crate::came::Came;
+use crate::client::{Pair, ping};
+use crate::hearing::{hear_into, send, send_times};
 use std::alloc::{AllocError, Global};
-use std::io::{Read, Write};
 use std::net::TcpStream;
 
 /// What is sent in a flood, what has to be answered, and a buffer for what is.
@@ -23,14 +24,17 @@ impl Flood {
         })
     }
 
-    /// Says whether the PINGREQ are sent.
-    pub fn is_sent(&self, stream: &mut TcpStream) -> bool {
-        stream.write_all(self.sent.as_slice()).is_ok()
+    /// Sends the PINGREQ, this many times.
+    pub fn send_to(&self, stream: &mut TcpStream, times: u8) -> Result<(), Came> {
+        send_times(stream, self.sent.as_slice(), times)
     }
 
-    /// Says whether the PINGRESP come.
-    pub fn is_heard(&mut self, stream: &mut TcpStream) -> bool {
-        stream.read_exact(self.buffer.as_mut_slice()).is_ok() && self.buffer == self.wanted
+    /// Awaits the PINGRESP, this many times.
+    pub fn hear_from(&mut self, stream: &mut TcpStream, times: u8) -> Result<(), Came> {
+        for _ in 0..times {
+            hear_into(stream, self.buffer.as_mut_slice(), self.wanted.as_slice())?;
+        }
+        Ok(())
     }
 }
 
@@ -59,14 +63,17 @@ impl Large {
         })
     }
 
-    /// Says whether the PUBLISH, with this last byte, comes to the subscriber as it was sent.
-    pub fn passes(&mut self, pair: &mut Pair, last: u8) -> bool {
+    /// Sends the PUBLISH, with this last byte. It has to come to the subscriber as it was sent.
+    pub fn pass(&mut self, pair: &mut Pair, last: u8) -> Result<(), Came> {
         if let Some(byte) = self.sent.last_mut() {
             *byte = last;
         }
-        pair.speaker.write_all(self.sent.as_slice()).is_ok()
-            && pair.hearer.read_exact(self.buffer.as_mut_slice()).is_ok()
-            && self.buffer == self.sent
+        send(&mut pair.speaker, self.sent.as_slice())?;
+        hear_into(
+            &mut pair.hearer,
+            self.buffer.as_mut_slice(),
+            self.sent.as_slice(),
+        )
     }
 }
 
@@ -78,4 +85,10 @@ pub fn large_publish(alloc: Global) -> Result<Vec<u8>, AllocError> {
         *beginning = [0x30, 0x80 + 69, 0x80 + 4, 61, 0, 3, 0x74, 0x2F, 0x31];
     }
     Ok(bytes)
+}
+
+/// Sends a publication, this many times, and awaits the answer to a PINGREQ that follows.
+pub fn publish_times(stream: &mut TcpStream, publish: &[u8], times: u8) -> Result<(), Came> {
+    send_times(stream, publish, times)?;
+    ping(stream)
 }

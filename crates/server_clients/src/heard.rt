@@ -1,13 +1,24 @@
 // A subscriber's side of the handshakes at QoS 2.
 
-use std::io::{Read, Write};
+use crate::came::{Came, StreamState, compare};
+use crate::hearing::{hear_any, send};
+use std::alloc::AllocError;
 use std::net::TcpStream;
+
+/// The first bytes of a PUBLISH at QoS 2 that is as long as those of `publish` (MQTT 3.3.1).
+const PUBLISH: [u8; 2] = [0x34, 8];
+
+/// The same with DUP.
+const PUBLISH_AGAIN: [u8; 2] = [0x3C, 8];
+
+/// The first bytes of a PUBREL: MQTT 3.6.1.
+const PUBREL: [u8; 2] = [0x62, 2];
 
 /// What a subscriber accepted of publications at QoS 2, each once (MQTT 4.3.3).
 #[derive(Drop)]
 pub struct Heard {
-    /// Their payloads.
-    pub payloads: Vec<u8>,
+    // Their payloads.
+    payloads: Vec<u8>,
     // The identifiers whose PUBREL has not come.
     unreleased: Vec<[u8; 2]>,
 }
@@ -21,61 +32,69 @@ impl Heard {
         }
     }
 
-    /// Takes the next packet, a PUBLISH or a PUBREL, and returns the answer to it. There is none if
-    /// something else comes.
-    pub fn next_answer(&mut self, stream: &mut TcpStream) -> Option<[u8; 4]> {
+    /// Checks that it accepted publications of these payloads, in this order.
+    pub fn has_accepted(&self, payloads: &[u8]) -> Result<(), Came> {
+        compare(self.payloads.as_slice(), payloads, StreamState::Open)
+    }
+
+    /// Takes the next packet, a PUBLISH or a PUBREL, and returns the answer to it. Where something
+    /// else comes, a PUBLISH was awaited.
+    pub fn next_answer(&mut self, stream: &mut TcpStream) -> Result<[u8; 4], Came> {
         let mut head = [0; 2];
-        stream.read_exact(&mut head).ok()?;
-        if head == [0x34, 8] || head == [0x3C, 8] {
+        hear_any(stream, &mut head)?;
+        if head == PUBLISH || head == PUBLISH_AGAIN {
             self.take(stream)
-        } else if head == [0x62, 2] {
+        } else if head == PUBREL {
             self.release(stream)
         } else {
-            None
+            Err(Came::new(&head, &PUBLISH, StreamState::Open))
         }
     }
 
     // Takes the parts of a PUBLISH, and returns its PUBREC.
-    fn take(&mut self, stream: &mut TcpStream) -> Option<[u8; 4]> {
+    fn take(&mut self, stream: &mut TcpStream) -> Result<[u8; 4], Came> {
         let mut body = [0; 8];
-        stream.read_exact(&mut body).ok()?;
+        hear_any(stream, &mut body)?;
         let [_, _, _, _, _, high, low, payload] = body;
-        let id = [high, low];
-        if !self.unreleased.contains(&id) {
-            self.unreleased.push(id).ok()?;
-            self.payloads.push(payload).ok()?;
+        match self.accept([high, low], payload) {
+            Ok(()) => Ok([0x50, 2, high, low]),
+            Err(_) => Err(Came::new(&body, &[], StreamState::Unkept)),
         }
-        Some([0x50, 2, high, low])
+    }
+
+    // Accepts a publication of this identifier, unless it did so before.
+    fn accept(&mut self, id: [u8; 2], payload: u8) -> Result<(), AllocError> {
+        if !self.unreleased.contains(&id) {
+            self.unreleased.push(id)?;
+            self.payloads.push(payload)?;
+        }
+        Ok(())
     }
 
     // Takes in the identifier of a PUBREL: its PUBCOMP.
-    fn release(&mut self, stream: &mut TcpStream) -> Option<[u8; 4]> {
+    fn release(&mut self, stream: &mut TcpStream) -> Result<[u8; 4], Came> {
         let mut id = [0; 2];
-        stream.read_exact(&mut id).ok()?;
+        hear_any(stream, &mut id)?;
         self.unreleased.retain(|other| *other != id);
         let [high, low] = id;
-        Some([0x70, 2, high, low])
+        Ok([0x70, 2, high, low])
     }
 
-    /// Says whether the next packet comes, and its answer is sent.
-    pub fn answers(&mut self, stream: &mut TcpStream) -> bool {
-        match self.next_answer(stream) {
-            Some(answer) => stream.write_all(&answer).is_ok(),
-            None => false,
-        }
+    /// Takes the next packet, and sends the answer to it.
+    pub fn answer(&mut self, stream: &mut TcpStream) -> Result<(), Came> {
+        let answer = self.next_answer(stream)?;
+        send(stream, &answer)
     }
 
-    /// Says whether the publication of this payload comes as one of the next twenty packets, all of
-    /// which are answered, and no handshake stays open.
-    pub fn hears(&mut self, stream: &mut TcpStream, payload: u8) -> bool {
+    /// Awaits the publication of this payload as one of the next twenty packets, all of which are
+    /// answered, until no handshake is open. Else it returns the payloads that were accepted.
+    pub fn answer_until(&mut self, stream: &mut TcpStream, payload: u8) -> Result<(), Came> {
         for _ in 0..20 {
-            if !self.answers(stream) {
-                return false;
-            }
+            self.answer(stream)?;
             if self.unreleased.is_empty() && self.payloads.contains(&payload) {
-                return true;
+                return Ok(());
             }
         }
-        false
+        Err(Came::new(self.payloads.as_slice(), &[payload], StreamState::Open))
     }
 }

@@ -1,20 +1,26 @@
 //! Clients over real sockets, for tests of a server: the bytes that they send, those that MQTT
-//! 3.1.1 answers, and what a subscriber accepted; and the listeners to which they connect.
+//! 3.1.1 answers, and what a subscriber accepted; and the listeners to which they connect. A step
+//! of a test that fails shows what came.
 #![tactic(auto)]
 
+mod came;
 mod client;
 mod floods;
 mod heard;
+mod hearing;
 mod missed;
 mod ports;
 mod visiting;
 
+pub use came::{Came, Excerpt, StreamState};
 pub use client::{
-    Pair, SUBSCRIBE, SUBSCRIBED, connect, fills, is_answered, is_closed, is_delivered, is_open_for,
-    is_silent, join, open, publish, waits_to_write,
+    Pair, SUBSCRIBE, SUBSCRIBED, connect, deliver, exchange, join, open, ping, publish,
 };
-pub use floods::{Flood, Large, large_publish};
+pub use floods::{Flood, Large, large_publish, publish_times};
 pub use heard::Heard;
-pub use missed::{Missed, unless};
+pub use hearing::{
+    hear, hear_end, hear_end_within, hear_nothing, hear_nothing_for, limit_writes, send, send_times,
+};
+pub use missed::{Missed, named, unless};
 pub use ports::{listen_all, opening};
-pub use visiting::visits;
+pub use visiting::visit;

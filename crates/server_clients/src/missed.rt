@@ -1,9 +1,39 @@
 // What a test tells of a step that is not so.
 
-/// The first step that was not as these words say; none if all were.
-pub type Missed = Option<&'static str>;
+use crate::came::Came;
 
-/// Returns the words for what is not so.
-pub fn unless(is_so: bool, words: &'static str) -> Missed {
-    if is_so { None } else { Some(words) }
+/// A step that is not as its words say.
+#[derive(Clone, Copy, Debug, PartialEq, Eq)]
+pub struct Missed {
+    /// The words.
+    pub step: &'static str,
+    /// What came in place of what the step awaits, if it uses a stream.
+    pub came: Option<Came>,
+}
+
+impl Missed {
+    /// Returns a step that uses no stream, and is not as these words say.
+    pub fn new(step: &'static str) -> Missed {
+        Missed { step, came: None }
+    }
+}
+
+/// Checks a step that uses no stream, and has these words.
+pub fn unless(is_so: bool, step: &'static str) -> Result<(), Missed> {
+    if is_so {
+        Ok(())
+    } else {
+        Err(Missed::new(step))
+    }
+}
+
+/// Gives the outcome of a step on a stream these words.
+pub fn named<T>(outcome: Result<T, Came>, step: &'static str) -> Result<T, Missed> {
+    match outcome {
+        Ok(value) => Ok(value),
+        Err(came) => Err(Missed {
+            step,
+            came: Some(came),
+        }),
+    }
 }

@@ -1,6 +1,8 @@
 // A client that sends all that it has at once.
 
-use crate::client::{fills, open};
+use crate::came::Came;
+use crate::client::open;
+use crate::hearing::{fill, send};
 use std::net::{Net, TcpStream};
 use streams::Listener;
 
@@ -11,24 +13,41 @@ const SENT: [u8; 35] = [
     0x00, 0x01, 0x78,
 ];
 
-/// CONNACK, SUBACK, and PUBREC with the PUBLISH in either order.
+/// CONNACK, SUBACK, and PUBREC with the PUBLISH in either order; here the PUBREC is first.
+const ANSWERS: [u8; ANSWERED] = [
+    0x20, 0x02, 0x00, 0x00, 0x90, 0x03, 0x00, 0x01, 0x02, 0x50, 0x02, 0x00, 0x01, 0x34, 0x08, 0x00,
+    0x03, 0x74, 0x2F, 0x31, 0x00, 0x01, 0x78,
+];
+
+/// How many bytes they have.
 const ANSWERED: usize = 4 + 5 + 4 + 10;
 
 // Says whether these are the CONNACK, the SUBACK, and a PUBREC with the PUBLISH.
 fn are_answers(got: &[u8]) -> bool {
-    got.starts_with([0x20, 2, 0, 0, 0x90, 3, 0, 1, 2].as_slice())
+    got.len() == ANSWERED
+        && got.starts_with([0x20, 2, 0, 0, 0x90, 3, 0, 1, 2].as_slice())
         && got.contains(&0x50)
         && got.contains(&0x34)
 }
 
-/// Says whether client `a` is answered if it sends all at once.
-pub fn visits<R>(rt: &R, listener: Option<&Listener>) -> bool
+/// Has client `a` send all at once, and be answered.
+pub fn visit<R>(rt: &R, listener: Option<&Listener>) -> Result<(), Came>
 where
     R: Net<Stream = TcpStream>,
 {
+    let mut stream = open(rt, listener)?;
+    visit_on(&mut stream)
+}
+
+// Sends all on this stream, and awaits the answers.
+fn visit_on(stream: &mut TcpStream) -> Result<(), Came> {
     let mut buffer = [0; ANSWERED];
-    match open(rt, listener) {
-        Some(mut stream) => fills(&mut stream, &SENT, &mut buffer) && are_answers(&buffer),
-        None => false,
+    send(stream, &SENT)?;
+    let (count, state) = fill(stream, &mut buffer);
+    let got = buffer.get(..count).unwrap_or(&[]);
+    if are_answers(got) {
+        Ok(())
+    } else {
+        Err(Came::new(got, &ANSWERS, state))
     }
 }

@@ -3,9 +3,9 @@
 use super::lagging::{missed_of_bytes, missed_of_places};
 use server::{Cluster, Gate, Listener, NodeReport, serve_gated};
 use server_clients::{
-    Heard, Missed, Pair, is_answered, is_silent, listen_all, opening, publish, unless, visits,
+    Came, Heard, Missed, Pair, hear, hear_nothing, listen_all, named, opening, publish, send,
+    unless, visit,
 };
-use std::io::Write;
 use std::net::{Net, TcpListener, TcpStream};
 use std::sync::{Mutex, Wait};
 use std::thread;
@@ -15,14 +15,19 @@ use std::time::{Clock, Duration};
 // A gate, and what is done while nodes ask it.
 trait Watched: Gate {
     // Returns the first step that is not so while nodes ask it.
-    fn attend<R>(&self, rt: &R, cluster: &Cluster, listener: Option<&Listener>) -> Missed
+    fn attend<R>(
+        &self,
+        rt: &R,
+        cluster: &Cluster,
+        listener: Option<&Listener>,
+    ) -> Result<(), Missed>
     where
         R: AllocGlobal + Wait + Clock + Net<Stream = TcpStream>;
 }
 
 // Returns the first step that is not so with these nodes, the members of ballot 1, of which node 1
 // is the primary. The last one is that each node took what was sent to it.
-fn missed_at<R, G>(rt: &R, members: &[u8], gate: &G) -> Missed
+fn missed_at<R, G>(rt: &R, members: &[u8], gate: &G) -> Result<(), Missed>
 where
     R: AllocGlobal + Threads + Wait + Clock + Sync,
     R: Net<Listener = TcpListener, Stream = TcpStream>,
@@ -32,18 +37,18 @@ where
     if listen_all(rt, members, &mut listeners) {
         serve(rt, members, listeners.as_slice(), gate)
     } else {
-        Some("a port is free")
+        Err(Missed::new("a port is free"))
     }
 }
 
 // Returns the first step that is not so with the nodes of these listeners.
-fn serve<R, G>(rt: &R, members: &[u8], listeners: &[Listener], gate: &G) -> Missed
+fn serve<R, G>(rt: &R, members: &[u8], listeners: &[Listener], gate: &G) -> Result<(), Missed>
 where
     R: AllocGlobal + Threads + Wait + Clock + Sync + Net<Stream = TcpStream>,
     G: Watched + Sync,
 {
     let Ok(config) = opening(rt.alloc(), members) else {
-        return Some("there is memory for a ballot");
+        return Err(Missed::new("there is memory for a ballot"));
     };
     let served = serve_gated(
         rt,
@@ -54,11 +59,11 @@ where
         |cluster| gate.attend(rt, cluster, listeners.first()),
     );
     match served {
-        Ok((missed, reports)) => missed.or(unless(
+        Ok((attended, reports)) => attended.and(unless(
             are_through(reports.as_slice(), listeners.len()),
             "each node took what was sent to it, and passed no shut gate",
         )),
-        Err(_) => Some("the nodes serve"),
+        Err(_) => Err(Missed::new("the nodes serve")),
     }
 }
 
@@ -150,22 +155,24 @@ impl Gate for Meeting {
 impl Watched for Meeting {
     // The nodes meet within ten seconds, client `a` is answered then, and each taking was asked for
     // by its number.
-    fn attend<R>(&self, rt: &R, _cluster: &Cluster, listener: Option<&Listener>) -> Missed
+    fn attend<R>(
+        &self,
+        rt: &R,
+        _cluster: &Cluster,
+        listener: Option<&Listener>,
+    ) -> Result<(), Missed>
     where
         R: AllocGlobal + Wait + Clock + Net<Stream = TcpStream>,
     {
         for _ in 0..1_000 {
             if self.has_met(rt) {
-                let is_served = visits(rt, listener);
+                let served = named(visit(rt, listener), "a client is answered");
                 let is_in_order = *self.in_order.lock(rt);
-                return unless(is_served, "a client is answered").or(unless(
-                    is_in_order,
-                    "each taking is asked for by its number",
-                ));
+                return served.and(unless(is_in_order, "each taking is asked for by its number"));
             }
             thread::sleep(rt, Duration::from_millis(10));
         }
-        Some("the nodes meet within ten seconds")
+        Err(Missed::new("the nodes meet within ten seconds"))
     }
 }
 
@@ -175,7 +182,7 @@ impl Watched for Meeting {
 fn nodes_run_apart(rt: HostRuntime) {
     for members in [[1, 2].as_slice(), [1, 2, 3].as_slice()] {
         let meeting = Meeting::new(members.len());
-        assert_eq!(rt; missed_at(&rt, members, &meeting), None, "{members:?}");
+        assert_eq!(rt; missed_at(&rt, members, &meeting), Ok(()), "{members:?}");
     }
 }
 
@@ -211,39 +218,42 @@ impl Bar {
     }
 
     // Returns the first step of `holds` that is not so for a subscriber and a publisher.
-    fn passes<R>(&self, rt: &R, listener: Option<&Listener>) -> Missed
+    fn passes<R>(&self, rt: &R, listener: Option<&Listener>) -> Result<(), Missed>
     where
         R: AllocGlobal + Wait + Net<Stream = TcpStream>,
     {
         let mut heard = Heard::new(rt);
-        match Pair::join(rt, listener, false) {
-            Some(mut pair) => self.holds(rt, &mut pair, &mut heard),
-            None => Some("two clients come"),
+        match named(Pair::join(rt, listener, false), "two clients come") {
+            Ok(mut pair) => self.holds(rt, &mut pair, &mut heard),
+            Err(missed) => Err(missed),
         }
     }
 
     // Returns the first step that is not so: a publication at QoS 2 is answered, and comes to its
     // subscriber, but neither while node 3 is held.
-    fn holds<R: Wait>(&self, rt: &R, pair: &mut Pair, heard: &mut Heard) -> Missed {
-        if !pair.subscribes() {
-            return Some("SUBACK comes");
-        }
+    fn holds<R: Wait>(&self, rt: &R, pair: &mut Pair, heard: &mut Heard) -> Result<(), Missed> {
+        named(pair.subscribe(), "SUBACK comes")?;
         self.set(rt, true);
-        let is_held = pair.speaker.write_all(&publish(0x34, 1, b'x')).is_ok()
-            && is_silent(&mut pair.speaker)
-            && is_silent(&mut pair.hearer);
+        let held = hold_back(pair);
         self.set(rt, false);
-        if !is_held {
-            return Some("nothing comes while node 3 is held");
-        }
-        if !is_answered(&mut pair.speaker, &[], &[0x50, 2, 0, 1]) {
-            return Some("PUBREC comes once node 3 goes on");
-        }
-        unless(
-            heard.answers(&mut pair.hearer) && heard.payloads.as_slice() == [b'x'].as_slice(),
+        named(held, "nothing comes while node 3 is held")?;
+        named(
+            hear(&mut pair.speaker, &[0x50, 2, 0, 1]),
+            "PUBREC comes once node 3 goes on",
+        )?;
+        named(
+            heard.answer(&mut pair.hearer),
             "the publication comes once node 3 goes on",
-        )
+        )?;
+        named(heard.has_accepted(b"x"), "it is that of the publisher")
     }
+}
+
+// Publishes `x`: neither client gets anything then.
+fn hold_back(pair: &mut Pair) -> Result<(), Came> {
+    send(&mut pair.speaker, &publish(0x34, 1, b'x'))?;
+    hear_nothing(&mut pair.speaker)?;
+    hear_nothing(&mut pair.hearer)
 }
 
 impl Gate for Bar {
@@ -260,7 +270,12 @@ impl Gate for Bar {
 
 impl Watched for Bar {
     // What this load leads to is as it has to be.
-    fn attend<R>(&self, rt: &R, cluster: &Cluster, listener: Option<&Listener>) -> Missed
+    fn attend<R>(
+        &self,
+        rt: &R,
+        cluster: &Cluster,
+        listener: Option<&Listener>,
+    ) -> Result<(), Missed>
     where
         R: AllocGlobal + Wait + Clock + Net<Stream = TcpStream>,
     {
@@ -282,6 +297,6 @@ fn what_waits_for_a_held_member_is_bounded(rt: HostRuntime) {
         };
         let missed = missed_at(&rt, &[1, 2, 3], &bar);
         let open = *bar.open.lock(&rt);
-        assert_eq!(rt; missed, None, "{load:?}, places open: {open:?}");
+        assert_eq!(rt; missed, Ok(()), "{load:?}, places open: {open:?}");
     }
 }

@@ -2,8 +2,9 @@
 
 use super::gates::Bar;
 use server::{Cluster, Listener};
-use server_clients::{Flood, Missed, join, large_publish, unless, visits, waits_to_write};
-use std::io::Write;
+use server_clients::{
+    Flood, Missed, join, large_publish, limit_writes, named, send_times, unless, visit,
+};
 use std::net::{Net, TcpStream};
 use std::sync::Wait;
 use std::thread;
@@ -16,14 +17,29 @@ pub(super) fn missed_of_places<R>(
     bar: &Bar,
     cluster: &Cluster,
     listener: Option<&Listener>,
-) -> Missed
+) -> Result<(), Missed>
 where
     R: AllocGlobal + Wait + Clock + Net<Stream = TcpStream>,
 {
-    match (Flood::new(rt.alloc()), join(rt, listener, b'a', false)) {
-        (Ok(mut flood), Some(mut stream)) => waits(rt, bar, cluster, &mut flood, &mut stream),
-        _ => Some("a client comes"),
+    match Flood::new(rt.alloc()) {
+        Ok(mut flood) => waits_with(rt, bar, cluster, listener, &mut flood),
+        Err(_) => Err(Missed::new("there is memory for a flood")),
     }
+}
+
+// Returns the first step that is not so with this flood.
+fn waits_with<R>(
+    rt: &R,
+    bar: &Bar,
+    cluster: &Cluster,
+    listener: Option<&Listener>,
+    flood: &mut Flood,
+) -> Result<(), Missed>
+where
+    R: Wait + Clock + Net<Stream = TcpStream>,
+{
+    let mut stream = named(join(rt, listener, b'a', false), "a client comes")?;
+    waits(rt, bar, cluster, flood, &mut stream)
 }
 
 // Returns the first step that is not so with this client.
@@ -33,22 +49,18 @@ fn waits<R: Wait + Clock>(
     cluster: &Cluster,
     flood: &mut Flood,
     stream: &mut TcpStream,
-) -> Missed {
+) -> Result<(), Missed> {
     bar.set(rt, true);
-    let is_sent = (0..3u8).all(|_| flood.is_sent(stream));
+    let sent = flood.send_to(stream, 3);
     let open = crowded_places(rt, cluster);
     bar.note(rt, open);
     bar.set(rt, false);
-    if !is_sent {
-        return Some("all PINGREQ are sent");
-    }
-    if !open.is_some_and(|open| open > 4_096 && open <= 37_000) {
-        return Some("4,097 to 37,000 places are open");
-    }
+    named(sent, "all PINGREQ are sent")?;
     unless(
-        (0..3u8).all(|_| flood.is_heard(stream)),
-        "as many PINGRESP come",
-    )
+        open.is_some_and(|open| open > 4_096 && open <= 37_000),
+        "4,097 to 37,000 places are open",
+    )?;
+    named(flood.hear_from(stream, 3), "as many PINGRESP come")
 }
 
 // Returns how many places are open a second and a half after more than 4,096 were, or after at most
@@ -79,42 +91,50 @@ pub(super) fn missed_of_bytes<R>(
     bar: &Bar,
     cluster: &Cluster,
     listener: Option<&Listener>,
-) -> Missed
+) -> Result<(), Missed>
 where
     R: AllocGlobal + Wait + Clock + Net<Stream = TcpStream>,
 {
-    match (large_publish(rt.alloc()), join(rt, listener, b's', false)) {
-        (Ok(large), Some(mut stream)) => {
-            holding_back(rt, bar, cluster, large.as_slice(), &mut stream).or(unless(
-                visits(rt, listener),
-                "another client is answered then",
-            ))
-        }
-        _ => Some("a client comes"),
+    match large_publish(rt.alloc()) {
+        Ok(large) => holding_back(rt, bar, cluster, listener, large.as_slice()),
+        Err(_) => Err(Missed::new("there is memory for a publication")),
     }
+}
+
+// Returns the first step that is not so with this publication.
+fn holding_back<R>(
+    rt: &R,
+    bar: &Bar,
+    cluster: &Cluster,
+    listener: Option<&Listener>,
+    large: &[u8],
+) -> Result<(), Missed>
+where
+    R: Wait + Clock + Net<Stream = TcpStream>,
+{
+    let mut stream = named(join(rt, listener, b's', false), "a client comes")?;
+    let held = holding_back_on(rt, bar, cluster, large, &mut stream);
+    let visited = named(visit(rt, listener), "another client is answered then");
+    held.and(visited)
 }
 
 // Returns the first step that is not so while a member is held. A write is given up after a second,
 // as the socket is full.
-fn holding_back<R: Wait + Clock>(
+fn holding_back_on<R: Wait + Clock>(
     rt: &R,
     bar: &Bar,
     cluster: &Cluster,
     large: &[u8],
     stream: &mut TcpStream,
-) -> Missed {
+) -> Result<(), Missed> {
     bar.set(rt, true);
-    let is_limited = waits_to_write(stream, 1_000);
-    let is_sent = (0..150u8).all(|_| stream.write_all(large).is_ok());
+    let limited = limit_writes(stream, 1_000);
+    let is_sent = send_times(stream, large, 150).is_ok();
     let open = open_places(rt, cluster);
     bar.note(rt, open);
     bar.set(rt, false);
-    if !is_limited {
-        return Some("the socket takes a limit for writes");
-    }
-    if is_sent {
-        return Some("not all bytes are read");
-    }
+    named(limited, "the socket takes a limit for writes")?;
+    unless(!is_sent, "not all bytes are read")?;
     unless(
         open.is_some_and(|open| open > 32 && open <= 72),
         "33 to 72 places are open",

@@ -3,8 +3,9 @@
 use super::nodes::{fault_in, missed_with};
 use super::row::{Row, Table};
 use server::Listener;
-use server_clients::{Flood, Missed, connect, fills, join, open, unless};
-use std::io::Read;
+use server_clients::{
+    Flood, Missed, connect, exchange, hear_end_within, join, named, open, unless,
+};
 use std::net::{Net, TcpStream};
 use std::time::{Clock, Instant};
 
@@ -29,12 +30,12 @@ const FLOODS: &[Table] = &[
 
 #[test]
 fn one_client_is_answered(rt: HostRuntime) {
-    assert_eq!(rt; missed_with(&rt, &[1], Row::Visits), None);
+    assert_eq!(rt; missed_with(&rt, &[1], Row::Visits), Ok(()));
 }
 
 #[test]
 fn a_silent_client_is_closed_in_time(rt: HostRuntime) {
-    assert_eq!(rt; missed_with(&rt, &[1], Row::Silence), None);
+    assert_eq!(rt; missed_with(&rt, &[1], Row::Silence), Ok(()));
 }
 
 #[test]
@@ -44,31 +45,30 @@ fn a_flood_is_answered_whole(rt: HostRuntime) {
 
 /// A client with keep alive 1 that falls silent is closed after one and a half seconds (MQTT
 /// 3.1.2.10), and nothing more is sent to it. Returns what of that is not so.
-pub(super) fn silence<R>(rt: &R, listener: Option<&Listener>) -> Missed
+pub(super) fn silence<R>(rt: &R, listener: Option<&Listener>) -> Result<(), Missed>
 where
     R: Clock + Net<Stream = TcpStream>,
 {
     let Ok(start) = Instant::now(rt) else {
-        return Some("the clock can be read");
+        return Err(Missed::new("the clock can be read"));
     };
-    match open(rt, listener) {
-        Some(mut stream) => silence_on(rt, start, &mut stream),
-        None => Some("a connection is opened"),
-    }
+    let mut stream = named(open(rt, listener), "a connection is opened")?;
+    silence_on(rt, start, &mut stream)
 }
 
 // Returns what is not so of a client with keep alive 1 on this stream.
-fn silence_on<R: Clock>(rt: &R, start: Instant, stream: &mut TcpStream) -> Missed {
+fn silence_on<R: Clock>(rt: &R, start: Instant, stream: &mut TcpStream) -> Result<(), Missed> {
     let mut sent = connect(b'a', false);
     sent[11] = 1;
-    let mut buffer = [0; 4];
-    if !fills(stream, &sent, &mut buffer) {
-        Some("the CONNECT is answered")
-    } else if !matches!(stream.read(&mut buffer), Ok(0)) {
-        Some("the stream ends, and nothing more is sent")
-    } else {
-        unless(has_taken(rt, start), "it ends after 1.5 to 5 seconds")
-    }
+    named(
+        exchange(stream, &sent, &[0x20, 2, 0, 0]),
+        "the CONNECT is answered",
+    )?;
+    named(
+        hear_end_within(stream, 10_000),
+        "the stream ends, and nothing more is sent",
+    )?;
+    unless(has_taken(rt, start), "it ends after 1.5 to 5 seconds")
 }
 
 // Says whether 1.5 to 5 seconds have passed.
@@ -81,32 +81,27 @@ fn has_taken<R: Clock>(rt: &R, start: Instant) -> bool {
 
 /// 32,768 PINGREQ in one write are answered by as many PINGRESP and nothing else. Returns what of
 /// that is not so.
-pub(super) fn flooding<R>(rt: &R, listener: Option<&Listener>) -> Missed
+pub(super) fn flooding<R>(rt: &R, listener: Option<&Listener>) -> Result<(), Missed>
 where
     R: AllocGlobal + Net<Stream = TcpStream>,
 {
     match Flood::new(rt.alloc()) {
         Ok(mut flood) => flooding_with(rt, listener, &mut flood),
-        Err(_) => Some("there is memory for a flood"),
+        Err(_) => Err(Missed::new("there is memory for a flood")),
     }
 }
 
 // Returns what is not so of this flood by a client that joins for it.
-fn flooding_with<R>(rt: &R, listener: Option<&Listener>, flood: &mut Flood) -> Missed
+fn flooding_with<R>(rt: &R, listener: Option<&Listener>, flood: &mut Flood) -> Result<(), Missed>
 where
     R: Net<Stream = TcpStream>,
 {
-    match join(rt, listener, b'a', false) {
-        Some(mut stream) => flooding_on(&mut stream, flood),
-        None => Some("a client is accepted"),
-    }
+    let mut stream = named(join(rt, listener, b'a', false), "a client is accepted")?;
+    flooding_on(&mut stream, flood)
 }
 
 // Returns what is not so of this flood on a stream.
-fn flooding_on(stream: &mut TcpStream, flood: &mut Flood) -> Missed {
-    if flood.is_sent(stream) {
-        unless(flood.is_heard(stream), "as many PINGRESP come")
-    } else {
-        Some("32,768 PINGREQ are sent")
-    }
+fn flooding_on(stream: &mut TcpStream, flood: &mut Flood) -> Result<(), Missed> {
+    named(flood.send_to(stream, 1), "32,768 PINGREQ are sent")?;
+    named(flood.hear_from(stream, 1), "as many PINGRESP come")
 }

@@ -4,284 +4,350 @@ use super::nodes::missed_with;
 use super::row::Row;
 use server::Listener;
 use server_clients::{
-    Large, Missed, Pair, SUBSCRIBE, SUBSCRIBED, connect, is_answered, is_closed, is_open_for, join,
-    large_publish, open, unless,
+    Came, Large, Missed, Pair, SUBSCRIBE, SUBSCRIBED, StreamState, connect, exchange, hear_end,
+    hear_end_within, hear_nothing_for, join, large_publish, named, open, ping, publish_times,
 };
 use std::alloc::Global;
-use std::io::Write;
 use std::net::{Net, TcpStream};
+use std::ops::Range;
 use std::sync::Wait;
 use std::thread;
 use std::time::{Clock, Duration};
 
 #[test]
 fn a_sixty_first_client_is_closed(rt: HostRuntime) {
-    assert_eq!(rt; missed_with(&rt, &[1], Row::Sixty), None);
+    assert_eq!(rt; missed_with(&rt, &[1], Row::Sixty), Ok(()));
 }
 
 #[test]
 fn clients_that_come_and_go_are_accepted(rt: HostRuntime) {
-    assert_eq!(rt; missed_with(&rt, &[1], Row::ComeAndGo), None);
+    assert_eq!(rt; missed_with(&rt, &[1], Row::ComeAndGo), Ok(()));
 }
 
 #[test]
 fn clients_without_a_first_packet_are_ended(rt: HostRuntime) {
-    assert_eq!(rt; missed_with(&rt, &[1], Row::SilentOnes), None);
+    assert_eq!(rt; missed_with(&rt, &[1], Row::SilentOnes), Ok(()));
 }
 
 #[test]
 fn a_client_that_never_reads_makes_room(rt: HostRuntime) {
-    assert_eq!(rt; missed_with(&rt, &[1], Row::Deaf), None);
+    assert_eq!(rt; missed_with(&rt, &[1], Row::Deaf), Ok(()));
 }
 
 #[test]
 fn a_client_that_never_reads_makes_room_with_three_members(rt: HostRuntime) {
-    assert_eq!(rt; missed_with(&rt, &[1, 2, 3], Row::Deaf), None);
+    assert_eq!(rt; missed_with(&rt, &[1, 2, 3], Row::Deaf), Ok(()));
 }
 
 #[test]
 fn a_client_that_never_reads_keeps_nobody_waiting(rt: HostRuntime) {
-    assert_eq!(rt; missed_with(&rt, &[1], Row::NeverReads), None);
+    assert_eq!(rt; missed_with(&rt, &[1], Row::NeverReads), Ok(()));
 }
 
 /// Sixty clients are answered by PINGRESP while they are connected and one more has come. Returns
 /// what of that is not so.
-pub(super) fn sixty<R>(rt: &R, listener: Option<&Listener>) -> Missed
+pub(super) fn sixty<R>(rt: &R, listener: Option<&Listener>) -> Result<(), Missed>
 where
     R: AllocGlobal + Net<Stream = TcpStream>,
 {
     let mut streams = Vec::new(rt.alloc());
-    if !(b'A'..b'}').all(|letter| joins(rt, listener, letter, &mut streams)) {
-        Some("sixty clients are accepted")
-    } else if !is_turned_away(rt, listener) {
-        Some("the sixty-first is closed")
-    } else {
-        unless(
-            are_answered(streams.as_mut_slice()),
-            "the sixty are answered",
-        )
-    }
+    sixty_on(rt, listener, &mut streams)
 }
 
-// Says whether the clients of all these streams are answered by PINGRESP.
-fn are_answered(streams: &mut [TcpStream]) -> bool {
-    streams
-        .iter_mut()
-        .all(|stream| is_answered(stream, &[0xC0, 0], &[0xD0, 0]))
-}
-
-// Says whether the client of this letter joins those of the streams.
-fn joins<R>(rt: &R, listener: Option<&Listener>, letter: u8, streams: &mut Vec<TcpStream>) -> bool
+// Returns what is not so of sixty clients that have these streams.
+fn sixty_on<R>(
+    rt: &R,
+    listener: Option<&Listener>,
+    streams: &mut Vec<TcpStream>,
+) -> Result<(), Missed>
 where
     R: Net<Stream = TcpStream>,
 {
-    match join(rt, listener, letter, false) {
-        Some(stream) => streams.push(stream).is_ok(),
-        None => false,
-    }
+    named(
+        join_all(rt, listener, b'A'..b'}', streams),
+        "sixty clients are accepted",
+    )?;
+    named(turn_away(rt, listener), "the sixty-first is closed")?;
+    named(ping_all(streams.as_mut_slice()), "the sixty are answered")
 }
 
-// Says whether the next connection is closed within five seconds.
-fn is_turned_away<R>(rt: &R, listener: Option<&Listener>) -> bool
+// The clients of all these streams are answered by PINGRESP.
+fn ping_all(streams: &mut [TcpStream]) -> Result<(), Came> {
+    for stream in streams.iter_mut() {
+        ping(stream)?;
+    }
+    Ok(())
+}
+
+// The clients of these letters are accepted, and have these streams.
+fn join_all<R>(
+    rt: &R,
+    listener: Option<&Listener>,
+    letters: Range<u8>,
+    streams: &mut Vec<TcpStream>,
+) -> Result<(), Came>
 where
     R: Net<Stream = TcpStream>,
 {
-    match open(rt, listener) {
-        Some(mut stream) => is_closed(&mut stream),
-        None => false,
+    for letter in letters {
+        keep(join(rt, listener, letter, false)?, streams)?;
     }
+    Ok(())
+}
+
+// Adds a stream to these.
+fn keep(stream: TcpStream, streams: &mut Vec<TcpStream>) -> Result<(), Came> {
+    match streams.push(stream) {
+        Ok(()) => Ok(()),
+        Err(_) => Err(Came::nothing(StreamState::Unkept)),
+    }
+}
+
+// The next connection is closed within five seconds.
+fn turn_away<R>(rt: &R, listener: Option<&Listener>) -> Result<(), Came>
+where
+    R: Net<Stream = TcpStream>,
+{
+    let mut stream = open(rt, listener)?;
+    hear_end(&mut stream)
 }
 
 /// Sixty clients that say nothing keep their connections for four seconds, and lose them within ten
 /// more. Then another is accepted. Returns what of that is not so.
-pub(super) fn silent_ones<R>(rt: &R, listener: Option<&Listener>) -> Missed
+pub(super) fn silent_ones<R>(rt: &R, listener: Option<&Listener>) -> Result<(), Missed>
 where
     R: AllocGlobal + Net<Stream = TcpStream>,
 {
     let mut streams = Vec::new(rt.alloc());
-    if !(0..60u8).all(|_| opens(rt, listener, &mut streams)) {
-        Some("sixty connections are opened")
-    } else if !is_turned_away(rt, listener) {
-        Some("the sixty-first is closed")
-    } else if let Some(step) = silence_of(streams.as_mut_slice()) {
-        Some(step)
-    } else {
-        unless(
-            is_accepted(rt, listener, b'a'),
-            "another client is accepted",
-        )
-    }
+    silent_ones_on(rt, listener, &mut streams)
 }
 
-// Returns what is not so of connections on which nothing is said: they last four seconds, and end
-// within ten more.
-fn silence_of(streams: &mut [TcpStream]) -> Missed {
-    if streams.first_mut().map(|stream| is_open_for(stream, 4_000)) != Some(true) {
-        Some("the first is open for four seconds")
-    } else {
-        let are_ended = streams
-            .iter_mut()
-            .all(|stream| !is_open_for(stream, 10_000));
-        unless(are_ended, "all are ended ten seconds later")
-    }
-}
-
-// Says whether a stream is opened, and joins these.
-fn opens<R>(rt: &R, listener: Option<&Listener>, streams: &mut Vec<TcpStream>) -> bool
+// Returns what is not so of silent clients that have these streams.
+fn silent_ones_on<R>(
+    rt: &R,
+    listener: Option<&Listener>,
+    streams: &mut Vec<TcpStream>,
+) -> Result<(), Missed>
 where
     R: Net<Stream = TcpStream>,
 {
-    match open(rt, listener) {
-        Some(stream) => streams.push(stream).is_ok(),
-        None => false,
+    named(
+        open_sixty(rt, listener, streams),
+        "sixty connections are opened",
+    )?;
+    named(turn_away(rt, listener), "the sixty-first is closed")?;
+    named(
+        stay_open(streams.first_mut()),
+        "the first is open for four seconds",
+    )?;
+    named(
+        end_all(streams.as_mut_slice()),
+        "all are ended ten seconds later",
+    )?;
+    named(
+        come_and_go(rt, listener, b'a'),
+        "another client is accepted",
+    )
+}
+
+// Nothing comes on this stream for four seconds, and it stays open.
+fn stay_open(stream: Option<&mut TcpStream>) -> Result<(), Came> {
+    match stream {
+        Some(stream) => hear_nothing_for(stream, 4_000),
+        None => Err(Came::nothing(StreamState::Unopened)),
     }
+}
+
+// Each of these streams is ended within ten seconds.
+fn end_all(streams: &mut [TcpStream]) -> Result<(), Came> {
+    for stream in streams.iter_mut() {
+        hear_end_within(stream, 10_000)?;
+    }
+    Ok(())
+}
+
+// Sixty streams are opened, and join these.
+fn open_sixty<R>(
+    rt: &R,
+    listener: Option<&Listener>,
+    streams: &mut Vec<TcpStream>,
+) -> Result<(), Came>
+where
+    R: Net<Stream = TcpStream>,
+{
+    for _ in 0..60u8 {
+        keep(open(rt, listener)?, streams)?;
+    }
+    Ok(())
 }
 
 /// 200 clients that come one after another, each once the one before has left, are all accepted.
 /// Returns what of that is not so.
-pub(super) fn coming_and_going<R>(rt: &R, listener: Option<&Listener>) -> Missed
+pub(super) fn coming_and_going<R>(rt: &R, listener: Option<&Listener>) -> Result<(), Missed>
 where
     R: Net<Stream = TcpStream>,
 {
-    let are_accepted = (0..200u8).all(|count| is_accepted(rt, listener, b'a' + count % 26));
-    unless(are_accepted, "each of them is accepted")
+    named(
+        come_and_go_by_turns(rt, listener),
+        "each of them is accepted",
+    )
 }
 
-// Says whether the client of this letter, which wants no session, is accepted. Then it leaves.
-fn is_accepted<R>(rt: &R, listener: Option<&Listener>, letter: u8) -> bool
+// 200 clients are accepted, one after another.
+fn come_and_go_by_turns<R>(rt: &R, listener: Option<&Listener>) -> Result<(), Came>
 where
     R: Net<Stream = TcpStream>,
 {
-    match open(rt, listener) {
-        Some(mut stream) => is_answered(&mut stream, &connect(letter, true), &[0x20, 2, 0, 0]),
-        None => false,
+    for count in 0..200u8 {
+        come_and_go(rt, listener, b'a' + count % 26)?;
     }
+    Ok(())
+}
+
+// The client of this letter, which wants no session, is accepted. Then it leaves.
+fn come_and_go<R>(rt: &R, listener: Option<&Listener>, letter: u8) -> Result<(), Came>
+where
+    R: Net<Stream = TcpStream>,
+{
+    let mut stream = open(rt, listener)?;
+    exchange(&mut stream, &connect(letter, true), &[0x20, 2, 0, 0])
 }
 
 /// A subscriber gets 50 MB while another one has the same subscription and never reads. Returns
 /// what of that is not so.
-pub(super) fn never_reading<R>(rt: &R, listener: Option<&Listener>) -> Missed
+pub(super) fn never_reading<R>(rt: &R, listener: Option<&Listener>) -> Result<(), Missed>
 where
     R: AllocGlobal + Net<Stream = TcpStream>,
 {
-    match join(rt, listener, b'd', false) {
-        Some(mut deaf) => {
-            if is_answered(&mut deaf, &SUBSCRIBE, &SUBSCRIBED) {
-                hearing(rt, listener)
-            } else {
-                Some("the client that never reads subscribes")
-            }
-        }
-        None => Some("the client that never reads is accepted"),
-    }
+    let mut deaf = named(
+        join(rt, listener, b'd', false),
+        "the client that never reads is accepted",
+    )?;
+    hearing_beside(rt, listener, &mut deaf)
 }
 
-// A subscriber gets 50 MB.
-fn hearing<R>(rt: &R, listener: Option<&Listener>) -> Missed
+// Returns what is not so of a subscriber that gets 50 MB, while this one never reads.
+fn hearing_beside<R>(
+    rt: &R,
+    listener: Option<&Listener>,
+    deaf: &mut TcpStream,
+) -> Result<(), Missed>
 where
     R: AllocGlobal + Net<Stream = TcpStream>,
 {
-    match Pair::join(rt, listener, false) {
-        Some(mut pair) => hearing_by(rt.alloc(), &mut pair),
-        None => Some("a subscriber and a publisher are accepted"),
-    }
+    named(
+        exchange(deaf, &SUBSCRIBE, &SUBSCRIBED),
+        "the client that never reads subscribes",
+    )?;
+    let mut pair = named(
+        Pair::join(rt, listener, false),
+        "a subscriber and a publisher are accepted",
+    )?;
+    hearing_by(rt.alloc(), &mut pair)
 }
 
 // Returns what is not so of fifty publications of 1 MB between these two.
-fn hearing_by(alloc: Global, pair: &mut Pair) -> Missed {
-    if pair.subscribes() {
-        unless(
-            are_fifty_heard(alloc, pair),
+fn hearing_by(alloc: Global, pair: &mut Pair) -> Result<(), Missed> {
+    named(pair.subscribe(), "the subscriber subscribes")?;
+    match Large::new(alloc) {
+        Ok(mut large) => named(
+            pass_fifty(&mut large, pair),
             "each publication of 1 MB comes as it was sent",
-        )
-    } else {
-        Some("the subscriber subscribes")
+        ),
+        Err(_) => Err(Missed::new("there is memory for a publication")),
     }
 }
 
-// Says whether each of fifty comes to the subscriber as it was sent.
-fn are_fifty_heard(alloc: Global, pair: &mut Pair) -> bool {
-    match Large::new(alloc) {
-        Ok(mut large) => (0..50).all(|count| large.passes(pair, count)),
-        Err(_) => false,
+// Each of fifty comes to the subscriber as it was sent.
+fn pass_fifty(large: &mut Large, pair: &mut Pair) -> Result<(), Came> {
+    for count in 0..50u8 {
+        large.pass(pair, count)?;
     }
+    Ok(())
 }
 
 /// A subscriber with keep alive 10 that never reads, and says nothing more, keeps its connection
 /// for a while, and then loses it to another client. Returns what of that is not so.
-pub(super) fn deaf_one<R>(rt: &R, listener: Option<&Listener>) -> Missed
+pub(super) fn deaf_one<R>(rt: &R, listener: Option<&Listener>) -> Result<(), Missed>
 where
     R: AllocGlobal + Wait + Clock + Net<Stream = TcpStream>,
 {
     let mut streams = Vec::new(rt.alloc());
-    match deaf(rt, listener) {
-        Some(_deaf) => {
-            if !(b'$'..b'^').all(|letter| joins(rt, listener, letter, &mut streams))
-                || !joins(rt, listener, b's', &mut streams)
-            {
-                Some("59 more clients are accepted")
-            } else {
-                room_beside(rt, listener, streams.last_mut())
-            }
-        }
-        None => Some("the client that never reads subscribes"),
+    match named(deaf(rt, listener), "the client that never reads subscribes") {
+        Ok(_deaf) => crowd_beside(rt, listener, &mut streams),
+        Err(missed) => Err(missed),
     }
 }
 
-// Returns what is not so once 60 are there: 20 MB make the silent one lose its connection.
-fn room_beside<R>(rt: &R, listener: Option<&Listener>, speaker: Option<&mut TcpStream>) -> Missed
+// Returns what is not so as 59 more clients, which have these streams, come to one that never
+// reads.
+fn crowd_beside<R>(
+    rt: &R,
+    listener: Option<&Listener>,
+    streams: &mut Vec<TcpStream>,
+) -> Result<(), Missed>
 where
     R: AllocGlobal + Wait + Clock + Net<Stream = TcpStream>,
 {
-    if !are_twenty_sent(rt.alloc(), speaker) {
-        Some("20 MB are published")
-    } else if !is_turned_away(rt, listener) {
-        Some("the sixty-first is closed")
-    } else {
-        unless(
-            is_accepted_in_time(rt, listener),
-            "another client is accepted in thirty seconds",
-        )
-    }
+    named(
+        join_all(rt, listener, b'$'..b'^', streams),
+        "58 more clients are accepted",
+    )?;
+    named(
+        join_all(rt, listener, b's'..b't', streams),
+        "a publisher is accepted",
+    )?;
+    room_beside(rt, listener, streams.last_mut())
+}
+
+// Returns what is not so once 60 are there: 20 MB make the silent one lose its connection.
+fn room_beside<R>(
+    rt: &R,
+    listener: Option<&Listener>,
+    speaker: Option<&mut TcpStream>,
+) -> Result<(), Missed>
+where
+    R: AllocGlobal + Wait + Clock + Net<Stream = TcpStream>,
+{
+    named(publish_twenty(rt.alloc(), speaker), "20 MB are published")?;
+    named(turn_away(rt, listener), "the sixty-first is closed")?;
+    named(
+        come_and_go_in_time(rt, listener),
+        "another client is accepted in thirty seconds",
+    )
 }
 
 // Returns a subscriber with keep alive 10: the others have fifteen seconds to join.
-fn deaf<R>(rt: &R, listener: Option<&Listener>) -> Option<TcpStream>
+fn deaf<R>(rt: &R, listener: Option<&Listener>) -> Result<TcpStream, Came>
 where
     R: Net<Stream = TcpStream>,
 {
     let mut stream = open(rt, listener)?;
     let mut sent = connect(b'd', false);
     sent[11] = 10;
-    let accepted = is_answered(&mut stream, &sent, &[0x20, 2, 0, 0]);
-    if accepted && is_answered(&mut stream, &SUBSCRIBE, &SUBSCRIBED) {
-        Some(stream)
-    } else {
-        None
-    }
+    exchange(&mut stream, &sent, &[0x20, 2, 0, 0])?;
+    exchange(&mut stream, &SUBSCRIBE, &SUBSCRIBED)?;
+    Ok(stream)
 }
 
-// Says whether a client publishes 20 MB, and is answered after that.
-fn are_twenty_sent(alloc: Global, stream: Option<&mut TcpStream>) -> bool {
+// A client publishes 20 MB, and is answered after that.
+fn publish_twenty(alloc: Global, stream: Option<&mut TcpStream>) -> Result<(), Came> {
     match (large_publish(alloc), stream) {
-        (Ok(large), Some(stream)) => {
-            (0..20u8).all(|_| stream.write_all(large.as_slice()).is_ok())
-                && is_answered(stream, &[0xC0, 0], &[0xD0, 0])
-        }
-        _ => false,
+        (Ok(large), Some(stream)) => publish_times(stream, large.as_slice(), 20),
+        _ => Err(Came::nothing(StreamState::Unkept)),
     }
 }
 
-// Says whether client `a` is accepted within thirty seconds.
-fn is_accepted_in_time<R>(rt: &R, listener: Option<&Listener>) -> bool
+// Client `a` is accepted within thirty seconds.
+fn come_and_go_in_time<R>(rt: &R, listener: Option<&Listener>) -> Result<(), Came>
 where
     R: Wait + Clock + Net<Stream = TcpStream>,
 {
     for _ in 0..300 {
-        if is_accepted(rt, listener, b'a') {
-            return true;
+        if come_and_go(rt, listener, b'a').is_ok() {
+            return Ok(());
         }
         thread::sleep(rt, Duration::from_millis(100));
     }
-    false
+    come_and_go(rt, listener, b'a')
 }

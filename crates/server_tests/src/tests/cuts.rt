@@ -1,8 +1,7 @@
 // Nodes that cut their logs, as their reports show.
 
 use server::{Config, Listener, Members, NoGate, NodeReport, serve_gated};
-use server_clients::{Missed, is_answered, join, large_publish, listen_all, unless};
-use std::io::Write;
+use server_clients::{Missed, join, large_publish, listen_all, named, publish_times, unless};
 use std::net::{Net, TcpListener, TcpStream};
 use std::sync::Wait;
 use std::thread;
@@ -56,12 +55,12 @@ const ROWS: &[Row] = &[
 #[test]
 fn logs_are_cut(rt: HostRuntime) {
     for row in ROWS {
-        assert_eq!(rt; missed_with(&rt, row), None, "{}", row.name);
+        assert_eq!(rt; missed_with(&rt, row), Ok(()), "{}", row.name);
     }
 }
 
 // Returns the first step of a row that is not so with nodes of its own.
-fn missed_with<R>(rt: &R, row: &Row) -> Missed
+fn missed_with<R>(rt: &R, row: &Row) -> Result<(), Missed>
 where
     R: AllocGlobal + Threads + Wait + Clock + Sync,
     R: Net<Listener = TcpListener, Stream = TcpStream>,
@@ -70,12 +69,12 @@ where
     if listen_all(rt, row.members, &mut listeners) {
         serve(rt, row, listeners.as_slice())
     } else {
-        Some("a port is free")
+        Err(Missed::new("a port is free"))
     }
 }
 
 // Returns the first step of a row that is not so with the nodes of these listeners.
-fn serve<R>(rt: &R, row: &Row, listeners: &[Listener]) -> Missed
+fn serve<R>(rt: &R, row: &Row, listeners: &[Listener]) -> Result<(), Missed>
 where
     R: AllocGlobal + Threads + Wait + Clock + Sync + Net<Stream = TcpStream>,
 {
@@ -83,7 +82,7 @@ where
         Members::from_slice(rt.alloc(), row.members),
         row.members.first(),
     ) else {
-        return Some("there is memory for a ballot");
+        return Err(Missed::new("there is memory for a ballot"));
     };
     let config = Config {
         members,
@@ -98,27 +97,36 @@ where
         |_cluster| sends(rt, row, listeners.first()),
     );
     match served {
-        Ok((missed, reports)) => missed.or(unless(
+        Ok((sent, reports)) => sent.and(unless(
             are_as_told(reports.as_slice(), row.are_cut),
             "just the logs of these nodes are cut",
         )),
-        Err(_) => Some("the nodes serve"),
+        Err(_) => Err(Missed::new("the nodes serve")),
     }
 }
 
 // Returns the first step that is not so: the publications are sent and taken. Then it waits.
-fn sends<R>(rt: &R, row: &Row, listener: Option<&Listener>) -> Missed
+fn sends<R>(rt: &R, row: &Row, listener: Option<&Listener>) -> Result<(), Missed>
 where
     R: AllocGlobal + Wait + Clock + Net<Stream = TcpStream>,
 {
-    let (Ok(large), Some(mut stream)) = (large_publish(rt.alloc()), join(rt, listener, b's', false))
-    else {
-        return Some("a client comes");
+    let Ok(large) = large_publish(rt.alloc()) else {
+        return Err(Missed::new("there is memory for a publication"));
     };
-    let is_taken = (0..row.publications).all(|_| stream.write_all(large.as_slice()).is_ok())
-        && is_answered(&mut stream, &[0xC0, 0], &[0xD0, 0]);
+    match named(join(rt, listener, b's', false), "a client comes") {
+        Ok(mut stream) => sends_on(rt, row, &mut stream, large.as_slice()),
+        Err(missed) => Err(missed),
+    }
+}
+
+// The same on a stream of the client, with this publication.
+fn sends_on<R>(rt: &R, row: &Row, stream: &mut TcpStream, large: &[u8]) -> Result<(), Missed>
+where
+    R: Wait + Clock,
+{
+    let taken = publish_times(stream, large, row.publications);
     thread::sleep(rt, Duration::from_millis(row.milliseconds));
-    unless(is_taken, "the publications are sent and taken")
+    named(taken, "the publications are sent and taken")
 }
 
 // Says whether the logs of these nodes were cut, and of no others: a log that was cut begins at a

@@ -5,8 +5,8 @@ use super::row::{Row, Table};
 use packet::ClientId;
 use server::{Cluster, Listener};
 use server_clients::{
-    Heard, Missed, Pair, SUBSCRIBE, SUBSCRIBED, is_answered, is_closed, is_delivered, is_silent,
-    join, publish, unless,
+    Came, Heard, Missed, Pair, SUBSCRIBE, SUBSCRIBED, deliver, exchange, hear_end, hear_nothing,
+    join, named, publish, unless,
 };
 use std::net::{Net, TcpStream};
 use std::sync::Wait;
@@ -34,18 +34,23 @@ fn sessions_are_expelled(rt: HostRuntime) {
 /// Client `h` finds no session and nothing of before each time that its session is ended, while it
 /// is connected and while it is away; and another client that is away gets all that was published.
 /// Returns what of that is not so.
-pub(super) fn expelling<R>(rt: &R, cluster: &Cluster, listener: Option<&Listener>) -> Missed
+pub(super) fn expelling<R>(
+    rt: &R,
+    cluster: &Cluster,
+    listener: Option<&Listener>,
+) -> Result<(), Missed>
 where
     R: AllocGlobal + Wait + Clock + Net<Stream = TcpStream>,
 {
-    if leaves_a_queue(rt, listener) {
-        match Pair::join(rt, listener, false) {
-            Some(mut pair) => expelling_of(rt, cluster, listener, &mut pair),
-            None => Some("the subscriber and the publisher are accepted"),
-        }
-    } else {
-        Some("another client subscribes, and goes away")
-    }
+    named(
+        leave_a_queue(rt, listener),
+        "another client subscribes, and goes away",
+    )?;
+    let mut pair = named(
+        Pair::join(rt, listener, false),
+        "the subscriber and the publisher are accepted",
+    )?;
+    expelling_of(rt, cluster, listener, &mut pair)
 }
 
 // Returns what is not so of two Expels of the subscriber of this pair.
@@ -54,78 +59,94 @@ fn expelling_of<R>(
     cluster: &Cluster,
     listener: Option<&Listener>,
     pair: &mut Pair,
-) -> Missed
+) -> Result<(), Missed>
 where
     R: AllocGlobal + Wait + Clock + Net<Stream = TcpStream>,
 {
-    if !is_ended_while_connected(rt, cluster, pair) {
-        Some("the subscriber is closed while it is connected")
-    } else if !is_ended_while_away(rt, cluster, listener, &mut pair.speaker) {
-        Some("it finds no session after an Expel while it was away")
-    } else {
-        unless(
-            is_heard_whole(rt, listener),
-            "the other client gets all that was published",
-        )
-    }
+    end_while_connected(rt, cluster, pair)?;
+    end_while_away(rt, cluster, listener, &mut pair.speaker)?;
+    named(
+        hear_all(rt, listener),
+        "the other client gets all that was published",
+    )
 }
 
-// Says whether client `q` subscribes, and then is away.
-fn leaves_a_queue<R>(rt: &R, listener: Option<&Listener>) -> bool
+// Client `q` subscribes, and then is away.
+fn leave_a_queue<R>(rt: &R, listener: Option<&Listener>) -> Result<(), Came>
 where
     R: Net<Stream = TcpStream>,
 {
-    match join(rt, listener, b'q', false) {
-        Some(mut stream) => is_answered(&mut stream, &SUBSCRIBE, &SUBSCRIBED),
-        None => false,
-    }
+    let mut stream = join(rt, listener, b'q', false)?;
+    exchange(&mut stream, &SUBSCRIBE, &SUBSCRIBED)
 }
 
-// Says whether the subscriber's connection is closed after it was sent `x`, which it has not
-// acknowledged.
-fn is_ended_while_connected<R>(rt: &R, cluster: &Cluster, pair: &mut Pair) -> bool
+// Returns what is not so: the subscriber's connection is closed after it was sent `x`, which it has
+// not acknowledged.
+fn end_while_connected<R>(rt: &R, cluster: &Cluster, pair: &mut Pair) -> Result<(), Missed>
 where
     R: AllocGlobal + Wait + Clock,
 {
-    let mut heard = Heard::new(rt);
-    pair.subscribes()
-        && is_delivered(&mut pair.speaker, publish(0x34, 1, b'x'))
-        && heard.next_answer(&mut pair.hearer).is_some()
-        && is_ordered(rt, cluster)
-        && is_closed(&mut pair.hearer)
-        && is_delivered(&mut pair.speaker, publish(0x34, 2, b'y'))
+    named(begin(rt, pair), "the subscriber is sent what is published")?;
+    unless(is_ordered(rt, cluster), "the first order is taken")?;
+    named(
+        hear_end(&mut pair.hearer),
+        "the subscriber is closed while it is connected",
+    )?;
+    named(
+        deliver(&mut pair.speaker, publish(0x34, 2, b'y')),
+        "the publisher goes on",
+    )
 }
 
-// Says whether the subscriber comes back to a new session, and to another one after an Expel while
-// `z` waits for it.
-fn is_ended_while_away<R>(
+// The subscriber is sent `x`, and does not acknowledge it.
+fn begin<R: AllocGlobal>(rt: &R, pair: &mut Pair) -> Result<(), Came> {
+    let mut heard = Heard::new(rt);
+    begin_by(pair, &mut heard)
+}
+
+// The same of a subscriber that has not accepted anything.
+fn begin_by(pair: &mut Pair, heard: &mut Heard) -> Result<(), Came> {
+    pair.subscribe()?;
+    deliver(&mut pair.speaker, publish(0x34, 1, b'x'))?;
+    heard.next_answer(&mut pair.hearer)?;
+    Ok(())
+}
+
+// Returns what is not so: the subscriber comes back to a new session, and to another one after an
+// Expel while `z` waits for it.
+fn end_while_away<R>(
     rt: &R,
     cluster: &Cluster,
     listener: Option<&Listener>,
     speaker: &mut TcpStream,
-) -> bool
+) -> Result<(), Missed>
 where
     R: AllocGlobal + Wait + Clock + Net<Stream = TcpStream>,
 {
-    begins_anew(rt, listener)
-        && is_delivered(speaker, publish(0x34, 3, b'z'))
-        && is_ordered(rt, cluster)
-        && has_time(rt)
-        && begins_anew(rt, listener)
+    named(
+        begin_anew(rt, listener),
+        "it finds no session after an Expel while it was connected",
+    )?;
+    named(
+        deliver(speaker, publish(0x34, 3, b'z')),
+        "a publication waits for it",
+    )?;
+    unless(is_ordered(rt, cluster), "the second order is taken")?;
+    thread::sleep(rt, Duration::from_millis(500));
+    named(
+        begin_anew(rt, listener),
+        "it finds no session after an Expel while it was away",
+    )
 }
 
-// Says whether the subscriber finds no session and gets nothing, subscribes again, and then is
-// away.
-fn begins_anew<R>(rt: &R, listener: Option<&Listener>) -> bool
+// The subscriber finds no session and gets nothing, subscribes again, and then is away.
+fn begin_anew<R>(rt: &R, listener: Option<&Listener>) -> Result<(), Came>
 where
-    R: Wait + Clock + Net<Stream = TcpStream>,
+    R: Net<Stream = TcpStream>,
 {
-    match join(rt, listener, b'h', false) {
-        Some(mut stream) => {
-            is_silent(&mut stream) && is_answered(&mut stream, &SUBSCRIBE, &SUBSCRIBED)
-        }
-        None => false,
-    }
+    let mut stream = join(rt, listener, b'h', false)?;
+    hear_nothing(&mut stream)?;
+    exchange(&mut stream, &SUBSCRIBE, &SUBSCRIBED)
 }
 
 // Says whether the order to end the subscriber's session is taken.
@@ -139,22 +160,21 @@ where
     }
 }
 
-// Gives the node half a second to obey.
-fn has_time<R: Clock>(rt: &R) -> bool {
-    thread::sleep(rt, Duration::from_millis(500));
-    true
-}
-
-// Says whether client `q` finds its session, and gets all three publications.
-fn is_heard_whole<R>(rt: &R, listener: Option<&Listener>) -> bool
+// Client `q` finds its session, and gets all three publications.
+fn hear_all<R>(rt: &R, listener: Option<&Listener>) -> Result<(), Came>
 where
     R: AllocGlobal + Net<Stream = TcpStream>,
 {
     let mut heard = Heard::new(rt);
-    match join(rt, listener, b'q', true) {
-        Some(mut stream) => {
-            heard.hears(&mut stream, b'z') && heard.payloads.as_slice() == b"xyz".as_slice()
-        }
-        None => false,
-    }
+    hear_all_by(rt, listener, &mut heard)
+}
+
+// The same of a subscriber that has not accepted anything.
+fn hear_all_by<R>(rt: &R, listener: Option<&Listener>, heard: &mut Heard) -> Result<(), Came>
+where
+    R: Net<Stream = TcpStream>,
+{
+    let mut stream = join(rt, listener, b'q', true)?;
+    heard.answer_until(&mut stream, b'z')?;
+    heard.has_accepted(b"xyz")
 }

@@ -11,14 +11,14 @@ use std::time::{Clock, Duration};
 
 /// Returns the name of the first of these tables whose row does not hold, each with nodes of its
 /// own, and the step of it that is not so.
-pub(super) fn fault_in<R>(rt: &R, tables: &[Table]) -> Option<(&'static str, &'static str)>
+pub(super) fn fault_in<R>(rt: &R, tables: &[Table]) -> Option<(&'static str, Missed)>
 where
     R: AllocGlobal + Threads + Wait + Clock + Sync,
     R: Net<Listener = TcpListener, Stream = TcpStream>,
 {
     for table in tables {
-        if let Some(step) = missed_with(rt, table.members, table.row) {
-            return Some((table.name, step));
+        if let Err(missed) = missed_with(rt, table.members, table.row) {
+            return Some((table.name, missed));
         }
     }
     None
@@ -26,7 +26,7 @@ where
 
 /// Returns the first step of a row that is not so with nodes of its own, the members of ballot 1.
 /// Node 1 is the primary.
-pub(super) fn missed_with<R>(rt: &R, members: &[u8], row: Row) -> Missed
+pub(super) fn missed_with<R>(rt: &R, members: &[u8], row: Row) -> Result<(), Missed>
 where
     R: AllocGlobal + Threads + Wait + Clock + Sync,
     R: Net<Listener = TcpListener, Stream = TcpStream>,
@@ -35,27 +35,27 @@ where
     if listen_all(rt, members, &mut listeners) {
         serve(rt, members, listeners.as_slice(), row)
     } else {
-        Some("a port is free")
+        Err(Missed::new("a port is free"))
     }
 }
 
 // Returns the first step of a row that is not so with the nodes of these listeners.
-fn serve<R>(rt: &R, members: &[u8], listeners: &[Listener], row: Row) -> Missed
+fn serve<R>(rt: &R, members: &[u8], listeners: &[Listener], row: Row) -> Result<(), Missed>
 where
     R: AllocGlobal + Threads + Wait + Clock + Sync,
     R: Net<Listener = TcpListener, Stream = TcpStream>,
 {
     let Ok(config) = opening(rt.alloc(), members) else {
-        return Some("there is memory for a ballot");
+        return Err(Missed::new("there is memory for a ballot"));
     };
-    let missed = serve_while(
+    let served = serve_while(
         rt,
         rt.alloc(),
         listeners,
         &config,
         |cluster| missed_step(rt, cluster, listeners, row),
     );
-    missed.unwrap_or(Some("the nodes serve"))
+    served.unwrap_or(Err(Missed::new("the nodes serve")))
 }
 
 /// Says whether the next ballot is given to these members, and their primary becomes the active

@@ -5,7 +5,7 @@ use super::crowds::{coming_and_going, deaf_one, never_reading, silent_ones, sixt
 use super::expulsions::expelling;
 use super::takeovers::{moving, taking_over};
 use server::{Cluster, Listener};
-use server_clients::{Missed, unless, visits};
+use server_clients::{Missed, named, visit};
 use std::net::{Net, TcpStream};
 use std::sync::Wait;
 use std::time::Clock;
@@ -45,13 +45,18 @@ pub(super) struct Table {
 }
 
 /// Returns the first step of a row that is not so with the nodes of these listeners, in words.
-pub(super) fn missed_step<R>(rt: &R, cluster: &Cluster, listeners: &[Listener], row: Row) -> Missed
+pub(super) fn missed_step<R>(
+    rt: &R,
+    cluster: &Cluster,
+    listeners: &[Listener],
+    row: Row,
+) -> Result<(), Missed>
 where
     R: AllocGlobal + Wait + Clock + Net<Stream = TcpStream>,
 {
     let first = listeners.first();
     match row {
-        Row::Visits => unless(visits(rt, first), "all that it sends is answered"),
+        Row::Visits => named(visit(rt, first), "all that it sends is answered"),
         Row::Silence => silence(rt, first),
         Row::Flood => flooding(rt, first),
         Row::Sixty => sixty(rt, first),

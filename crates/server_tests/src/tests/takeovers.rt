@@ -4,10 +4,9 @@ use super::nodes::{fault_in, moves_to};
 use super::row::{Row, Table};
 use server::{Cluster, Listener};
 use server_clients::{
-    Heard, Missed, Pair, connect, fills, is_answered, is_delivered, is_silent, open, publish,
-    unless, visits,
+    Came, Heard, Missed, Pair, connect, deliver, exchange, hear_nothing, named, open, publish,
+    send, unless, visit,
 };
-use std::io::Write;
 use std::net::{Net, TcpStream};
 use std::sync::Wait;
 use std::time::Clock;
@@ -36,97 +35,126 @@ const FOUND: [u8; 14] = [0x20, 2, 1, 0, 0x3C, 8, 0, 3, 0x74, 0x2F, 0x31, 0, 1, 0
 /// Client `a`, which has not finished a handshake with node 1 when ballot 2 with node 2 as sole
 /// member is given, finds its session at node 2, and is sent the publication again. Returns what of
 /// that is not so.
-pub(super) fn moving<R>(rt: &R, cluster: &Cluster, listeners: &[Listener]) -> Missed
+pub(super) fn moving<R>(rt: &R, cluster: &Cluster, listeners: &[Listener]) -> Result<(), Missed>
 where
     R: AllocGlobal + Wait + Clock + Net<Stream = TcpStream>,
 {
-    if !visits(rt, listeners.first()) {
-        Some("all that the client sends node 1 is answered")
-    } else if !moves_to(rt, cluster, &[2], 2) {
-        Some("node 2 becomes the active primary")
-    } else if cluster.crash(rt, 1) != Ok(true) {
-        Some("node 1 crashes")
-    } else {
-        unless(
-            finds(rt, listeners.get(1)),
-            "the client finds its session at node 2",
-        )
-    }
+    named(
+        visit(rt, listeners.first()),
+        "all that the client sends node 1 is answered",
+    )?;
+    unless(
+        moves_to(rt, cluster, &[2], 2),
+        "node 2 becomes the active primary",
+    )?;
+    unless(cluster.crash(rt, 1) == Ok(true), "node 1 crashes")?;
+    named(
+        find(rt, listeners.get(1)),
+        "the client finds its session at node 2",
+    )
 }
 
-// Says whether client `a` is sent what it had not acknowledged, with its session present.
-fn finds<R>(rt: &R, listener: Option<&Listener>) -> bool
+// Client `a` is sent what it had not acknowledged, with its session present.
+fn find<R>(rt: &R, listener: Option<&Listener>) -> Result<(), Came>
 where
     R: Net<Stream = TcpStream>,
 {
-    let mut buffer = [0; 14];
-    match open(rt, listener) {
-        Some(mut stream) => {
-            fills(&mut stream, &connect(b'a', false), &mut buffer) && buffer == FOUND
-        }
-        None => false,
-    }
+    let mut stream = open(rt, listener)?;
+    exchange(&mut stream, &connect(b'a', false), &FOUND)
 }
 
 /// The subscriber gets each of four publications once, in order, if node 1 crashes between them and
 /// node 2 takes over. Returns what of that is not so.
-pub(super) fn taking_over<R>(rt: &R, cluster: &Cluster, listeners: &[Listener]) -> Missed
+pub(super) fn taking_over<R>(
+    rt: &R,
+    cluster: &Cluster,
+    listeners: &[Listener],
+) -> Result<(), Missed>
 where
     R: AllocGlobal + Wait + Clock + Net<Stream = TcpStream>,
 {
     let mut heard = Heard::new(rt);
-    if !begins(rt, cluster, listeners.first(), &mut heard) {
-        Some("three handshakes begin at node 1, and it crashes")
-    } else if !moves_to(rt, cluster, &[2, 3], 2) {
-        Some("node 2 becomes the active primary")
-    } else if !goes_on(rt, listeners.get(1), &mut heard) {
-        Some("the handshakes end at node 2")
-    } else {
-        let is_whole = heard.payloads.as_slice() == b"xyz!".as_slice();
-        unless(is_whole, "each publication comes once, in order")
-    }
+    taking_over_by(rt, cluster, listeners, &mut heard)
 }
 
-// Says whether two clients begin at node 1, which then crashes.
-fn begins<R>(rt: &R, cluster: &Cluster, listener: Option<&Listener>, heard: &mut Heard) -> bool
+// The same of a subscriber that has not accepted anything.
+fn taking_over_by<R>(
+    rt: &R,
+    cluster: &Cluster,
+    listeners: &[Listener],
+    heard: &mut Heard,
+) -> Result<(), Missed>
+where
+    R: AllocGlobal + Wait + Clock + Net<Stream = TcpStream>,
+{
+    begin(rt, cluster, listeners.first(), heard)?;
+    unless(
+        moves_to(rt, cluster, &[2, 3], 2),
+        "node 2 becomes the active primary",
+    )?;
+    named(
+        end(rt, listeners.get(1), heard),
+        "the handshakes end at node 2",
+    )?;
+    named(
+        heard.has_accepted(b"xyz!"),
+        "each publication comes once, in order",
+    )
+}
+
+// Two clients begin at node 1, which then crashes.
+fn begin<R>(
+    rt: &R,
+    cluster: &Cluster,
+    listener: Option<&Listener>,
+    heard: &mut Heard,
+) -> Result<(), Missed>
 where
     R: Wait + Clock + Net<Stream = TcpStream>,
 {
-    match Pair::join(rt, listener, false) {
-        Some(mut pair) => is_begun(&mut pair, heard) && cluster.crash(rt, 1) == Ok(true),
-        None => false,
-    }
+    let mut pair = named(
+        Pair::join(rt, listener, false),
+        "two clients are accepted by node 1",
+    )?;
+    begin_by(rt, cluster, &mut pair, heard)
+}
+
+// The same of these two.
+fn begin_by<R>(rt: &R, cluster: &Cluster, pair: &mut Pair, heard: &mut Heard) -> Result<(), Missed>
+where
+    R: Wait + Clock,
+{
+    named(begin_three(pair, heard), "three handshakes begin at node 1")?;
+    unless(cluster.crash(rt, 1) == Ok(true), "node 1 crashes")
 }
 
 // Of `x` the publisher's handshake is done and the subscriber's lacks the PUBCOMP; of `y` the
 // publisher has the PUBREC and the subscriber the PUBLISH; of `z` it is not known whether the
 // PUBLISH came.
-fn is_begun(pair: &mut Pair, heard: &mut Heard) -> bool {
-    pair.subscribes()
-        && is_delivered(&mut pair.speaker, publish(0x34, 1, b'x'))
-        && heard.answers(&mut pair.hearer)
-        && heard.next_answer(&mut pair.hearer).is_some()
-        && is_answered(&mut pair.speaker, &publish(0x34, 2, b'y'), &[0x50, 2, 0, 2])
-        && heard.next_answer(&mut pair.hearer).is_some()
-        && pair.speaker.write_all(&publish(0x34, 3, b'z')).is_ok()
+fn begin_three(pair: &mut Pair, heard: &mut Heard) -> Result<(), Came> {
+    pair.subscribe()?;
+    deliver(&mut pair.speaker, publish(0x34, 1, b'x'))?;
+    heard.answer(&mut pair.hearer)?;
+    heard.next_answer(&mut pair.hearer)?;
+    exchange(&mut pair.speaker, &publish(0x34, 2, b'y'), &[0x50, 2, 0, 2])?;
+    heard.next_answer(&mut pair.hearer)?;
+    send(&mut pair.speaker, &publish(0x34, 3, b'z'))
 }
 
-// Says whether both find their sessions at another node, and end there what they began.
-fn goes_on<R>(rt: &R, listener: Option<&Listener>, heard: &mut Heard) -> bool
+// Both find their sessions at another node, and end there what they began.
+fn end<R>(rt: &R, listener: Option<&Listener>, heard: &mut Heard) -> Result<(), Came>
 where
     R: Net<Stream = TcpStream>,
 {
-    match Pair::join(rt, listener, true) {
-        Some(mut pair) => is_ended(&mut pair, heard),
-        None => false,
-    }
+    let mut pair = Pair::join(rt, listener, true)?;
+    end_by(&mut pair, heard)
 }
 
 // By DUP or PUBREL (MQTT 4.4), and a last publication.
-fn is_ended(pair: &mut Pair, heard: &mut Heard) -> bool {
-    is_answered(&mut pair.speaker, &[0x62, 2, 0, 2], &[0x70, 2, 0, 2])
-        && is_delivered(&mut pair.speaker, publish(0x3C, 3, b'z'))
-        && is_delivered(&mut pair.speaker, publish(0x34, 4, b'!'))
-        && heard.hears(&mut pair.hearer, b'!')
-        && is_silent(&mut pair.hearer)
+fn end_by(pair: &mut Pair, heard: &mut Heard) -> Result<(), Came> {
+    exchange(&mut pair.speaker, &[0x62, 2, 0, 2], &[0x70, 2, 0, 2])?;
+    deliver(&mut pair.speaker, publish(0x3C, 3, b'z'))?;
+    deliver(&mut pair.speaker, publish(0x34, 4, b'!'))?;
+    heard.answer_until(&mut pair.hearer, b'!')?;
+    hear_nothing(&mut pair.hearer)
 }
