@@ -10,8 +10,7 @@ use server_clients::{
 };
 use std::net::{Net, TcpStream};
 use std::sync::Wait;
-use std::thread;
-use std::time::{Clock, Duration};
+use std::time::Clock;
 
 const TABLES: &[Table] = &[
     Table {
@@ -87,7 +86,7 @@ where
     R: AllocGlobal + Wait + Clock,
 {
     named(begin(rt, pair), "the subscriber is sent what is published")?;
-    unless(is_ordered(rt, cluster), "the first order is taken")?;
+    unless(is_ordered(rt, cluster, "h"), "the first order is taken")?;
     named(
         hear_end(&mut pair.hearer),
         "the subscriber is closed while it is connected",
@@ -131,8 +130,8 @@ where
         deliver(speaker, publish(0x34, 3, b'z')),
         "a publication waits for it",
     )?;
-    unless(is_ordered(rt, cluster), "the second order is taken")?;
-    thread::sleep(rt, Duration::from_millis(500));
+    unless(is_ordered(rt, cluster, "h"), "the second order is taken")?;
+    await_orders(rt, cluster, listener)?;
     named(
         begin_anew(rt, listener),
         "it finds no session after an Expel while it was away",
@@ -149,15 +148,38 @@ where
     exchange(&mut stream, &SUBSCRIBE, &SUBSCRIBED)
 }
 
-// Says whether the order to end the subscriber's session is taken.
-fn is_ordered<R>(rt: &R, cluster: &Cluster) -> bool
+// Says whether the order to end the session of a client is taken.
+fn is_ordered<R>(rt: &R, cluster: &Cluster, name: &str) -> bool
 where
     R: AllocGlobal + Wait + Clock,
 {
-    match ClientId::new(rt.alloc(), "h") {
+    match ClientId::new(rt.alloc(), name) {
         Ok(client) => cluster.expel(rt, &client) == Ok(true),
         Err(_) => false,
     }
+}
+
+// Waits until the orders that were taken are obeyed. Returns what is not so of one more client,
+// which is expelled after them: a node obeys its orders in turn, so they are obeyed once this
+// client is closed.
+fn await_orders<R>(rt: &R, cluster: &Cluster, listener: Option<&Listener>) -> Result<(), Missed>
+where
+    R: AllocGlobal + Wait + Clock + Net<Stream = TcpStream>,
+{
+    let mut last = named(
+        join(rt, listener, b'l', false),
+        "one more client is accepted",
+    )?;
+    await_end(rt, cluster, &mut last)
+}
+
+// Returns what is not so: client `l` is expelled, and closed.
+fn await_end<R>(rt: &R, cluster: &Cluster, last: &mut TcpStream) -> Result<(), Missed>
+where
+    R: AllocGlobal + Wait + Clock,
+{
+    unless(is_ordered(rt, cluster, "l"), "the last order is taken")?;
+    named(hear_end(last), "the client of the last order is closed")
 }
 
 // Client `q` finds its session, and gets all three publications.
