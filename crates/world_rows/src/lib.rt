@@ -2,11 +2,12 @@
 //! are tables of such rows.
 #![tactic(auto)]
 
+mod fault;
 mod row;
 
+pub use fault::{Came, Fault, UNOPENED, fault_after, fault_at, fault_in};
 pub use row::{
-    ABSENT, Action, CONNECT_A, CONNECT_B, Came, Fault, NOTHING, PRESENT, PRESENT_AND_PUBLISH,
-    PUBLISH, PUBLISH_AGAIN, PUBREC, PUBREL, Row, Said, Table, UNOPENED, came, does, fault_at,
-    fault_in, is_right, named, opened,
+    ABSENT, Action, CONNECT_A, CONNECT_B, NOTHING, PRESENT, PRESENT_AND_PUBLISH, PUBLISH,
+    PUBLISH_AGAIN, PUBREC, PUBREL, Row, Said, Table, does, is_right, named, opened,
 };
 pub use world::{Command, EscapeError, Event, World};

@@ -41,6 +41,7 @@ pub const PUBREL: &[u8] = b"\x62\x02\x00\x01";
 pub const NOTHING: &[u8] = b"";
 
 /// What happens.
+#[derive(Clone, Copy, Debug, PartialEq, Eq)]
 pub enum Action {
     Assign(&'static [u8], u8),
     Deliver(u64),
@@ -66,6 +67,7 @@ pub enum Action {
 }
 
 /// What a command of the agreed list is.
+#[derive(Clone, Copy, Debug, PartialEq, Eq)]
 pub enum Said {
     /// The CONNECT of a client.
     Connect(&'static str),
@@ -84,6 +86,7 @@ pub enum Said {
 /// this a Join to each member before, who answers State. It sends an Install to each other member
 /// of its own, who answers Installed, and then Activate to the master. The master answers
 /// Activated, and the command that starts the ballot follows; or Superseded, if a later one waits.
+#[derive(Clone, Copy, Debug, PartialEq, Eq)]
 pub enum Row {
     /// This happens. Then this many messages were sent in all, and this many commands are agreed.
     Does(Action, u64, u64),
@@ -130,100 +133,6 @@ fn config_of(alloc: Global, members: &[u8], primary: u8) -> Option<Config> {
     })
 }
 
-/// How many bytes wait or publications are accepted, the last session, the first sixteen bytes.
-pub type Came = (usize, u64, [u8; 16]);
-
-/// A row that does not hold, and what the world shows then.
-#[derive(Clone, Copy, Debug, PartialEq, Eq)]
-pub struct Fault {
-    /// The index of the row, the one after the last if a step ran out of memory.
-    pub row: usize,
-    /// How many messages were sent, how many commands are agreed, and which ballot is active.
-    pub messages: u64,
-    pub agreed: u64,
-    pub ballot: u64,
-    /// What came in place of what the row says.
-    pub came: Came,
-}
-
-/// What is told of a table whose world does not open.
-pub const UNOPENED: Fault = Fault {
-    row: 0,
-    messages: 0,
-    agreed: 0,
-    ballot: 0,
-    came: (0, 0, [0; 16]),
-};
-
-/// Returns the first of these tables that has a row which does not hold, and the first such row.
-pub fn fault_in(alloc: Global, tables: &[Table]) -> Option<(&'static str, Fault)> {
-    for (name, nodes, members, rows) in tables {
-        if let Some(fault) = fault_of(alloc, *nodes, members, rows) {
-            return Some((*name, fault));
-        }
-    }
-    None
-}
-
-// Returns the first row of a table that does not hold.
-fn fault_of(alloc: Global, nodes: u8, members: &[u8], rows: &[Row]) -> Option<Fault> {
-    match opened(alloc, nodes, members) {
-        Some(mut world) => {
-            let fault = first_fault(alloc, &mut world, rows);
-            drop(world);
-            fault
-        }
-        None => Some(UNOPENED),
-    }
-}
-
-// Returns the first row that does not hold for this world.
-fn first_fault(alloc: Global, world: &mut World, rows: &[Row]) -> Option<Fault> {
-    for (at, row) in rows.iter().enumerate() {
-        if !is_right(alloc, world, row) {
-            return Some(fault_at(world, at, came(alloc, world, row)));
-        }
-    }
-    if world.losses() == 0 {
-        None
-    } else {
-        Some(fault_at(world, rows.len(), UNOPENED.came))
-    }
-}
-
-/// Returns what this world shows at a row.
-pub fn fault_at(world: &World, row: usize, came: Came) -> Fault {
-    Fault {
-        row,
-        messages: world.messages(),
-        agreed: world.agreed_len(),
-        ballot: world.active().0,
-        came,
-    }
-}
-
-/// Returns what a world shows of what a row says.
-pub fn came(alloc: Global, world: &World, row: &Row) -> Came {
-    match row {
-        Row::HasUp(connection, _) => waiting(world.up(*connection)),
-        Row::HasDown(connection, _) => waiting(world.down(*connection)),
-        Row::Took(client, _, _) => {
-            let (count, session) = accepted(alloc, world, client).unwrap_or((0, 0));
-            (count, session, [0; 16])
-        }
-        _ => (0, 0, [0; 16]),
-    }
-}
-
-// Returns how many bytes wait, and the first of them.
-fn waiting(bytes: &[u8]) -> Came {
-    let mut first = [0; 16];
-    for (to, byte) in first.iter_mut().zip(bytes) {
-        *to = *byte;
-    }
-    (bytes.len(), 0, first)
-}
-
 /// Says whether a row holds for a world.
 pub fn is_right(alloc: Global, world: &mut World, row: &Row) -> bool {
     match row {
@@ -268,8 +177,8 @@ fn are_said(commands: &[Command], list: &[Said]) -> bool {
     commands.len() == list.len()
 }
 
-// Says whether a command is this one.
-fn is_said(command: &Command, said: &Said) -> bool {
+/// Says whether a command is this one.
+pub(crate) fn is_said(command: &Command, said: &Said) -> bool {
     match (command, said) {
         (Command::Connect(_, client, false), Said::Connect(name)) => client.as_str() == *name,
         (Command::Packet(_, _), Said::Packet) => true,
@@ -341,8 +250,8 @@ fn publication(alloc: Global) -> Option<Publication> {
     })
 }
 
-// Returns how many publications a client accepted, and the session of the last, or 0.
-fn accepted(alloc: Global, world: &World, client: &str) -> Option<(usize, u64)> {
+/// Returns how many publications a client accepted, and the session of the last, or 0.
+pub(crate) fn accepted(alloc: Global, world: &World, client: &str) -> Option<(usize, u64)> {
     let name = named(alloc, client)?;
     let accepted = world.client(&name)?.accepted();
     let session = accepted.last().map(|last| last.session).unwrap_or(0);

@@ -3,7 +3,7 @@
 use crate::tests::crashes::CRASHED;
 use crate::tests::stale::STALE;
 use std::alloc::Global;
-use world_rows::{Event, Row, World, is_right, opened};
+use world_rows::{Event, Fault, Row, UNOPENED, World, fault_after, fault_at, is_right, opened};
 
 // Cuts a node's log, if it has something to cut; then it has nothing more to cut.
 fn is_cut_once(world: &mut World, node: u8) -> bool {
@@ -14,37 +14,54 @@ fn is_cut_once(world: &mut World, node: u8) -> bool {
     is_idle
 }
 
-// Says whether each row holds if a node cuts its log after the row at this index, or after each row
-// for the index after the last one.
-fn all_hold(alloc: Global, world: &mut World, rows: &[Row], at: usize, node: u8) -> bool {
+// What is not so, and what the world shows then.
+type Changed = (&'static str, Fault);
+
+// Returns the first row that does not hold if a node cuts its log after the row at this index, or
+// after each row for the index after the last one.
+fn first_changed(
+    alloc: Global,
+    world: &mut World,
+    rows: &'static [Row],
+    at: usize,
+    node: u8,
+) -> Option<Changed> {
     for (index, row) in rows.iter().enumerate() {
         if !is_right(alloc, world, row) {
-            return false;
+            return Some(("the row holds", fault_at(alloc, world, index, row)));
         }
         if (at == index || at == rows.len()) && !is_cut_once(world, node) {
-            return false;
+            return Some(("a second cut is idle", fault_at(alloc, world, index, row)));
         }
     }
-    world.losses() == 0
+    match fault_after(world, rows.len()) {
+        Some(fault) => Some(("there is memory", fault)),
+        None => None,
+    }
 }
 
-// Says whether the rows hold for a fresh world with a cut of this node at an index.
-fn hold_from_the_opening(alloc: Global, rows: &[Row], at: usize, node: u8) -> bool {
+// The same for a fresh world.
+fn changed_from_the_opening(
+    alloc: Global,
+    rows: &'static [Row],
+    at: usize,
+    node: u8,
+) -> Option<Changed> {
     match opened(alloc, 2, &[1, 2]) {
         Some(mut world) => {
-            let hold = all_hold(alloc, &mut world, rows, at, node);
+            let changed = first_changed(alloc, &mut world, rows, at, node);
             drop(world);
-            hold
+            changed
         }
-        None => false,
+        None => Some(("a world opens", UNOPENED)),
     }
 }
 
-// Returns the first index after which a cut of a node changes what a row says.
-fn changed_by(alloc: Global, rows: &[Row], node: u8) -> Option<usize> {
+// Returns the first index after which a cut of a node changes what a row says, and what is not so.
+fn changed_by(alloc: Global, rows: &'static [Row], node: u8) -> Option<(usize, Changed)> {
     for at in 0..rows.len().saturating_add(1) {
-        if !hold_from_the_opening(alloc, rows, at, node) {
-            return Some(at);
+        if let Some(changed) = changed_from_the_opening(alloc, rows, at, node) {
+            return Some((at, changed));
         }
     }
     None

@@ -2,7 +2,7 @@
 
 use std::alloc::Global;
 use world_rows::{
-    Action, Fault, NOTHING, PRESENT_AND_PUBLISH, PUBREC, Row, Said, Table, UNOPENED, World, came,
+    Action, Fault, NOTHING, PRESENT_AND_PUBLISH, PUBREC, Row, Said, Table, UNOPENED, World,
     fault_at, fault_in, is_right, opened,
 };
 
@@ -90,12 +90,10 @@ fn is_free_of_pubrel(world: &World) -> bool {
 fn first_pubrel(alloc: Global, world: &mut World) -> Option<(&'static str, Fault)> {
     for (at, row) in STALE.iter().enumerate() {
         if !is_right(alloc, world, row) {
-            let came = came(alloc, world, row);
-            return Some(("the row does not hold", fault_at(world, at, came)));
+            return Some(("the row does not hold", fault_at(alloc, world, at, row)));
         }
         if !is_free_of_pubrel(world) {
-            let came = came(alloc, world, row);
-            return Some(("a PUBREL waits", fault_at(world, at, came)));
+            return Some(("a PUBREL waits", fault_at(alloc, world, at, row)));
         }
     }
     None
