@@ -24,85 +24,117 @@ const LISTS: &[&[u8]] = &[
 
 const CLIENTS: &[&str] = &["a", "b", "z"];
 
-// Says whether a way out of the world after this many rows is returned, if there is one, and leads
-// to its end, and `Idle` is returned otherwise. Here and below a world is lent by the one function
-// that makes it, and goes by a call of `drop`, which is proved once.
-fn is_told(alloc: Global, course: &Course, count: usize, members: &[u8], client: &str) -> bool {
+// Returns what is not so of the way out of the world after this many rows. It is returned, if there
+// is one, and leads to its end, and `Idle` is returned otherwise. Here and below a world is lent by
+// the one function that makes it, and goes by a call of `drop`, which is proved once.
+fn missed_of(
+    alloc: Global,
+    course: &Course,
+    count: usize,
+    members: &[u8],
+    client: &str,
+) -> Option<&'static str> {
     match begun(alloc, course) {
         Some(mut world) => {
-            let is_told = is_told_in(alloc, &mut world, course, count, members, client);
+            let missed = missed_in(alloc, &mut world, course, count, members, client);
             drop(world);
-            is_told
+            missed
         }
-        None => false,
+        None => Some("a world opens"),
     }
 }
 
 // The same in a world in which nothing happened.
-fn is_told_in(
+fn missed_in(
     alloc: Global,
     world: &mut World,
     course: &Course,
     count: usize,
     members: &[u8],
     client: &str,
-) -> bool {
+) -> Option<&'static str> {
     let rows = course.rows.get(..count).unwrap_or(&[]);
     if !all_hold(alloc, world, rows) {
-        return false;
+        return Some("the rows hold");
     }
     let Some(name) = named(alloc, client) else {
-        return false;
+        return Some("there is memory for a name");
     };
     let may = may_lead(course, rows, members) && is_kept(course, count, client);
     match world.escape(members, &name) {
         Ok(way) => {
-            let most = members.len().saturating_mul(6).saturating_add(5);
-            may && way.len() <= most && leads(alloc, course, rows, world, way.as_slice(), &name)
+            if !may {
+                Some("there is no way out")
+            } else if way.len() > members.len().saturating_mul(6).saturating_add(5) {
+                Some("the way has at most 6 events for each member, and 5")
+            } else {
+                missed_by(alloc, course, rows, world, way.as_slice(), &name)
+            }
         }
-        Err(error) => error == EscapeError::Idle && !may,
+        Err(error) => missed_without(error, may),
     }
 }
 
-// Says whether a way out leads to its end in one more world, after these rows of its course. The
-// other world is there before the way out.
-fn leads(
+// Returns what is not so if no way out is returned.
+fn missed_without(error: EscapeError, may: bool) -> Option<&'static str> {
+    if may {
+        Some("there is a way out")
+    } else if error == EscapeError::Idle {
+        None
+    } else {
+        Some("there is memory for a way out")
+    }
+}
+
+// Returns what is not so of a way out in one more world, after these rows of its course. The other
+// world is there before the way out.
+fn missed_by(
     alloc: Global,
     course: &Course,
     rows: &[Row],
     before: &World,
     way: &[Event],
     client: &ClientId,
-) -> bool {
+) -> Option<&'static str> {
     let ballot = last_ballot(rows).saturating_add(1);
     match begun(alloc, course) {
         Some(mut world) => {
-            let leads = all_hold(alloc, &mut world, rows)
-                && comes_out(before, &mut world, way, ballot, client);
+            let missed = if all_hold(alloc, &mut world, rows) {
+                missed_at_end(before, &mut world, way, ballot, client)
+            } else {
+                Some("the rows hold once more")
+            };
             drop(world);
-            leads
+            missed
         }
-        None => false,
+        None => Some("one more world opens"),
     }
 }
 
-// Says whether each of the events happens, and they end as they are to.
-fn comes_out(
+// Returns what is not so: each of the events happens, and they end as they are to.
+fn missed_at_end(
     before: &World,
     world: &mut World,
     way: &[Event],
     ballot: u64,
     client: &ClientId,
-) -> bool {
+) -> Option<&'static str> {
     for event in way {
         if world.step(event).is_err() {
-            return false;
+            return Some("each event of the way happens");
         }
     }
-    world.losses() == 0
-        && world.active().0 == ballot
-        && begins(before, world)
-        && is_served(world, client)
+    if world.losses() > 0 {
+        Some("there is memory for each step of the way")
+    } else if world.active().0 != ballot {
+        Some("the next ballot is active at the end")
+    } else if !begins(before, world) {
+        Some("what was agreed before begins what is agreed at the end")
+    } else if !is_served(world, client) {
+        Some("the client is online with its session at the end")
+    } else {
+        None
+    }
 }
 
 // Says whether a client is online with its session present.
@@ -141,14 +173,30 @@ fn is_same(one: &Command, other: &Command) -> bool {
     }
 }
 
-// Returns the first of these rows after which something is not as it is to be: how many had come,
-// for which members.
-fn fault_in(alloc: Global, course: &Course) -> Option<(usize, &'static [u8])> {
-    for count in 0..course.rows.len().saturating_add(1) {
+// A way out that is not as it is to be: after how many rows and which last one, for which members
+// and client, and what is not so.
+#[derive(Clone, Copy, Debug, PartialEq, Eq)]
+struct Fault {
+    rows: usize,
+    last: Option<&'static Row>,
+    members: &'static [u8],
+    client: &'static str,
+    missed: &'static str,
+}
+
+// Returns the first way out of a course that is not as it is to be.
+fn fault_in(alloc: Global, course: &Course) -> Option<Fault> {
+    for rows in 0..course.rows.len().saturating_add(1) {
         for members in LISTS {
             for client in CLIENTS {
-                if !is_told(alloc, course, count, members, client) {
-                    return Some((count, *members));
+                if let Some(missed) = missed_of(alloc, course, rows, members, client) {
+                    return Some(Fault {
+                        rows,
+                        last: course.rows.get(rows.wrapping_sub(1)),
+                        members: *members,
+                        client: *client,
+                        missed,
+                    });
                 }
             }
         }
