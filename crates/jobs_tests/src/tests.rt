@@ -8,3 +8,4 @@ mod inputs;
 mod loopback;
 mod orders;
 mod scripts;
+mod shown;

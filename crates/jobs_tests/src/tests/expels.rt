@@ -1,15 +1,17 @@
 // The order to end the session of a client.
 
-use super::hand::text_of;
-use super::orders::{Given, Written, first_missed, hears};
-use std::io::{PipeWriter, Write};
-use std::net::{Net, TcpStream};
+use super::hand::gives;
+use super::orders::{Given, KEPT, Written, first_missed, hears, keeps};
+use super::shown::Shown;
+use std::io::{PipeWriter, Read, Write};
+use std::net::{Net, TcpListener, TcpStream};
+use std::sync::Wait;
 use std::thread;
 use std::thread::Threads;
 use std::time::{Clock, Duration};
 
 // Identifiers with blanks, of 64 bytes and of 65, an empty one, one with U+0000; and lines that are
-// no such order. Then the only node that serves crashes.
+// no such order.
 const FIRST: &str = "expel b\n\
     expel  b c \n\
     expel aaaaaaaaaaaaaaaaaaaaaaaaaaaaaaaaaaaaaaaaaaaaaaaaaaaaaaaaaaaaaaaa\n\
@@ -20,9 +22,10 @@ const FIRST: &str = "expel b\n\
     Expel b\n\
     expel meter\n";
 
-// Once the client is expelled: no node serves, and the identifier is checked first.
+// Once the client is expelled: the only node that serves crashes.
 const THEN: &str = "crash 1\n";
 
+// Once no node serves: the identifier is checked first.
 const LAST: &str = "expel b\nexpel \nquit\n";
 
 const ANSWERS: &str = "expel b\n\
@@ -42,47 +45,101 @@ const ANSWERS: &str = "expel b\n\
 // What a `sub` writes whose session is ended while it waits (docs/MANUAL.md).
 const LOST: &str = "vbroker: lost\n";
 
-// Gives these lines after this many milliseconds. Says whether that succeeds.
-fn gives<R: Clock>(rt: &R, orders: &mut PipeWriter, after: u64, lines: &str) -> bool {
-    thread::sleep(rt, Duration::from_millis(after));
-    orders.write_all(lines.as_bytes()).is_ok()
+// All that it writes: before, it gets what the node kept.
+const HEARD: &str = "2 1 t/1 x\nvbroker: lost\n";
+
+// CONNECT of client `p`: a clean session, and no keep alive.
+const CONNECT: &[u8] = b"\x10\x0D\x00\x04MQTT\x04\x02\x00\x00\x00\x01p";
+
+// CONNACK: accepted, without a session.
+const ACCEPTED: [u8; 4] = [0x20, 2, 0, 0];
+
+// Says whether client `p` is accepted on this stream, of which each read ends after ten seconds.
+fn is_accepted(stream: &mut TcpStream) -> bool {
+    let mut answer = [0; 4];
+    stream
+        .set_read_timeout(Some(Duration::from_secs(10)))
+        .is_ok()
+        && stream.write_all(CONNECT).is_ok()
+        && stream.read_exact(&mut answer).is_ok()
+        && answer == ACCEPTED
+}
+
+// Says whether the node ends this stream.
+fn is_closed(stream: &mut TcpStream) -> bool {
+    let mut byte = [0; 1];
+    matches!(stream.read(&mut byte), Ok(0))
+}
+
+// Says whether the node accepts a client on this stream, and ends the stream after it is ordered to
+// crash.
+fn is_crashed(stream: &mut TcpStream, orders: &mut PipeWriter) -> bool {
+    is_accepted(stream) && gives(orders, THEN) && is_closed(stream)
+}
+
+// Says whether the node crashes by order. It has stopped once it ends a client's stream.
+fn crashes<R>(rt: &R, orders: &mut PipeWriter, address: &str) -> bool
+where
+    R: Net<Listener = TcpListener, Stream = TcpStream>,
+{
+    match TcpStream::connect(rt, address) {
+        Ok(mut stream) => {
+            let is_so = is_crashed(&mut stream, orders);
+            drop(stream);
+            is_so
+        }
+        Err(_) => false,
+    }
+}
+
+// Says whether each order is given, once it shows that the one before was obeyed. The `sub` has a
+// session once it prints what was kept, and has lost it once it prints that.
+fn gives_all<R>(rt: &R, orders: &mut PipeWriter, address: &str, heard: &Shown) -> bool
+where
+    R: Wait + Clock + Net<Listener = TcpListener, Stream = TcpStream>,
+{
+    heard.comes_to(rt, KEPT)
+        && gives(orders, FIRST)
+        && heard.comes_to(rt, LOST)
+        && crashes(rt, orders, address)
+        && gives(orders, LAST)
 }
 
 // Says whether all orders are given, by a pipe that then ends.
-fn orders_all<R: Clock>(rt: &R, orders: PipeWriter) -> bool {
+fn orders_all<R>(rt: &R, orders: PipeWriter, address: &str, heard: &Shown) -> bool
+where
+    R: Wait + Clock + Net<Listener = TcpListener, Stream = TcpStream>,
+{
     let mut orders = orders;
-    gives(rt, &mut orders, 1_500, FIRST)
-        && gives(rt, &mut orders, 1_500, THEN)
-        && gives(rt, &mut orders, 1_000, LAST)
+    let are_given = gives_all(rt, &mut orders, address, heard);
+    drop(orders);
+    are_given
 }
 
-/// Gives the orders while a `sub` waits, which comes once the node may serve, and takes down what
-/// it writes. Says whether the orders are given.
-pub(super) fn talks<R>(rt: &R, orders: PipeWriter, address: &str, heard: &mut Vec<u8>) -> bool
+/// Gives the orders while a `sub` waits that gets what was kept before, and takes down what the
+/// clients write. Says whether the orders are given.
+pub(super) fn talks<R>(rt: &R, orders: PipeWriter, address: &str, written: &Written) -> bool
 where
-    R: Threads + Clock + Sync + AllocGlobal + Net<Stream = TcpStream>,
+    R: Threads + Wait + Clock + Sync + AllocGlobal,
+    R: Net<Listener = TcpListener, Stream = TcpStream>,
 {
+    if !keeps(rt, address, &written.told) {
+        return false;
+    }
+    let heard = &written.heard;
     let (are_given, ()) = thread::join(
         rt,
-        || orders_all(rt, orders),
-        || {
-            thread::sleep(rt, Duration::from_millis(500));
-            hears(rt, address, heard);
-        },
+        || orders_all(rt, orders, address, heard),
+        || hears(rt, address, 2, heard),
     );
     are_given
 }
 
 #[test]
 fn clients_are_expelled(rt: HostRuntime) {
-    let mut output = Vec::new(rt.alloc());
     let mut written = Written::new(rt.alloc());
-    let missed = first_missed(&rt, Given::Expels, &mut output, &mut written);
-    let came = (
-        text_of(output.as_slice()),
-        text_of(written.heard.as_slice()),
-        text_of(written.told.as_slice()),
-    );
+    let missed = first_missed(&rt, Given::Expels, &written);
+    let came = written.texts();
     assert_eq!(rt; missed, None, "{came:?}");
-    assert_eq!(rt; came, (ANSWERS, LOST, ""));
+    assert_eq!(rt; came, (ANSWERS, HEARD, ""));
 }

@@ -1,8 +1,8 @@
-// Doing a job by the words of a command line.
+// Doing a job by the words of a command line, and giving orders to it.
 
 use command_line::line;
 use jobs::{perform, print_fault, refuse, serve_table};
-use std::io::BufRead;
+use std::io::{BufRead, PipeWriter, Write};
 use std::net::{Net, TcpListener, TcpStream};
 use std::rt::Files;
 use std::str;
@@ -16,6 +16,11 @@ pub type End<'a> = (u8, &'a str, &'a str);
 /// Returns what was written as a text, so that it can be compared and shown.
 pub fn text_of(written: &[u8]) -> &str {
     str::from_utf8(written).unwrap_or("not UTF-8")
+}
+
+/// Gives these orders. Says whether that succeeds.
+pub fn gives(orders: &mut PipeWriter, lines: &str) -> bool {
+    orders.write_all(lines.as_bytes()).is_ok()
 }
 
 /// Does what a command line of these words says, and returns the exit status.

@@ -1,12 +1,13 @@
 // Orders to the nodes of a server, before and after its two clients run.
 
 use super::expels::talks;
-use super::hand::text_of;
+use super::hand::gives;
+use super::shown::{Shown, ShownOutput};
 use command_line::{Publish, Subscribe};
 use jobs::{JobError, print_fault, publish, serve_table, subscribe};
 use packet::QoS;
 use std::alloc::{AllocError, Global};
-use std::io::{BufReader, PipeReader, PipeWriter, Write};
+use std::io::{BufReader, PipeReader, PipeWriter};
 use std::net::{Net, TcpListener, TcpStream};
 use std::rt::Files;
 use std::sync::Wait;
@@ -31,9 +32,9 @@ const ANSWERS: &str = "refused 24\n\
     refused 24\n\
     bye\n";
 
-// What the subscriber prints of what the publisher had the server keep: a new subscription gets it
-// with RETAIN 1 (MQTT 3.3.1.3).
-const KEPT: &str = "2 1 t/1 x\n";
+/// What a subscriber prints of what a publisher had the server keep: a new subscription gets it
+/// with RETAIN 1 (MQTT 3.3.1.3).
+pub(super) const KEPT: &str = "2 1 t/1 x\n";
 
 /// A table of two nodes, of which the first serves on an address, and that address.
 #[derive(Drop)]
@@ -63,15 +64,15 @@ where
     Ok(TcpListener::bind(rt, "127.0.0.1:0")?.local_addr()?.port())
 }
 
-// Serves the nodes of a table, with orders that come by a pipe, and writes what they answer, and
-// their fault. Says whether there is none.
-fn serve<R>(rt: &R, table: &str, orders: PipeReader, output: &mut Vec<u8>) -> bool
+// Serves the nodes of a table, with orders that come by a pipe, and takes down what they answer,
+// and their fault. Says whether there is none.
+fn serve<R>(rt: &R, table: &str, orders: PipeReader, answers: &Shown) -> bool
 where
     R: Threads + Wait + Clock + Sync + AllocGlobal,
     R: Net<Listener = TcpListener, Stream = TcpStream>,
 {
     match BufReader::new(rt.alloc(), orders) {
-        Ok(mut input) => is_served(rt, table, &mut input, output),
+        Ok(mut input) => is_served(rt, table, &mut input, &mut answers.output(rt)),
         Err(_) => false,
     }
 }
@@ -80,7 +81,7 @@ fn is_served<R>(
     rt: &R,
     table: &str,
     input: &mut BufReader<PipeReader>,
-    output: &mut Vec<u8>,
+    output: &mut ShownOutput<'_, R>,
 ) -> bool
 where
     R: Threads + Wait + Clock + Sync + AllocGlobal,
@@ -96,95 +97,124 @@ where
     }
 }
 
-/// What clients write.
+/// What nodes and clients write.
 #[derive(Drop)]
 pub(super) struct Written {
+    // What the nodes answer, and then their fault.
+    answers: Shown,
     /// What `sub` prints, and then its fault.
-    pub(super) heard: Vec<u8>,
+    pub(super) heard: Shown,
     /// The fault of `pub`.
-    pub(super) told: Vec<u8>,
+    pub(super) told: Shown,
 }
 
 impl Written {
-    /// Returns that of clients that have not come.
+    /// Returns that of nodes and clients that have not come.
     pub(super) fn new(alloc: Global) -> Written {
         Written {
-            heard: Vec::new(alloc),
-            told: Vec::new(alloc),
+            answers: Shown::new(alloc),
+            heard: Shown::new(alloc),
+            told: Shown::new(alloc),
         }
+    }
+
+    /// Returns the three texts.
+    pub(super) fn texts(&mut self) -> (&str, &str, &str) {
+        (self.answers.text(), self.heard.text(), self.told.text())
     }
 }
 
-/// Has `sub` wait for a publication, and takes down what it prints and its fault.
-pub(super) fn hears<R>(rt: &R, address: &str, heard: &mut Vec<u8>)
+/// Has `sub` wait for this many publications, and takes down what it prints and its fault.
+pub(super) fn hears<R>(rt: &R, address: &str, count: u32, heard: &Shown)
 where
-    R: Clock + AllocGlobal + Net<Stream = TcpStream>,
+    R: Wait + Clock + AllocGlobal + Net<Stream = TcpStream>,
 {
+    let mut output = heard.output(rt);
     let mut addresses = Vec::new(rt.alloc());
     if addresses.push(address).is_err() {
-        print_fault(heard, &JobError::Memory);
+        print_fault(&mut output, &JobError::Memory);
         return;
     }
     let job = Subscribe {
         id: "meter",
         filter: "t/#",
         qos: QoS::ExactlyOnce,
-        count: 1,
+        count,
         tries: 10,
         addresses,
     };
-    if let Err(fault) = subscribe(rt, &job, heard) {
-        print_fault(heard, &fault);
+    if let Err(fault) = subscribe(rt, &job, &mut output) {
+        print_fault(&mut output, &fault);
     }
 }
 
-// Has `pub` publish what the server is to keep, and takes down its fault.
-fn publishes<R>(rt: &R, address: &str, told: &mut Vec<u8>)
+/// Has `pub` publish what the server is to keep, and takes down its fault. Says whether there is
+/// none.
+pub(super) fn keeps<R>(rt: &R, address: &str, told: &Shown) -> bool
+where
+    R: Wait + Clock + AllocGlobal + Net<Stream = TcpStream>,
+{
+    match keep(rt, address) {
+        Ok(()) => true,
+        Err(fault) => {
+            print_fault(&mut told.output(rt), &fault);
+            false
+        }
+    }
+}
+
+// Has `pub` publish what the server is to keep. It is tried for ten seconds.
+fn keep<R>(rt: &R, address: &str) -> Result<(), JobError>
 where
     R: Clock + AllocGlobal + Net<Stream = TcpStream>,
 {
     let mut addresses = Vec::new(rt.alloc());
-    if addresses.push(address).is_err() {
-        print_fault(told, &JobError::Memory);
-        return;
-    }
+    addresses.push(address)?;
     let job = Publish {
-        id: "switch",
+        id: "keeper",
         topic: "t/1",
         qos: QoS::ExactlyOnce,
         message: "x",
         retain: true,
-        tries: 10,
+        tries: 50,
         addresses,
     };
-    if let Err(fault) = publish(rt, &job) {
-        print_fault(told, &fault);
-    }
+    publish(rt, &job)
 }
 
 // Has `pub` publish, once the nodes may have answered, and has `sub` come after its end. Takes down
 // what they write.
-fn talk<R>(rt: &R, address: &str, written: &mut Written)
+fn talk<R>(rt: &R, address: &str, written: &Written)
 where
-    R: Clock + AllocGlobal + Net<Stream = TcpStream>,
+    R: Wait + Clock + AllocGlobal + Net<Stream = TcpStream>,
 {
     thread::sleep(rt, Duration::from_millis(500));
-    publishes(rt, address, &mut written.told);
-    hears(rt, address, &mut written.heard);
+    if keeps(rt, address, &written.told) {
+        hears(rt, address, 1, &written.heard);
+    }
 }
 
-// Gives the orders, by a pipe that then ends, and has the clients talk between them. Says whether
-// the orders are given.
-fn order_all<R>(rt: &R, orders: PipeWriter, address: &str, written: &mut Written) -> bool
+// Gives the orders, and has the clients talk between them. Says whether the orders are given.
+fn order_around<R>(rt: &R, orders: &mut PipeWriter, address: &str, written: &Written) -> bool
 where
-    R: Clock + AllocGlobal + Net<Stream = TcpStream>,
+    R: Wait + Clock + AllocGlobal + Net<Stream = TcpStream>,
 {
-    let mut orders = orders;
-    if orders.write_all(FIRST.as_bytes()).is_err() {
+    if !gives(orders, FIRST) {
         return false;
     }
     talk(rt, address, written);
-    orders.write_all(THEN.as_bytes()).is_ok()
+    gives(orders, THEN)
+}
+
+// Says whether all orders are given, by a pipe that then ends.
+fn order_all<R>(rt: &R, orders: PipeWriter, address: &str, written: &Written) -> bool
+where
+    R: Wait + Clock + AllocGlobal + Net<Stream = TcpStream>,
+{
+    let mut orders = orders;
+    let are_given = order_around(rt, &mut orders, address, written);
+    drop(orders);
+    are_given
 }
 
 /// Which orders are given, and what clients do meanwhile.
@@ -198,26 +228,21 @@ pub(super) enum Given {
 
 impl Given {
     // Says whether the orders are given.
-    fn is_done<R>(self, rt: &R, orders: PipeWriter, address: &str, written: &mut Written) -> bool
+    fn is_done<R>(self, rt: &R, orders: PipeWriter, address: &str, written: &Written) -> bool
     where
-        R: Threads + Clock + Sync + AllocGlobal,
+        R: Threads + Wait + Clock + Sync + AllocGlobal,
         R: Net<Listener = TcpListener, Stream = TcpStream>,
     {
         match self {
             Given::Orders => order_all(rt, orders, address, written),
-            Given::Expels => talks(rt, orders, address, &mut written.heard),
+            Given::Expels => talks(rt, orders, address, written),
         }
     }
 }
 
 /// Returns what is not so of nodes on a port that is free, with these orders and clients. Takes
 /// down what the nodes answer, and what the clients write.
-pub(super) fn first_missed<R>(
-    rt: &R,
-    given: Given,
-    output: &mut Vec<u8>,
-    written: &mut Written,
-) -> Option<&'static str>
+pub(super) fn first_missed<R>(rt: &R, given: Given, written: &Written) -> Option<&'static str>
 where
     R: Files + Threads + Wait + Clock + Sync + AllocGlobal,
     R: Net<Listener = TcpListener, Stream = TcpStream>,
@@ -226,19 +251,13 @@ where
         return Some("a port is free");
     };
     match Served::new(rt.alloc(), port) {
-        Ok(served) => missed_with(rt, &served, given, output, written),
+        Ok(served) => missed_with(rt, &served, given, written),
         Err(_) => Some("there is memory for a table"),
     }
 }
 
 // Returns what is not so: the nodes of this table are served, and the orders given.
-fn missed_with<R>(
-    rt: &R,
-    served: &Served,
-    given: Given,
-    output: &mut Vec<u8>,
-    written: &mut Written,
-) -> Option<&'static str>
+fn missed_with<R>(rt: &R, served: &Served, given: Given, written: &Written) -> Option<&'static str>
 where
     R: Files + Threads + Wait + Clock + Sync + AllocGlobal,
     R: Net<Listener = TcpListener, Stream = TcpStream>,
@@ -246,9 +265,10 @@ where
     let Ok((input, orders)) = io::pipe(rt) else {
         return Some("there is a pipe");
     };
+    let answers = &written.answers;
     let (is_served, are_given) = thread::join(
         rt,
-        || serve(rt, served.table.as_str(), input, output),
+        || serve(rt, served.table.as_str(), input, answers),
         || given.is_done(rt, orders, served.address.as_str(), written),
     );
     match (is_served, are_given) {
@@ -260,14 +280,9 @@ where
 
 #[test]
 fn orders_are_answered(rt: HostRuntime) {
-    let mut output = Vec::new(rt.alloc());
     let mut written = Written::new(rt.alloc());
-    let missed = first_missed(&rt, Given::Orders, &mut output, &mut written);
-    let came = (
-        text_of(output.as_slice()),
-        text_of(written.heard.as_slice()),
-        text_of(written.told.as_slice()),
-    );
+    let missed = first_missed(&rt, Given::Orders, &written);
+    let came = written.texts();
     assert_eq!(rt; missed, None, "{came:?}");
     assert_eq!(rt; came, (ANSWERS, KEPT, ""));
 }

@@ -1,0 +1,74 @@
+// What a job writes, at which another thread looks meanwhile.
+
+use super::hand::text_of;
+use std::alloc::Global;
+use std::io::Write;
+use std::sync::{Mutex, Wait};
+use std::time::{Clock, Duration};
+use std::{io, thread};
+
+// How often something is looked for, and how long it takes until the next look, in milliseconds:
+// ten seconds in all.
+const LOOKS: u32 = 1_000;
+
+const LOOK_MILLIS: u64 = 10;
+
+/// What a job has written up to now.
+#[derive(Drop)]
+pub struct Shown {
+    bytes: Mutex<Vec<u8>>,
+}
+
+impl Shown {
+    /// Returns that of a job that has written nothing.
+    pub fn new(alloc: Global) -> Shown {
+        Shown {
+            bytes: Mutex::new(Vec::new(alloc)),
+        }
+    }
+
+    /// Returns the output of that job.
+    pub fn output<'a, R>(&'a self, rt: &'a R) -> ShownOutput<'a, R> {
+        ShownOutput { rt, shown: self }
+    }
+
+    /// Returns it as a text, so that it can be compared and shown.
+    pub fn text(&mut self) -> &str {
+        text_of(self.bytes.get_mut().as_slice())
+    }
+
+    /// Waits until this line is the last that was written, for ten seconds at most. Says whether
+    /// it is.
+    pub fn comes_to<R: Wait + Clock>(&self, rt: &R, line: &str) -> bool {
+        for _ in 0..LOOKS {
+            if self.ends_with(rt, line) {
+                return true;
+            }
+            thread::sleep(rt, Duration::from_millis(LOOK_MILLIS));
+        }
+        false
+    }
+
+    // Says whether this line is the last that was written.
+    fn ends_with<R: Wait>(&self, rt: &R, line: &str) -> bool {
+        self.bytes.lock(rt).as_slice().ends_with(line.as_bytes())
+    }
+}
+
+/// An output whose bytes are shown to other threads.
+#[derive(Drop)]
+pub struct ShownOutput<'a, R> {
+    rt: &'a R,
+    shown: &'a Shown,
+}
+
+impl<'a, R: Wait> Write for ShownOutput<'a, R> {
+    fn write(&mut self, buf: &[u8]) -> io::Result<usize> {
+        self.shown.bytes.lock(self.rt).extend_from_slice(buf)?;
+        Ok(buf.len())
+    }
+
+    fn flush(&mut self) -> io::Result<()> {
+        Ok(())
+    }
+}
