@@ -24,17 +24,18 @@ pub fn gives(orders: &mut PipeWriter, lines: &str) -> bool {
 }
 
 /// Does what a command line of these words says, and returns the exit status.
-pub fn does<R, I>(
+pub fn does<R, I, O>(
     rt: &R,
     words: &[&str],
     input: &mut I,
-    output: &mut Vec<u8>,
+    output: &mut O,
     faults: &mut Vec<u8>,
 ) -> u8
 where
     R: Files + Threads + Wait + Clock + Sync + AllocGlobal,
     R: Net<Listener = TcpListener, Stream = TcpStream>,
     I: BufRead + Drop,
+    O: Write + Drop,
 {
     match line(rt.alloc(), words) {
         Ok(job) => perform(rt, &job, input, output, faults),

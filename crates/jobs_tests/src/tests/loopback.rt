@@ -1,14 +1,15 @@
 // Two nodes over the loopback, a subscriber and a publisher, each by its command line, and orders
 // between them.
 
-use super::hand::does;
-use super::orders::{Served, free_port};
+use super::hand::{does, gives};
+use super::orders::{KEPT, Served, free_port, keep};
+use super::shown::Shown;
 use std::io::{BufReader, PipeReader, PipeWriter, Write};
 use std::net::{Net, TcpListener, TcpStream};
 use std::rt::Files;
 use std::sync::Wait;
 use std::thread::Threads;
-use std::time::{Clock, Duration};
+use std::time::Clock;
 use std::{fs, io, mem, thread};
 
 // After the clients: node 2 takes over, and node 1 crashes, once.
@@ -17,10 +18,10 @@ const ORDERS: &str = "assign 2 2\ncrash 1\ncrash 1\n";
 const ANSWERS: &str = "ballot 2\ncrashed 1\nrefused 24\nbye\n";
 
 // What the subscriber prints of what the publisher publishes.
-const PRINTED: &str = "2 0 t/1 x\n";
+const SENT: &str = "2 0 t/1 x\n";
 
-// How long the nodes and then the subscriber get to come, in milliseconds.
-const COMING_MILLIS: u64 = 3_000;
+// All that it prints: before, it gets what was kept.
+const PRINTED: &str = "2 1 t/1 x\n2 0 t/1 x\n";
 
 // A file with a table of two nodes, of which the first serves on an address.
 #[derive(Drop)]
@@ -45,7 +46,7 @@ impl Table {
 enum Part {
     // The nodes, whose orders come through a pipe.
     Nodes(PipeReader),
-    // The subscriber.
+    // The subscriber, after something was kept for it.
     Meter,
     // The publisher, which then gives the orders.
     Switch(PipeWriter),
@@ -62,7 +63,7 @@ fn parts_of<R: Files>(rt: &R) -> io::Result<[Part; 3]> {
 // What each part has to do, in their order.
 const ENDS: &[&str] = &[
     "the nodes answer the orders and end with 0",
-    "the subscriber prints what came and ends with 0",
+    "something is kept, and the subscriber ends with 0",
     "the publisher ends with 0, and the orders are given",
 ];
 
@@ -76,17 +77,19 @@ fn other_end(parts: &[Part]) -> Option<&'static str> {
     None
 }
 
-// Takes a part to its end.
-fn take_part<R>(rt: &R, table: &Table, part: &mut Part)
+// Takes a part to its end. What the subscriber prints is shown to the publisher.
+fn take_part<R>(rt: &R, table: &Table, printed: &Shown, part: &mut Part)
 where
     R: Files + Threads + Wait + Clock + Sync + AllocGlobal,
     R: Net<Listener = TcpListener, Stream = TcpStream>,
 {
     let is_well = match mem::replace(part, Part::Ended(false)) {
         Part::Nodes(orders) => serves(rt, table, orders),
-        Part::Meter => hears(rt, table),
+        Part::Meter => keeps_and_hears(rt, table, printed),
         Part::Switch(mut giver) => {
-            publishes(rt, table) && giver.write_all(ORDERS.as_bytes()).is_ok()
+            let is_done = publishes_and_gives(rt, table, printed, &mut giver);
+            drop(giver);
+            is_done
         }
         Part::Ended(is_well) => is_well,
     };
@@ -118,8 +121,17 @@ where
     status == 0 && output.as_slice() == ANSWERS.as_bytes()
 }
 
-// Says whether `sub` prints what it has to, reports nothing, and ends with status 0.
-fn hears<R>(rt: &R, table: &Table) -> bool
+// Says whether something is kept, and `sub`, which comes after it, ends as it has to.
+fn keeps_and_hears<R>(rt: &R, table: &Table, printed: &Shown) -> bool
+where
+    R: Files + Threads + Wait + Clock + Sync + AllocGlobal,
+    R: Net<Listener = TcpListener, Stream = TcpStream>,
+{
+    keep(rt, table.served.address.as_str()).is_ok() && hears(rt, table, printed)
+}
+
+// Says whether `sub` reports nothing, and ends with status 0.
+fn hears<R>(rt: &R, table: &Table, printed: &Shown) -> bool
 where
     R: Files + Threads + Wait + Clock + Sync + AllocGlobal,
     R: Net<Listener = TcpListener, Stream = TcpStream>,
@@ -134,15 +146,28 @@ where
         "--qos",
         "2",
         "--count",
-        "1",
+        "2",
         "--tries",
         "50",
         table.served.address.as_str(),
     ];
-    ends_so(rt, words.as_slice(), PRINTED)
+    ends_well(rt, words.as_slice(), &mut printed.output(rt))
 }
 
-// Says whether `pub` ends with status 0 and prints nothing, once the subscriber may have come.
+// Says whether `pub` publishes once the subscriber has its subscription, and the orders are given
+// once that is printed.
+fn publishes_and_gives<R>(rt: &R, table: &Table, printed: &Shown, orders: &mut PipeWriter) -> bool
+where
+    R: Files + Threads + Wait + Clock + Sync + AllocGlobal,
+    R: Net<Listener = TcpListener, Stream = TcpStream>,
+{
+    printed.comes_to(rt, KEPT)
+        && publishes(rt, table)
+        && printed.comes_to(rt, SENT)
+        && gives(orders, ORDERS)
+}
+
+// Says whether `pub` ends with status 0, prints nothing, and reports nothing.
 fn publishes<R>(rt: &R, table: &Table) -> bool
 where
     R: Files + Threads + Wait + Clock + Sync + AllocGlobal,
@@ -161,21 +186,21 @@ where
         "x",
         table.served.address.as_str(),
     ];
-    thread::sleep(rt, Duration::from_millis(COMING_MILLIS));
-    ends_so(rt, words.as_slice(), "")
+    let mut output = Vec::new(rt.alloc());
+    ends_well(rt, words.as_slice(), &mut output) && output.is_empty()
 }
 
-// Says whether a command line ends with status 0, prints this, and reports no fault.
-fn ends_so<R>(rt: &R, words: &[&str], printed: &str) -> bool
+// Says whether a command line ends with status 0, and reports no fault.
+fn ends_well<R, O>(rt: &R, words: &[&str], output: &mut O) -> bool
 where
     R: Files + Threads + Wait + Clock + Sync + AllocGlobal,
     R: Net<Listener = TcpListener, Stream = TcpStream>,
+    O: Write + Drop,
 {
-    let mut output = Vec::new(rt.alloc());
     let mut faults = Vec::new(rt.alloc());
     let mut nothing = b"".as_slice();
-    let status = does(rt, words, &mut nothing, &mut output, &mut faults);
-    status == 0 && output.as_slice() == printed.as_bytes() && faults.is_empty()
+    let status = does(rt, words, &mut nothing, output, &mut faults);
+    status == 0 && faults.is_empty()
 }
 
 // The threads start here, where the runtime is known: with a generic runtime, the files that a part
@@ -184,13 +209,16 @@ where
 fn nodes_and_clients_end_with_0(rt: HostRuntime) -> io::Result<()> {
     let table = Table::new(&rt, free_port(&rt)?)?;
     let mut parts = parts_of(&rt)?;
+    let mut printed = Shown::new(rt.alloc());
     thread::for_each_mut(
         &rt,
         parts.as_mut_slice(),
         3,
-        &|_, part| take_part(&rt, &table, part),
+        &|_, part| take_part(&rt, &table, &printed, part),
     );
+    let missed = other_end(parts.as_slice());
+    drop(parts);
     fs::remove_file(&rt, table.file.as_str())?;
-    assert_eq!(rt; other_end(parts.as_slice()), None);
+    assert_eq!(rt; (missed, printed.text()), (None, PRINTED));
     Ok(())
 }

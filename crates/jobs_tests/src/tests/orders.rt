@@ -12,11 +12,14 @@ use std::net::{Net, TcpListener, TcpStream};
 use std::rt::Files;
 use std::sync::Wait;
 use std::thread::Threads;
-use std::time::{Clock, Duration};
+use std::time::Clock;
 use std::{io, thread};
 
 // Before the clients come.
 const FIRST: &str = "nonsense\nstatus\n";
+
+// The last answer to these.
+const STATUS: &str = "node 2 ballot 1 backup held 0 committed 0\n";
 
 // After them: node 2 takes over, and node 1 crashes, once.
 const THEN: &str = "assign 2,1 2\nassign 2,3 2\nassign 2 2\ncrash 1\ncrash 1\ncrash 3\nquit\n";
@@ -163,8 +166,8 @@ where
     }
 }
 
-// Has `pub` publish what the server is to keep. It is tried for ten seconds.
-fn keep<R>(rt: &R, address: &str) -> Result<(), JobError>
+/// Has `pub` publish what the server is to keep. It is tried for ten seconds.
+pub(super) fn keep<R>(rt: &R, address: &str) -> Result<(), JobError>
 where
     R: Clock + AllocGlobal + Net<Stream = TcpStream>,
 {
@@ -182,24 +185,23 @@ where
     publish(rt, &job)
 }
 
-// Has `pub` publish, once the nodes may have answered, and has `sub` come after its end. Takes down
-// what they write.
+// Has `pub` publish, and has `sub` come after its end. Takes down what they write.
 fn talk<R>(rt: &R, address: &str, written: &Written)
 where
     R: Wait + Clock + AllocGlobal + Net<Stream = TcpStream>,
 {
-    thread::sleep(rt, Duration::from_millis(500));
     if keeps(rt, address, &written.told) {
         hears(rt, address, 1, &written.heard);
     }
 }
 
-// Gives the orders, and has the clients talk between them. Says whether the orders are given.
+// Gives the orders, and has the clients talk between them, once the first orders are answered. Says
+// whether the orders are given.
 fn order_around<R>(rt: &R, orders: &mut PipeWriter, address: &str, written: &Written) -> bool
 where
     R: Wait + Clock + AllocGlobal + Net<Stream = TcpStream>,
 {
-    if !gives(orders, FIRST) {
+    if !gives(orders, FIRST) || !written.answers.comes_to(rt, STATUS) {
         return false;
     }
     talk(rt, address, written);
