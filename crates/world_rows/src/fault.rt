@@ -9,9 +9,9 @@ use world::{Command, World};
 pub enum Came {
     /// Nothing more.
     Nothing,
-    /// So many bytes wait, and these are the first of them.
+    /// This many bytes wait, and these are the first of them.
     Bytes(usize, [u8; 16]),
-    /// The client accepted so many publications, the last of them in this session.
+    /// The client accepted this many publications, the last of them in this session.
     Accepted(usize, u64),
     /// The agreed command at this index is the first other one, and it is such a one.
     Agreed(usize, &'static str),
@@ -86,7 +86,7 @@ pub fn fault_at(alloc: Global, world: &World, at: usize, row: &'static Row) -> F
     }
 }
 
-/// Returns what this world shows after so many rows, if a step ran out of memory.
+/// Returns what this world shows after this many rows, if a step ran out of memory.
 pub fn fault_after(world: &World, rows: usize) -> Option<Fault> {
     if world.losses() == 0 {
         return None;
