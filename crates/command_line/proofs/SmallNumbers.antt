@@ -6,22 +6,22 @@ use Rattle.ballot_base.specs.LawfulConfig.{are_rising, is_lawful}
 use Rattle.command_line.specs.declared.node_table.ListeningNode.{ListeningNode}
 use Rattle.command_line.specs.declared.node_table.NodeTable.{NodeTable}
 use Rattle.command_line.specs.Tables.{are_told_apart, has_node, is_lawful_table}
-use Rattle.command_line.specs.Inside.Documents.{IsSmall, has_small_id, may_be_node_number}
+use Rattle.command_line.specs.Inside.Documents.{IsSmall, has_small_id, is_at_most_max_node}
 
-rising_are_small : (last : ℕ) (ms : List ℕ) → are_rising last ms ≡ true → list_all may_be_node_number ms ≡ true
+rising_are_small : (last : ℕ) (ms : List ℕ) → are_rising last ms ≡ true → list_all is_at_most_max_node ms ≡ true
 rising_are_small last [] h = refl
 rising_are_small last (m ∷ ms) h =
     let (here, more) = and_parts (nat_lt last m && nat_le m 15) (are_rising m ms) h in
     let (above, below) = and_parts (nat_lt last m) (nat_le m 15) here in
     rw (below, rising_are_small m ms more) refl
 
-one_is_small : (p : ℕ) (ms : List ℕ) → list_all may_be_node_number ms ≡ true → list_any (λ member. member == p) ms ≡ true
-    → may_be_node_number p ≡ true
+one_is_small : (p : ℕ) (ms : List ℕ) → list_all is_at_most_max_node ms ≡ true → list_any (λ member. member == p) ms ≡ true
+    → is_at_most_max_node p ≡ true
 one_is_small p [] small h = absurd (false≢true h)
 one_is_small p (m ∷ ms) small h =
-    let (here, more) = and_parts (may_be_node_number m) (list_all may_be_node_number ms) small in
+    let (here, more) = and_parts (is_at_most_max_node m) (list_all is_at_most_max_node ms) small in
     elim (cases_Bool (m == p)) [
-      | inl same ↦ subst (λ n. may_be_node_number n ≡ true) (eqb-true m p same) here
+      | inl same ↦ subst (λ n. is_at_most_max_node n ≡ true) (eqb-true m p same) here
       | inr other ↦ one_is_small p ms more (rw other at h)
     ]
 
@@ -41,7 +41,7 @@ lawful_is_small t h =
     let (rising, sizes) = and_parts (are_rising 0 t.config.members) _ config in
     let (low, sizes2) = and_parts (nat_le 1 (length t.config.members)) _ sizes in
     let (high, primary) = and_parts (nat_le (length t.config.members) 7) _ sizes2 in
-    let members : list_all may_be_node_number t.config.members ≡ true = rising_are_small 0 t.config.members rising in
+    let members : list_all is_at_most_max_node t.config.members ≡ true = rising_are_small 0 t.config.members rising in
     record {
       members = members;
       primary = one_is_small t.config.primary t.config.members members primary;

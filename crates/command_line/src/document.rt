@@ -7,7 +7,7 @@ ghost use Rattle.toml.specs.View.{members_view, table_view, view};
 ghost use Rattle.command_line.specs.declared.node_table.ListeningNode.{ListeningNode};
 ghost use Rattle.command_line.specs.declared.node_table.NodeTable.{NodeTable};
 ghost use Rattle.command_line.specs.Tables.{document_of, list_data, node_data, number_value};
-ghost use Rattle.command_line.specs.Inside.Documents.{IsSmall, has_small_id, may_be_node_number};
+ghost use Rattle.command_line.specs.Inside.Documents.{IsSmall, has_small_id, is_at_most_max_node};
 
 use crate::fault::TableFault;
 use crate::node_table::{ListeningNode, NodeTable};
@@ -59,7 +59,7 @@ fn next_value<'a>(entries: &mut Iter<'a, String, Value>, key: &str) -> Option<&'
 // Returns a number from 0 to the greatest of a node.
 fn small_number(value: &Value) -> Option<u8>
     ensures some { IfSome result (λ n. view value.now ≡ number_value n) }
-    ensures none { IsNone result → (n : ℕ) → may_be_node_number n ≡ true → view value.now
+    ensures none { IsNone result → (n : ℕ) → is_at_most_max_node n ≡ true → view value.now
         ≡ number_value n → ⊥ }
 {
     let number = value.as_integer()?;
@@ -73,7 +73,7 @@ fn small_number(value: &Value) -> Option<u8>
 // Returns a list of numbers from 0 to the greatest of a node.
 fn numbers_of(alloc: Global, value: &Value) -> Result<Members, TableFault>
     ensures value { IfOk result (λ numbers. view value.now ≡ list_data number_value numbers) }
-    ensures shape { IsErrOf result TableFault.Shape → (ns : List ℕ) → list_all may_be_node_number ns
+    ensures shape { IsErrOf result TableFault.Shape → (ns : List ℕ) → list_all is_at_most_max_node ns
         ≡ true
         → view value.now ≡ list_data number_value ns → ⊥ }
 {

@@ -11,18 +11,18 @@ use Rattle.world.specs.Found.{way_of}
 use Rattle.world.specs.Cannot.{down_of, up_of}
 use Rattle.world.specs.World.{WorldState}
 
--- a number that a node can have
-abbrev pub is_possible_node : ℕ → Bool
-is_possible_node number = nat_le number 255
+-- whether a byte can have this value, and so the number of a node in code
+abbrev pub is_byte : ℕ → Bool
+is_byte number = nat_le number 255
 
--- the number of the node that a line names, if a node can have it
+-- the number of the node that a line names, if it is a byte
 abbrev pub node_of : ℕ → Option ℕ
-node_of number = if is_possible_node number then Some number else None
+node_of number = if is_byte number then Some number else None
 
--- a configuration is assigned, if each number can be a node's
+-- a configuration is assigned, if each number is a byte
 abbrev pub assign_of : List ℕ → ℕ → Option Event
 assign_of members primary =
-    if list_all is_possible_node members && is_possible_node primary
+    if list_all is_byte members && is_byte primary
     then Some (events.Assign (record { members = members; primary = primary })) else None
 
 -- how many bytes are carried when this many wait

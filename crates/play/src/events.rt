@@ -5,7 +5,7 @@ ghost use Rattle.std.specs.List.{list_all};
 ghost use Rattle.world.specs.world_events.declared.event.Event.TheVariants as events;
 ghost use Rattle.world.specs.Found.{way_of};
 ghost use Rattle.world.specs.Cannot.{down_of, up_of};
-ghost use Rattle.play.specs.Events.{asked_in, assign_of, count_of, is_possible_node, node_of};
+ghost use Rattle.play.specs.Events.{asked_in, assign_of, count_of, is_byte, node_of};
 ghost use Rattle.play.specs.Inside.{IsCallOf, is_call};
 
 use crate::error::PlayError;
@@ -72,29 +72,29 @@ fn call(line: &ScriptLine) -> Result<Event, PlayError>
     }
 }
 
-// Returns the Assign of these members and this primary, if each is a number of a node.
+// Returns the Assign of these members and this primary, if each number is a byte.
 fn assign(alloc: Global, members: &Numbers, primary: u64) -> Result<Option<Event>, PlayError>
     ensures event { IfOk result (λ event. event ≡ assign_of members.now primary) }
     ensures memory { OnErr result (IsErrOf result PlayError.Memory) }
 {
-    if !are_possible_nodes(members.as_slice()) || primary > 255 {
+    if !are_bytes(members.as_slice()) || primary > 255 {
         return Ok(None);
     }
-    let members = small_members(alloc, members.as_slice())?;
+    let members = members_from_numbers(alloc, members.as_slice())?;
     let primary = primary as u8;
     Ok(Some(Event::Assign(Config { members, primary })))
 }
 
-// Says whether nodes can have these numbers.
-fn are_possible_nodes(numbers: &[u64]) -> bool
-    ensures { result ≡ list_all is_possible_node numbers.now }
+// Says whether each of these numbers is a byte.
+fn are_bytes(numbers: &[u64]) -> bool
+    ensures { result ≡ list_all is_byte numbers.now }
 {
     numbers.iter().all(|number| *number <= 255)
 }
 
-// Returns members with numbers that nodes can have.
-fn small_members(alloc: Global, numbers: &[u64]) -> Result<Members, PlayError>
-    requires { list_all is_possible_node numbers.now ≡ true }
+// Returns the members of these numbers, each of which is a byte.
+fn members_from_numbers(alloc: Global, numbers: &[u64]) -> Result<Members, PlayError>
+    requires { list_all is_byte numbers.now ≡ true }
     ensures value { IfOk result (λ members. members ≡ numbers.now) }
     ensures memory { OnErr result (IsErrOf result PlayError.Memory) }
 {

@@ -4,25 +4,25 @@ use Rattle.std.proofs.lemmas.Bool.{and_parts, cases_Bool, eqb-true, false≢true
 use Rattle.std.specs.List.{list_all, list_any}
 use Rattle.ballot_base.specs.LawfulConfig.{are_rising, is_lawful}
 use Rattle.script.specs.Scripts.{are_members, is_lawful_opening}
-use Rattle.script.specs.Inside.Worlds.{may_be_member}
+use Rattle.script.specs.Inside.Worlds.{is_at_most_max_node}
 
-pub nodes_are_small : (count : ℕ) (ms : List ℕ) (b : Bool) → count ≤ 15 → b ≡ are_members count ms → b ≡ true → list_all may_be_member ms ≡ true
+pub nodes_are_small : (count : ℕ) (ms : List ℕ) (b : Bool) → count ≤ 15 → b ≡ are_members count ms → b ≡ true → list_all is_at_most_max_node ms ≡ true
 nodes_are_small count [] b few is all = refl
 nodes_are_small count (m ∷ ms) b few is all =
     let (here, more) = and_parts (nat_le m count) (are_members count ms) (sym is ∙ all) in
     rw (le-leb m 15 (omega (arith, leb-true m count here)), nodes_are_small count ms true few (sym more) refl) refl
 
-one_is_small : (p : ℕ) (ms : List ℕ) → list_all may_be_member ms ≡ true → list_any (λ member. member == p) ms ≡ true
-    → may_be_member p ≡ true
+one_is_small : (p : ℕ) (ms : List ℕ) → list_all is_at_most_max_node ms ≡ true → list_any (λ member. member == p) ms ≡ true
+    → is_at_most_max_node p ≡ true
 one_is_small p [] small h = absurd (false≢true h)
 one_is_small p (m ∷ ms) small h =
-    let (here, more) = and_parts (may_be_member m) (list_all may_be_member ms) small in
+    let (here, more) = and_parts (is_at_most_max_node m) (list_all is_at_most_max_node ms) small in
     elim (cases_Bool (m == p)) [
-      | inl same ↦ subst (λ n. may_be_member n ≡ true) (eqb-true m p same) here
+      | inl same ↦ subst (λ n. is_at_most_max_node n ≡ true) (eqb-true m p same) here
       | inr other ↦ one_is_small p ms more (rw other at h)
     ]
 
-primary_is_small : (ms : List ℕ) (p : ℕ) → list_all may_be_member ms ≡ true → is_lawful ms p ≡ true → p ≤ 15
+primary_is_small : (ms : List ℕ) (p : ℕ) → list_all is_at_most_max_node ms ≡ true → is_lawful ms p ≡ true → p ≤ 15
 primary_is_small ms p small lawful =
     let (rising, sizes) = and_parts (are_rising 0 ms) _ lawful in
     let (low, sizes2) = and_parts (nat_le 1 (length ms)) _ sizes in

@@ -4,7 +4,7 @@ ghost use Rattle.std.specs.Prelude.{◌≡◌, ◌≢◌, Some, None, Err, IfOk,
 ghost use Rattle.std.specs.List.{list_all};
 ghost use Rattle.script.specs.Fields.{texts};
 ghost use Rattle.script.specs.Scripts.{are_distinct, are_members, has_client, is_lawful_opening};
-ghost use Rattle.script.specs.Inside.Worlds.{may_be_member, values_of, parse_world};
+ghost use Rattle.script.specs.Inside.Worlds.{is_at_most_max_node, values_of, parse_world};
 
 use crate::error::FieldFault;
 use crate::values::{clients, number, numbers};
@@ -67,7 +67,7 @@ fn config(alloc: Global, count: u64, members: &[u64], primary: u64) -> Result<Co
     if primary > MAX_NODE {
         return Err(FieldFault::Form);
     }
-    let members = small_members(alloc, members)?;
+    let members = members_from_numbers(alloc, members)?;
     let config = Config {
         members,
         primary: primary as u8,
@@ -87,8 +87,8 @@ fn are_members(count: u64, members: &[u64]) -> bool
 }
 
 // Returns the members. Each number is at most the greatest of a node.
-fn small_members(alloc: Global, members: &[u64]) -> Result<Members, FieldFault>
-    requires { list_all may_be_member members.now ≡ true }
+fn members_from_numbers(alloc: Global, members: &[u64]) -> Result<Members, FieldFault>
+    requires { list_all is_at_most_max_node members.now ≡ true }
     ensures value { IfOk result (λ small. small ≡ members.now) }
     ensures memory { result ≢ Err FieldFault.Form }
 {

@@ -23,8 +23,8 @@ values_of opening = values opening.nodes opening.config.members opening.config.p
     opening.clients.items
 
 -- whether a number is at most the greatest of a node
-abbrev pub may_be_member : ℕ → Bool
-may_be_member n = nat_le n max_node
+abbrev pub is_at_most_max_node : ℕ → Bool
+is_at_most_max_node n = nat_le n max_node
 
 -- values with which a world may open
 abbrev pub checked : Option Values → Option Values

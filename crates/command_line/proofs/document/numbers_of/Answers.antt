@@ -2,7 +2,7 @@ use Rattle.std.proofs.Common.{◌≡◌, ◌++◌, ◌∷◌, [], Some, ap, rule
 use Rattle.toml.specs.Data.{array}
 use Rattle.toml.specs.View.{items_view, view}
 use Rattle.command_line.specs.Tables.{number_value}
-use Rattle.command_line.specs.Inside.Documents.{may_be_node_number}
+use Rattle.command_line.specs.Inside.Documents.{is_at_most_max_node}
 use Rattle.command_line.proofs.Listed.{is_array, items_said, said_at, said_more}
 use Rattle.command_line.proofs.document.numbers_of.Goals as goal
 
@@ -13,7 +13,7 @@ returns-in_err-number-clause-shape c _ all small same =
     is_array _ _ (rw got at c.as_array.ensures) in
     let listed : view c.args.value.now ≡ array (items_view c.deref-one-items.result.now) =
     rw c.deref-one-items.ensures.value is in
-    let at = said_at number_value may_be_node_number c.deref-one-items.result.now all c.loop-one.one-index c.one-item.result c.loop-one-test.true small
+    let at = said_at number_value is_at_most_max_node c.deref-one-items.result.now all c.loop-one.one-index c.one-item.result c.loop-one-test.true small
     (items_said number_value c.deref-one-items.result.now c.args.value.now all listed same) in
     c.small_number.ensures.none (search rules) at.one at.passed (ap view c.one-item.is ∙ at.said)
 

@@ -6,6 +6,6 @@ returns-then-primary-gt-MAX_NODE-clause-form c same =
     large_primary c.args.count c.args.members.now c.args.primary _ c.if-count-gt-MAX_NODE.false c.are_members.ensures
     c.if-not-are_members.false c.if-primary-gt-MAX_NODE.true
 
-pub small_members-requires : goal.small_members-requires
-small_members-requires c =
+pub members_from_numbers-requires : goal.members_from_numbers-requires
+members_from_numbers-requires c =
     nodes_are_small c.args.count c.args.members.now _ c.if-count-gt-MAX_NODE.false c.are_members.ensures c.if-not-are_members.false
