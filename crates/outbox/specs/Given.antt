@@ -19,8 +19,8 @@ pub record Addressed : Type 0 where
   pub message : Message Command
 
 -- the receiver of this number is the master, whose number is 0
-abbrev pub IsMaster : ℕ → Type 0
-IsMaster receiver = receiver ≡ master
+abbrev pub IsMasterNumber : ℕ → Type 0
+IsMasterNumber receiver = receiver ≡ master
 
 -- a node that has just opened, under some number in some configuration of ballot 1
 pub record IsNewNode (core : CountedCore) : Type 0 where

@@ -4,7 +4,7 @@ ghost use Rattle.std.specs.Prelude.{◌≡◌, ◌++◌, ◌∷◌, [], false, t
 ghost use Rattle.master.specs.lists.Lists.{has_id};
 ghost use Rattle.node.specs.ballot_base.declared.message.Effect.TheVariants.{To};
 ghost use Rattle.node.specs.declared.Item.TheVariants.{Peer};
-ghost use Rattle.outbox.specs.Given.{IsMaster};
+ghost use Rattle.outbox.specs.Given.{IsMasterNumber};
 ghost use Rattle.outbox.specs.Queued.{WasGiven};
 ghost use Rattle.outbox.specs.Mastering.{answer_to, master_after_outcome, message_if};
 ghost use Rattle.outbox.specs.Superseding.{still_waiting};
@@ -69,7 +69,7 @@ impl AddressedMessage {
 
     /// Lets the master answer the message, as [`MessagingMaster::answer`].
     pub(crate) fn ask(self, master: &mut MessagingMaster) -> Option<Answer>
-        requires { IsMaster self.receiver }
+        requires { IsMasterNumber self.receiver }
         ensures answer { result
             ≡ message_if (answer_to master.old self.message.from self.message.body) }
         ensures state { master.new
@@ -86,7 +86,7 @@ impl AddressedMessage {
     /// Loses the message: it is not for the master, and `cluster` shows that no node has the number
     /// of its receiver.
     pub(crate) fn lose(self, cluster: &Cluster)
-        requires master { IsMaster self.receiver → ⊥ }
+        requires master { IsMasterNumber self.receiver → ⊥ }
         requires none { has_id self.receiver cluster.now ≡ false }
     {
         let _ = cluster;

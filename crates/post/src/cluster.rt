@@ -3,7 +3,7 @@
 ghost use Rattle.std.specs.Prelude.{◌≡◌, ◌&&◌, IfOk, IfSome, IsErrOf, IsOk, None, Ok, OnOk, OnSome, false, is_some, length, nat_lt, true};
 ghost use Rattle.master.specs.ballot_base.LawfulConfig.{is_lawful};
 ghost use Rattle.master.specs.lists.Lists.{has_id};
-ghost use Rattle.outbox.specs.Given.{IsMaster};
+ghost use Rattle.outbox.specs.Given.{IsMasterNumber};
 ghost use Rattle.outbox.specs.Mastering.{MayGet};
 ghost use Rattle.post.specs.Numbers.{are_nodes, is_node, peer_numbers};
 
@@ -210,7 +210,7 @@ impl Cluster {
 
     // Queues a message that a step of a node gave for a node.
     fn queue<R: Wait>(&self, rt: &R, addressed: AddressedMessage)
-        requires { IsMaster addressed.receiver → ⊥ }
+        requires { IsMasterNumber addressed.receiver → ⊥ }
     {
         match self.node(addressed.receiver()) {
             Some(node) => node.queue_addressed(rt, addressed),
@@ -220,7 +220,7 @@ impl Cluster {
 
     // Lets the master answer a message that a step of a node gave for it.
     fn ask_master<R: Wait>(&self, rt: &R, addressed: AddressedMessage)
-        requires { IsMaster addressed.receiver }
+        requires { IsMasterNumber addressed.receiver }
     {
         match self.answer(rt, addressed) {
             Some(answer) => self.queue_answer(rt, answer),
@@ -230,7 +230,7 @@ impl Cluster {
 
     // Returns the master's answer to a message that a step of a node gave for it.
     fn answer<R: Wait>(&self, rt: &R, addressed: AddressedMessage) -> Option<Answer>
-        requires { IsMaster addressed.receiver }
+        requires { IsMasterNumber addressed.receiver }
     {
         let mut master = self.master.lock(rt);
         addressed.ask(&mut master)
