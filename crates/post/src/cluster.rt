@@ -31,6 +31,9 @@ const STATUS_LOOKS: u32 = 1_000;
 /// How long to wait until a node has stopped that was ordered to crash, in milliseconds.
 const STOP_MILLIS: u64 = 40;
 
+/// How many times to look in that time, at most.
+const STOP_LOOKS: u32 = 40;
+
 /// The nodes that serve in one program, with what they send each other, and the master that gives
 /// ballots their configurations.
 #[derive(Drop)]
@@ -258,7 +261,7 @@ fn await_stop<R: Wait + Clock>(rt: &R, node: &Peer) {
     let Ok(start) = Instant::now(rt) else {
         return;
     };
-    for _ in 0..STOP_MILLIS {
+    for _ in 0..STOP_LOOKS {
         if has_stopped(rt, node) || had_its_time(rt, start) {
             return;
         }
