@@ -59,8 +59,8 @@ fn next_value<'a>(entries: &mut Iter<'a, String, Value>, key: &str) -> Option<&'
 // Returns a number from 0 to the greatest of a node.
 fn small_number(value: &Value) -> Option<u8>
     ensures some { IfSome result (λ n. view value.now ≡ number_value n) }
-    ensures none { IsNone result → (n : ℕ) → is_at_most_max_node n ≡ true → view value.now
-        ≡ number_value n → ⊥ }
+    ensures none { IsNone result → (n : ℕ) → is_at_most_max_node n ≡ true →
+        view value.now ≡ number_value n → ⊥ }
 {
     let number = value.as_integer()?;
     if 0 <= number && number <= MAX_NODE {
@@ -73,9 +73,9 @@ fn small_number(value: &Value) -> Option<u8>
 // Returns a list of numbers from 0 to the greatest of a node.
 fn numbers_of(alloc: Global, value: &Value) -> Result<Members, TableFault>
     ensures value { IfOk result (λ numbers. view value.now ≡ list_data number_value numbers) }
-    ensures shape { IsErrOf result TableFault.Shape → (ns : List ℕ) → list_all is_at_most_max_node ns
-        ≡ true
-        → view value.now ≡ list_data number_value ns → ⊥ }
+    ensures shape { IsErrOf result TableFault.Shape → (ns : List ℕ) →
+        list_all is_at_most_max_node ns ≡ true →
+        view value.now ≡ list_data number_value ns → ⊥ }
 {
     let values = value.as_array().ok_or(TableFault::Shape)?;
     let mut numbers = Vec::new(alloc);

@@ -65,8 +65,8 @@ impl<W: Write> Counted<W> {
             (W.contents self.old.device) (W.contents self.new.device) bytes.now }
 
         // A fault is reported exactly if one more call of the device failed.
-        ensures fault { result ≡ WholeWrite.Fault → self.new.faults
-            ≡ counted_once self.old.faults }
+        ensures fault { result ≡ WholeWrite.Fault →
+            self.new.faults ≡ counted_once self.old.faults }
         ensures no_fault { result ≢ WholeWrite.Fault → self.new.faults ≡ self.old.faults }
     {
         let mut done = 0;

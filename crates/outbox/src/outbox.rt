@@ -102,8 +102,8 @@ impl Outbox {
             self.new ≡ record self.old { items = still_waiting item self.old.items ++ item ∷ [] } }
         ensures lost { result ≡ false →
             self.new ≡ record self.old { items = still_waiting item self.old.items } }
-        ensures full { may_be_queued item (still_waiting item self.old.items) ≡ false → result
-            ≡ false }
+        ensures full { may_be_queued item (still_waiting item self.old.items) ≡ false →
+            result ≡ false }
     {
         self.push(item)
     }
@@ -169,8 +169,8 @@ impl Outbox {
             self.new ≡ record self.old { items = still_waiting item self.old.items ++ item ∷ [] } }
         ensures lost { result ≡ false →
             self.new ≡ record self.old { items = still_waiting item self.old.items } }
-        ensures full { may_be_queued item (still_waiting item self.old.items) ≡ false → result
-            ≡ false }
+        ensures full { may_be_queued item (still_waiting item self.old.items) ≡ false →
+            result ≡ false }
     {
         self.drop_superseded(&item);
         if !self.may_be_queued(&item) {

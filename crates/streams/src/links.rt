@@ -149,10 +149,10 @@ impl Links {
         busy: &mut Vec<Arc<Link, Global>>,
     ) -> bool
         requires { first ≤ MAX_CONNECTIONS }
-        ensures all { result ≡ true → map arc_value busy.new.items
-            ≡ map arc_value busy.old.items
-            ++ busy_between arc_value idle self.now.slots first MAX_CONNECTIONS
-            ++ busy_between arc_value idle self.now.slots 0 first }
+        ensures all { result ≡ true →
+            map arc_value busy.new.items ≡ map arc_value busy.old.items
+                ++ busy_between arc_value idle self.now.slots first MAX_CONNECTIONS
+                ++ busy_between arc_value idle self.now.slots 0 first }
 
         // What was added is listed and busy, also if some are left out.
         ensures adds { AddsBusy idle MAX_CONNECTIONS
@@ -173,8 +173,9 @@ impl Links {
         busy: &mut Vec<Arc<Link, Global>>,
     ) -> bool
         requires { first ≤ end }
-        ensures all { result ≡ true → map arc_value busy.new.items
-            ≡ map arc_value busy.old.items ++ busy_between arc_value idle self.now.slots first end }
+        ensures all { result ≡ true →
+            map arc_value busy.new.items ≡ map arc_value busy.old.items
+                ++ busy_between arc_value idle self.now.slots first end }
         ensures adds { AddsBusy idle (end - first)
             (map arc_value busy.old.items) (map arc_value busy.new.items) }
     {
@@ -188,9 +189,9 @@ impl Links {
     // Adds the connection that is listed at an index, unless its lane is idle. Returns whether it
     // was added, or did not have to be. If not, nothing changes.
     fn add_at(&self, idle: IdleLanes, index: usize, busy: &mut Vec<Arc<Link, Global>>) -> bool
-        ensures added { result ≡ true → map arc_value busy.new.items
-            ≡ map arc_value busy.old.items
-            ++ busy_at arc_value idle (connection_listed_at (get self.now.slots index)) }
+        ensures added { result ≡ true →
+            map arc_value busy.new.items ≡ map arc_value busy.old.items
+                ++ busy_at arc_value idle (connection_listed_at (get self.now.slots index)) }
         ensures left { result ≡ false → busy.new.items ≡ busy.old.items }
     {
         let Some(link) = self.at(index) else {
