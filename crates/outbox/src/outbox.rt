@@ -25,7 +25,7 @@ use std::alloc::Global;
 use std::marker::Model;
 use std::mem;
 
-/// How many items may wait when a message of another node is queued.
+/// How many items wait at most, so that a message of another node is queued: fewer than this.
 const MAX_WAITING: usize = 524_288;
 
 /// How many items may wait, at most, for a thread that queued one of them to take them in place of

@@ -44,7 +44,7 @@ impl<'e, 'a, J: NodeNaming, S: Stated<J>, G: Gate> Writer<'e, 'a, J, S, G> {
         unreachable!()
     }
 
-    /// Hands a connection whose socket is full to that thread.
+    /// Hands a connection whose socket is full to the blocked writer, and wakes it.
     pub(crate) fn hand_blocked<R: Wait>(&self, rt: &R, link: &Arc<Link, Global>, token: WriteToken)
         requires { IsTokenOf (arc_value link.now).port token }
     {
@@ -53,8 +53,8 @@ impl<'e, 'a, J: NodeNaming, S: Stated<J>, G: Gate> Writer<'e, 'a, J, S, G> {
         }
     }
 
-    // Keeps a connection for that thread's next round, and returns whether it is kept. If there is
-    // no memory for it, it is ended.
+    // Keeps a connection for the next round of the blocked writer, and returns whether it is kept.
+    // If there is no memory for it, it is ended.
     fn keep_blocked<R: Wait>(&self, rt: &R, link: &Arc<Link, Global>, token: WriteToken) -> bool
         requires { IsTokenOf (arc_value link.now).port token }
     {
