@@ -22,51 +22,51 @@ use Rattle.byte_world.specs.exactly_once.InStep.{AreWelcome, IsFirstSession, ses
 use Rattle.byte_world.specs.exactly_once.Sides.{ClientConnection}
 use Rattle.headline.specs.Shown.{AcceptsInSessionOrder, AreNewInOrder, AreUnacknowledged, IsAnswered, at_two, new_of, unacknowledged_of}
 
--- for client c, as long as it is in step, by the places of the list
-pub record PromiseInStep (c : Client) (published : List Publication) (past : Past)
+-- for a client, as long as it is in step, by the places of the list
+pub record PromiseInStep (client : Client) (published : List Publication) (past : Past)
     (state : ClientState) : Type 0 where
   -- its QoS 2 publications are new in the order in which it was asked for them, each once
-  pub rises : AreNewInOrder published (new_of c past)
+  pub rises : AreNewInOrder published (new_of client past)
   -- none is left out while it has had one session; and while that lasts, those that are not new yet
   -- are unacknowledged
-  pub in_order : sessions_begun past c ≤ 1 → IsPrefixOf (new_of c past) (at_two published)
-  pub unacknowledged : IsFirstSession past c →
-      AreUnacknowledged (at_two published) (new_of c past) (at_two (unacknowledged_of state))
+  pub in_order : sessions_begun past client ≤ 1 → IsPrefixOf (new_of client past) (at_two published)
+  pub unacknowledged : IsFirstSession past client →
+      AreUnacknowledged (at_two published) (new_of client past) (at_two (unacknowledged_of state))
   -- one that is answered with PUBREC is new at that place or at an earlier one
-  pub answered : (place : Place) (below : Past) (p : Publish) (id : ℕ) →
-      IsAnswered past c (packets.Pubrec id) place below p →
-      In (publication_of p) (new_of c (place ∷ below))
-  -- one that is answered with PUBACK is one of those that it was asked for, and is taken at that
-  -- place
-  pub acknowledged : (place : Place) (below : Past) (p : Publish) (id : ℕ) →
-      IsAnswered past c (packets.Puback id) place below p →
-      In (publication_of p) published × (place.mark ≡ Mark.Taken c)
+  pub answered : (place : Place) (below : Past) (publish : Publish) (packet_id : ℕ) →
+      IsAnswered past client (packets.Pubrec packet_id) place below publish →
+      In (publication_of publish) (new_of client (place ∷ below))
+  -- one that is answered with PUBACK is one that it was asked for, and is taken at that place
+  pub acknowledged : (place : Place) (below : Past) (publish : Publish) (packet_id : ℕ) →
+      IsAnswered past client (packets.Puback packet_id) place below publish →
+      In (publication_of publish) published × (place.mark ≡ Mark.Taken client)
   -- in each of its sessions it accepted at QoS 2 a prefix of the QoS 2 entries, each once, with
   -- every one that is released
-  pub accepts : AcceptsInSessionOrder c past state
+  pub accepts : AcceptsInSessionOrder client past state
 
 -- for each client, with its connections, the newest first
-pub record PromiseBy (c : Client) (connections : List ClientConnection)
+pub record PromiseBy (client : Client) (connections : List ClientConnection)
     (published : List Publication) (past : Past) (state : ClientState) : Type 0 where
   -- in step: a connection that began a session after the first was confirmed before it opened
   -- another one
-  pub in_step : AreWelcome past c connections → PromiseInStep c published past state
+  pub in_step : AreWelcome past client connections → PromiseInStep client published past state
   -- when one of its publications is taken, it enters just the sessions with an effective QoS over
   -- 0, once, as it was published
-  pub enters : (place : Place) (below : Past) (x : ConnectionName) (p : Publish) (d : Client) →
-      StandsAt past place below →
-      place.command ≡ commands.Packet x (packets.Publish p) → place.mark ≡ Mark.Taken c →
+  pub enters : (place : Place) (below : Past) (connection : ConnectionName) (publish : Publish)
+      (receiver : Client) → StandsAt past place below →
+      place.command ≡ commands.Packet connection (packets.Publish publish) →
+      place.mark ≡ Mark.Taken client →
       map publication_in
-      (filter (is_from_publish (length below)) (entries_of usual_limits (place ∷ below) d))
-      ≡ queued_at (publication_of p) (effective_qos below d (publication_of p))
+      (filter (is_from_publish (length below)) (entries_of usual_limits (place ∷ below) receiver))
+      ≡ queued_at (publication_of publish) (effective_qos below receiver (publication_of publish))
   -- at no time has a session more than one entry from a place, and it has none from a place that
   -- takes no publication
-  pub once : (later earlier : Past) (place : Place) (below : Past) (d : Client) →
+  pub once : (later earlier : Past) (place : Place) (below : Past) (receiver : Client) →
       past ≡ later ++ earlier → StandsAt earlier place below →
-      length (filter (is_from_publish (length below)) (entries_of usual_limits earlier d))
+      length (filter (is_from_publish (length below)) (entries_of usual_limits earlier receiver))
       ≤ (if takes_publication place.command place.mark then 1 else 0)
   -- an ended session gets nothing more, since each connection has a name of its own
-  pub names : (x : ConnectionName) → connects_of x past ≤ 1
+  pub names : (connection : ConnectionName) → connects_of connection past ≤ 1
   pub ended : EndsWithTheSession usual_limits past
 
 -- the promise by the list of commands on which the nodes agree

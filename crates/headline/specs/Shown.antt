@@ -32,7 +32,7 @@ use Rattle.byte_world.specs.Accepted.{accepted_once}
 
 -- whether a publication has QoS 2
 abbrev pub is_at_two : Publication → Bool
-is_at_two p = is_two p.qos
+is_at_two publication = is_two publication.qos
 
 -- the publications at QoS 2
 abbrev pub at_two : List Publication → List Publication
@@ -41,33 +41,34 @@ at_two = filter is_at_two
 -- the client's publications for which no PUBACK or PUBREC came yet, the oldest first
 abbrev pub unacknowledged_of : ClientState → List Publication
 unacknowledged_of state =
-    map (λ (k : UnacknowledgedPublication). k.publication) (state.sent ++ state.unsent)
+    map (λ (kept : UnacknowledgedPublication). kept.publication) (state.sent ++ state.unsent)
 
 -- the publication that is new at a place, if there is one (MQTT 4.3.3)
 abbrev pub new_at : Client → Command → Mark → List Publication
-new_at c (commands.Packet x (packets.Publish p)) (Mark.Taken d) =
-    if same_client d c && is_exactly_once p.delivery then publication_of p ∷ [] else []
-new_at c command mark = []
+new_at client (commands.Packet connection (packets.Publish publish)) (Mark.Taken taken_from) =
+    if same_client taken_from client && is_exactly_once publish.delivery
+    then publication_of publish ∷ [] else []
+new_at client command mark = []
 
 -- the client's publications that are new in the list, by place
 abbrev pub new_of : Client → Past → List Publication
-new_of c (place ∷ below) = new_of c below ++ new_at c place.command place.mark
-new_of c [] = []
+new_of client (place ∷ below) = new_of client below ++ new_at client place.command place.mark
+new_of client [] = []
 
 -- a place has a PUBLISH on its current connection, which is answered with this packet
-pub record IsAnswered (past : Past) (c : Client) (packet : Packet) (place : Place) (below : Past)
-    (p : Publish) : Type 0 where
+pub record IsAnswered (past : Past) (client : Client) (packet : Packet) (place : Place)
+    (below : Past) (publish : Publish) : Type 0 where
   pub stands : StandsAt past place below
   pub on : ConnectionName
-  pub own : owner_of below on ≡ Some c
-  pub command : place.command ≡ commands.Packet on (packets.Publish p)
+  pub own : owner_of below on ≡ Some client
+  pub command : place.command ≡ commands.Packet on (packets.Publish publish)
   pub answer : In (Send on packet) (answers_at usual_limits place below)
 
 -- new ones are in the order in which the client published them, each once: their numbers rise
 pub record AreNewInOrder (published new : List Publication) : Type 0 where
   pub numbers : List ℕ
   pub rise : NumbersRise numbers
-  pub are : map (slice_get published) numbers ≡ map (λ (p : Publication). Some p) new
+  pub are : map (slice_get published) numbers ≡ map (λ (one : Publication). Some one) new
 
 -- no publication is skipped: those that are not yet new are unacknowledged, and besides them only
 -- some that are new
@@ -81,15 +82,16 @@ pub record AreUnacknowledged (published new unacknowledged : List Publication) :
 
 -- A prefix of a session's QoS 2 entries, in order, each once, and the others. None of the others is
 -- released.
-pub record HasPrefix (c : Client) (past : Past) (start : ℕ) : Type 0 where
+pub record HasPrefix (client : Client) (past : Past) (start : ℕ) : Type 0 where
   pub prefix : List Entry
   pub others : List Entry
-  pub entries : two_entries (entries_in usual_limits past c start) ≡ prefix ++ others
+  pub entries : two_entries (entries_in usual_limits past client start) ≡ prefix ++ others
   pub rest : Each (λ (entry : Entry). is_entry_released entry ≡ false) others
 
 -- What the client accepted at QoS 2 is, session after session, a prefix of the QoS 2 entries of
 -- each, by the place at which it began.
-pub record AcceptsInSessionOrder (c : Client) (past : Past) (state : ClientState) : Type 0 where
-  pub session : (start : ℕ) → HasPrefix c past start
+pub record AcceptsInSessionOrder (client : Client) (past : Past) (state : ClientState) :
+    Type 0 where
+  pub session : (start : ℕ) → HasPrefix client past start
   pub accepted : accepted_once state.accepted
-      ≡ flat_map (λ start. map publication_in (session start).prefix) (starts_of past c)
+      ≡ flat_map (λ start. map publication_in (session start).prefix) (starts_of past client)
