@@ -11,7 +11,7 @@ use Rattle.node_group.specs.exactly_once.Sides.{ClientConnection}
 use Rattle.node_group.proofs.of_exactly_once.publishing.Grown.{handled_grows}
 use Rattle.byte_world.specs.Steps.{Reached, WorldStep}
 use Rattle.byte_world.specs.Steps.Reached.{begins, goes_on}
-use Rattle.byte_world.specs.Steps.WorldStep.{goes_on as group_goes, calls, connects, is_taken_back, comes_up, goes_down, arrives, handles}
+use Rattle.byte_world.specs.Steps.WorldStep.{group_goes, calls, connects, is_taken_back, comes_up, goes_down, arrives, handles}
 use Rattle.byte_world.specs.World.{ClientPipes, World, new_client}
 use Rattle.byte_world.proofs.WorldsKeep.{call_writes}
 

@@ -18,7 +18,7 @@ use Rattle.node_group.proofs.CarriedInOrder.{CarriedSo, IsAgreedSo, carried_so, 
 use Rattle.byte_world.specs.Carried.{trace_of, went_on}
 use Rattle.byte_world.specs.Steps.{Reached, WorldStep}
 use Rattle.byte_world.specs.Steps.Reached.{begins, goes_on}
-use Rattle.byte_world.specs.Steps.WorldStep.{goes_on as group_goes, calls, connects, is_taken_back, comes_up, goes_down, arrives, handles}
+use Rattle.byte_world.specs.Steps.WorldStep.{group_goes, calls, connects, is_taken_back, comes_up, goes_down, arrives, handles}
 use Rattle.byte_world.specs.InPipes.{IsInOrder, PipesCarryInOrder}
 use Rattle.byte_world.specs.World.{ClientPipes, HasPipe, Pipe, World, new_client, opening, packets_of}
 use Rattle.byte_world.proofs.WorldsHold.{Holds, arrives_holds, client_holds, set_at}

@@ -8,7 +8,7 @@ use Rattle.node_group.specs.Carried.{Carries}
 use Rattle.byte_world.specs.World.{World}
 use Rattle.byte_world.specs.Steps.{Reached, WorldStep}
 use Rattle.byte_world.specs.Steps.Reached.{begins, goes_on}
-use Rattle.byte_world.specs.Steps.WorldStep.{goes_on as group_goes, calls, connects, is_taken_back, comes_up, goes_down, arrives, handles}
+use Rattle.byte_world.specs.Steps.WorldStep.{group_goes, calls, connects, is_taken_back, comes_up, goes_down, arrives, handles}
 
 -- if a step of a world has a step of its group, the group does that step
 abbrev pub went_on : {nodes : ℕ} {config : Config} {v w : World} → GroupTrace nodes config v.group →

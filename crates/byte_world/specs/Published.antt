@@ -8,7 +8,7 @@ use Rattle.node_group.specs.exactly_once.Story.StoryStep.{takes, others_take, re
 use Rattle.byte_world.specs.World.{World}
 use Rattle.byte_world.specs.Steps.{Reached, WorldStep}
 use Rattle.byte_world.specs.Steps.Reached.{begins, goes_on}
-use Rattle.byte_world.specs.Steps.WorldStep.{goes_on as group_goes, calls, connects, is_taken_back, comes_up, goes_down, arrives, handles}
+use Rattle.byte_world.specs.Steps.WorldStep.{group_goes, calls, connects, is_taken_back, comes_up, goes_down, arrives, handles}
 
 -- what a client publishes with a call
 abbrev pub published_by_call : {limits : Limits} {s t : Story} → StoryStep limits s t →

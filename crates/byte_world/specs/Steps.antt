@@ -31,7 +31,7 @@ use Rattle.byte_world.specs.World.{ClientPipes, HasPipe, Pipe, World, after_writ
 pub data WorldStep (w : World) : World → Type 0 where
   -- the nodes and the master move by themselves: messages come late, again or never, a node ticks
   -- or crashes, a stream ends at its node, an administrator asks for a configuration
-  goes_on : (node_call : Option (ℕ × NodeCall)) (d : DoesCall w.group node_call) →
+  group_goes : (node_call : Option (ℕ × NodeCall)) (d : DoesCall w.group node_call) →
       is_apart node_call ≡ true → WorldStep w (record w { group = d.after })
   -- a client calls, or loses its connection
   calls : (i : ℕ) (c : ClientPipes) (t : Story) (h : StoryStep usual_limits (story_alone c) t) →

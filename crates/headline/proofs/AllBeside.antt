@@ -13,7 +13,7 @@ use Rattle.byte_world.specs.node_group.Steps.GroupTrace.{opened}
 use Rattle.byte_world.specs.Carried.{trace_of, went_on}
 use Rattle.byte_world.specs.Steps.{Reached, WorldStep}
 use Rattle.byte_world.specs.Steps.Reached.{begins, goes_on}
-use Rattle.byte_world.specs.Steps.WorldStep.{goes_on as group_goes, calls, connects, is_taken_back, comes_up, goes_down, arrives, handles}
+use Rattle.byte_world.specs.Steps.WorldStep.{group_goes, calls, connects, is_taken_back, comes_up, goes_down, arrives, handles}
 use Rattle.byte_world.specs.World.{World, new_client, opening}
 use Rattle.byte_world.proofs.PipesInOrder.{opens_hold, step_holds}
 use Rattle.byte_world.proofs.WorldsHold.{Holds}

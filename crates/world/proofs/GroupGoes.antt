@@ -14,7 +14,7 @@ use Rattle.headline.specs.node_moves.Moves.NodeCall.{takes}
 use Rattle.headline.specs.node_group.Group.{Group}
 use Rattle.headline.specs.byte_world.World.{World}
 use Rattle.headline.specs.byte_world.Steps.{is_apart}
-use Rattle.headline.specs.byte_world.Steps.WorldStep.{goes_on as group_goes}
+use Rattle.headline.specs.byte_world.Steps.WorldStep.{group_goes}
 use Rattle.world_nodes.specs.Nodes.{NodesState, NodesStandFor}
 use Rattle.world_nodes.specs.ExactSteps.{NodeDoesCall, GoesBy}
 use Rattle.world_nodes.specs.Steps.{nodes_with_loss}
