@@ -1,4 +1,4 @@
 // The numbers of ballots.
 
-/// The last ballot that can be given, and so the greatest in a connection's name.
+/// The last ballot that can be given.
 pub const MAX_BALLOT: u64 = 0x1_0000_0000;

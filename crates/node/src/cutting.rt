@@ -6,7 +6,8 @@ ghost use Rattle.node.specs.Cutting.{cuts_after};
 /// How many ticks lie between two cuts of a node's log.
 const TICKS_A_CUT: u64 = 50;
 
-/// How many ticks lie between the first cuts of nodes with neighbouring numbers.
+/// How many ticks lie between the first cuts of nodes with neighbouring numbers. It shares no
+/// factor with 50, so no two nodes cut after the same tick (`cuts_come_apart`).
 const TICKS_APART: u64 = 7;
 
 /// Says whether the node of a number has its log cut after this many ticks.

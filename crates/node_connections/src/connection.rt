@@ -19,8 +19,8 @@ use cutter::{Memory, Piece};
 use packet::{Connack, Packet, RefusalCode};
 use std::alloc::Global;
 
-/// How many bytes may wait to be handed over on one connection: more than a client can be sent
-/// again.
+/// How many bytes may wait to be handed over on one connection. It is twice what a client can be
+/// sent again, the 64 entries of a window with packets of 1 MiB.
 const MAX_PENDING: usize = 134_217_728;
 
 /// How far a connection is.

@@ -82,7 +82,7 @@ impl Connect {
         put_text(out, self.client.as_str());
     }
 
-    /// Ensures that the fields are in their ranges.
+    /// Ensures, for a proof, that the fields are in their ranges; it does nothing else.
     pub(crate) fn ensure_ranges(&self)
         ensures { FitsConnect self.now }
     {

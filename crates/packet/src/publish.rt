@@ -76,7 +76,7 @@ impl Publish {
         put_bytes(out, self.payload.as_slice());
     }
 
-    /// Ensures that the fields are in their ranges.
+    /// Ensures, for a proof, that the fields are in their ranges; it does nothing else.
     pub(crate) fn ensure_ranges(&self)
         ensures { FitsPublish self.now }
     {

@@ -119,7 +119,7 @@ impl Suback {
         self.codes.put(out);
     }
 
-    /// Ensures that the fields are in their ranges.
+    /// Ensures, for a proof, that the fields are in their ranges; it does nothing else.
     pub(crate) fn ensure_ranges(&self)
         ensures { FitsSuback self.now }
     {

@@ -116,7 +116,7 @@ impl Subscribe {
         self.filters.put(out);
     }
 
-    /// Ensures that the fields are in their ranges.
+    /// Ensures, for a proof, that the fields are in their ranges; it does nothing else.
     pub(crate) fn ensure_ranges(&self)
         ensures { FitsSubscribe self.now }
     {

@@ -57,7 +57,7 @@ impl Unsubscribe {
         self.filters.put(out);
     }
 
-    /// Ensures that the fields are in their ranges.
+    /// Ensures, for a proof, that the fields are in their ranges; it does nothing else.
     pub(crate) fn ensure_ranges(&self)
         ensures { FitsUnsubscribe self.now }
     {
