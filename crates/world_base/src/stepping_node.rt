@@ -1,15 +1,17 @@
 // A node during a step.
 
 ghost use Rattle.std.specs.Prelude.{◌≡◌, ◌⊎◌, ◌≤◌, ◌↔◌, false, true, not, [], length, IfOk, IfSome, OnSome, IfNone, IsErrOf};
-ghost use Rattle.std.specs.List.{list_any, position};
+ghost use Rattle.std.specs.List.{position};
+ghost use Rattle.std.specs.Option.{is_some};
 ghost use Rattle.broker_spec.specs.Connection.{is_connection_name, max_count};
 ghost use Rattle.ballot.specs.ballot_base.LawfulConfig.{is_lawful};
 ghost use Rattle.ballot.specs.ballot_base.Cutting.{can_cut};
 ghost use Rattle.ballot.specs.ballot_base.Logs.{places};
 ghost use Rattle.ballot.specs.ballot_base.Replica.{status_of};
-ghost use Rattle.node_connections.specs.Connections.{has_failed, is_at, is_open_at, is_open_named};
+ghost use Rattle.node_connections.specs.Connections.{has_failed, is_open_at, is_open_named};
 ghost use Rattle.node_connections.specs.ConnectionChanges.{noted_proposed, closed_connection, failing, with_unread, with_queued};
 ghost use Rattle.world_base.specs.Core.{opening_core, serves};
+ghost use Rattle.world_base.specs.Handing.{listed_at};
 ghost use Rattle.world_base.specs.Inside.{DoesExactly};
 ghost use Rattle.world_base.specs.KeepAlive.{lowest_silent};
 ghost use Rattle.packet.specs.Spelling.{spelling};
@@ -141,7 +143,7 @@ impl SteppingNode {
 
     /// Says whether a connection of this port is listed.
     pub fn has_port(&self, port: Port) -> bool
-        ensures { result ≡ list_any (is_at port) self.now.core.connections }
+        ensures { result ≡ is_some (listed_at port self.now.core) }
     {
         has_port(&self.connections, port)
     }
@@ -198,10 +200,8 @@ impl SteppingNode {
 
     /// Closes the open connection of a port.
     pub fn close(&mut self, port: Port)
-        ensures { self.new ≡ record self.old {
-          core =
-              changes port closed_connection self.old.core;
-        } }
+        ensures { self.new
+            ≡ record self.old { core = changes port closed_connection self.old.core } }
     {
         if let Some(index) = self.index_at(port) {
             self.connections[index].close();
@@ -262,9 +262,8 @@ impl SteppingNode {
 
     /// Closes the open connection of a name.
     pub fn close_named(&mut self, name: ConnectionName)
-        ensures { self.new ≡ record self.old {
-          core = changes_named name closed_connection self.old.core;
-        } }
+        ensures { self.new
+            ≡ record self.old { core = changes_named name closed_connection self.old.core } }
     {
         if let Some(index) = self.index_of(name) {
             self.connections[index].close();
