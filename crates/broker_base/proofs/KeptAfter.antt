@@ -7,7 +7,7 @@ use Rattle.session_base.specs.declared.publication.Publication.{Publication}
 use Rattle.broker_spec.specs.Connection.{ConnectionName}
 use Rattle.broker_spec.specs.Place.{Client, Place, Past, Limits, only_if}
 use Rattle.broker_spec.specs.Past.{accepts, expels, ends_any, newest_connection, current_connection, newest_session, session_of, is_beginning, in_session}
-use Rattle.broker_spec.specs.Subscriptions.{subscribed, subscriptions_of}
+use Rattle.broker_spec.specs.Subscriptions.{filters_after, subscriptions_of}
 use Rattle.broker_spec.specs.Received.{received_by, received_of}
 use Rattle.broker_spec.specs.Retained.{retained_publications}
 use Rattle.broker_spec.specs.Entries.{Entry, queued}
@@ -51,7 +51,7 @@ anew n opened = ap (λ ids. Some (record { clean = opened.1; connection = Some o
 abbrev pub kept_next : ℕ → Place → ℕ → Client → Option (ConnectionName × Bool) → Option Bool → Option ConnectionName → List GrantedFilter → List ℕ → List Entry → List Publication → Option ClientSession
 kept_next w place n c opened session connection held ids es ps =
     kept_with (suc n) (newest_session opened (expels place.command c) (ends_any place c connection) session) (newest_connection opened (ends_any place c connection) connection)
-    (in_session (newest_session opened (expels place.command c) (ends_any place c connection) session) (is_beginning opened session) [] (subscribed place.command place.mark c held))
+    (in_session (newest_session opened (expels place.command c) (ends_any place c connection) session) (is_beginning opened session) [] (filters_after place.command place.mark c held))
     (in_session (newest_session opened (expels place.command c) (ends_any place c connection) session) (is_beginning opened session) [] (received_by place.command place.mark c ids))
     (in_session (newest_session opened (expels place.command c) (ends_any place c connection) session) (is_beginning opened session) []
     (started w n (newest_connection opened (ends_any place c connection) connection) (answered_by place.command place.mark n c es ++ map (Entry.Waits n) ps)))
@@ -65,28 +65,28 @@ next_is w place content n c None (Some clean) connection held ids es s = by (exp
   where
     by : (b : Bool) →
         kept_with (suc n) (only_if (not b) (Some clean)) (only_if (not (ends_any place c connection)) connection)
-        (in_session (only_if (not b) (Some clean)) false [] (subscribed place.command place.mark c held))
+        (in_session (only_if (not b) (Some clean)) false [] (filters_after place.command place.mark c held))
         (in_session (only_if (not b) (Some clean)) false [] (received_by place.command place.mark c ids))
         (in_session (only_if (not b) (Some clean)) false []
         (started w n (only_if (not (ends_any place c connection)) connection) (answered_by place.command place.mark n c es ++ map (Entry.Waits n) (queued (copies_with place.command place.mark content c held)))))
         ≡ only_if (not b) (Some (filled_kept w place content c clean (only_if (not (ends_any place c connection)) connection)
         (record { clean = clean; connection = connection; state = record { subscriptions = held; received = ids; queue = queue_of n es } })))
     by true = refl
-    by false = ap (λ q. Some (record { clean = clean; connection = only_if (not (ends_any place c connection)) connection; state = record { subscriptions = subscribed place.command place.mark c held; received = received_by place.command place.mark c ids; queue = q } }))
+    by false = ap (λ q. Some (record { clean = clean; connection = only_if (not (ends_any place c connection)) connection; state = record { subscriptions = filters_after place.command place.mark c held; received = received_by place.command place.mark c ids; queue = q } }))
         (queue_after w place.command place.mark n c (only_if (not (ends_any place c connection)) connection) es (queued (copies_with place.command place.mark content c held)) s)
 next_is w place content n c (Some opened) None connection held ids es s = anew (suc n) opened
 next_is w place content n c (Some opened) (Some clean) connection held ids es s = by (opened.1 || clean)
   where
     by : (b : Bool) →
         kept_with (suc n) (Some opened.1) (Some opened.0)
-        (in_session (Some opened.1) b [] (subscribed place.command place.mark c held))
+        (in_session (Some opened.1) b [] (filters_after place.command place.mark c held))
         (in_session (Some opened.1) b [] (received_by place.command place.mark c ids))
         (in_session (Some opened.1) b []
         (started w n (Some opened.0) (answered_by place.command place.mark n c es ++ map (Entry.Waits n) (queued (copies_with place.command place.mark content c held)))))
         ≡ Some (if b then kept_anew opened else filled_kept w place content c opened.1 (Some opened.0)
         (record { clean = clean; connection = connection; state = record { subscriptions = held; received = ids; queue = queue_of n es } }))
     by true = anew (suc n) opened
-    by false = ap (λ q. Some (record { clean = opened.1; connection = Some opened.0; state = record { subscriptions = subscribed place.command place.mark c held; received = received_by place.command place.mark c ids; queue = q } }))
+    by false = ap (λ q. Some (record { clean = opened.1; connection = Some opened.0; state = record { subscriptions = filters_after place.command place.mark c held; received = received_by place.command place.mark c ids; queue = q } }))
         (queue_after w place.command place.mark n c (Some opened.0) es (queued (copies_with place.command place.mark content c held)) s)
 
 pub filled_step : (limits : Limits) (place : Place) (past : Past) (c : Client) →

@@ -12,7 +12,7 @@ use Rattle.session_base.specs.Subscriptions.{GrantedFilter, with_subscription, w
 use Rattle.session_base.specs.KeepingLaws.{AreFiltersApart}
 use Rattle.session_base.proofs.FiltersApart.{filters_stay_apart}
 use Rattle.session_base.proofs.ReceivedRise.{received_rise}
-use Rattle.broker_spec.specs.Subscriptions.{as_granted, granted_of, subscribed}
+use Rattle.broker_spec.specs.Subscriptions.{as_granted, granted_of, filters_after}
 use Rattle.broker_spec.specs.Received.{receives, received_by}
 use Rattle.broker_spec.specs.retained.Retained.{RetainedTopics}
 use Rattle.session_base.specs.declared.publication.Publication.{Publication}
@@ -93,7 +93,7 @@ filters_if : (b : Bool) (held others : List GrantedFilter) → AreFiltersApart h
 filters_if true held others h k = h
 filters_if false held others h k = k
 
-subscribed_apart : (command : Command) (mark : Mark) (c : Client) (held : List GrantedFilter) → AreFiltersApart held → AreFiltersApart (subscribed command mark c held)
+subscribed_apart : (command : Command) (mark : Mark) (c : Client) (held : List GrantedFilter) → AreFiltersApart held → AreFiltersApart (filters_after command mark c held)
 subscribed_apart (commands.Packet x (packets.Subscribe s)) (Mark.Granted d which) c held h =
     filters_if (same_client d c) (with_subscriptions (map as_granted (granted_of s.filters which)) held) held (granted_apart (map as_granted (granted_of s.filters which)) held h) h
 subscribed_apart (commands.Packet x (packets.Unsubscribe u)) (Mark.Handled d) c held h =

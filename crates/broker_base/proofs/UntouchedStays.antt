@@ -12,7 +12,7 @@ use Rattle.session_base.specs.Publication.{publication_of}
 use Rattle.session_base.specs.packet.packet_base.QoS.{lower_qos}
 use Rattle.session_base.specs.packet.packet_base.declared.qos.QoS.{QoS}
 use Rattle.std.specs.Prelude.{option_map, is_some}
-use Rattle.broker_spec.specs.Subscriptions.{subscribed}
+use Rattle.broker_spec.specs.Subscriptions.{filters_after}
 use Rattle.broker_spec.specs.Received.{received_by}
 use Rattle.broker_spec.specs.Entries.{copy_of}
 use Rattle.broker_spec.specs.Times.{window_at}
@@ -32,7 +32,7 @@ pub not_opened : (command : Command) (mark : Mark) (c : Client) (held : List Gra
 not_opened (commands.Connect x d clean) Mark.Accepted c held e = ap (λ b. only_if b (Some (x, clean))) e
 not_opened _ _ c held e = refl
 
-subscribed_same : (command : Command) (mark : Mark) (c : Client) (held : List GrantedFilter) → is_about command mark c held ≡ false → subscribed command mark c held ≡ held
+subscribed_same : (command : Command) (mark : Mark) (c : Client) (held : List GrantedFilter) → is_about command mark c held ≡ false → filters_after command mark c held ≡ held
 subscribed_same (commands.Packet x (packets.Subscribe s)) (Mark.Granted d which) c held e = if_no (same_client d c) _ held e
 subscribed_same (commands.Packet x (packets.Unsubscribe u)) (Mark.Handled d) c held e = if_no (same_client d c) _ held e
 subscribed_same _ _ c held e = refl
@@ -97,7 +97,7 @@ pub kept_stays : (w : ℕ) (place : Place) (content : RetainedTopics) (c : Clien
     kept_after w place content c (Some kept) ≡ Some kept
 kept_stays w place content c kept not_ended not_about =
     ap (λ opened. kept_by w place content c opened (Some kept)) (not_opened place.command place.mark c kept.state.subscriptions not_about)
-    ∙ ap₂ (λ expelled over. parts kept expelled over (subscribed place.command place.mark c kept.state.subscriptions) (received_by place.command place.mark c kept.state.received)
+    ∙ ap₂ (λ expelled over. parts kept expelled over (filters_after place.command place.mark c kept.state.subscriptions) (received_by place.command place.mark c kept.state.received)
     (copied_queue w (only_if (not over) kept.connection) (copies_with place.command place.mark content c kept.state.subscriptions)
     (answered_queue w place.command place.mark c (only_if (not over) kept.connection) kept.state.queue)))
     (not_expelled (expels place.command c) (any_connection (ends place.command place.mark) kept.connection) not_ended) not_ended

@@ -14,7 +14,7 @@ use Rattle.session_base.specs.Copies.{copies_left, copies_waiting}
 use Rattle.broker_spec.specs.Connection.{ConnectionName}
 use Rattle.broker_spec.specs.Place.{Client, same_client, Mark, Place, only_if}
 use Rattle.broker_spec.specs.Past.{accepts, expels, ends_any}
-use Rattle.broker_spec.specs.Subscriptions.{granted_of, subscribed}
+use Rattle.broker_spec.specs.Subscriptions.{granted_of, filters_after}
 use Rattle.broker_spec.specs.Received.{received_by}
 use Rattle.broker_spec.specs.Entries.{copy_of, copies_for_all}
 use Rattle.broker_base.specs.ClientSession.{ClientSession}
@@ -63,7 +63,7 @@ kept_on window place content c connection old =
       clean = old.clean;
       connection = connection;
       state = record {
-        subscriptions = subscribed place.command place.mark c old.state.subscriptions;
+        subscriptions = filters_after place.command place.mark c old.state.subscriptions;
         received = received_by place.command place.mark c old.state.received;
         queue = copied_queue window connection
             (copies_with place.command place.mark content c old.state.subscriptions)

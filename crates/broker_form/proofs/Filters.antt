@@ -24,7 +24,7 @@ use Rattle.packet_base.specs.QoS.{lower_qos}
 use Rattle.session_base.specs.Identifiers.{with_id}
 use Rattle.session_base.specs.Subscriptions.{GrantedFilter, with_subscription, with_subscriptions, without_filter, without_filters, granted_qos}
 use Rattle.broker_spec.specs.Place.{Client, same_client, Mark}
-use Rattle.broker_spec.specs.Subscriptions.{as_granted, granted_of, subscribed}
+use Rattle.broker_spec.specs.Subscriptions.{as_granted, granted_of, filters_after}
 use Rattle.broker_spec.specs.Received.{receives, received_by}
 use Rattle.broker_spec.specs.Entries.{copy_of, retained_copy, copies_for, copies_for_all}
 use Rattle.broker_spec.specs.Logged.{IsBrokerCommand}
@@ -68,7 +68,7 @@ given_up [] held h = h
 given_up (one ∷ filters) held h = given_up filters (without_filter one held) (all_filter IsGrantedFilter _ held h)
 
 pub filters_in_range : (command : Command) (mark : Mark) (c : Client) (held : List GrantedFilter) → IsBrokerCommand command →
-    AllByRecursion IsGrantedFilter held → AllByRecursion IsGrantedFilter (subscribed command mark c held)
+    AllByRecursion IsGrantedFilter held → AllByRecursion IsGrantedFilter (filters_after command mark c held)
 filters_in_range (commands.Packet x (packets.Subscribe s)) (Mark.Granted d which) c held k h =
     all_if IsGrantedFilter (same_client d c) _ held
     (held_more (granted_of s.filters which) held

@@ -15,7 +15,7 @@ use Rattle.session_base.specs.Queue.{Queue, room}
 use Rattle.session_base.specs.Subscriptions.{GrantedFilter, with_subscriptions, without_filters, granted_qos}
 use Rattle.broker_spec.specs.Connection.{ConnectionName}
 use Rattle.broker_spec.specs.Place.{Client, same_client, Mark, Place, Limits}
-use Rattle.broker_spec.specs.Subscriptions.{as_granted, granted_of, subscribed}
+use Rattle.broker_spec.specs.Subscriptions.{as_granted, granted_of, filters_after}
 use Rattle.broker_spec.specs.Entries.{copy_of, queued, copies_for_all}
 use Rattle.broker_spec.specs.Marks.{is_queued_at, grants}
 use Rattle.broker_spec.proofs.ClientsInOrder.{same_is}
@@ -47,7 +47,7 @@ abbrev pub MakesNothing : Place → Type 0
 MakesNothing place =
     (content : RetainedTopics) (c : Client) (held : List GrantedFilter) →
     (length (queued (copies_with place.command place.mark content c held)) ≡ 0)
-    × (length (subscribed place.command place.mark c held) ≤ length held)
+    × (length (filters_after place.command place.mark c held) ≤ length held)
 
 nothing_made : (limits : Limits) (place : Place) (content : RetainedTopics) (rows : Sessions) → MakesNothing place → AllInRange limits rows →
     AllHaveRoom limits place content rows

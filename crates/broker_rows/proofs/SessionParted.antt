@@ -6,7 +6,7 @@ use Rattle.broker_spec.specs.session_base.Subscriptions.{GrantedFilter}
 use Rattle.broker_spec.specs.session_base.Queue.{Queue}
 use Rattle.broker_spec.specs.Place.{Client, Mark, Place, only_if}
 use Rattle.broker_spec.specs.Past.{accepts, ends_any, expels}
-use Rattle.broker_spec.specs.Subscriptions.{subscribed}
+use Rattle.broker_spec.specs.Subscriptions.{filters_after}
 use Rattle.broker_spec.specs.Received.{received_by}
 use Rattle.broker_base.specs.ClientSession.{ClientSession}
 use Rattle.broker_base.specs.SessionStep.{copies_with, answered_queue, copied_queue, kept_on, kept_by, kept_after}
@@ -29,7 +29,7 @@ opens_none (commands.Connect x d clean) Mark.Accepted c parting = absurd parting
 opens_none _ _ c parting = refl
 
 -- the subscriptions stay
-filters_same : (command : Command) (mark : Mark) (c : Client) (held : List GrantedFilter) → IsParting mark → subscribed command mark c held ≡ held
+filters_same : (command : Command) (mark : Mark) (c : Client) (held : List GrantedFilter) → IsParting mark → filters_after command mark c held ≡ held
 filters_same (commands.Packet x (packets.Subscribe s)) (Mark.Granted d which) c held parting = absurd parting
 filters_same (commands.Packet x (packets.Unsubscribe u)) (Mark.Handled d) c held parting = absurd parting
 filters_same _ _ c held parting = refl

@@ -8,7 +8,7 @@ use Rattle.packet.specs.declared.subscribe.Subscription.{Subscription}
 use Rattle.packet.specs.declared.packet.Packet.TheVariants as packets
 use Rattle.broker_spec.specs.Place.{Client, same_client, Mark}
 use Rattle.broker_spec.specs.Past.{session_of, begins, in_session}
-use Rattle.broker_spec.specs.Subscriptions.{as_granted, granted_of, subscribed, subscriptions_of, qos_asked}
+use Rattle.broker_spec.specs.Subscriptions.{as_granted, granted_of, filters_after, subscriptions_of, qos_asked}
 use Rattle.session_base.specs.Subscriptions.{GrantedFilter, with_subscription, with_subscriptions, without_filter, without_filters}
 use Rattle.broker_spec.specs.Laws.{newer_of_two, either, last_qos, word_on, last_granting, FilterHasLastGranting}
 use Rattle.broker_spec.specs.declared.command.Command.{Command}
@@ -135,7 +135,7 @@ unsubscribe-by true f given_up held = asked-without-all f given_up held ∙ by (
     by false = refl
 unsubscribe-by false f given_up held = refl
 
-word-by : (k : Command) (m : Mark) (c : Client) (f : List ℕ) (held : List GrantedFilter) → qos_asked f (subscribed k m c held) ≡ newer_of_two (word_on k m c f) (qos_asked f held)
+word-by : (k : Command) (m : Mark) (c : Client) (f : List ℕ) (held : List GrantedFilter) → qos_asked f (filters_after k m c held) ≡ newer_of_two (word_on k m c f) (qos_asked f held)
 word-by (commands.Packet x (packets.Connect q)) m c f held = refl
 word-by (commands.Packet x (packets.Connack q)) m c f held = refl
 word-by (commands.Packet x (packets.Publish p)) m c f held = refl
@@ -180,7 +180,7 @@ pub filter_has_last_granting : FilterHasLastGranting
 unfolding subscriptions_of last_granting
 filter_has_last_granting [] c f = refl
 filter_has_last_granting (place ∷ past) c f =
-    in-session (session_of (place ∷ past) c) (begins place past c) f (subscribed place.command place.mark c (subscriptions_of past c))
+    in-session (session_of (place ∷ past) c) (begins place past c) f (filters_after place.command place.mark c (subscriptions_of past c))
     ∙ ap (in_session (session_of (place ∷ past) c) (begins place past c) None)
     (word-by place.command place.mark c f (subscriptions_of past c)
     ∙ ap (newer_of_two (word_on place.command place.mark c f)) (filter_has_last_granting past c f))

@@ -8,7 +8,7 @@ use Rattle.retained.specs.Retained.{RetainedTopics}
 use Rattle.broker_spec.specs.Connection.{ConnectionName, same_connection}
 use Rattle.broker_spec.specs.Place.{Client, Mark, Place, Past, Limits, only_if}
 use Rattle.broker_spec.specs.Past.{any_connection, current_connection, session_of, newest_session, begins, in_session}
-use Rattle.broker_spec.specs.Subscriptions.{subscribed, subscriptions_of}
+use Rattle.broker_spec.specs.Subscriptions.{filters_after, subscriptions_of}
 use Rattle.broker_spec.specs.Received.{received_by, received_of}
 use Rattle.broker_spec.specs.Retained.{retained_by, retained_publications}
 use Rattle.broker_spec.specs.Entries.{Entry, copies_by}
@@ -23,7 +23,7 @@ use Rattle.broker_spec.proofs.NothingWaits.{IsFull, full-at}
 abbrev pub nobodys : ConnectionName → Packet → Place
 nobodys x packet = record { command = commands.Packet x packet; mark = Mark.NoPart }
 
-no-subscription : (packet : Packet) (x : ConnectionName) (c : Client) (held : List GrantedFilter) → subscribed (commands.Packet x packet) Mark.NoPart c held ≡ held
+no-subscription : (packet : Packet) (x : ConnectionName) (c : Client) (held : List GrantedFilter) → filters_after (commands.Packet x packet) Mark.NoPart c held ≡ held
 no-subscription (packets.Connect q) x c held = refl
 no-subscription (packets.Connack q) x c held = refl
 no-subscription (packets.Publish p) x c held = refl

@@ -39,8 +39,8 @@ RetainedAtTheLowerQos =
     qualities.AtMostOnce (retained_to_b deliveries.AtMostOnce (codes "x"))
 
 -- the last publication with RETAIN 1 is retained, none with RETAIN 0; an empty payload removes it
-abbrev pub LastIsRetained : Type 0
-LastIsRetained =
+abbrev pub LastPutIsRetained : Type 0
+LastPutIsRetained =
     Retains (sent_by_a deliveries.AtMostOnce false (codes "x") ∷ []) qualities.AtMostOnce []
     × Retains (sent_by_a deliveries.AtMostOnce true (codes "x")
     ∷ sent_by_a deliveries.AtMostOnce false (codes "y") ∷ [])

@@ -30,13 +30,13 @@ granted_of (a ∷ more) (granted ∷ others) =
 granted_of _ _ = []
 
 -- the subscriptions after a SUBSCRIBE or UNSUBSCRIBE of the client
-abbrev pub subscribed : Command → Mark → Client → List GrantedFilter → List GrantedFilter
-subscribed (commands.Packet x (packets.Subscribe s)) (Mark.Granted d which) c held =
+abbrev pub filters_after : Command → Mark → Client → List GrantedFilter → List GrantedFilter
+filters_after (commands.Packet x (packets.Subscribe s)) (Mark.Granted d which) c held =
     if same_client d c
     then with_subscriptions (map as_granted (granted_of s.filters which)) held else held
-subscribed (commands.Packet x (packets.Unsubscribe u)) (Mark.Handled d) c held =
+filters_after (commands.Packet x (packets.Unsubscribe u)) (Mark.Handled d) c held =
     if same_client d c then without_filters u.filters held else held
-subscribed _ _ c held = held
+filters_after _ _ c held = held
 
 -- The subscriptions of a client's session: each filter with the QoS of its last granting, unless it
 -- was removed since; in the order in which they were first granted.
@@ -44,7 +44,7 @@ unfoldable pub subscriptions_of : Past → Client → List GrantedFilter
 subscriptions_of [] c = []
 subscriptions_of (place ∷ past) c =
     in_session (session_of (place ∷ past) c) (begins place past c) []
-    (subscribed place.command place.mark c (subscriptions_of past c))
+    (filters_after place.command place.mark c (subscriptions_of past c))
 
 -- the QoS at which a client's session gets a publication, none if no filter of it matches (MQTT
 -- 3.3.5)

@@ -17,7 +17,7 @@ ghost use Rattle.broker_spec.specs.RoomRows.{RoomIsLessWhatEarlierFiltersNeed};
 ghost use Rattle.broker_spec.specs.QosRows.{LowerQosIsDelivered};
 ghost use Rattle.broker_spec.specs.RetainedRows.{RetainedAtTheLowerQos};
 ghost use Rattle.broker_spec.specs.QosRows.{ExactlyOnceIsSentAgain};
-ghost use Rattle.broker_spec.specs.RetainedRows.{LastIsRetained};
+ghost use Rattle.broker_spec.specs.RetainedRows.{LastPutIsRetained};
 ghost use Rattle.broker_spec.specs.QosRows.{CopiesComeByClient};
 ghost use Rattle.broker_spec.specs.SessionRows.{SessionsBegin, SessionsEnd, PlacesStandInSessions};
 ghost use Rattle.broker_spec.specs.SessionRows.{NewOnce};
@@ -123,7 +123,7 @@ pub fn lower_qos_is_delivered()
 /// lower of that and the QoS that is asked for (MQTT 3.3.1.3).
 pub fn last_publication_is_retained()
     ensures qos { RetainedAtTheLowerQos }
-    ensures last { LastIsRetained }
+    ensures last { LastPutIsRetained }
 {}
 
 /// Shows that a client that comes back is sent what it has not answered: PUBLISH with DUP 1, or

@@ -31,7 +31,7 @@ use Rattle.client_base.specs.Handshakes.{own_at_pubrec, is_sent_with}
 use Rattle.client_base.specs.Written.{plain, writes}
 use Rattle.exactly_once.specs.Story.{Story, with_side}
 use Rattle.exactly_once.specs.StoryCommands.{is_packet_of, packet_count}
-use Rattle.exactly_once.specs.Carried.{is_two, carries, connection_named, number_at, written_number, more_by, new_numbers}
+use Rattle.exactly_once.specs.Carried.{is_two, carries, connection_named, written_number_at, written_number, more_by, new_numbers}
 use Rattle.exactly_once.specs.Inside.Projections.{items_of_own, own_item, forward_of_own, forward_of_one, carried_by, backward_of_own, to_come, to_be_taken, is_current, transit_of_own, last_confirmed, as_publisher, GoesTo}
 
 -- ---- its publications
@@ -171,10 +171,10 @@ written_more κ more taken packet_handled confirmed accepted =
     record { name = κ.name; written = κ.written ++ more; taken = taken; handled = packet_handled; confirmed = confirmed; accepted = accepted }
 
 number_more : (x : ConnectionName) (κ κ' : ClientConnection) (others : List ClientConnection) (more : List Written) (j : ℕ) → κ'.name ≡ κ.name → κ'.written ≡ κ.written ++ more → (x ≡ κ.name → j < length κ.written)
-    → number_at j (connection_named x (κ' ∷ others)) ≡ number_at j (connection_named x (κ ∷ others))
+    → written_number_at j (connection_named x (κ' ∷ others)) ≡ written_number_at j (connection_named x (κ ∷ others))
 number_more x κ κ' others more j n w h = by (cases_Bool (same_connection x κ.name))
   where
-    by : (same_connection x κ.name ≡ true) ⊎ (same_connection x κ.name ≡ false) → number_at j (connection_named x (κ' ∷ others)) ≡ number_at j (connection_named x (κ ∷ others))
+    by : (same_connection x κ.name ≡ true) ⊎ (same_connection x κ.name ≡ false) → written_number_at j (connection_named x (κ' ∷ others)) ≡ written_number_at j (connection_named x (κ ∷ others))
     by (inr e) = rw (ap (same_connection x) n ∙ e, e) refl
     by (inl e) = rw (ap (same_connection x) n ∙ e, e) (ap written_number (ap (λ z. slice_get z j) w ∙ within_more κ.written more j (h (same_name x κ.name e))))
 

@@ -26,7 +26,7 @@ use Rattle.exactly_once.specs.Sides.{ClientConnection}
 use Rattle.client_base.specs.Keeper.{Keeper}
 use Rattle.exactly_once.specs.Story.{Story}
 use Rattle.exactly_once.specs.StoryCommands.{packet_count}
-use Rattle.exactly_once.specs.Carried.{connection_named, number_at, written_number, more_by}
+use Rattle.exactly_once.specs.Carried.{connection_named, written_number_at, written_number, more_by}
 use Rattle.exactly_once.specs.Inside.Projections.{forward_of_own, carried_by, backward_of_own, to_come, is_current, as_publisher, GoesTo, IsLike}
 use Rattle.exactly_once.proofs.Hears.{joined_link, numbers_more}
 use Rattle.exactly_once.proofs.Packets.{at_packet, current_packet, received_packet, copies_none}
@@ -124,8 +124,8 @@ takes_new limits past keeper κ others p k dup id clean on conf current next two
     sym (joined_link limits (place ∷ past) (current_connection (place ∷ past) c) keeper.is_online (taken_once κ) others on conf current'
     ∙ ap (λ z. Transit.Joined f z) come) in
     let named : connection_named κ.name (taken_once κ ∷ others) ≡ Some (taken_once κ) = ap (λ b. if b then Some (taken_once κ) else connection_named κ.name others) (same_name_self κ.name) in
-    let carried : number_at (packet_count κ.name past) (connection_named κ.name (taken_once κ ∷ others)) ≡ Some k =
-    ap₂ (λ (n : ℕ) (o : Option ClientConnection). number_at n o) counted named ∙ ap written_number next in
+    let carried : written_number_at (packet_count κ.name past) (connection_named κ.name (taken_once κ ∷ others)) ≡ Some k =
+    ap₂ (λ (n : ℕ) (o : Option ClientConnection). written_number_at n o) counted named ∙ ap written_number next in
     let accepted : h.accepted ++ k ∷ [] ≡ (as_publisher limits t).accepted =
     sym (ap₂ (λ xs n. xs ++ more_by (is_exactly_once p.delivery) n)
     (numbers_more past κ (taken_once κ) others [] refl (sym (append-nil κ.written)) (subst (λ n. n ≤ length κ.written) (sym counted) within)) carried

@@ -31,14 +31,14 @@ written_number (Some w) = w.number
 written_number None = None
 
 -- the number of the j-th packet that was written on a connection
-abbrev pub number_at : ℕ → Option ClientConnection → Option ℕ
-number_at j (Some κ) = written_number (slice_get κ.written j)
-number_at j None = None
+abbrev pub written_number_at : ℕ → Option ClientConnection → Option ℕ
+written_number_at j (Some κ) = written_number (slice_get κ.written j)
+written_number_at j None = None
 
 -- the publication, if the command is a PUBLISH that the client wrote on one of its connections
 abbrev pub carries : List ClientConnection → Command → Past → Option ℕ
 carries connections (commands.Packet x (packets.Publish p)) past =
-    number_at (packet_count x past) (connection_named x connections)
+    written_number_at (packet_count x past) (connection_named x connections)
 carries connections _ past = None
 
 -- the number, if the publication is new at its place

@@ -11,7 +11,7 @@ use Rattle.byte_world.specs.broker_spec.Place.{Client, Limits, Past, Place}
 use Rattle.byte_world.specs.broker_spec.Received.{is_new}
 use Rattle.byte_world.specs.broker_spec.Times.{entries_of}
 use Rattle.byte_world.specs.client_base.Keeper.{Keeper, all_own}
-use Rattle.byte_world.specs.exactly_once.Carried.{carries, connection_named, more_by, new_numbers, number_at, own_qos2_numbers, is_this}
+use Rattle.byte_world.specs.exactly_once.Carried.{carries, connection_named, more_by, new_numbers, written_number_at, own_qos2_numbers, is_this}
 use Rattle.byte_world.specs.exactly_once.Headline.{IsTakenAt, made_by}
 use Rattle.byte_world.specs.exactly_once.Acceptance.{accepted_on}
 use Rattle.byte_world.specs.exactly_once.InStep.{AreWelcome, IsFirstSession, IsInStep, WasWelcome, accepted_in, opened_in, starts_of}
@@ -27,13 +27,13 @@ use Rattle.headline.proofs.Untaken.{AreSameUntaken, untaken_connection}
 -- ---- what is read of connections
 
 number_untaken : (x : ConnectionName) (j : ℕ) (connections : List ClientConnection)
-    → number_at j (connection_named x (map untaken_connection connections)) ≡ number_at j (connection_named x connections)
+    → written_number_at j (connection_named x (map untaken_connection connections)) ≡ written_number_at j (connection_named x connections)
 number_untaken x j [] = refl
 number_untaken x j (κ ∷ connections) = by (same_connection x κ.name) (number_untaken x j connections)
   where
-    by : (b : Bool) → number_at j (connection_named x (map untaken_connection connections)) ≡ number_at j (connection_named x connections)
-        → number_at j (if b then Some (untaken_connection κ) else connection_named x (map untaken_connection connections))
-        ≡ number_at j (if b then Some κ else connection_named x connections)
+    by : (b : Bool) → written_number_at j (connection_named x (map untaken_connection connections)) ≡ written_number_at j (connection_named x connections)
+        → written_number_at j (if b then Some (untaken_connection κ) else connection_named x (map untaken_connection connections))
+        ≡ written_number_at j (if b then Some κ else connection_named x connections)
     by true ih = refl
     by false ih = ih
 

@@ -18,7 +18,7 @@ use Rattle.byte_world.specs.client_base.Called.{written_for}
 use Rattle.byte_world.specs.client_base.Keeper.{Written}
 use Rattle.byte_world.specs.client_base.Written.{plain, writes_first}
 use Rattle.byte_world.specs.lists.Lists.{Each}
-use Rattle.byte_world.specs.exactly_once.Carried.{carries, connection_named, number_at}
+use Rattle.byte_world.specs.exactly_once.Carried.{carries, connection_named, written_number_at}
 use Rattle.byte_world.specs.exactly_once.Sides.{ClientConnection}
 use Rattle.byte_world.specs.exactly_once.Story.{StoryStep, Story}
 use Rattle.byte_world.specs.exactly_once.StoryCommands.{any_named, command_of, with_one_counted, packet_count, is_packet_of, names_client}
@@ -80,7 +80,7 @@ taken_carries i limits c s κ w life stands next numbered n x p is own = by n w.
     this : IsCounted s.past κ
     this = each_there (IsCounted s.past) i s.connections κ stands life.connections.counted
 
-    carried : number_at (packet_count κ.name s.past) (connection_named κ.name (with_one_counted i s.connections)) ≡ w.number
+    carried : written_number_at (packet_count κ.name s.past) (connection_named κ.name (with_one_counted i s.connections)) ≡ w.number
     carried = carries_it s.past i s.connections κ w Mark.NoPart life.connections.names stands next this.counted
 
     found : (q : Publish) → w.packet ≡ packets.Publish q → (k : ℕ) × (carries (with_one_counted i s.connections) (commands.Packet κ.name (packets.Publish q)) s.past ≡ Some k)

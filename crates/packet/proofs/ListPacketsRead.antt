@@ -23,7 +23,7 @@ use Rattle.packet.specs.declared.suback.Suback.{Suback}
 use Rattle.packet.specs.declared.unsubscribe.Unsubscribe.{Unsubscribe}
 use Rattle.packet_base.specs.QoS.{qos_number, qos_of}
 use Rattle.packet.specs.Subscribe.{subscription, subscribe_body, FitsSubscription, FitsSubscribe, subscription_at, subscribe_of}
-use Rattle.packet.specs.Suback.{granted_number, granted, suback_body, FitsSuback, granted_of, granted_at, suback_of}
+use Rattle.packet.specs.Suback.{granted_number, granted, suback_body, FitsSuback, suback_code_of, granted_at, suback_of}
 use Rattle.packet.specs.Unsubscribe.{unsubscribe_body, FitsUnsubscribe, unsubscribe_of}
 use Rattle.packet_base.proofs.QoSReads.{qos_found, qos_again}
 
@@ -51,7 +51,7 @@ subscriptions = record { found = subscription_found; again = subscription_again;
 names : IsItem filter_at text (λ filter. IsTrue (is_filter filter))
 names = record { found = filter_found; again = filter_again; some = λ filter. omega arith }
 
-granted_of_found : (byte : ℕ) → IfOk (granted_of byte) (λ code. byte ≡ granted_number code)
+granted_of_found : (byte : ℕ) → IfOk (suback_code_of byte) (λ code. byte ≡ granted_number code)
 granted_of_found byte =
     let Q : SubackCode → Type 0 = λ code. byte ≡ granted_number code in
     cond_if (eqb byte 0x80) _ _ Q (eqb-true byte 0x80) (λ _.
@@ -62,13 +62,13 @@ unfolding granted_at
 granted_found bytes fits =
     let Q : SubackCode × List ℕ → Type 0 = λ x. Splits bytes (granted x.0) x.1 × Unit {0} in
     then_if (byte_at bytes) _ (λ x. Splits bytes (x.0 ∷ []) x.1 × (x.0 < 256)) Q (byte_found bytes fits) (λ byte h.
-    then_if (granted_of byte.0) _ (λ code. byte.0 ≡ granted_number code) Q (granted_of_found byte.0) (λ code is.
+    then_if (suback_code_of byte.0) _ (λ code. byte.0 ≡ granted_number code) Q (granted_of_found byte.0) (λ code is.
     (subst (λ (n : ℕ). Splits bytes (n ∷ []) byte.1) is h.0, tt)))
 
-granted_of_again : (code : SubackCode) → granted_of (granted_number code) ≡ Ok code
+granted_of_again : (code : SubackCode) → suback_code_of (granted_number code) ≡ Ok code
 granted_of_again (return_codes.Granted qos) = at_level qos
   where
-    at_level : (qos : QoS) → granted_of (qos_number qos) ≡ Ok (return_codes.Granted qos)
+    at_level : (qos : QoS) → suback_code_of (qos_number qos) ≡ Ok (return_codes.Granted qos)
     at_level qualities.AtMostOnce = refl
     at_level qualities.AtLeastOnce = refl
     at_level qualities.ExactlyOnce = refl

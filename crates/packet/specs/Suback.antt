@@ -28,8 +28,8 @@ abbrev pub FitsSuback : Suback → Type 0
 FitsSuback s = IsId s.id
 
 -- the answer of a byte
-abbrev pub granted_of : ℕ → Result SubackCode Stop
-granted_of byte =
+abbrev pub suback_code_of : ℕ → Result SubackCode Stop
+suback_code_of byte =
     if byte == 0x80 then Ok return_codes.Failure else
     qos_of byte >>= (λ qos. Ok (return_codes.Granted qos))
 
@@ -37,7 +37,7 @@ granted_of byte =
 unfoldable pub granted_at : List ℕ → Result (SubackCode × List ℕ) Stop
 granted_at bytes = do
   byte ← byte_at bytes
-  code ← granted_of byte.0
+  code ← suback_code_of byte.0
   Ok (code, byte.1)
 
 -- a body, or its first fault

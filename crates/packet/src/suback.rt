@@ -16,7 +16,7 @@ ghost use Rattle.packet_base.specs.Lists.{begins_list};
 ghost use Rattle.packet.specs.Suback.{
   granted_number,
   granted,
-  granted_of,
+  suback_code_of,
   granted_at,
   suback_body,
   suback_of,
@@ -48,7 +48,7 @@ impl SubackCode {
 
     // Returns the answer of a byte.
     fn of(byte: u8) -> Result<SubackCode, Stop>
-        ensures { result ≡ granted_of byte }
+        ensures { result ≡ suback_code_of byte }
     {
         if byte == 0x80 {
             return Ok(SubackCode::Failure);

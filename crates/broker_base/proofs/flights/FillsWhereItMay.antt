@@ -11,7 +11,7 @@ use Rattle.session_base.proofs.CopiesOneByOne.{fill_quiet, copies_are_one_fill}
 use Rattle.broker_spec.specs.Connection.{ConnectionName}
 use Rattle.broker_spec.specs.Place.{Client, same_client, Mark, Place, only_if}
 use Rattle.broker_spec.specs.Past.{expels, ends_any}
-use Rattle.broker_spec.specs.Subscriptions.{subscribed}
+use Rattle.broker_spec.specs.Subscriptions.{filters_after}
 use Rattle.broker_spec.specs.Received.{received_by}
 use Rattle.broker_spec.specs.Entries.{queued}
 use Rattle.broker_base.specs.ClientSession.{ClientSession}
@@ -83,7 +83,7 @@ later_same w place content c (Some old) h =
       clean = old.clean;
       connection = only_if (not (ends_any place c old.connection)) old.connection;
       state = record {
-        subscriptions = subscribed place.command place.mark c old.state.subscriptions;
+        subscriptions = filters_after place.command place.mark c old.state.subscriptions;
         received = received_by place.command place.mark c old.state.received;
         queue = q;
       };

@@ -16,7 +16,7 @@ use Rattle.exactly_once.specs.StoryCommands.{any_named, is_packet_of, with_one_c
 use Rattle.exactly_once.specs.StoryTrace.{StoryTrace}
 use Rattle.exactly_once.specs.StoryTrace.StoryTrace.{begins, goes_on, begins_at}
 use Rattle.exactly_once.specs.Story.StoryStep.{takes, others_take, receives, opens_anew, loses, disconnects, publishes_one, subscribes, unsubscribes}
-use Rattle.exactly_once.specs.Carried.{carries, connection_named, number_at, own_publications}
+use Rattle.exactly_once.specs.Carried.{carries, connection_named, written_number_at, own_publications}
 use Rattle.exactly_once.specs.Inside.Shape.{IsSoundStory}
 use Rattle.exactly_once.proofs.keeping.KeepsShape.{same_story}
 use Rattle.exactly_once.proofs.keeping.StoryTrace.{told_stories_are_sound}
@@ -50,7 +50,7 @@ none_there x (κ ∷ connections) e =
     ap (λ b. if b then Some κ else connection_named x connections) h.0 ∙ none_there x connections h.1
 
 pub none_carried : (connections : List ClientConnection) (command : Command) (past : Past) → any_named (is_packet_of command) connections ≡ false → carries connections command past ≡ None
-none_carried connections (commands.Packet x (packets.Publish p)) past e = ap (number_at _) (none_there x connections e)
+none_carried connections (commands.Packet x (packets.Publish p)) past e = ap (written_number_at _) (none_there x connections e)
 none_carried connections (commands.Packet x _) past e = refl
 none_carried connections (commands.Connect x d clean) past e = refl
 none_carried connections (commands.Lost x) past e = refl

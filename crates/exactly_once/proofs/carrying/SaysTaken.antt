@@ -26,7 +26,7 @@ use Rattle.client_base.specs.Keeper.{Written, Keeper}
 use Rattle.client_base.specs.Connected.{opening_connect}
 use Rattle.exactly_once.specs.Sides.{ClientConnection}
 use Rattle.exactly_once.specs.StoryCommands.{with_one_counted, packet_count, command_of}
-use Rattle.exactly_once.specs.Carried.{connection_named, number_at, new_numbers}
+use Rattle.exactly_once.specs.Carried.{connection_named, written_number_at, new_numbers}
 use Rattle.exactly_once.specs.Inside.Projections.{forward_of_own, forward_of_one, backward_of_own, to_come, is_current, transit_of_own, as_publisher}
 use Rattle.exactly_once.specs.Inside.Shape.{HasShape}
 use Rattle.exactly_once.specs.Inside.ConnectionShape.{ConnectionInShape}
@@ -117,10 +117,10 @@ publish_says limits past keeper connections ps i n κ p (Some j) shape good stan
     publish_is : (q : Publish) (x : ConnectionName) → commands.Packet κ.name (packets.Publish p) ≡ commands.Packet x (packets.Publish q) → p ≡ q
     publish_is q x e = cc
 
-    carried : number_at (packet_count κ.name past) (connection_named κ.name (with_one_counted i connections)) ≡ Some j
+    carried : written_number_at (packet_count κ.name past) (connection_named κ.name (with_one_counted i connections)) ≡ Some j
     carried = carries_it past i connections κ w Mark.NoPart shape.names_apart stands next (each_there (ConnectionInShape limits past keeper.client) i connections κ stands shape.connections).counted
 
-    number_is : (k : ℕ) → number_at (packet_count κ.name past) (connection_named κ.name (with_one_counted i connections)) ≡ Some k → j ≡ k
+    number_is : (k : ℕ) → written_number_at (packet_count κ.name past) (connection_named κ.name (with_one_counted i connections)) ≡ Some k → j ≡ k
     number_is k e = let found : Some j ≡ Some k = sym carried ∙ e in cc
 
     -- the connection is the current one, or it has no client

@@ -26,7 +26,7 @@ use Rattle.exactly_once.specs.Sides.{ClientConnection}
 use Rattle.exactly_once.specs.Story.{Story, StoryStep}
 use Rattle.exactly_once.specs.StoryCommands.{any_named, with_one_counted, packet_count}
 use Rattle.exactly_once.specs.Story.StoryStep.{takes, others_take, receives, opens_anew, loses, disconnects, publishes_one, subscribes, unsubscribes}
-use Rattle.exactly_once.specs.Carried.{carries, connection_named, number_at, more_by}
+use Rattle.exactly_once.specs.Carried.{carries, connection_named, written_number_at, more_by}
 use Rattle.exactly_once.specs.Inside.Shape.{NamesApart, LastIsCurrent}
 use Rattle.exactly_once.proofs.Packets.{at_packet}
 use Rattle.exactly_once.proofs.places.Kinds.{nobodys_mark}
@@ -66,7 +66,7 @@ none_more false = refl
 
 -- says nothing but what it is
 says_by : (c : Client) (ps : List Publication) (past : Past) (connections : List ClientConnection) (x : ConnectionName) (packet : Packet) (number : Option ℕ)
-    → number_at (packet_count x past) (connection_named x connections) ≡ number → IsOf ps packet number → Says c ps connections (at_packet x packet Mark.NoPart) past
+    → written_number_at (packet_count x past) (connection_named x connections) ≡ number → IsOf ps packet number → Says c ps connections (at_packet x packet Mark.NoPart) past
 says_by c ps past connections x (packets.Publish q) number carried of =
     record {
       known = λ k e again. absurd (both_ways false refl again);

@@ -12,7 +12,7 @@ use Rattle.broker_base.specs.broker_spec.declared.command.Command.TheVariants as
 use Rattle.client_base.specs.Connected.{opening_connect}
 use Rattle.exactly_once.specs.Sides.{ClientConnection}
 use Rattle.exactly_once.specs.StoryCommands.{any_named, packet_count, is_packet_of}
-use Rattle.exactly_once.specs.Carried.{carries, connection_named, written_number, number_at, more_by, new_numbers}
+use Rattle.exactly_once.specs.Carried.{carries, connection_named, written_number, written_number_at, more_by, new_numbers}
 use Rattle.exactly_once.specs.InStep.{has_begun, sessions_begun}
 use Rattle.exactly_once.proofs.carrying.KeepsPlaces.{none_carried}
 use Rattle.exactly_once.proofs.sessions.Beside.{kept_of}
@@ -60,7 +60,7 @@ nothing_new_yet limits past c κ others fresh new =
 
 -- ---- only CONNECTs were written
 
-silent_number : (c : Client) (connections : List ClientConnection) → Each (λ (κ : ClientConnection). κ.written ≡ opening_connect c ∷ []) connections → (x : ConnectionName) (j : ℕ) → number_at j (connection_named x connections) ≡ None
+silent_number : (c : Client) (connections : List ClientConnection) → Each (λ (κ : ClientConnection). κ.written ≡ opening_connect c ∷ []) connections → (x : ConnectionName) (j : ℕ) → written_number_at j (connection_named x connections) ≡ None
 silent_number c [] h x j = refl
 silent_number c (κ ∷ connections) h x j = by (same_connection x κ.name) (silent_number c connections h.1 x j)
   where
@@ -68,7 +68,7 @@ silent_number c (κ ∷ connections) h x j = by (same_connection x κ.name) (sil
     of zero = refl
     of (suc j) = refl
 
-    by : (b : Bool) → number_at j (connection_named x connections) ≡ None → number_at j (if b then Some κ else connection_named x connections) ≡ None
+    by : (b : Bool) → written_number_at j (connection_named x connections) ≡ None → written_number_at j (if b then Some κ else connection_named x connections) ≡ None
     by true ih = ap (λ ws. written_number (slice_get ws j)) h.0 ∙ of j
     by false ih = ih
 

@@ -22,7 +22,7 @@ use Rattle.client_base.proofs.of_lists.Tests.{or_none}
 use Rattle.exactly_once.specs.Sides.{ClientConnection}
 use Rattle.client_base.specs.Keeper.{Keeper}
 use Rattle.exactly_once.specs.StoryCommands.{any_named, is_packet_of, packet_count, names_client}
-use Rattle.exactly_once.specs.Carried.{carries, connection_named, number_at, more_by, new_numbers}
+use Rattle.exactly_once.specs.Carried.{carries, connection_named, written_number_at, more_by, new_numbers}
 use Rattle.exactly_once.specs.Inside.Projections.{last_confirmed, as_publisher, GoesTo}
 use Rattle.exactly_once.specs.Inside.Shape.{HasShape, LastIsCurrent}
 use Rattle.exactly_once.proofs.places.After.{IsSpared, current_stays, current_ends, received_spared}
@@ -45,7 +45,7 @@ unnamed x (κ ∷ connections) e =
     ap (λ b. if b then Some κ else connection_named x connections) h.0 ∙ unnamed x connections h.1
 
 carries_none : (connections : List ClientConnection) (command : Command) (past : Past) → any_named (is_packet_of command) connections ≡ false → carries connections command past ≡ None
-carries_none connections (commands.Packet x (packets.Publish p)) past e = ap (number_at (packet_count x past)) (unnamed x connections e)
+carries_none connections (commands.Packet x (packets.Publish p)) past e = ap (written_number_at (packet_count x past)) (unnamed x connections e)
 carries_none connections (commands.Packet x packet) past e = refl
 carries_none connections (commands.Connect x c clean) past e = refl
 carries_none connections (commands.Lost x) past e = refl

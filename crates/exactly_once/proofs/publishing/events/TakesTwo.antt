@@ -20,7 +20,7 @@ use Rattle.exactly_once.specs.Sends.{sends_to}
 use Rattle.client_base.specs.Keeper.{Written, Keeper}
 use Rattle.exactly_once.specs.Sides.{ClientConnection}
 use Rattle.exactly_once.specs.StoryCommands.{with_one_counted, packet_count}
-use Rattle.exactly_once.specs.Carried.{connection_named, number_at, written_number, more_by}
+use Rattle.exactly_once.specs.Carried.{connection_named, written_number_at, written_number, more_by}
 use Rattle.exactly_once.specs.Inside.Projections.{backward_of_own, as_publisher, GoesTo}
 use Rattle.exactly_once.specs.Inside.Shape.{NamesApart}
 use Rattle.exactly_once.proofs.Packets.{at_packet, copies_none}
@@ -49,10 +49,10 @@ connection_at (suc i) (μ ∷ connections) κ apart e =
 
 -- the place carries the publication of the packet that is taken
 pub carries_it : (past : Past) (i : ℕ) (connections : List ClientConnection) (κ : ClientConnection) (w : Written) (mark : Mark) → NamesApart connections → slice_get connections i ≡ Some κ
-    → slice_get κ.written κ.taken ≡ Some w → packet_count κ.name past ≡ κ.taken → number_at (packet_count κ.name past) (connection_named κ.name (with_one_counted i connections)) ≡ w.number
+    → slice_get κ.written κ.taken ≡ Some w → packet_count κ.name past ≡ κ.taken → written_number_at (packet_count κ.name past) (connection_named κ.name (with_one_counted i connections)) ≡ w.number
 carries_it past i connections κ w mark apart stands next counted =
     same_counted (at_packet κ.name packets.Pingreq mark ∷ past) i connections κ.name (packet_count κ.name past) (counted_here κ.name (at_packet κ.name packets.Pingreq mark) past (same_itself κ.name))
-    ∙ ap₂ number_at counted (connection_at i connections κ apart stands) ∙ ap written_number next
+    ∙ ap₂ written_number_at counted (connection_at i connections κ apart stands) ∙ ap written_number next
 
 -- after an acceptance
 accepted_by : (b : Bool) (id k : ℕ) (h : Handshake ℕ) (l : Transit ℕ) → b ≡ false → (receiver_accepts id k b h l).accepted ≡ h.accepted ++ k ∷ []

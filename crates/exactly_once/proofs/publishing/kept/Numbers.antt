@@ -11,14 +11,14 @@ use Rattle.broker_base.specs.broker_spec.declared.command.Command.TheVariants as
 use Rattle.client_base.specs.Keeper.{Written}
 use Rattle.exactly_once.specs.Sides.{ClientConnection}
 use Rattle.exactly_once.specs.StoryCommands.{is_packet_of, packet_count, with_one_counted}
-use Rattle.exactly_once.specs.Carried.{carries, connection_named, number_at, written_number, more_by, new_numbers}
+use Rattle.exactly_once.specs.Carried.{carries, connection_named, written_number_at, written_number, more_by, new_numbers}
 use Rattle.broker_base.proofs.of_broker_spec.ConnectionNames.{same_name, same_itself}
 use Rattle.exactly_once.proofs.places.Counts.{counted_here, counted_still}
 
 -- both lists of connections give the same number to each packet of x that is taken
 abbrev pub SameNumbers : List ClientConnection → List ClientConnection → Past → Type 0
 SameNumbers connections later past =
-    (x : ConnectionName) (j : ℕ) → j < packet_count x past → number_at j (connection_named x later) ≡ number_at j (connection_named x connections)
+    (x : ConnectionName) (j : ℕ) → j < packet_count x past → written_number_at j (connection_named x later) ≡ written_number_at j (connection_named x connections)
 
 pub same_carries : (connections later : List ClientConnection) (place : Place) (past : Past) → SameNumbers connections later (place ∷ past)
     → carries later place.command past ≡ carries connections place.command past
@@ -56,7 +56,7 @@ pub same_written : (past : Past) (κ after : ClientConnection) (others : List Cl
     → packet_count κ.name past ≤ length κ.written → SameNumbers (κ ∷ others) (after ∷ others) past
 same_written past κ after others more n w within x j less = by (cases_Bool (same_connection x κ.name))
   where
-    by : (same_connection x κ.name ≡ true) ⊎ (same_connection x κ.name ≡ false) → number_at j (connection_named x (after ∷ others)) ≡ number_at j (connection_named x (κ ∷ others))
+    by : (same_connection x κ.name ≡ true) ⊎ (same_connection x κ.name ≡ false) → written_number_at j (connection_named x (after ∷ others)) ≡ written_number_at j (connection_named x (κ ∷ others))
     by (inr e) = rw (ap (same_connection x) n ∙ e, e) refl
     by (inl e) =
         let count : packet_count x past ≡ packet_count κ.name past = ap (λ y. packet_count y past) (same_name x κ.name e) in
@@ -69,13 +69,13 @@ same_counted past i [] x j less = refl
 same_counted past zero (κ ∷ connections) x j less = by (same_connection x κ.name)
   where
     by : (b : Bool)
-        → number_at j (if b then Some (record κ { taken = suc κ.taken }) else connection_named x connections) ≡ number_at j (if b then Some κ else connection_named x connections)
+        → written_number_at j (if b then Some (record κ { taken = suc κ.taken }) else connection_named x connections) ≡ written_number_at j (if b then Some κ else connection_named x connections)
     by true = refl
     by false = refl
 same_counted past (suc i) (κ ∷ connections) x j less = by (same_connection x κ.name) (same_counted past i connections x j less)
   where
-    by : (b : Bool) → number_at j (connection_named x (with_one_counted i connections)) ≡ number_at j (connection_named x connections)
-        → number_at j (if b then Some κ else connection_named x (with_one_counted i connections)) ≡ number_at j (if b then Some κ else connection_named x connections)
+    by : (b : Bool) → written_number_at j (connection_named x (with_one_counted i connections)) ≡ written_number_at j (connection_named x connections)
+        → written_number_at j (if b then Some κ else connection_named x (with_one_counted i connections)) ≡ written_number_at j (if b then Some κ else connection_named x connections)
     by true ih = refl
     by false ih = ih
 
@@ -83,7 +83,7 @@ same_counted past (suc i) (κ ∷ connections) x j less = by (same_connection x 
 pub same_opened : (past : Past) (κ : ClientConnection) (connections : List ClientConnection) → packet_count κ.name past ≡ 0 → SameNumbers connections (κ ∷ connections) past
 same_opened past κ connections none x j less = by (cases_Bool (same_connection x κ.name))
   where
-    by : (same_connection x κ.name ≡ true) ⊎ (same_connection x κ.name ≡ false) → number_at j (connection_named x (κ ∷ connections)) ≡ number_at j (connection_named x connections)
+    by : (same_connection x κ.name ≡ true) ⊎ (same_connection x κ.name ≡ false) → written_number_at j (connection_named x (κ ∷ connections)) ≡ written_number_at j (connection_named x connections)
     by (inr e) = rw e refl
     by (inl e) =
         let count : packet_count x past ≡ packet_count κ.name past = ap (λ y. packet_count y past) (same_name x κ.name e) in
