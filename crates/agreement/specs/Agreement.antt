@@ -2,12 +2,12 @@
 use Rattle.std.specs.Prelude.{ℕ, ◌+◌, ◌≡◌, ◌⊎◌, List, take, slice_get, Some}
 use Rattle.machine.specs.Machine.{Rules}
 use Rattle.whole.specs.Replica.{ReplicaState}
-use Rattle.agreement.specs.World.{World}
+use Rattle.agreement.specs.World.{GroupWorld}
 use Rattle.whole.specs.lists.Lists.{In, IsPrefixOf}
 use Rattle.agreement.specs.MasterState.{MasterState}
 
 -- the nodes agree on a list
-pub record Agrees {S C O : Type 0} (rules : Rules S C O) (m : MasterState) (w : World S C O)
+pub record Agrees {S C O : Type 0} (rules : Rules S C O) (m : MasterState) (w : GroupWorld S C O)
     (xs : List C) : Type 0 where
   -- what is applied anywhere is a prefix of it
   pub applied : (n : ℕ) (r : ReplicaState S C) → slice_get w.nodes n ≡ Some r →
@@ -21,7 +21,8 @@ pub record Agrees {S C O : Type 0} (rules : Rules S C O) (m : MasterState) (w : 
       r.held_in ≡ s.held_in → IsPrefixOf r.log s.log ⊎ IsPrefixOf s.log r.log
 
 -- some member of the active ballot is a node whose log begins with the agreed list
-pub record Holds {S C O : Type 0} (m : MasterState) (w : World S C O) (xs : List C) : Type 0 where
+pub record Holds {S C O : Type 0} (m : MasterState) (w : GroupWorld S C O)
+    (xs : List C) : Type 0 where
   pub node : ℕ
   pub replica : ReplicaState S C
   pub stands : slice_get w.nodes node ≡ Some replica

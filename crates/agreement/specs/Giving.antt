@@ -12,11 +12,12 @@ use Rattle.agreement.specs.Primaries.{IsPrimary}
 use Rattle.agreement.specs.Steps.{MayHappen}
 use Rattle.agreement.specs.Steps.MayHappen.{node_takes, node_stops, master_assigns, master_hears}
 use Rattle.agreement.specs.Steps.MayHappen.{assignment_lost, answer_lost}
-use Rattle.agreement.specs.World.{World, outputs}
+use Rattle.agreement.specs.World.{GroupWorld, outputs}
 
 -- the outputs of the node at index n in a step, each with its place in the list
-abbrev pub given_in : {S C O : Type 0} {rules : Rules S C O} {m : MasterState} {w : World S C O}
-    {k : MasterState} {v : World S C O} → ℕ → MayHappen rules m w k v → List (ℕ × O)
+abbrev pub given_in : {S C O : Type 0} {rules : Rules S C O} {m : MasterState}
+    {w : GroupWorld S C O}
+    {k : MasterState} {v : GroupWorld S C O} → ℕ → MayHappen rules m w k v → List (ℕ × O)
 given_in n (node_takes i r input {new = new} {given = given} stands runs may loses) =
     if i == n then outputs given else []
 given_in n (node_stops i r stands) = []

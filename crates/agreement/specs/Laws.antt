@@ -16,7 +16,7 @@ use Rattle.agreement.specs.Proposals.{IsOfBallot, IsPartOf, IsTaken, commands_of
 use Rattle.agreement.specs.Proposals.{proposals_of, rows_in, taken_at, taken_in, taken_of, takes_at}
 use Rattle.agreement.specs.Replays.{AreReplays}
 use Rattle.agreement.specs.Steps.{MayHappen}
-use Rattle.agreement.specs.World.{World, log_of, outputs}
+use Rattle.agreement.specs.World.{GroupWorld, log_of, outputs}
 
 -- there is an agreed list at each moment
 abbrev pub HasAgreed : {S C O : Type 0} → Rules S C O → Type 0
@@ -58,8 +58,9 @@ KeepsTheOrder {S} {C} {O} rules =
 
 -- what a node takes in a step is at once at the end of its log; everything that is taken is taken
 -- by some node; and a proposal that is not taken changes no log
-pub record StandsAtOnce {S C O : Type 0} {rules : Rules S C O} {m : MasterState} {w : World S C O}
-    {k : MasterState} {v : World S C O} (step : MayHappen rules m w k v) : Type 0 where
+pub record StandsAtOnce {S C O : Type 0} {rules : Rules S C O} {m : MasterState}
+    {w : GroupWorld S C O}
+    {k : MasterState} {v : GroupWorld S C O} (step : MayHappen rules m w k v) : Type 0 where
   pub stands : (n : ℕ) (row : ℕ × C) → In row (takes_at n step) → IsTaken w v n row
   pub somewhere : (row : ℕ × C) → In row (taken_in step) → (n : ℕ) × In row (takes_at n step)
   pub refused : taken_in step ≡ [] → (row : ℕ × C) → In row (proposal_of step) →
@@ -68,7 +69,7 @@ pub record StandsAtOnce {S C O : Type 0} {rules : Rules S C O} {m : MasterState}
 -- in each step, what is taken stands at the end of a log at once (`StandsAtOnce`)
 abbrev pub TakenStandAtOnce : {S C O : Type 0} → Rules S C O → Type 0
 TakenStandAtOnce {S} {C} {O} rules =
-    (m : MasterState) (w : World S C O) (k : MasterState) (v : World S C O) →
+    (m : MasterState) (w : GroupWorld S C O) (k : MasterState) (v : GroupWorld S C O) →
     (step : MayHappen rules m w k v) → StandsAtOnce step
 
 -- a ballot has one active primary at most, over all moments of a past

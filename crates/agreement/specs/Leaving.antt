@@ -5,7 +5,7 @@ use Rattle.machine.specs.Machine.{Rules}
 use Rattle.whole.specs.lists.Lists.{In}
 use Rattle.whole.specs.Applying.{outputs_between}
 use Rattle.agreement.specs.Moments.{Moment, WasActive}
-use Rattle.agreement.specs.World.{World, outputs}
+use Rattle.agreement.specs.World.{GroupWorld, outputs}
 
 -- the places whose outputs one commit gave: by which ballot's primary, from where to where
 pub record Segment : Type 0 where
@@ -24,7 +24,7 @@ AreInOrder segments =
 -- that was active. No two share a place, and as long as only one ballot was active the places rise
 -- as they left. The primary of an earlier ballot may output late what it had not yet output.
 pub record LeftInOrder {S C O : Type 0} (rules : Rules S C O) (past : List (Moment S C O))
-    (w : World S C O) (xs : List C) : Type 0 where
+    (w : GroupWorld S C O) (xs : List C) : Type 0 where
   pub segments : List Segment
   pub left : w.left ≡ flat_map (λ s. outputs (outputs_between rules xs s.first s.past)) segments
   pub inside : (s : Segment) → In s segments → (s.first < s.past) × (s.past ≤ length xs)

@@ -10,12 +10,12 @@ use Rattle.whole.specs.ballot_base.declared.config.Config.{Config}
 use Rattle.whole.specs.Replica.{ReplicaState, is_active}
 use Rattle.agreement.specs.Steps.{MayHappen}
 use Rattle.agreement.specs.MasterState.{MasterState, opening_master}
-use Rattle.agreement.specs.World.{World, can_open, moved, opening_world}
+use Rattle.agreement.specs.World.{GroupWorld, can_open, moved, opening_world}
 
 -- a moment of a group: the master and the world
 pub record Moment (S C O : Type 0) : Type 0 where
   pub master : MasterState
-  pub world : World S C O
+  pub world : GroupWorld S C O
 
 -- the moment at which a group opens
 abbrev pub opening_moment : {S C O : Type 0} → Rules S C O → ℕ → Config → Moment S C O
@@ -76,7 +76,7 @@ WasActive {S} {C} {O} past ballot =
     (a : Moment S C O) × In a past × (a.master.active ≡ ballot)
 
 -- a member acknowledged a length in a ballot
-abbrev pub ToldLength : {S C O : Type 0} → World S C O → ℕ → ℕ → ℕ → Type 0
+abbrev pub ToldLength : {S C O : Type 0} → GroupWorld S C O → ℕ → ℕ → ℕ → Type 0
 ToldLength w member ballot held =
     (receiver : ℕ)
     × (In (receiver, record { from = member; body = Held ballot held }) w.sent

@@ -1,10 +1,10 @@
 -- Who is the active primary of a ballot.
 use Rattle.std.specs.Prelude.{ℕ, true, ◌≡◌, slice_get, Some}
 use Rattle.whole.specs.Replica.{ReplicaState, is_active}
-use Rattle.agreement.specs.World.{World}
+use Rattle.agreement.specs.World.{GroupWorld}
 
 -- the node at an index is the active primary of a ballot, which it has joined
-pub record IsPrimary {S C O : Type 0} (w : World S C O) (n ballot : ℕ) : Type 0 where
+pub record IsPrimary {S C O : Type 0} (w : GroupWorld S C O) (n ballot : ℕ) : Type 0 where
   pub replica : ReplicaState S C
   pub stands : slice_get w.nodes n ≡ Some replica
   pub active : is_active replica.role ≡ true

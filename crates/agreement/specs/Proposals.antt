@@ -14,7 +14,7 @@ use Rattle.agreement.specs.Primaries.{IsPrimary}
 use Rattle.agreement.specs.Steps.{MayHappen}
 use Rattle.agreement.specs.Steps.MayHappen.{node_takes, node_stops, master_assigns, master_hears}
 use Rattle.agreement.specs.Steps.MayHappen.{assignment_lost, answer_lost}
-use Rattle.agreement.specs.World.{World}
+use Rattle.agreement.specs.World.{GroupWorld}
 
 -- the proposal that a node is given, with the ballot that it has joined
 abbrev pub proposal_by : {S C : Type 0} → ReplicaState S C → Input C → List (ℕ × C)
@@ -24,7 +24,8 @@ proposal_by r Ticks = []
 
 -- the proposal of a step, if it has one
 abbrev pub proposal_of : {S C O : Type 0} {rules : Rules S C O} {m : MasterState}
-    {w : World S C O} {k : MasterState} {v : World S C O} → MayHappen rules m w k v → List (ℕ × C)
+    {w : GroupWorld S C O} {k : MasterState} {v : GroupWorld S C O} → MayHappen rules m w k v →
+    List (ℕ × C)
 proposal_of (node_takes n r input stands runs may loses) = proposal_by r input
 proposal_of (node_stops n r stands) = []
 proposal_of (master_assigns config) = []
@@ -45,8 +46,9 @@ taken_by old new input =
     if nat_lt (length old.log) (length new.log) then proposal_by old input else []
 
 -- what is taken in a step
-abbrev pub taken_in : {S C O : Type 0} {rules : Rules S C O} {m : MasterState} {w : World S C O}
-    {k : MasterState} {v : World S C O} → MayHappen rules m w k v → List (ℕ × C)
+abbrev pub taken_in : {S C O : Type 0} {rules : Rules S C O} {m : MasterState}
+    {w : GroupWorld S C O}
+    {k : MasterState} {v : GroupWorld S C O} → MayHappen rules m w k v → List (ℕ × C)
 taken_in (node_takes n r input {new = new} {given = given} stands runs may loses) =
     taken_by r new input
 taken_in (node_stops n r stands) = []
@@ -63,8 +65,9 @@ taken_of (went_on came step) = taken_of came ++ taken_in step
 taken_of (learned came learns) = taken_of came
 
 -- what the node at index n took in a step
-abbrev pub takes_at : {S C O : Type 0} {rules : Rules S C O} {m : MasterState} {w : World S C O}
-    {k : MasterState} {v : World S C O} → ℕ → MayHappen rules m w k v → List (ℕ × C)
+abbrev pub takes_at : {S C O : Type 0} {rules : Rules S C O} {m : MasterState}
+    {w : GroupWorld S C O}
+    {k : MasterState} {v : GroupWorld S C O} → ℕ → MayHappen rules m w k v → List (ℕ × C)
 takes_at n (node_takes i r input {new = new} {given = given} stands runs may loses) =
     if i == n then taken_by r new input else []
 takes_at n (node_stops i r stands) = []
@@ -86,7 +89,7 @@ rows_in {C} ballot rows = filter (λ (row : ℕ × C). row.0 == ballot) rows
 
 -- the node at index n took a proposal in a step: it ran, and was the active primary of the ballot
 -- that the row names; after the step its log is what it was, with the command at its end
-pub record IsTaken {S C O : Type 0} (w v : World S C O) (n : ℕ) (row : ℕ × C) : Type 0 where
+pub record IsTaken {S C O : Type 0} (w v : GroupWorld S C O) (n : ℕ) (row : ℕ × C) : Type 0 where
   pub primary : IsPrimary w n row.0
   pub runs : primary.replica.stopped ≡ false
   pub after : ReplicaState S C

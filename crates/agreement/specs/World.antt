@@ -11,7 +11,7 @@ use Rattle.whole.specs.Replica.{ReplicaState, opening}
 
 -- the nodes, number n + 1 at index n, the messages with their receivers in the order of sending,
 -- and the outputs that left with their places
-pub record World (S C O : Type 0) : Type 0 where
+pub record GroupWorld (S C O : Type 0) : Type 0 where
   pub nodes : List (ReplicaState S C)
   pub sent : List (ℕ × Message C)
   pub left : List (ℕ × O)
@@ -31,7 +31,7 @@ opening_nodes rules (suc n) config =
     opening_nodes rules n config ++ opening rules (n + 1) config ∷ []
 
 -- the world in which nothing was sent
-abbrev pub opening_world : {S C O : Type 0} → Rules S C O → ℕ → Config → World S C O
+abbrev pub opening_world : {S C O : Type 0} → Rules S C O → ℕ → Config → GroupWorld S C O
 opening_world rules nodes config =
     record { nodes = opening_nodes rules nodes config; sent = []; left = [] }
 
@@ -49,7 +49,7 @@ outputs (Out place output ∷ effects) = (place, output) ∷ outputs effects
 
 -- a world after the node at an index changed and returned effects
 abbrev pub moved : {S C O : Type 0} →
-    World S C O → ℕ → ReplicaState S C → List (Effect C O) → World S C O
+    GroupWorld S C O → ℕ → ReplicaState S C → List (Effect C O) → GroupWorld S C O
 moved w n new given =
     record {
       nodes = slice_set w.nodes n new;

@@ -13,7 +13,7 @@ use Rattle.snapshots.specs.whole.Messages.{Message}
 use Rattle.snapshots.specs.whole.Messages.{Body}
 use Rattle.snapshots.specs.whole.Messages.Body.{NewBallot, Join, State, Install, Installed, Activate, Activated, Superseded, Append, Held, Commit}
 use Rattle.snapshots.specs.whole.Replica.{ReplicaState}
-use Rattle.snapshots.specs.agreement.World.{World, log_of}
+use Rattle.snapshots.specs.agreement.World.{GroupWorld, log_of}
 use Rattle.snapshots.specs.agreement.Moments.{Moment, Moments, IsAgreed}
 use Rattle.snapshots.specs.agreement.Agreement.{Holds}
 use Rattle.snapshots.specs.agreement.Inside.Ballots.{Given, History, IsChain, Line}
@@ -151,7 +151,7 @@ second_is told p top last least next (m ∷ ms) rising i none low bound =
     rising i none low bound
 
 -- a primary says nothing by messages
-primary_silent : {S C O : Type 0} (w : World S C O) (h : History C) (b : ℕ) (g : Given) (to from : ℕ) (body : Body C) → SpeaksTruth w h to from body →
+primary_silent : {S C O : Type 0} (w : GroupWorld S C O) (h : History C) (b : ℕ) (g : Given) (to from : ℕ) (body : Body C) → SpeaksTruth w h to from body →
     h.given b ≡ Some g → (from ≡ g.primary) → told_by b body ≡ 0
 primary_silent w h b g to from (NewBallot x members a old) says given is = refl
 primary_silent w h b g to from (Join x a) says given is = refl
@@ -177,7 +177,7 @@ primary_silent w h b g to from (Held x held) says given is = by_ballot (cases_eq
     by_ballot (inr ne) = ap (λ k. cond k held 0) (ne_eqb x b ne)
 primary_silent w h b g to from (Commit x held) says given is = refl
 
-primary_told : {S C O : Type 0} (rules : Rules S C O) (w : World S C O) (h : History C) (b : ℕ) (g : Given) → IsSoundWorld rules w h → h.given b ≡ Some g →
+primary_told : {S C O : Type 0} (rules : Rules S C O) (w : GroupWorld S C O) (h : History C) (b : ℕ) (g : Given) → IsSoundWorld rules w h → h.given b ≡ Some g →
     max_told g.primary b w.sent ≡ 0
 primary_told {S = S} {C = C} rules w h b g s given = told_none g.primary b w.sent (λ x i. by_sender x i (cases_eq x.1.from g.primary))
   where
@@ -230,7 +230,7 @@ agreed_front {S = S} {C = C} {O = O} rules config a past xs came agreed =
       is = prefix_both (begins xs _ one two) (begins _ xs two one);
     }
   where
-    begins : {w : World S C O} {h : History C} (us vs : List C) → IsAgreedIn w h us → IsAgreedIn w h vs → IsPrefixOf us vs
+    begins : {w : GroupWorld S C O} {h : History C} (us vs : List C) → IsAgreedIn w h us → IsAgreedIn w h vs → IsPrefixOf us vs
     begins {w = w} {h = h} us vs x y = by_chosen x.chosen
       where
         by_chosen : (us ≡ []) ⊎ ChosenList w h us → IsPrefixOf us vs

@@ -15,7 +15,7 @@ use Rattle.ballot.specs.ballot_base.Cutting.{can_cut}
 use Rattle.ballot.specs.ballot_base.Logs.{places}
 use Rattle.master.specs.declared.event.Event.{Event}
 use Rattle.master.specs.declared.event.Event.TheVariants.{Assign, Deliver}
-use Rattle.snapshots.specs.World.{World, moved}
+use Rattle.snapshots.specs.World.{CutGroupWorld, moved}
 use Rattle.snapshots.specs.Moments.{Moment}
 use Rattle.ballot.specs.ballot_base.declared.config.Config.{Config}
 use Rattle.ballot.specs.lists.Lists.{In}
@@ -35,7 +35,7 @@ use Rattle.master.specs.Inside.{RunsAt, asks_for}
 use Rattle.master.specs.Inside.Losing.{MasterTook, TookCut, TookStep}
 
 -- the outcome for a node that runs
-pub takes_turn : {S C O : Type 0} (rules : Rules S C O) (w : World S C O) (node at : ℕ) (input : Input C) (x : RunsAt w.nodes node at) →
+pub takes_turn : {S C O : Type 0} (rules : Rules S C O) (w : CutGroupWorld S C O) (node at : ℕ) (input : Input C) (x : RunsAt w.nodes node at) →
     can_take x.replica input ≡ true →
     takes rules w node input ≡ Some (by_node (record { index = at; before = x.replica; outcome = replica_step rules x.replica input }))
 takes_turn {S = S} {C = C} {O = O} rules w node at input x can =
@@ -43,11 +43,11 @@ takes_turn {S = S} {C = C} {O = O} rules w node at input x can =
     ∙ ap (λ b. cond b (Some (by_node (record { index = node - 1; before = x.replica; outcome = replica_step rules x.replica input }))) None) can
     ∙ ap (λ n. let t : NodeOutcome S C O = record { index = n; before = x.replica; outcome = replica_step rules x.replica input } in Some (by_node t)) (sym x.index)
 
-pub takes_nothing : {S C O : Type 0} (rules : Rules S C O) (w : World S C O) (node : ℕ) (input : Input C) →
+pub takes_nothing : {S C O : Type 0} (rules : Rules S C O) (w : CutGroupWorld S C O) (node : ℕ) (input : Input C) →
     running w.nodes node ≡ None → takes rules w node input ≡ None
 takes_nothing rules w node input idle = ap (λ o. outcome_of_taking rules (node - 1) o input) idle
 
-pub cannot_take : {S C O : Type 0} (rules : Rules S C O) (w : World S C O) (node at : ℕ) (input : Input C) (x : RunsAt w.nodes node at) →
+pub cannot_take : {S C O : Type 0} (rules : Rules S C O) (w : CutGroupWorld S C O) (node at : ℕ) (input : Input C) (x : RunsAt w.nodes node at) →
     can_take x.replica input ≡ false → takes rules w node input ≡ None
 cannot_take {S = S} {C = C} {O = O} rules w node at input x can =
     ap (λ o. outcome_of_taking rules (node - 1) o input) x.runs

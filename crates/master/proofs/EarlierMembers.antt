@@ -25,7 +25,7 @@ use Rattle.ballot.proofs.of_ballot_base.MessageRows.{on_append-elsewhere, on_app
 use Rattle.snapshots.specs.agreement.Inside.Ballots.{Given, History}
 use Rattle.snapshots.specs.agreement.Inside.Saying.{IsOf, SpeaksTruth}
 use Rattle.snapshots.specs.agreement.Moments.{Moment as WholeMoment, Moments as WholeMoments}
-use Rattle.snapshots.specs.agreement.World.{World as WholeWorld}
+use Rattle.snapshots.specs.agreement.World.{GroupWorld as WholeWorld}
 use Rattle.snapshots.specs.whole.Messages.Body.{NewBallot as whole_new_ballot}
 use Rattle.snapshots.proofs.of_agreement.Agreed.PastKnown.{past_known}
 use Rattle.snapshots.specs.Moments.{Moment, Moments, whole_moment}

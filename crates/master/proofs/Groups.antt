@@ -14,7 +14,7 @@ use Rattle.ballot.specs.ballot_base.declared.message.Body.{Body}
 use Rattle.ballot.specs.ballot_base.declared.message.Body.TheVariants.{NewBallot, Join, State, Install, Installed, Activate, Activated, Superseded, Append, Held, Commit}
 use Rattle.ballot.specs.ballot_base.declared.message.Effect.{Effect}
 use Rattle.ballot.specs.ballot_base.Replica.{ReplicaState, CountedReplica}
-use Rattle.snapshots.specs.World.{World, messages, moved, outputs}
+use Rattle.snapshots.specs.World.{CutGroupWorld, messages, moved, outputs}
 use Rattle.snapshots.specs.agreement.World.{can_open}
 use Rattle.snapshots.specs.agreement.MasterState.{MasterState, assigning, activating, refusal}
 use Rattle.snapshots.specs.Masters.{assigned, activated}
@@ -151,7 +151,7 @@ group_gives {S = S} {C = C} {O = O} rules a v config told next next' g granted m
     empty : HasCounted a.world.sent next'
     empty m low = none m ∙ sym (untold_next rules g.config a g.past g.came m) ∙ ap (λ b. max_told m b a.world.sent) (sym ballot)
 
-    made : (w : World S C O) → MayGo rules a (record { master = assigning a.master config; world = w }) → v.world ≡ w →
+    made : (w : CutGroupWorld S C O) → MayGo rules a (record { master = assigning a.master config; world = w }) → v.world ≡ w →
         HasCounted w.sent told → HasCounted w.sent next' → IsGroup rules v told next'
     made w may is counted counted_next =
         record {
@@ -159,9 +159,9 @@ group_gives {S = S} {C = C} {O = O} rules a v config told next next' g granted m
           past = a ∷ g.past;
           came = went_on g.came (subst (λ (u : Moment S C O). MayGo rules a u) (sym (whole is)) may);
           active = g.active ∙ sym (ap (λ (m : MasterState). m.active) master);
-          counted = subst (λ (u : World S C O). HasCounted u.sent told) (sym is) counted;
+          counted = subst (λ (u : CutGroupWorld S C O). HasCounted u.sent told) (sym is) counted;
           waits = waits;
-          counted_next = subst (λ (u : World S C O). HasCounted u.sent next') (sym is) counted_next;
+          counted_next = subst (λ (u : CutGroupWorld S C O). HasCounted u.sent next') (sym is) counted_next;
         }
       where
         whole : v.world ≡ w → v ≡ record { master = assigning a.master config; world = w }
@@ -242,7 +242,7 @@ group_answers {S = S} {C = C} {O = O} rules a v from b told next told' next' g s
         by_way (inr (s, e, f)) (inl t) = absurd (s t.same_active)
         by_way (inr (s, e, f)) (inr t) = absurd (t.none x c is)
 
-    made : (w : World S C O) → MayGo rules a (record { master = activating a.master b a.master.waiting; world = w }) → v.world ≡ w →
+    made : (w : CutGroupWorld S C O) → MayGo rules a (record { master = activating a.master b a.master.waiting; world = w }) → v.world ≡ w →
         ((t : ToldIn) → HasCounted a.world.sent t → HasCounted w.sent t) → IsGroup rules v told' next'
     made w may is keeps =
         let z = both (λ t. HasCounted w.sent t) (keeps told g.counted) (keeps next g.counted_next) in
@@ -251,9 +251,9 @@ group_answers {S = S} {C = C} {O = O} rules a v from b told next told' next' g s
           past = a ∷ g.past;
           came = went_on g.came (subst (λ (u : Moment S C O). MayGo rules a u) (sym (whole is)) may);
           active = active;
-          counted = subst (λ (u : World S C O). HasCounted u.sent told') (sym is) z.0;
+          counted = subst (λ (u : CutGroupWorld S C O). HasCounted u.sent told') (sym is) z.0;
           waits = waits;
-          counted_next = subst (λ (u : World S C O). HasCounted u.sent next') (sym is) z.1;
+          counted_next = subst (λ (u : CutGroupWorld S C O). HasCounted u.sent next') (sym is) z.1;
         }
       where
         whole : v.world ≡ w → v ≡ record { master = activating a.master b a.master.waiting; world = w }

@@ -21,7 +21,7 @@ use Rattle.snapshots.specs.Moments.{Moment}
 use Rattle.snapshots.specs.Steps.{MayHappen, sends_from_master, world_after}
 use Rattle.snapshots.specs.World.{MayTake}
 use Rattle.snapshots.specs.Steps.MayHappen.{node_goes as node_moves, master_assigns, master_hears, assignment_lost, answer_lost}
-use Rattle.snapshots.specs.World.{World, moved, recorded}
+use Rattle.snapshots.specs.World.{CutGroupWorld, moved, recorded}
 use Rattle.snapshots.specs.World.{NodeGoes as goes}
 use Rattle.ballot.specs.ballot_base.Cutting.{can_cut, cut}
 use Rattle.std.proofs.lemmas.Bool.{and_parts, ltb-true}
@@ -44,7 +44,7 @@ pub nothing_may : {S C O : Type 0} (rules : Rules S C O) (a : Moment S C O) → 
 nothing_may rules a = assignment_lost (record { members = []; primary = 0 })
 
 -- what the outcome for a node is: it takes something in, or stops
-pub data IsTurn {S C O : Type 0} (rules : Rules S C O) (w : World S C O) (t : NodeOutcome S C O) : Type 0 where
+pub data IsTurn {S C O : Type 0} (rules : Rules S C O) (w : CutGroupWorld S C O) (t : NodeOutcome S C O) : Type 0 where
   it_takes : (input : Input C) → slice_get w.nodes t.index ≡ Some t.before → t.before.stopped ≡ false → MayTake w t.index input →
       t.outcome ≡ replica_step rules t.before input → IsTurn rules w t
   it_stops : slice_get w.nodes t.index ≡ Some t.before → t.before.stopped ≡ false →
@@ -59,7 +59,7 @@ running_is {S = S} {C = C} (Some x) r e = by_stop x.stopped refl e
     by_stop true f g = cc
     by_stop false f g = let same : x ≡ r = cc in (g, ap (λ (y : ReplicaState S C). y.stopped) (sym same) ∙ f)
 
-taking_is : {S C O : Type 0} (rules : Rules S C O) (w : World S C O) (n : ℕ) (o : Option (ReplicaState S C)) (input : Input C) (t : NodeOutcome S C O) →
+taking_is : {S C O : Type 0} (rules : Rules S C O) (w : CutGroupWorld S C O) (n : ℕ) (o : Option (ReplicaState S C)) (input : Input C) (t : NodeOutcome S C O) →
     unless_stopped (slice_get w.nodes n) ≡ o → MayTake w n input → outcome_of_taking rules n o input ≡ Some (by_node t) → IsTurn rules w t
 taking_is rules w n None input t is may e = cc
 taking_is {S = S} {C = C} {O = O} rules w n (Some r) input t is may e = by_room (can_take r input) e
@@ -74,7 +74,7 @@ taking_is {S = S} {C = C} {O = O} rules w n (Some r) input t is may e = by_room 
         subst (λ (x : NodeOutcome S C O). IsTurn rules w x) same (it_takes input z.0 z.1 may refl)
     by_room false f = cc
 
-takes_is : {S C O : Type 0} (rules : Rules S C O) (w : World S C O) (node : ℕ) (input : Input C) (t : NodeOutcome S C O) →
+takes_is : {S C O : Type 0} (rules : Rules S C O) (w : CutGroupWorld S C O) (node : ℕ) (input : Input C) (t : NodeOutcome S C O) →
     ((n : ℕ) → node ≡ suc n → MayTake w n input) → takes rules w node input ≡ Some (by_node t) → IsTurn rules w t
 takes_is rules w zero input t may e = cc
 takes_is {S = S} {C = C} {O = O} rules w (suc n) input t may e =
@@ -82,7 +82,7 @@ takes_is {S = S} {C = C} {O = O} rules w (suc n) input t may e =
     taking_is rules w n (running w.nodes (suc n)) input t refl (may n refl)
     (subst (λ k. outcome_of_taking rules k (running w.nodes (suc n)) input ≡ Some (by_node t)) same e)
 
-stopping_is : {S C O : Type 0} (rules : Rules S C O) (w : World S C O) (node : ℕ) (t : NodeOutcome S C O) →
+stopping_is : {S C O : Type 0} (rules : Rules S C O) (w : CutGroupWorld S C O) (node : ℕ) (t : NodeOutcome S C O) →
     stopping rules (node - 1) (running w.nodes node) ≡ Some (by_node t) → IsTurn rules w t
 stopping_is rules w zero t e = cc
 stopping_is {S = S} {C = C} {O = O} rules w (suc n) t e =
@@ -146,12 +146,12 @@ turn_is {S = S} {C = C} {O = O} rules a (Cut node) t is = absurd (no_turn (runni
 turn_is rules a (Crash node) t is = stopping_is rules a.world node t is
 
 -- what a cut is
-pub record IsCut {S C O : Type 0} (rules : Rules S C O) (w : World S C O) (t : NodeOutcome S C O) : Type 0 where
+pub record IsCut {S C O : Type 0} (rules : Rules S C O) (w : CutGroupWorld S C O) (t : NodeOutcome S C O) : Type 0 where
   pub stands : slice_get w.nodes t.index ≡ Some t.before
   pub can : can_cut t.before ≡ true
   pub is : t.outcome ≡ record { state = cut rules t.before; effects = [] }
 
-cutting_is : {S C O : Type 0} (rules : Rules S C O) (w : World S C O) (node : ℕ) (t : NodeOutcome S C O) →
+cutting_is : {S C O : Type 0} (rules : Rules S C O) (w : CutGroupWorld S C O) (node : ℕ) (t : NodeOutcome S C O) →
     outcome_of_cutting rules (node - 1) (running w.nodes node) ≡ Some (by_cut t) → IsCut rules w t
 cutting_is rules w zero t e = cc
 cutting_is {S = S} {C = C} {O = O} rules w (suc n) t e =
@@ -221,7 +221,7 @@ cut_is rules a (Cut node) t is = cutting_is rules a.world node t is
 cut_is rules a (Crash node) t is = absurd (no_cut_stopping rules (node - 1) (running a.world.nodes node) t is)
 
 -- such a cut may happen if its snapshot can be read
-pub cut_may : {S C O : Type 0} (rules : Rules S C O) (m : MasterState) (w : World S C O) (t : NodeOutcome S C O) → IsCut rules w t →
+pub cut_may : {S C O : Type 0} (rules : Rules S C O) (m : MasterState) (w : CutGroupWorld S C O) (t : NodeOutcome S C O) → IsCut rules w t →
     Freezes rules (Some (by_cut t)) →
     MayHappen rules m w m (record (moved w t.index t.outcome.state t.outcome.effects) { archive = recorded w.archive t.before })
 cut_may {S = S} {C = C} {O = O} rules m w t c freezes =
@@ -247,7 +247,7 @@ thinned_none e Thinned.none = refl
 thinned_none e (Thinned.keeps t) = cc
 thinned_none e (Thinned.loses t) = cc
 
-pub node_may : {S C O : Type 0} (rules : Rules S C O) (m : MasterState) (w : World S C O) (t : NodeOutcome S C O) (new : ReplicaState S C) (given : List (Effect C O)) →
+pub node_may : {S C O : Type 0} (rules : Rules S C O) (m : MasterState) (w : CutGroupWorld S C O) (t : NodeOutcome S C O) (new : ReplicaState S C) (given : List (Effect C O)) →
     IsTurn rules w t → Loses rules t.before t.outcome new given → MayHappen rules m w m (moved w t.index new given)
 node_may {S = S} {C = C} {O = O} rules m w t new given (it_takes input stands runs may is) loses =
     node_moves (goes.takes t.index t.before input stands runs may (subst (λ (o : Outcome S C O). Loses rules t.before o new given) is loses))

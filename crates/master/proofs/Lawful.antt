@@ -13,7 +13,7 @@ use Rattle.snapshots.specs.agreement.Moments.{Moment, Moments}
 use Rattle.snapshots.specs.agreement.Moments.Moments.{began, went_on, learned}
 use Rattle.snapshots.specs.agreement.Steps.{MayHappen}
 use Rattle.snapshots.specs.agreement.Steps.MayHappen.{node_takes, node_stops, master_assigns, master_hears, assignment_lost, answer_lost}
-use Rattle.snapshots.specs.agreement.World.{World}
+use Rattle.snapshots.specs.agreement.World.{GroupWorld}
 use Rattle.snapshots.proofs.of_agreement.Masters.Assigns.{can_open_is, not_refused}
 
 -- the members of the active ballot rise, and so do those of the ballot that waits
@@ -45,7 +45,7 @@ lawful_activated C m b from (Some (x, config)) e s = by_ballot (cases_Bool (b ==
     by_ballot (inl f) = rw f (record { active = s.waiting x config e; waiting = λ c k g. cc })
     by_ballot (inr f) = rw f s
 
-lawful_step : {S C O : Type 0} (rules : Rules S C O) (m : MasterState) (w : World S C O) (k : MasterState) (v : World S C O) → MayHappen rules m w k v →
+lawful_step : {S C O : Type 0} (rules : Rules S C O) (m : MasterState) (w : GroupWorld S C O) (k : MasterState) (v : GroupWorld S C O) → MayHappen rules m w k v →
     AreLawful m → AreLawful k
 lawful_step rules m w k v (node_takes n r input stands runs may loses) s = s
 lawful_step rules m w k v (node_stops n r stands) s = s

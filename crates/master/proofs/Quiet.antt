@@ -18,7 +18,7 @@ use Rattle.ballot.proofs.TicksTaken.{ticked-state}
 use Rattle.snapshots.specs.agreement.MasterState.{AssignRefusal, refusal}
 use Rattle.snapshots.specs.Masters.{MasterOutcome}
 use Rattle.snapshots.specs.Moments.{Moment}
-use Rattle.snapshots.specs.World.{World, moved}
+use Rattle.snapshots.specs.World.{CutGroupWorld, moved}
 use Rattle.master.specs.declared.event.Event.{Event}
 use Rattle.master.specs.declared.event.Event.TheVariants.{Assign, Cut, Deliver, Tick, Crash}
 use Rattle.master.specs.Group.{GroupState}
@@ -53,11 +53,11 @@ set_same [] n x e = cc
 set_same (y ∷ xs) zero x e = let f : y ≡ x = cc in ap (λ z. z ∷ xs) (sym f)
 set_same (y ∷ xs) (suc n) x e = ap (λ zs. y ∷ zs) (set_same xs n x e)
 
-moved_same : {S C O : Type 0} (w : World S C O) (n : ℕ) (r : ReplicaState S C) → slice_get w.nodes n ≡ Some r → moved w n r [] ≡ w
+moved_same : {S C O : Type 0} (w : CutGroupWorld S C O) (n : ℕ) (r : ReplicaState S C) → slice_get w.nodes n ≡ Some r → moved w n r [] ≡ w
 moved_same {S = S} {C = C} {O = O} w n r stands =
-    ap (λ xs. let z : World S C O = record { nodes = xs; sent = w.sent ++ []; left = w.left ++ []; archive = w.archive } in z) (set_same w.nodes n r stands)
-    ∙ ap (λ xs. let z : World S C O = record { nodes = w.nodes; sent = xs; left = w.left ++ []; archive = w.archive } in z) (append-nil w.sent)
-    ∙ ap (λ xs. let z : World S C O = record { nodes = w.nodes; sent = w.sent; left = xs; archive = w.archive } in z) (append-nil w.left)
+    ap (λ xs. let z : CutGroupWorld S C O = record { nodes = xs; sent = w.sent ++ []; left = w.left ++ []; archive = w.archive } in z) (set_same w.nodes n r stands)
+    ∙ ap (λ xs. let z : CutGroupWorld S C O = record { nodes = w.nodes; sent = xs; left = w.left ++ []; archive = w.archive } in z) (append-nil w.sent)
+    ∙ ap (λ xs. let z : CutGroupWorld S C O = record { nodes = w.nodes; sent = w.sent; left = xs; archive = w.archive } in z) (append-nil w.left)
 
 -- a node that does nothing by the protocol
 pub exactly_nothing : {S C O : Type 0} (rules : Rules S C O) (old : GroupState S C O) (event : Event C) (n : ℕ) (r : ReplicaState S C) (o : Outcome S C O) →
@@ -66,7 +66,7 @@ pub exactly_nothing : {S C O : Type 0} (rules : Rules S C O) (old : GroupState S
 exactly_nothing {S = S} {C = C} {O = O} rules old event n r o e stands nothing =
     same_moment rules old event _ e
     (ap (λ (p : Outcome S C O). let z : Moment S C O = record old.moment { world = moved old.moment.world n p.state p.effects } in z) nothing
-    ∙ ap (λ (w : World S C O). let z : Moment S C O = record old.moment { world = w } in z) (moved_same old.moment.world n r stands))
+    ∙ ap (λ (w : CutGroupWorld S C O). let z : Moment S C O = record old.moment { world = w } in z) (moved_same old.moment.world n r stands))
 
 -- what is done exactly by doing nothing is a step
 pub steps_exactly_done : {S C O : Type 0} (rules : Rules S C O) (old : GroupState S C O) (event : Event C) →

@@ -15,7 +15,7 @@ use Rattle.ballot.specs.ballot_base.declared.config.Config.{Config}
 use Rattle.snapshots.specs.agreement.MasterState.{MasterState, opening_master}
 use Rattle.snapshots.specs.Moments.{Moment, opening_moment}
 use Rattle.ballot.specs.ballot_base.declared.status.Status.{Status}
-use Rattle.snapshots.specs.World.{World, messages, outputs, moved, recorded}
+use Rattle.snapshots.specs.World.{CutGroupWorld, messages, outputs, moved, recorded}
 use Rattle.ballot.specs.ballot_base.Cutting.{cut}
 use Rattle.snapshots.specs.Moments.{opening_nodes, opening_world}
 use Rattle.master.specs.Outcomes.{NodeOutcome, cut_outcome, running, unless_stopped}
@@ -54,9 +54,9 @@ moved_is : {S C O : Type 0} (archive : List C) (nodes : List (CountedReplica S C
     more ≡ sent ++ messages kept → outputs parted ≡ outputs left ++ outputs kept →
     world_of archive (set nodes n new) more parted ≡ moved (world_of archive nodes sent left) n new.state kept
 moved_is {S = S} {C = C} {O = O} archive nodes sent more left parted kept n new e f =
-    ap (λ xs. let z : World S C O = record { nodes = xs; sent = more; left = outputs parted; archive = archive } in z) (map-set (λ (r : CountedReplica S C). r.state) nodes n new)
-    ∙ ap (λ xs. let z : World S C O = record { nodes = set (map (λ (r : CountedReplica S C). r.state) nodes) n new.state; sent = xs; left = outputs parted; archive = archive } in z) e
-    ∙ ap (λ xs. let z : World S C O = record { nodes = set (map (λ (r : CountedReplica S C). r.state) nodes) n new.state; sent = sent ++ messages kept; left = xs; archive = archive } in z) f
+    ap (λ xs. let z : CutGroupWorld S C O = record { nodes = xs; sent = more; left = outputs parted; archive = archive } in z) (map-set (λ (r : CountedReplica S C). r.state) nodes n new)
+    ∙ ap (λ xs. let z : CutGroupWorld S C O = record { nodes = set (map (λ (r : CountedReplica S C). r.state) nodes) n new.state; sent = xs; left = outputs parted; archive = archive } in z) e
+    ∙ ap (λ xs. let z : CutGroupWorld S C O = record { nodes = set (map (λ (r : CountedReplica S C). r.state) nodes) n new.state; sent = sent ++ messages kept; left = xs; archive = archive } in z) f
 
 -- how losses were counted
 pub count_is : (first second : Bool) (losses counted : ℕ) → counted ≡ cond (first && second) losses (one_more losses) →
@@ -78,7 +78,7 @@ took_turn {S = S} {C = C} {O = O} {rules = rules} archive m nodes sent more left
     record {
       state = new.state;
       given = p.kept;
-      moment = ap (λ (w : World S C O). let z : Moment S C O = record { master = m; world = w } in z)
+      moment = ap (λ (w : CutGroupWorld S C O). let z : Moment S C O = record { master = m; world = w } in z)
           (moved_is archive nodes sent more left parted p.kept n new p.sent_is (p.outputs_are ∙ ap (λ us. outputs us ++ outputs p.kept) front));
       way = by_way (count_is whole kept losses counted count);
       quiet = quietly;
@@ -167,7 +167,7 @@ crash_turn {S = S} {C = C} {O = O} rules archive m nodes sent left losses n old 
     record {
       state = halted rules r;
       given = [];
-      moment = ap (λ (w : World S C O). let z : Moment S C O = record { master = m; world = w } in z)
+      moment = ap (λ (w : CutGroupWorld S C O). let z : Moment S C O = record { master = m; world = w } in z)
           (moved_is archive nodes sent sent left left [] n new (sym (append-nil sent)) (sym (append-nil (outputs left)))
           ∙ ap (λ (s : ReplicaState S C). moved (world_of archive nodes sent left) n s []) (stopped ∙ ap (halted rules) same));
       way = inl (refl, refl, refl);
@@ -186,7 +186,7 @@ pub crash_group : {S C O : Type 0} (rules : Rules S C O) (archive : List C) (m :
 crash_group {S = S} {C = C} {O = O} rules archive m nodes sent left losses n old new r read stands stopped =
     let e : Some old.state ≡ Some r = sym (stands_at nodes n old (below_of nodes n r stands) read) ∙ stands in
     let same : old.state ≡ r = cc in
-    ap (λ (w : World S C O). let z : GroupState S C O = record { moment = record { master = m; world = w }; losses = losses } in z)
+    ap (λ (w : CutGroupWorld S C O). let z : GroupState S C O = record { moment = record { master = m; world = w }; losses = losses } in z)
     (moved_is archive nodes sent sent left left [] n new (sym (append-nil sent)) (sym (append-nil (outputs left)))
     ∙ ap (λ (s : ReplicaState S C). moved (world_of archive nodes sent left) n s []) (stopped ∙ ap (halted rules) same))
 
@@ -200,10 +200,10 @@ opened_group : {S C O : Type 0} (rules : Rules S C O) (archive : List C) (config
     map (λ (z : CountedReplica S C). z.state) items ≡ opening_nodes rules at config → at ≡ nodes → sent ≡ [] → left ≡ [] → archive ≡ [] →
     world_of archive items sent left ≡ opening_world rules nodes config
 opened_group {S = S} {C = C} {O = O} rules archive config nodes at items sent left before same a b d =
-    ap (λ xs. let z : World S C O = record { nodes = xs; sent = sent; left = outputs left; archive = archive } in z) (before ∙ ap (λ k. opening_nodes rules k config) same)
-    ∙ ap (λ xs. let z : World S C O = record { nodes = opening_nodes rules nodes config; sent = xs; left = outputs left; archive = archive } in z) a
-    ∙ ap (λ (xs : List (Effect C O)). let z : World S C O = record { nodes = opening_nodes rules nodes config; sent = []; left = outputs xs; archive = archive } in z) b
-    ∙ ap (λ xs. let z : World S C O = record { nodes = opening_nodes rules nodes config; sent = []; left = []; archive = xs } in z) d
+    ap (λ xs. let z : CutGroupWorld S C O = record { nodes = xs; sent = sent; left = outputs left; archive = archive } in z) (before ∙ ap (λ k. opening_nodes rules k config) same)
+    ∙ ap (λ xs. let z : CutGroupWorld S C O = record { nodes = opening_nodes rules nodes config; sent = xs; left = outputs left; archive = archive } in z) a
+    ∙ ap (λ (xs : List (Effect C O)). let z : CutGroupWorld S C O = record { nodes = opening_nodes rules nodes config; sent = []; left = outputs xs; archive = archive } in z) b
+    ∙ ap (λ xs. let z : CutGroupWorld S C O = record { nodes = opening_nodes rules nodes config; sent = []; left = []; archive = xs } in z) d
 
 -- one node more is opened
 pub opened_more : {S C O : Type 0} (rules : Rules S C O) (config : Config) (items more : List (CountedReplica S C)) (new : CountedReplica S C) (at : ℕ) →
@@ -240,10 +240,10 @@ pub cut_done : {S C O : Type 0} (rules : Rules S C O) (archive more : List C) (m
 cut_done {S = S} {C = C} {O = O} rules archive more m nodes sent left losses n old new r read stands is grown thaws =
     record {
       way = inl (
-        ap (λ (w : World S C O). let z : Moment S C O = record { master = m; world = w } in z)
+        ap (λ (w : CutGroupWorld S C O). let z : Moment S C O = record { master = m; world = w } in z)
             (moved_is more nodes sent sent left left [] n new (sym (append-nil sent)) (sym (append-nil (outputs left)))
             ∙ ap (λ (s : ReplicaState S C). moved (world_of more nodes sent left) n s []) (is ∙ ap (cut rules) same)
-            ∙ ap (λ us. let z : World S C O = record (moved (world_of archive nodes sent left) n (cut rules r) []) { archive = us } in z)
+            ∙ ap (λ us. let z : CutGroupWorld S C O = record (moved (world_of archive nodes sent left) n (cut rules r) []) { archive = us } in z)
             (grown ∙ ap (recorded archive) same)),
         refl,
         subst (λ (s : ReplicaState S C). rules.thawed (rules.frozen s.machine) ≡ Some s.machine) same thaws,

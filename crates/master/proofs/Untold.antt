@@ -12,7 +12,7 @@ use Rattle.snapshots.specs.agreement.Inside.Ballots.{Given, History}
 use Rattle.snapshots.specs.agreement.Inside.Saying.{SpeaksTruth}
 use Rattle.snapshots.specs.agreement.Inside.ToldLengths.{max_told, told_by, told_in}
 use Rattle.snapshots.specs.agreement.Moments.{Moment, Moments}
-use Rattle.snapshots.specs.agreement.World.{World}
+use Rattle.snapshots.specs.agreement.World.{GroupWorld}
 use Rattle.snapshots.proofs.of_agreement.Agreed.PastKnown.{past_known}
 
 -- messages that say nothing
@@ -30,7 +30,7 @@ silent m b from body e = by_sender (cases_Bool (from == m))
     by_sender (inr f) = ap (λ k. cond k (told_by b body) 0) f
 
 -- nothing was acknowledged in the ballot that comes next
-untold_body : {S C O : Type 0} (w : World S C O) (h : History C) (given to from : ℕ) (body : Body C) → SpeaksTruth w h to from body →
+untold_body : {S C O : Type 0} (w : GroupWorld S C O) (h : History C) (given to from : ℕ) (body : Body C) → SpeaksTruth w h to from body →
     ((b : ℕ) (g : Given) → h.given b ≡ Some g → (0 < b) × (b ≤ given)) → told_by (given + 1) body ≡ 0
 untold_body w h given to from (NewBallot b members a old) says low = refl
 untold_body w h given to from (Join b a) says low = refl

@@ -11,7 +11,7 @@ use Rattle.snapshots.specs.agreement.MasterState.{AssignRefusal, MasterState, re
 use Rattle.snapshots.specs.Masters.{activated, assigned}
 use Rattle.snapshots.specs.Moments.{Moment}
 use Rattle.snapshots.specs.Steps.{sends_from_master}
-use Rattle.snapshots.specs.World.{World, moved, recorded}
+use Rattle.snapshots.specs.World.{CutGroupWorld, moved, recorded}
 use Rattle.master.specs.declared.event.Event.{Event}
 use Rattle.master.specs.declared.event.Event.TheVariants.{Propose, Assign, Deliver, Tick}
 use Rattle.master.specs.declared.event.Event.TheVariants.{Cut, Crash}
@@ -20,7 +20,7 @@ use Rattle.master.specs.Outcomes.{EventOutcome, outcome_of_cutting, running, sto
 
 -- a node takes an input
 abbrev pub takes : {S C O : Type 0} →
-    Rules S C O → World S C O → ℕ → Input C → Option (EventOutcome S C O)
+    Rules S C O → CutGroupWorld S C O → ℕ → Input C → Option (EventOutcome S C O)
 takes rules w node input = outcome_of_taking rules (node - 1) (running w.nodes node) input
 
 -- the master answers an Activate, and ignores every other message

@@ -16,7 +16,7 @@ use Rattle.master.specs.declared.activation.Activation.TheVariants as activation
 use Rattle.master.specs.ToldLengths.{max_told}
 use Rattle.snapshots.specs.agreement.MasterState.{MasterState}
 use Rattle.snapshots.specs.Moments.{Moment, Moments}
-use Rattle.snapshots.specs.World.{World, outputs}
+use Rattle.snapshots.specs.World.{CutGroupWorld, outputs}
 use Rattle.master.specs.Outcomes.{running}
 
 -- the node of a number runs, at an index
@@ -52,7 +52,7 @@ IsShort (Some r) held = places r.log < held
 -- the world of a group with this record of places, this master, these replicas, messages and
 -- effects that left
 abbrev pub world_of : {S C O : Type 0} → List C → List (CountedReplica S C) → List (ℕ × Message C) →
-    List (Effect C O) → World S C O
+    List (Effect C O) → CutGroupWorld S C O
 world_of {S = S} {C = C} archive nodes sent left =
     record {
       nodes = map (λ (r : CountedReplica S C). r.state) nodes;

@@ -11,7 +11,7 @@ use Rattle.packet_world.specs.snapshots.Moments.{Moment, Moments, opening_moment
 use Rattle.packet_world.specs.snapshots.Moments.Moments.{began}
 use Rattle.packet_world.specs.snapshots.Steps.{world_after}
 use Rattle.packet_world.specs.snapshots.Steps.MayHappen.{master_assigns, master_hears, assignment_lost, answer_lost}
-use Rattle.packet_world.specs.snapshots.World.{World}
+use Rattle.packet_world.specs.snapshots.World.{CutGroupWorld}
 use Rattle.node_moves.specs.world_base.Core.{rules}
 use Rattle.node_group.specs.Group.{Group, group_after_outcome, moment_of_nodes, opening_group, with_master, with_record}
 use Rattle.node_group.specs.Steps.{GroupStep, all_given, all_proposed, after_assign, groups_on_trace, put_in_step}
@@ -28,12 +28,12 @@ use Rattle.node_group.proofs.Packets.{packets_join}
 use Rattle.node_group.proofs.Placed.{opened_replicas}
 use Rattle.node_group.proofs.Thinning.{all_kept}
 
-abbrev at_moment : MasterState → World State Command Output → Moment State Command Output
+abbrev at_moment : MasterState → CutGroupWorld State Command Output → Moment State Command Output
 at_moment m w = record { master = m; world = w }
 
 opens_as : (nodes : ℕ) (config : Config) → moment_of_nodes (opening_group nodes config) ≡ opening_moment rules nodes config
 opens_as nodes config =
-    ap (λ l. at_moment (opening_master config) (let w : World State Command Output = record { nodes = l; sent = []; left = []; archive = [] } in w)) (opened_replicas nodes config)
+    ap (λ l. at_moment (opening_master config) (let w : CutGroupWorld State Command Output = record { nodes = l; sent = []; left = []; archive = [] } in w)) (opened_replicas nodes config)
 
 assigned_as : (g : Group) (config : Config) (why : Option AssignRefusal)
     → at_moment (master_after g.master config why) (world_after g.master (moment_of_nodes g).world config why)

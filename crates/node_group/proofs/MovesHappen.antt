@@ -36,7 +36,7 @@ use Rattle.packet_world.specs.snapshots.Steps.{MayHappen}
 use Rattle.packet_world.specs.snapshots.World.{MayTake}
 use Rattle.packet_world.specs.snapshots.Steps.MayHappen.{node_goes}
 use Rattle.packet_world.specs.snapshots.World.{NodeGoes as goes}
-use Rattle.packet_world.specs.snapshots.World.{World, messages, outputs}
+use Rattle.packet_world.specs.snapshots.World.{CutGroupWorld, messages, outputs}
 use Rattle.packet_world.specs.snapshots.World.{moved as moved_world}
 use Rattle.packet_world.proofs.of_snapshots.PastsAgree.{nodes_agree}
 use Rattle.packet_world.proofs.of_snapshots.PastsAgree.{agreed_grows}
@@ -110,17 +110,17 @@ by_event {config = config} {a = a} {earlier = earlier} came b step put n given p
 
 same_world : (archive : List Command) {nodes later_nodes : List (ReplicaState State Command)} {sent later_sent : List (ℕ × Message Command)} {left later_left : List (ℕ × Output)}
     → nodes ≡ later_nodes → sent ≡ later_sent → left ≡ later_left
-    → (let w : World State Command Output = record { nodes = nodes; sent = sent; left = left; archive = archive } in w)
-    ≡ (let v : World State Command Output = record { nodes = later_nodes; sent = later_sent; left = later_left; archive = archive } in v)
+    → (let w : CutGroupWorld State Command Output = record { nodes = nodes; sent = sent; left = left; archive = archive } in w)
+    ≡ (let v : CutGroupWorld State Command Output = record { nodes = later_nodes; sent = later_sent; left = later_left; archive = archive } in v)
 same_world archive a b c = rw (a, b, c) refl
 
-abbrev with_world : MasterState → World State Command Output → Moment State Command Output
+abbrev with_world : MasterState → CutGroupWorld State Command Output → Moment State Command Output
 with_world m w = record { master = m; world = w }
 
 -- after a turn the replica at the index is this one
 after_is : (g : Group) (n : ℕ) (outcome : StepOutcome) (given effects : Given) (new : ReplicaState State Command) → replica_of outcome.core ≡ new
     → messages outcome.messages ≡ messages effects → outputs given ≡ outputs effects
-    → with_world g.master (let w : World State Command Output = record { nodes = slice_set (map replica_of g.nodes) n new; sent = g.sent ++ messages effects; left = g.left ++ outputs effects; archive = g.archive } in w)
+    → with_world g.master (let w : CutGroupWorld State Command Output = record { nodes = slice_set (map replica_of g.nodes) n new; sent = g.sent ++ messages effects; left = g.left ++ outputs effects; archive = g.archive } in w)
     ≡ moment_of_nodes (group_after_outcome g n outcome given)
 after_is g n outcome given effects new replica sent left =
     ap (with_world g.master)

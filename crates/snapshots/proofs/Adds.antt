@@ -16,7 +16,7 @@ use Rattle.agreement.specs.Moments.{Learns, Moment as WholeMoment, Moments as Wh
 use Rattle.agreement.specs.Moments.Moments.{began, went_on, learned}
 use Rattle.agreement.specs.Proposals.{proposal_by as whole_proposal_by, proposal_of as whole_proposal_of, proposals_of as whole_proposals_of, taken_at as whole_taken_at, taken_by as whole_taken_by, taken_in as whole_taken_in, taken_of as whole_taken_of, takes_at as whole_takes_at}
 use Rattle.agreement.specs.Steps.{MayHappen as WholeMayHappen}
-use Rattle.agreement.specs.World.{World as WholeWorld, outputs as whole_outputs}
+use Rattle.agreement.specs.World.{GroupWorld as WholeWorld, outputs as whole_outputs}
 use Rattle.agreement.specs.whole.Messages.{Effect as WholeEffect}
 use Rattle.agreement.specs.whole.Protocol.{Input as WholeInput}
 use Rattle.agreement.specs.whole.Replica.{ReplicaState as WholeState}

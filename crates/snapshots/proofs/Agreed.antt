@@ -20,7 +20,7 @@ use Rattle.agreement.specs.Moments.{IsAgreed, Learns, Moment, Moments}
 use Rattle.agreement.specs.Moments.Moments.{went_on, learned}
 use Rattle.agreement.specs.Steps.{MayHappen, MayTake as WholeMayTake}
 use Rattle.agreement.specs.Steps.MayHappen.{node_takes}
-use Rattle.agreement.specs.World.{World as WholeWorld, moved as whole_moved, messages as whole_messages, outputs as whole_outputs}
+use Rattle.agreement.specs.World.{GroupWorld as WholeWorld, moved as whole_moved, messages as whole_messages, outputs as whole_outputs}
 use Rattle.agreement.proofs.Agreed.PastAgrees.{has_agreed, nodes_agree}
 use Rattle.agreement.proofs.Agreed.PastGrows.{agreed_grows}
 use Rattle.snapshots.proofs.Adds.{Adds, added_at}

@@ -11,7 +11,7 @@ use Rattle.agreement.specs.whole.Messages.{Message as WholeMessage}
 use Rattle.agreement.specs.whole.Messages.Body.{Held, Installed}
 use Rattle.agreement.specs.Leaving.{LeftInOrder}
 use Rattle.agreement.specs.MasterState.{MasterState}
-use Rattle.agreement.specs.World.{World as WholeWorld}
+use Rattle.agreement.specs.World.{GroupWorld as WholeWorld}
 use Rattle.agreement.specs.Moments.{Moment, HasConfig, WasActive, HasTold, IsChosen, IsAgreed, ToldLength}
 use Rattle.snapshots.proofs.MoreMoments.{config_in, told_in}
 use Rattle.agreement.specs.Moments.HasConfig.{opened_with, was_assigned}

@@ -15,7 +15,7 @@ use Rattle.agreement.specs.Leaving.{LeftInOrder}
 use Rattle.agreement.specs.MasterState.{MasterState}
 use Rattle.agreement.specs.Moments.{Moment, Moments, IsAgreed}
 use Rattle.agreement.specs.Steps.MayHappen.{node_stops}
-use Rattle.agreement.specs.World.{World as WholeWorld}
+use Rattle.agreement.specs.World.{GroupWorld as WholeWorld}
 use Rattle.agreement.proofs.Agreed.PastAgrees.{has_agreed, machines_replay, nodes_agree}
 use Rattle.agreement.specs.ballot_base.Logs.{Log, places}
 use Rattle.snapshots.specs.Whole.{whole_log, whole}
@@ -24,7 +24,7 @@ use Rattle.agreement.specs.ballot_base.declared.message.Body.TheVariants.{NewBal
 use Rattle.agreement.specs.ballot_base.Replica.{ReplicaState}
 use Rattle.agreement.specs.ballot_base.Cutting.{cut}
 use Rattle.agreement.specs.ballot_base.Losses.{halted}
-use Rattle.snapshots.specs.World.{World, NodeGoes, moved, recorded, whole_sent, whole_world}
+use Rattle.snapshots.specs.World.{CutGroupWorld, NodeGoes, moved, recorded, whole_sent, whole_world}
 use Rattle.snapshots.specs.World.NodeGoes.{takes, stops, cuts}
 use Rattle.snapshots.specs.Giving.{given_by_node}
 use Rattle.snapshots.specs.Proposals.{proposed_to, taken_as, taken_by_node}
@@ -85,7 +85,7 @@ carries_within rules past archive (Held b held) x = tt
 carries_within rules past archive (Commit b held) x = tt
 
 -- a cut
-pub cuts_on : {S C O : Type 0} (rules : Rules S C O) (config : Config) (m : MasterState) (w : World S C O) (earlier : List (Moment S C O)) (n : ℕ)
+pub cuts_on : {S C O : Type 0} (rules : Rules S C O) (config : Config) (m : MasterState) (w : CutGroupWorld S C O) (earlier : List (Moment S C O)) (n : ℕ)
     (r : ReplicaState S C) → (k : Kept rules config m w earlier) → slice_get w.nodes n ≡ Some r → r.stopped ≡ false → rules.thawed (rules.frozen r.machine) ≡ Some r.machine →
     (moment m (record (moved w n (cut rules r) []) { archive = recorded w.archive r }) ≡ moment m w)
     × KeptWith rules config m (record (moved w n (cut rules r) []) { archive = recorded w.archive r }) earlier k.came (nothing_added C O)
@@ -106,7 +106,7 @@ cuts_on {S = S} {C = C} {O = O} rules config m w earlier n r k stands runs faith
     rec : List C
     rec = recorded w.archive r
 
-    v : World S C O
+    v : CutGroupWorld S C O
     v = record (moved w n (cut rules r) []) { archive = rec }
 
     old : IsSnapshot rules w.archive r.log × (r.log.base ≤ r.committed)
@@ -184,12 +184,12 @@ cuts_on {S = S} {C = C} {O = O} rules config m w earlier n r k stands runs faith
     past = subst (λ (u : Moment S C O). (came : Moments rules config (u ∷ earlier)) × Adds k.came came (nothing_added C O)) (sym same) (k.came, adds_nothing k.came)
 
 -- what it adds
-abbrev pub added_of_node : {S C O : Type 0} {rules : Rules S C O} {w v : World S C O} → NodeGoes rules w v → Added C O
+abbrev pub added_of_node : {S C O : Type 0} {rules : Rules S C O} {w v : CutGroupWorld S C O} → NodeGoes rules w v → Added C O
 added_of_node goes =
     record { proposed = proposed_to goes; taken = taken_as goes; taken_at = λ n. taken_by_node n goes; given = λ n. given_by_node n goes }
 
 -- whatever happens to a node
-pub node_goes_on : {S C O : Type 0} (rules : Rules S C O) (config : Config) (m : MasterState) (w v : World S C O) (earlier : List (Moment S C O)) →
+pub node_goes_on : {S C O : Type 0} (rules : Rules S C O) (config : Config) (m : MasterState) (w v : CutGroupWorld S C O) (earlier : List (Moment S C O)) →
     (k : Kept rules config m w earlier) → (goes : NodeGoes rules w v) → GoesOn rules config m v k.came (added_of_node goes)
 node_goes_on rules config m w v earlier k (takes n r input {new = new} {given = given} stands runs may loses) =
     let q = takes_on rules config m w earlier n r input new given k stands runs may loses in
@@ -214,7 +214,7 @@ node_goes_on rules config m w v earlier k (cuts n r stands runs over faithful) =
     record { more = earlier; kept = z.1.kept; continues = none_more (moment m w) (moment m v) earlier z.0; adds = z.1.adds }
 
 -- so at each moment there is an agreed list, the nodes agree on it, and what left is its answers in order
-pub cut_worlds_agree : {S C O : Type 0} (rules : Rules S C O) (config : Config) (m : MasterState) (w : World S C O) (earlier : List (Moment S C O)) →
+pub cut_worlds_agree : {S C O : Type 0} (rules : Rules S C O) (config : Config) (m : MasterState) (w : CutGroupWorld S C O) (earlier : List (Moment S C O)) →
     Kept rules config m w earlier → (xs : List C) × IsAgreed config (moment m w ∷ earlier) xs
     × Agrees rules m (whole_world w) xs × Holds m (whole_world w) xs × LeftInOrder rules (moment m w ∷ earlier) (whole_world w) xs × IsPrefixOf w.archive xs
 cut_worlds_agree rules config m w earlier k =

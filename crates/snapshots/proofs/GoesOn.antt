@@ -20,7 +20,7 @@ use Rattle.agreement.specs.ballot_base.declared.message.Body.{Body}
 use Rattle.agreement.specs.ballot_base.declared.message.Effect.{Effect}
 use Rattle.agreement.specs.ballot_base.Sending.{Outcome}
 use Rattle.agreement.specs.ballot_base.Losses.{Thinned, Loses}
-use Rattle.snapshots.specs.World.{messages, World, MayTake, moved, whole_world}
+use Rattle.snapshots.specs.World.{messages, CutGroupWorld, MayTake, moved, whole_world}
 use Rattle.agreement.specs.ballot_base.declared.message.Body.TheVariants.{NewBallot, Join, State, Install, Installed, Activate, Activated, Superseded, Append, Held, Commit}
 use Rattle.agreement.specs.ballot_base.Protocol.{Input, received, replica_step, ticked}
 use Rattle.agreement.specs.ballot_base.Protocol.Input.{Receives, Proposes, Ticks}
@@ -65,18 +65,18 @@ plain_keeps {S = S} {C = C} {O = O} rules r (Receives m) within plain = by_body 
 -- ---- a step
 
 -- one moment more
-pub on_by_one : {S C O : Type 0} (rules : Rules S C O) (config : Config) (m : MasterState) (v : World S C O) (before : List (Moment S C O))
+pub on_by_one : {S C O : Type 0} (rules : Rules S C O) (config : Config) (m : MasterState) (v : CutGroupWorld S C O) (before : List (Moment S C O))
     (came : Moments rules config before) (d : Added C O) → KeptWith rules config m v before came d → GoesOn rules config m v came d
 on_by_one rules config m v before came d q = record { more = before; kept = q.kept; continues = one_more before (moment m v); adds = q.adds }
 
 -- what a node holds at least
-pub held_within : {S C O : Type 0} (rules : Rules S C O) (config : Config) (m : MasterState) (w : World S C O) (earlier : List (Moment S C O)) (n : ℕ)
+pub held_within : {S C O : Type 0} (rules : Rules S C O) (config : Config) (m : MasterState) (w : CutGroupWorld S C O) (earlier : List (Moment S C O)) (n : ℕ)
     (r : ReplicaState S C) → Kept rules config m w earlier → slice_get w.nodes n ≡ Some r → r.committed ≤ places r.log
 held_within rules config m w earlier n r k stands =
     let a = ((past_known rules config (moment m w) earlier k.came).serves.sound.nodes n (whole w.archive r) (get_whole (whole w.archive) w.nodes n r stands)).within in
     let b = whole_long w.archive r.log (k.nodes n r stands).0.within in omega (arith, a, b)
 
-done : {S C O : Type 0} (rules : Rules S C O) (config : Config) (m : MasterState) (w : World S C O) (earlier : List (Moment S C O)) (n : ℕ)
+done : {S C O : Type 0} (rules : Rules S C O) (config : Config) (m : MasterState) (w : CutGroupWorld S C O) (earlier : List (Moment S C O)) (n : ℕ)
     (r : ReplicaState S C) (input : Input C) (new : ReplicaState S C) (given : List (Effect C O)) → (k : Kept rules config m w earlier) → slice_get w.nodes n ≡ Some r →
     r.stopped ≡ false → MayTake w n input → new ≡ (replica_step rules r input).state → Thinned given (replica_step rules r input).effects →
     GoesOn rules config m (moved w n new given) k.came (added_whole w.archive n r input new given)
@@ -164,7 +164,7 @@ done {S = S} {C = C} {O = O} rules config m w earlier n r input new given k stan
     by_input Ticks may is thin = plainly Ticks tt may is thin
 
 -- after a step that was lost, or in which the node stopped, its log is as it was, and nothing is sent
-pub lost : {S C O : Type 0} (rules : Rules S C O) (config : Config) (m : MasterState) (w : World S C O) (earlier : List (Moment S C O)) (n : ℕ)
+pub lost : {S C O : Type 0} (rules : Rules S C O) (config : Config) (m : MasterState) (w : CutGroupWorld S C O) (earlier : List (Moment S C O)) (n : ℕ)
     (r new : ReplicaState S C) (given : List (Effect C O)) (d : Added C O) → (k : Kept rules config m w earlier) → slice_get w.nodes n ≡ Some r →
     StepAdds rules m (whole_world w) m (whole_world (moved w n new given)) d → new.log ≡ r.log → new.committed ≡ r.committed → given ≡ [] →
     GoesOn rules config m (moved w n new given) k.came d
@@ -178,7 +178,7 @@ lost {S = S} {C = C} {O = O} rules config m w earlier n r new given d k stands s
     (adds_one k.came d step))
 
 -- whatever a node takes
-pub takes_on : {S C O : Type 0} (rules : Rules S C O) (config : Config) (m : MasterState) (w : World S C O) (earlier : List (Moment S C O)) (n : ℕ)
+pub takes_on : {S C O : Type 0} (rules : Rules S C O) (config : Config) (m : MasterState) (w : CutGroupWorld S C O) (earlier : List (Moment S C O)) (n : ℕ)
     (r : ReplicaState S C) (input : Input C) (new : ReplicaState S C) (given : List (Effect C O)) → (k : Kept rules config m w earlier) → slice_get w.nodes n ≡ Some r →
     r.stopped ≡ false → MayTake w n input → Loses rules r (replica_step rules r input) new given →
     GoesOn rules config m (moved w n new given) k.came (added_whole w.archive n r input new given)

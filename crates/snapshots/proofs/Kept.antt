@@ -24,7 +24,7 @@ use Rattle.agreement.specs.ballot_base.declared.message.Body.{Body}
 use Rattle.agreement.specs.ballot_base.declared.message.Effect.{Effect}
 use Rattle.agreement.specs.ballot_base.declared.message.Message.{Message}
 use Rattle.agreement.specs.ballot_base.Losses.{Thinned}
-use Rattle.snapshots.specs.World.{messages, World, MayTake, moved, whole_world}
+use Rattle.snapshots.specs.World.{messages, CutGroupWorld, MayTake, moved, whole_world}
 use Rattle.agreement.specs.ballot_base.declared.message.Body.TheVariants.{NewBallot, Join, State, Install, Installed, Activate, Activated, Superseded, Append, Held, Commit}
 use Rattle.agreement.specs.ballot_base.declared.message.Effect.TheVariants.{To, Out}
 use Rattle.agreement.specs.ballot_base.Losses.Thinned.{none, keeps, loses}
@@ -51,7 +51,7 @@ Carries rules past archive (State b log) = IsSnapshot rules archive log × (0 < 
 Carries rules past archive (Install b log) = IsSnapshot rules archive log × (0 < log.base → WasApplied past b log.base (take log.base archive))
 Carries rules past archive _ = Unit {0}
 
-pub record Kept {S C O : Type 0} (rules : Rules S C O) (config : Config) (m : MasterState) (w : World S C O)
+pub record Kept {S C O : Type 0} (rules : Rules S C O) (config : Config) (m : MasterState) (w : CutGroupWorld S C O)
     (earlier : List (Moment S C O)) : Type 0 where
   pub came : Moments rules config (moment m w ∷ earlier)
   pub nodes : (n : ℕ) (r : ReplicaState S C) → slice_get w.nodes n ≡ Some r → IsSnapshot rules w.archive r.log × (r.log.base ≤ r.committed)
@@ -59,13 +59,13 @@ pub record Kept {S C O : Type 0} (rules : Rules S C O) (config : Config) (m : Ma
   pub begins : (xs : List C) → IsAgreed config (moment m w ∷ earlier) xs → IsPrefixOf w.archive xs
 
 -- .. and of the past on whole logs, over an earlier one, what it has more
-pub record KeptWith {S C O : Type 0} (rules : Rules S C O) (config : Config) (m : MasterState) (w : World S C O) (earlier : List (Moment S C O))
+pub record KeptWith {S C O : Type 0} (rules : Rules S C O) (config : Config) (m : MasterState) (w : CutGroupWorld S C O) (earlier : List (Moment S C O))
     {before : List (Moment S C O)} (came : Moments rules config before) (d : Added C O) : Type 0 where
   pub kept : Kept rules config m w earlier
   pub adds : Adds came kept.came d
 
 -- the past on whole logs has continued
-pub record GoesOn {S C O : Type 0} (rules : Rules S C O) (config : Config) (m : MasterState) (w : World S C O) {before : List (Moment S C O)}
+pub record GoesOn {S C O : Type 0} (rules : Rules S C O) (config : Config) (m : MasterState) (w : CutGroupWorld S C O) {before : List (Moment S C O)}
     (came : Moments rules config before) (d : Added C O) : Type 0 where
   pub more : List (Moment S C O)
   pub kept : Kept rules config m w more
@@ -112,7 +112,7 @@ own_carries rules past archive s (Commit b held) snap was own = tt
 
 -- ---- after a move of a node
 
-pub kept_moved : {S C O : Type 0} (rules : Rules S C O) (config : Config) (m : MasterState) (w : World S C O) (earlier more : List (Moment S C O))
+pub kept_moved : {S C O : Type 0} (rules : Rules S C O) (config : Config) (m : MasterState) (w : CutGroupWorld S C O) (earlier more : List (Moment S C O))
     (n : ℕ) (r new : ReplicaState S C) (given : List (Effect C O)) (d : Added C O) → (k : Kept rules config m w earlier) → slice_get w.nodes n ≡ Some r →
     (came : Moments rules config (moment m (moved w n new given) ∷ more)) → ((c : Moment S C O) → In c (moment m w ∷ earlier) → In c more) →
     IsSnapshot rules w.archive new.log → new.log.base ≤ new.committed → SaysOwn new given → Adds k.came came d →
@@ -162,7 +162,7 @@ own_thinned s (keeps {e = Out place o} t) own to m i = own_thinned s t own to m 
 own_thinned s (loses t) own to m i = own_thinned s t (λ a b j. own a b (there j)) to m i
 
 -- a step that takes no log, or takes none
-pub kept_plainly : {S C O : Type 0} (rules : Rules S C O) (config : Config) (m : MasterState) (w : World S C O) (earlier : List (Moment S C O))
+pub kept_plainly : {S C O : Type 0} (rules : Rules S C O) (config : Config) (m : MasterState) (w : CutGroupWorld S C O) (earlier : List (Moment S C O))
     (n : ℕ) (r : ReplicaState S C) (input : Input C) (new : ReplicaState S C) (given : List (Effect C O)) → (k : Kept rules config m w earlier) →
     slice_get w.nodes n ≡ Some r → r.stopped ≡ false → MayTake w n input → KeepsBase {O = O} r (replica_step rules r input) →
     OutcomeMatches w.archive (replica_step rules r input) (whole_step rules (whole w.archive r) (whole_input w.archive input)) →
@@ -197,7 +197,7 @@ kept_plainly {S = S} {C = C} {O = O} rules config m w earlier n r input new give
     low = let a = old.1 in let b = base.committed in let c = ap (λ (s : ReplicaState S C). s.committed) is in omega (arith, a, b, c, at_base)
 
 -- a step that takes a log
-pub kept_taking : {S C O : Type 0} (rules : Rules S C O) (config : Config) (m : MasterState) (w : World S C O) (earlier : List (Moment S C O))
+pub kept_taking : {S C O : Type 0} (rules : Rules S C O) (config : Config) (m : MasterState) (w : CutGroupWorld S C O) (earlier : List (Moment S C O))
     (n : ℕ) (r : ReplicaState S C) (input : Input C) (ballot : ℕ) (log : Log C) (new : ReplicaState S C) (given : List (Effect C O)) → (k : Kept rules config m w earlier) →
     slice_get w.nodes n ≡ Some r → r.stopped ≡ false → MayTake w n input →
     IsSnapshot rules w.archive log × (0 < log.base → WasApplied (moment m w ∷ earlier) ballot log.base (take log.base w.archive)) →

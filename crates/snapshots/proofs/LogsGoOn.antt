@@ -15,7 +15,7 @@ use Rattle.agreement.specs.whole.Sending.{Outcome as WholeOutcome}
 use Rattle.agreement.specs.MasterState.{MasterState}
 use Rattle.agreement.specs.Moments.{Moment, Moments}
 use Rattle.agreement.specs.Moments.Moments.{went_on}
-use Rattle.agreement.specs.World.{World as WholeWorld, moved as whole_moved}
+use Rattle.agreement.specs.World.{GroupWorld as WholeWorld, moved as whole_moved}
 use Rattle.agreement.proofs.Agreed.PastAgrees.{machines_replay}
 use Rattle.agreement.specs.ballot_base.Logs.{Log, places}
 use Rattle.snapshots.specs.Whole.{whole_log, whole, whole_effects, whole_input}
@@ -24,7 +24,7 @@ use Rattle.agreement.specs.ballot_base.declared.message.Effect.{Effect}
 use Rattle.agreement.specs.ballot_base.Losses.{Thinned}
 use Rattle.agreement.specs.ballot_base.Protocol.{Input, replica_step}
 use Rattle.agreement.specs.ballot_base.Taking.{read_into, taken, with_places, with_snapshot}
-use Rattle.snapshots.specs.World.{World, MayTake, moved, whole_world}
+use Rattle.snapshots.specs.World.{CutGroupWorld, MayTake, moved, whole_world}
 use Rattle.agreement.proofs.of_lists.Places.{get_set, get_set_other}
 use Rattle.snapshots.proofs.Continues.{Continues, TellsAs, one_more, two_more}
 use Rattle.snapshots.proofs.Agreed.{WasApplied, fronts_stay, learns_after}
@@ -36,7 +36,7 @@ use Rattle.agreement.specs.Proposals.{taken_by as whole_taken_by}
 use Rattle.snapshots.proofs.Views.{get_whole, may_take_whole, moved_whole, step_whole, thinned_then, whole_loses, whole_thinned}
 
 -- a world with a master, on whole logs
-abbrev pub moment : {S C O : Type 0} → MasterState → World S C O → Moment S C O
+abbrev pub moment : {S C O : Type 0} → MasterState → CutGroupWorld S C O → Moment S C O
 moment m w = record { master = m; world = whole_world w }
 
 -- what is known about a row that takes a log
@@ -56,7 +56,7 @@ pub record TakesLog {S C O : Type 0} (rules : Rules S C O) (archive : List C) (r
       LearnsTo rules archive log.base (replica_step rules r input) (whole_step rules (whole archive r) (whole_input archive input))
 
 -- before a node learns its log is there already
-tells_before : {S C O : Type 0} (rules : Rules S C O) (m : MasterState) (w : World S C O) (n : ℕ) (s : WholeState S C) (new : ReplicaState S C)
+tells_before : {S C O : Type 0} (rules : Rules S C O) (m : MasterState) (w : CutGroupWorld S C O) (n : ℕ) (s : WholeState S C) (new : ReplicaState S C)
     (given : List (Effect C O)) (r : ReplicaState S C) (k : ℕ) → slice_get w.nodes n ≡ Some r → whole w.archive new ≡ whole_applied_to rules s k →
     TellsAs (record { master = m; world = whole_moved (whole_world w) n s (whole_effects w.archive given) }) (moment m (moved w n new given))
 tells_before {S = S} {C = C} {O = O} rules m w n s new given r k stands is = record {
@@ -91,7 +91,7 @@ tells_before {S = S} {C = C} {O = O} rules m w n s new given r k stands is = rec
     )
 
 -- the past on whole logs after a node took a log, and what was added to it
-pub record LogWent {S C O : Type 0} (rules : Rules S C O) (config : Config) (m : MasterState) (w : World S C O) (earlier : List (Moment S C O)) (n : ℕ)
+pub record LogWent {S C O : Type 0} (rules : Rules S C O) (config : Config) (m : MasterState) (w : CutGroupWorld S C O) (earlier : List (Moment S C O)) (n : ℕ)
     (r : ReplicaState S C) (input : Input C) (new : ReplicaState S C) (given : List (Effect C O)) (came : Moments rules config (moment m w ∷ earlier)) : Type 0 where
   pub more : List (Moment S C O)
   pub past : Moments rules config (moment m (moved w n new given) ∷ more)
@@ -100,7 +100,7 @@ pub record LogWent {S C O : Type 0} (rules : Rules S C O) (config : Config) (m :
   pub adds : Adds came past (added_whole w.archive n r input new given)
 
 -- so the whole logs have continued, by one step or by one and learning
-pub log_goes_on : {S C O : Type 0} (rules : Rules S C O) (config : Config) (m : MasterState) (w : World S C O) (earlier : List (Moment S C O)) (n : ℕ)
+pub log_goes_on : {S C O : Type 0} (rules : Rules S C O) (config : Config) (m : MasterState) (w : CutGroupWorld S C O) (earlier : List (Moment S C O)) (n : ℕ)
     (r : ReplicaState S C) (input : Input C) (ballot : ℕ) (log : Log C) (machine : S) (new : ReplicaState S C) (given : List (Effect C O)) →
     (came : Moments rules config (moment m w ∷ earlier)) → slice_get w.nodes n ≡ Some r → r.stopped ≡ false → MayTake w n input → IsBased w.archive r →
     r.committed ≤ places r.log → log.base ≤ length w.archive → TakesLog {O = O} rules w.archive r input ballot log →

@@ -38,7 +38,7 @@ use Rattle.snapshots.specs.Moments.Moments.{went_on}
 use Rattle.snapshots.specs.Steps.{MayHappen, world_after}
 use Rattle.snapshots.specs.Steps.MayHappen.{node_goes, master_assigns, master_hears, assignment_lost, answer_lost}
 use Rattle.snapshots.specs.Whole.{whole, whole_effects, whole_input, whole_log}
-use Rattle.snapshots.specs.World.{World, moved, outputs, whole_world}
+use Rattle.snapshots.specs.World.{CutGroupWorld, moved, outputs, whole_world}
 use Rattle.snapshots.specs.World.NodeGoes.{takes, stops, cuts}
 use Rattle.snapshots.proofs.CutsGoOn.{cuts_on}
 use Rattle.snapshots.proofs.Kept.{Kept}
@@ -147,7 +147,7 @@ own_gives {S = S} {C = C} {O = O} rules archive r input new given based ran with
     by_input Ticks lossy = plain Ticks tt lossy
 
 -- a step of the group, of which the node at index n may be another's
-step_gives : {S C O : Type 0} (rules : Rules S C O) (config : Config) (m : MasterState) (w : World S C O) (k : MasterState) (v : World S C O)
+step_gives : {S C O : Type 0} (rules : Rules S C O) (config : Config) (m : MasterState) (w : CutGroupWorld S C O) (k : MasterState) (v : CutGroupWorld S C O)
     (earlier : List (WholeMoment S C O)) → Kept rules config m w earlier → (step : MayHappen rules m w k v) → (n : ℕ) (old new : ReplicaState S C) →
     slice_get w.nodes n ≡ Some old → slice_get v.nodes n ≡ Some new →
     (old.stopped ≡ false → old.machine ≡ replay rules (take old.committed (whole_log w.archive old.log))) → old.committed ≤ length (whole_log w.archive old.log) →
@@ -174,7 +174,7 @@ step_gives {S = S} {C = C} {O = O} rules config m w k v earlier kept step n old 
     assigned config None there inside = still there inside [] refl
     assigned config (Some why) there inside = still there inside [] refl
 
-    by_step : {k : MasterState} {v : World S C O} (step : MayHappen rules m w k v) → slice_get v.nodes n ≡ Some new →
+    by_step : {k : MasterState} {v : CutGroupWorld S C O} (step : MayHappen rules m w k v) → slice_get v.nodes n ≡ Some new →
         new.committed ≤ length (whole_log v.archive new.log) →
         GivesNext rules (whole w.archive old) (whole v.archive new) (whole_log v.archive new.log) (given_in n step)
     by_step (node_goes (takes i r input {new = x} {given = given} at runs may lossy)) there inside = by_place (cases_eq n i)

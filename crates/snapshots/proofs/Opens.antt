@@ -22,7 +22,7 @@ use Rattle.agreement.specs.ballot_base.declared.message.Body.{Body}
 use Rattle.agreement.specs.ballot_base.declared.message.Message.{Message}
 use Rattle.agreement.specs.ballot_base.declared.message.Body.TheVariants.{NewBallot, Join, State, Install, Installed, Activate, Activated, Superseded, Append, Held, Commit}
 use Rattle.snapshots.specs.Whole.{whole, whole_body}
-use Rattle.snapshots.specs.World.{World, whole_sent, whole_world}
+use Rattle.snapshots.specs.World.{CutGroupWorld, whole_sent, whole_world}
 use Rattle.snapshots.proofs.Adds.{Adds, SaysNothing, StepAdds, adds_one, nothing_added}
 use Rattle.snapshots.proofs.Kept.{Carries, IsSnapshot, Kept, KeptWith, carries_in}
 use Rattle.snapshots.proofs.MoreMoments.{grows_in}
@@ -107,7 +107,7 @@ plain_carries rules past archive (Held b held) p = tt
 plain_carries rules past archive (Commit b held) p = tt
 
 -- a message of the master carries no log
-pub master_kept : {S C O : Type 0} (rules : Rules S C O) (config : Config) (m k : MasterState) (w : World S C O) (earlier : List (Moment S C O))
+pub master_kept : {S C O : Type 0} (rules : Rules S C O) (config : Config) (m k : MasterState) (w : CutGroupWorld S C O) (earlier : List (Moment S C O))
     (receiver : ℕ) (body : Body C) → (q : Kept rules config m w earlier) → IsPlainBody body →
     StepAdds rules m (whole_world w) k (record (whole_world w) { sent = (whole_world w).sent ++ (receiver, record { from = 0; body = whole_body w.archive body }) ∷ [] })
     (nothing_added C O) →
@@ -131,7 +131,7 @@ master_kept {S = S} {C = C} {O = O} rules config m k w earlier receiver body q p
         (sym (map-append (whole_sent w.archive) w.sent ((receiver, record { from = 0; body = body }) ∷ [])))
         (went_on q.came step.0, adds_one q.came (nothing_added C O) step)
 
-    v : World S C O
+    v : CutGroupWorld S C O
     v = record w { sent = w.sent ++ (receiver, record { from = 0; body = body }) ∷ [] }
 
     new : (to : ℕ) (x : Message C) → In {X = ℕ × Message C} (to, x) ((receiver, record { from = 0; body = body }) ∷ []) → Carries rules (moment k v ∷ moment m w ∷ earlier) w.archive x.body
@@ -144,7 +144,7 @@ master_kept {S = S} {C = C} {O = O} rules config m k w earlier receiver body q p
     by_age to x (inr i) = new to x i
 
 -- .. or it was lost
-pub master_unheard : {S C O : Type 0} (rules : Rules S C O) (config : Config) (m k : MasterState) (w : World S C O) (earlier : List (Moment S C O)) →
+pub master_unheard : {S C O : Type 0} (rules : Rules S C O) (config : Config) (m k : MasterState) (w : CutGroupWorld S C O) (earlier : List (Moment S C O)) →
     (q : Kept rules config m w earlier) → StepAdds rules m (whole_world w) k (whole_world w) (nothing_added C O) →
     KeptWith rules config k w (moment m w ∷ earlier) q.came (nothing_added C O)
 master_unheard {S = S} {C = C} {O = O} rules config m k w earlier q step =

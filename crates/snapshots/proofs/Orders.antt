@@ -33,7 +33,7 @@ use Rattle.snapshots.specs.Orders.{AnswersWhileItLeads, KeepsTheOrder, OneNodeTa
 use Rattle.snapshots.specs.Moments.{Moment, Moments, whole_moment}
 use Rattle.snapshots.specs.Proposals.{proposals_of, taken_at, taken_of}
 use Rattle.snapshots.specs.Whole.{whole, whole_log}
-use Rattle.snapshots.specs.World.{World, whole_world}
+use Rattle.snapshots.specs.World.{CutGroupWorld, whole_world}
 use Rattle.snapshots.proofs.Continues.{agreed_in}
 use Rattle.snapshots.proofs.NextPlaces.{answers_at_the_next_places}
 use Rattle.snapshots.proofs.PastsAgree.{agreed_grows, has_agreed}

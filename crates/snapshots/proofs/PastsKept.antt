@@ -19,7 +19,7 @@ use Rattle.snapshots.specs.Proposals.{proposal_of, proposals_of, taken_at, taken
 use Rattle.snapshots.specs.Steps.{MayHappen, sends_from_master, world_after}
 use Rattle.snapshots.specs.Steps.MayHappen.{node_goes, master_assigns, master_hears, assignment_lost, answer_lost}
 use Rattle.snapshots.specs.Whole.{whole_body}
-use Rattle.snapshots.specs.World.{World, whole_sent, whole_world}
+use Rattle.snapshots.specs.World.{CutGroupWorld, whole_sent, whole_world}
 use Rattle.snapshots.proofs.Continues.{Covers, covers_first, covers_more}
 use Rattle.snapshots.proofs.Adds.{Added, AddsBy, SaysNothing, StepAdds, nothing_added}
 use Rattle.snapshots.proofs.CutsGoOn.{node_goes_on}
@@ -31,7 +31,7 @@ use Rattle.snapshots.proofs.Plain.{IsPlainBody}
 use Rattle.snapshots.proofs.Views.{in_whole}
 
 -- an Assign, by what the master answers
-assigns_on : {S C O : Type 0} (rules : Rules S C O) (config : Config) (m : MasterState) (w : World S C O) (earlier : List (WholeMoment S C O)) (c : Config)
+assigns_on : {S C O : Type 0} (rules : Rules S C O) (config : Config) (m : MasterState) (w : CutGroupWorld S C O) (earlier : List (WholeMoment S C O)) (c : Config)
     (o : Option AssignRefusal) → refusal m c ≡ o → (k : Kept rules config m w earlier) →
     GoesOn rules config (master_after m c o) (world_after m w c o) k.came (nothing_added C O)
 assigns_on {S = S} {C = C} {O = O} rules config m w earlier c o e k = by_answer o step
@@ -59,11 +59,11 @@ answer_plain C ballot true = tt
 answer_plain C ballot false = tt
 
 -- what happens, and what it adds
-abbrev pub added_of : {S C O : Type 0} {rules : Rules S C O} {m : MasterState} {w : World S C O} {k : MasterState} {v : World S C O} →
+abbrev pub added_of : {S C O : Type 0} {rules : Rules S C O} {m : MasterState} {w : CutGroupWorld S C O} {k : MasterState} {v : CutGroupWorld S C O} →
     MayHappen rules m w k v → Added C O
 added_of step = record { proposed = proposal_of step; taken = taken_in step; taken_at = λ n. takes_at n step; given = λ n. given_in n step }
 
-pub step_goes_on : {S C O : Type 0} (rules : Rules S C O) (config : Config) (m k : MasterState) (w v : World S C O) (earlier : List (WholeMoment S C O)) →
+pub step_goes_on : {S C O : Type 0} (rules : Rules S C O) (config : Config) (m k : MasterState) (w v : CutGroupWorld S C O) (earlier : List (WholeMoment S C O)) →
     (q : Kept rules config m w earlier) → (step : MayHappen rules m w k v) → GoesOn rules config k v q.came (added_of step)
 step_goes_on rules config m k w v earlier q (node_goes goes) = node_goes_on rules config m w v earlier q goes
 step_goes_on rules config m k w v earlier q (master_assigns c) = assigns_on rules config m w earlier c (refusal m c) refl q

@@ -23,7 +23,7 @@ use Rattle.snapshots.specs.Proposals.{taken_by}
 use Rattle.snapshots.specs.Steps.{MayHappen}
 use Rattle.snapshots.specs.Steps.MayHappen.{node_goes, master_assigns, master_hears, assignment_lost, answer_lost}
 use Rattle.snapshots.specs.Whole.{whole, whole_input}
-use Rattle.snapshots.specs.World.{MayTake, World, moved, whole_world}
+use Rattle.snapshots.specs.World.{MayTake, CutGroupWorld, moved, whole_world}
 use Rattle.snapshots.specs.World.NodeGoes.{takes, stops, cuts}
 use Rattle.snapshots.proofs.Adds.{StepAdds, added_whole, proposed_whole, taken_whole}
 use Rattle.snapshots.proofs.PastsKept.{past_stands}
@@ -41,7 +41,7 @@ none_taken row true i = elim i [ ]
 none_taken row false i = elim i [ ]
 
 -- a proposal, on whole logs
-proposal_stands : {S C O : Type 0} (rules : Rules S C O) (m : MasterState) (w : World S C O) (i : ℕ) (r : ReplicaState S C) (c : C) (new : ReplicaState S C)
+proposal_stands : {S C O : Type 0} (rules : Rules S C O) (m : MasterState) (w : CutGroupWorld S C O) (i : ℕ) (r : ReplicaState S C) (c : C) (new : ReplicaState S C)
     (given : List (Effect C O)) (stands : slice_get w.nodes i ≡ Some r) (runs : r.stopped ≡ false) (may : MayTake w i (Proposes c))
     (loses : Loses rules r (replica_step rules r (Proposes c)) new given) → IsBased w.archive r → new.log.base ≤ length w.archive →
     StandsAtOnce (node_goes {m = m} {w = w} (takes i r (Proposes c) stands runs may loses))
@@ -64,7 +64,7 @@ proposal_stands {S = S} {C = C} {O = O} rules m w i r c new given stands runs ma
     taken = taken_whole w.archive r new (Proposes c) based.within within
 
 -- what may happen else takes nothing
-step_stands : {S C O : Type 0} (rules : Rules S C O) (m : MasterState) (w : World S C O) (k : MasterState) (v : World S C O) → (step : MayHappen rules m w k v) →
+step_stands : {S C O : Type 0} (rules : Rules S C O) (m : MasterState) (w : CutGroupWorld S C O) (k : MasterState) (v : CutGroupWorld S C O) → (step : MayHappen rules m w k v) →
     ((n : ℕ) (r : ReplicaState S C) → slice_get w.nodes n ≡ Some r → IsBased w.archive r) →
     ((n : ℕ) (r : ReplicaState S C) → slice_get v.nodes n ≡ Some r → r.log.base ≤ length v.archive) → StandsAtOnce step
 step_stands rules m w k v (node_goes (takes i r (Proposes c) {new = new} {given = given} stands runs may loses)) based later =

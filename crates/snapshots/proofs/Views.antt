@@ -11,14 +11,14 @@ use Rattle.agreement.specs.whole.Sending.{Outcome as WholeOutcome}
 use Rattle.agreement.specs.MasterState.{MasterState}
 use Rattle.agreement.specs.Steps.{MayTake as WholeMayTake}
 use Rattle.agreement.specs.Steps.MayHappen.{node_takes}
-use Rattle.agreement.specs.World.{World as WholeWorld, moved as whole_moved, messages as whole_messages, outputs as whole_outputs}
+use Rattle.agreement.specs.World.{GroupWorld as WholeWorld, moved as whole_moved, messages as whole_messages, outputs as whole_outputs}
 use Rattle.agreement.specs.lists.Lists.{In}
 use Rattle.agreement.specs.lists.Lists.In.{here, there}
 use Rattle.snapshots.specs.Matches.{OutcomeMatches}
 use Rattle.agreement.specs.ballot_base.declared.message.Effect.{Effect}
 use Rattle.agreement.specs.ballot_base.Sending.{Outcome}
 use Rattle.agreement.specs.ballot_base.Losses.{Thinned, Loses}
-use Rattle.snapshots.specs.World.{messages, outputs, World, MayTake, moved, whole_sent, whole_world}
+use Rattle.snapshots.specs.World.{messages, outputs, CutGroupWorld, MayTake, moved, whole_sent, whole_world}
 use Rattle.agreement.specs.ballot_base.declared.message.Effect.TheVariants.{To, Out}
 use Rattle.agreement.specs.ballot_base.Losses.Thinned.{none, keeps, loses}
 use Rattle.agreement.specs.ballot_base.Replica.{ReplicaState}
@@ -64,7 +64,7 @@ map_set g (y ∷ xs) zero x = refl
 map_set g (y ∷ xs) (suc n) x = ap (λ us. g y ∷ us) (map_set g xs n x)
 
 -- a node's move
-pub moved_whole : {S C O : Type 0} (w : World S C O) (n : ℕ) (new : ReplicaState S C) (given : List (Effect C O)) →
+pub moved_whole : {S C O : Type 0} (w : CutGroupWorld S C O) (n : ℕ) (new : ReplicaState S C) (given : List (Effect C O)) →
     whole_world (moved w n new given) ≡ whole_moved (whole_world w) n (whole w.archive new) (whole_effects w.archive given)
 moved_whole {S = S} {C = C} {O = O} w n new given =
     ap (λ ns. let x : WholeWorld S C O = record { nodes = ns; sent = map (whole_sent w.archive) (w.sent ++ messages given); left = w.left ++ outputs given } in x)
@@ -83,13 +83,13 @@ pub in_whole : {X Y : Type 0} (g : X → Y) {x : X} {xs : List X} → In x xs �
 in_whole g here = here
 in_whole g (there i) = there (in_whole g i)
 
-pub may_take_whole : {S C O : Type 0} (w : World S C O) (n : ℕ) (input : Input C) → MayTake w n input → WholeMayTake (whole_world w) n (whole_input w.archive input)
+pub may_take_whole : {S C O : Type 0} (w : CutGroupWorld S C O) (n : ℕ) (input : Input C) → MayTake w n input → WholeMayTake (whole_world w) n (whole_input w.archive input)
 may_take_whole w n (Receives m) i = in_whole (whole_sent w.archive) i
 may_take_whole w n (Proposes c) i = i
 may_take_whole w n Ticks i = i
 
 -- so a step whose outcome is that on the whole logs is one of the group on the whole logs, which adds the same
-pub step_whole : {S C O : Type 0} (rules : Rules S C O) (m : MasterState) (w : World S C O) (n : ℕ) (r : ReplicaState S C) (input : Input C)
+pub step_whole : {S C O : Type 0} (rules : Rules S C O) (m : MasterState) (w : CutGroupWorld S C O) (n : ℕ) (r : ReplicaState S C) (input : Input C)
     (new : ReplicaState S C) (given : List (Effect C O)) → slice_get w.nodes n ≡ Some r → r.stopped ≡ false → MayTake w n input →
     WholeLoses rules (whole w.archive r) (whole_step rules (whole w.archive r) (whole_input w.archive input)) (whole w.archive new) (whole_effects w.archive given) →
     StepAdds rules m (whole_world w) m (whole_world (moved w n new given)) (added_whole w.archive n r input new given)

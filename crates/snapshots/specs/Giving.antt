@@ -9,11 +9,11 @@ use Rattle.snapshots.specs.Moments.Moments.{began, went_on}
 use Rattle.snapshots.specs.Steps.{MayHappen}
 use Rattle.snapshots.specs.Steps.MayHappen.{node_goes, master_assigns, master_hears}
 use Rattle.snapshots.specs.Steps.MayHappen.{assignment_lost, answer_lost}
-use Rattle.snapshots.specs.World.{NodeGoes, World, outputs, whole_world}
+use Rattle.snapshots.specs.World.{NodeGoes, CutGroupWorld, outputs, whole_world}
 use Rattle.snapshots.specs.World.NodeGoes.{takes, stops, cuts}
 
 -- the outputs of the node at index n in a step, each with its place in the list
-abbrev pub given_by_node : {S C O : Type 0} {rules : Rules S C O} {w v : World S C O} →
+abbrev pub given_by_node : {S C O : Type 0} {rules : Rules S C O} {w v : CutGroupWorld S C O} →
     ℕ → NodeGoes rules w v → List (ℕ × O)
 given_by_node n (takes i r input {new = new} {given = given} stands runs may loses) =
     if i == n then outputs given else []
@@ -21,8 +21,9 @@ given_by_node n (stops i r stands) = []
 given_by_node n (cuts i r stands runs below reads) = []
 
 -- the outputs of that node in a step of the group
-abbrev pub given_in : {S C O : Type 0} {rules : Rules S C O} {m : MasterState} {w : World S C O}
-    {k : MasterState} {v : World S C O} → ℕ → MayHappen rules m w k v → List (ℕ × O)
+abbrev pub given_in : {S C O : Type 0} {rules : Rules S C O} {m : MasterState}
+    {w : CutGroupWorld S C O}
+    {k : MasterState} {v : CutGroupWorld S C O} → ℕ → MayHappen rules m w k v → List (ℕ × O)
 given_in n (node_goes goes) = given_by_node n goes
 given_in n (master_assigns config) = []
 given_in n (master_hears from b sent) = []

@@ -7,12 +7,12 @@ use Rattle.agreement.specs.World.{can_open}
 use Rattle.agreement.specs.ballot_base.declared.config.Config.{Config}
 use Rattle.agreement.specs.ballot_base.Replica.{ReplicaState, opening}
 use Rattle.snapshots.specs.Steps.{MayHappen}
-use Rattle.snapshots.specs.World.{World, whole_world}
+use Rattle.snapshots.specs.World.{CutGroupWorld, whole_world}
 
 -- a moment of a group: the master and the world
 pub record Moment (S C O : Type 0) : Type 0 where
   pub master : MasterState
-  pub world : World S C O
+  pub world : CutGroupWorld S C O
 
 -- the moment on whole logs
 abbrev pub whole_moment : {S C O : Type 0} → Moment S C O → WholeMoment S C O
@@ -25,7 +25,7 @@ opening_nodes rules (suc n) config =
     opening_nodes rules n config ++ opening rules (n + 1) config ∷ []
 
 -- the world as it opens: nothing was sent
-abbrev pub opening_world : {S C O : Type 0} → Rules S C O → ℕ → Config → World S C O
+abbrev pub opening_world : {S C O : Type 0} → Rules S C O → ℕ → Config → CutGroupWorld S C O
 opening_world rules nodes config =
     record { nodes = opening_nodes rules nodes config; sent = []; left = []; archive = [] }
 

@@ -19,7 +19,7 @@ use Rattle.snapshots.specs.Proposals.{proposal_of, proposals_of, taken_at, taken
 use Rattle.snapshots.specs.Proposals.{taken_of, takes_at}
 use Rattle.snapshots.specs.Steps.{MayHappen}
 use Rattle.snapshots.specs.Whole.{whole, whole_log}
-use Rattle.snapshots.specs.World.{World, whole_world}
+use Rattle.snapshots.specs.World.{CutGroupWorld, whole_world}
 
 -- of the commands that were taken only in one ballot, each log has a prefix in the order of
 -- proposing
@@ -36,8 +36,9 @@ KeepsTheOrder {S} {C} {O} rules =
 -- what a node takes in a step is at once at the end of its log; everything that is taken is taken
 -- by some node; and a proposal that is not taken changes no log. The step is one of a past, since
 -- the whole log is given by the record.
-pub record StandsAtOnce {S C O : Type 0} {rules : Rules S C O} {m : MasterState} {w : World S C O}
-    {k : MasterState} {v : World S C O} (step : MayHappen rules m w k v) : Type 0 where
+pub record StandsAtOnce {S C O : Type 0} {rules : Rules S C O} {m : MasterState}
+    {w : CutGroupWorld S C O}
+    {k : MasterState} {v : CutGroupWorld S C O} (step : MayHappen rules m w k v) : Type 0 where
   pub stands : (n : ℕ) (row : ℕ × C) → In row (takes_at n step) →
       IsTaken (whole_world w) (whole_world v) n row
   pub somewhere : (row : ℕ × C) → In row (taken_in step) → (n : ℕ) × In row (takes_at n step)

@@ -13,7 +13,7 @@ use Rattle.snapshots.specs.Moments.Moments.{began, went_on}
 use Rattle.snapshots.specs.Steps.{MayHappen}
 use Rattle.snapshots.specs.Steps.MayHappen.{node_goes, master_assigns, master_hears}
 use Rattle.snapshots.specs.Steps.MayHappen.{assignment_lost, answer_lost}
-use Rattle.snapshots.specs.World.{NodeGoes, World}
+use Rattle.snapshots.specs.World.{NodeGoes, CutGroupWorld}
 use Rattle.snapshots.specs.World.NodeGoes.{takes, stops, cuts}
 
 -- the proposal that a node is given, with the ballot that it has joined
@@ -28,21 +28,21 @@ taken_by old new input =
     if nat_lt (places old.log) (places new.log) then proposal_by old input else []
 
 -- what is proposed to a node in what it does; a cut proposes nothing
-abbrev pub proposed_to : {S C O : Type 0} {rules : Rules S C O} {w v : World S C O} →
+abbrev pub proposed_to : {S C O : Type 0} {rules : Rules S C O} {w v : CutGroupWorld S C O} →
     NodeGoes rules w v → List (ℕ × C)
 proposed_to (takes n r input stands runs may loses) = proposal_by r input
 proposed_to (stops n r stands) = []
 proposed_to (cuts n r stands runs below reads) = []
 
 -- what a node takes in a step of its own
-abbrev pub taken_as : {S C O : Type 0} {rules : Rules S C O} {w v : World S C O} →
+abbrev pub taken_as : {S C O : Type 0} {rules : Rules S C O} {w v : CutGroupWorld S C O} →
     NodeGoes rules w v → List (ℕ × C)
 taken_as (takes n r input {new = new} {given = given} stands runs may loses) = taken_by r new input
 taken_as (stops n r stands) = []
 taken_as (cuts n r stands runs below reads) = []
 
 -- what the node at index n takes in a step of its own
-abbrev pub taken_by_node : {S C O : Type 0} {rules : Rules S C O} {w v : World S C O} →
+abbrev pub taken_by_node : {S C O : Type 0} {rules : Rules S C O} {w v : CutGroupWorld S C O} →
     ℕ → NodeGoes rules w v → List (ℕ × C)
 taken_by_node n (takes i r input {new = new} {given = given} stands runs may loses) =
     if i == n then taken_by r new input else []
@@ -51,7 +51,8 @@ taken_by_node n (cuts i r stands runs below reads) = []
 
 -- what is proposed in a step of the group
 abbrev pub proposal_of : {S C O : Type 0} {rules : Rules S C O} {m : MasterState}
-    {w : World S C O} {k : MasterState} {v : World S C O} → MayHappen rules m w k v → List (ℕ × C)
+    {w : CutGroupWorld S C O} {k : MasterState} {v : CutGroupWorld S C O} →
+    MayHappen rules m w k v → List (ℕ × C)
 proposal_of (node_goes goes) = proposed_to goes
 proposal_of (master_assigns config) = []
 proposal_of (master_hears from b sent) = []
@@ -59,8 +60,9 @@ proposal_of (assignment_lost config) = []
 proposal_of (answer_lost from b sent) = []
 
 -- what is taken in a step of the group
-abbrev pub taken_in : {S C O : Type 0} {rules : Rules S C O} {m : MasterState} {w : World S C O}
-    {k : MasterState} {v : World S C O} → MayHappen rules m w k v → List (ℕ × C)
+abbrev pub taken_in : {S C O : Type 0} {rules : Rules S C O} {m : MasterState}
+    {w : CutGroupWorld S C O}
+    {k : MasterState} {v : CutGroupWorld S C O} → MayHappen rules m w k v → List (ℕ × C)
 taken_in (node_goes goes) = taken_as goes
 taken_in (master_assigns config) = []
 taken_in (master_hears from b sent) = []
@@ -68,8 +70,9 @@ taken_in (assignment_lost config) = []
 taken_in (answer_lost from b sent) = []
 
 -- what the node at index n takes in a step of the group
-abbrev pub takes_at : {S C O : Type 0} {rules : Rules S C O} {m : MasterState} {w : World S C O}
-    {k : MasterState} {v : World S C O} → ℕ → MayHappen rules m w k v → List (ℕ × C)
+abbrev pub takes_at : {S C O : Type 0} {rules : Rules S C O} {m : MasterState}
+    {w : CutGroupWorld S C O}
+    {k : MasterState} {v : CutGroupWorld S C O} → ℕ → MayHappen rules m w k v → List (ℕ × C)
 takes_at n (node_goes goes) = taken_by_node n goes
 takes_at n (master_assigns config) = []
 takes_at n (master_hears from b sent) = []

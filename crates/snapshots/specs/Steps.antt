@@ -9,37 +9,39 @@ use Rattle.agreement.specs.ballot_base.declared.config.Config.{Config}
 use Rattle.agreement.specs.ballot_base.declared.message.Body.TheVariants.{Activate}
 use Rattle.agreement.specs.ballot_base.Sending.{master}
 use Rattle.snapshots.specs.Masters.{MasterOutcome, activated, assigned}
-use Rattle.snapshots.specs.World.{NodeGoes, World}
+use Rattle.snapshots.specs.World.{NodeGoes, CutGroupWorld}
 
 -- the world once the master has sent a message: it comes after those that were sent before
-abbrev pub sends_from_master : {S C O : Type 0} → World S C O → MasterOutcome C → World S C O
+abbrev pub sends_from_master : {S C O : Type 0} → CutGroupWorld S C O → MasterOutcome C →
+    CutGroupWorld S C O
 sends_from_master w o =
     record w { sent = w.sent ++ (o.receiver, record { from = master; body = o.body }) ∷ [] }
 
 -- the world after an Assign: if it is not refused, the primary is sent the ballot
 abbrev pub world_after : {S C O : Type 0} →
-    MasterState → World S C O → Config → Option AssignRefusal → World S C O
+    MasterState → CutGroupWorld S C O → Config → Option AssignRefusal → CutGroupWorld S C O
 world_after m w config (Some why) = w
 world_after {C = C} m w config None = sends_from_master w (assigned C m config)
 
 -- one event of such a group, from the master and the world before it to those after it
 pub data MayHappen {S C O : Type 0} (rules : Rules S C O) :
-    MasterState → World S C O → MasterState → World S C O → Type 0 where
+    MasterState → CutGroupWorld S C O → MasterState → CutGroupWorld S C O → Type 0 where
   -- a node takes a step, stops, or cuts its log
-  node_goes : {m : MasterState} {w v : World S C O} → NodeGoes rules w v → MayHappen rules m w m v
+  node_goes : {m : MasterState} {w v : CutGroupWorld S C O} → NodeGoes rules w v →
+      MayHappen rules m w m v
   -- an Assign: the master refuses it, or sends NewBallot to the primary of the configuration
-  master_assigns : {m : MasterState} {w : World S C O} (config : Config) →
+  master_assigns : {m : MasterState} {w : CutGroupWorld S C O} (config : Config) →
       MayHappen rules m w (master_after m config (refusal m config))
       (world_after m w config (refusal m config))
   -- the master receives an Activate that was sent, and answers it
-  master_hears : {m : MasterState} {w : World S C O} (from b : ℕ) →
+  master_hears : {m : MasterState} {w : CutGroupWorld S C O} (from b : ℕ) →
       In (0, record { from = from; body = Activate b }) w.sent →
       MayHappen rules m w (activated C m b from m.waiting).state
       (sends_from_master w (activated C m b from m.waiting))
   -- an Assign, if the master's NewBallot is lost
-  assignment_lost : {m : MasterState} {w : World S C O} (config : Config) →
+  assignment_lost : {m : MasterState} {w : CutGroupWorld S C O} (config : Config) →
       MayHappen rules m w (master_after m config (refusal m config)) w
   -- an Activate, if the master's answer is lost
-  answer_lost : {m : MasterState} {w : World S C O} (from b : ℕ) →
+  answer_lost : {m : MasterState} {w : CutGroupWorld S C O} (from b : ℕ) →
       In (0, record { from = from; body = Activate b }) w.sent →
       MayHappen rules m w (activated C m b from m.waiting).state w

@@ -3,7 +3,7 @@
 use Rattle.std.specs.Prelude.{ℕ, ◌+◌, ◌<◌, ◌≡◌, false, List, [], ◌∷◌, ◌++◌, length, map, take, drop}
 use Rattle.std.specs.Prelude.{slice_get, slice_set, Some}
 use Rattle.machine.specs.Machine.{Rules}
-use Rattle.agreement.specs.World.{World as WholeWorld}
+use Rattle.agreement.specs.World.{GroupWorld as WholeWorld}
 use Rattle.agreement.specs.whole.Messages.{Message as WholeMessage}
 use Rattle.agreement.specs.lists.Lists.{In}
 use Rattle.snapshots.specs.Whole.{whole_log, whole, whole_message}
@@ -17,7 +17,7 @@ use Rattle.agreement.specs.ballot_base.Cutting.{cut}
 use Rattle.agreement.specs.ballot_base.Protocol.Input.{Receives, Proposes, Ticks}
 
 -- the nodes, number n + 1 at index n
-pub record World (S C O : Type 0) : Type 0 where
+pub record CutGroupWorld (S C O : Type 0) : Type 0 where
   pub nodes : List (ReplicaState S C)
   pub sent : List (ℕ × Message C)
   pub left : List (ℕ × O)
@@ -29,7 +29,7 @@ abbrev pub whole_sent : {C : Type 0} → List C → ℕ × Message C → ℕ × 
 whole_sent archive sent = (sent.0, whole_message archive sent.1)
 
 -- all nodes and messages on whole logs
-abbrev pub whole_world : {S C O : Type 0} → World S C O → WholeWorld S C O
+abbrev pub whole_world : {S C O : Type 0} → CutGroupWorld S C O → WholeWorld S C O
 whole_world w =
     record {
       nodes = map (whole w.archive) w.nodes;
@@ -50,8 +50,9 @@ outputs (To receiver message ∷ effects) = outputs effects
 outputs (Out place output ∷ effects) = (place, output) ∷ outputs effects
 
 -- the node at an index changed and returned effects
-abbrev pub moved : {S C O : Type 0} → World S C O → ℕ → ReplicaState S C → List (Effect C O) →
-    World S C O
+abbrev pub moved : {S C O : Type 0} → CutGroupWorld S C O → ℕ → ReplicaState S C →
+    List (Effect C O) →
+    CutGroupWorld S C O
 moved w n new given =
     record w {
       nodes = slice_set w.nodes n new;
@@ -64,14 +65,14 @@ abbrev pub recorded : {S C : Type 0} → List C → ReplicaState S C → List C
 recorded archive r = archive ++ drop (length archive) (take r.committed (whole_log archive r.log))
 
 -- a node takes a message that was sent to it
-abbrev pub MayTake : {S C O : Type 0} → World S C O → ℕ → Input C → Type 0
+abbrev pub MayTake : {S C O : Type 0} → CutGroupWorld S C O → ℕ → Input C → Type 0
 MayTake w n (Receives message) = In (n + 1, message) w.sent
 MayTake w n (Proposes command) = Unit {0}
 MayTake w n Ticks = Unit {0}
 
 -- what may happen to a node; a machine that is cut comes back from its bytes
-pub data NodeGoes {S C O : Type 0} (rules : Rules S C O) (w : World S C O) : World S C O
-    → Type 0 where
+pub data NodeGoes {S C O : Type 0} (rules : Rules S C O)
+    (w : CutGroupWorld S C O) : CutGroupWorld S C O → Type 0 where
   -- it receives a message that was sent to it, takes a proposal, or ticks, perhaps with losses
   takes : (n : ℕ) (r : ReplicaState S C) (input : Input C) {new : ReplicaState S C}
       {given : List (Effect C O)} →

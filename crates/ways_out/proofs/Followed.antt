@@ -41,7 +41,7 @@ use Rattle.snapshots.specs.Moments.Moments.{went_on}
 use Rattle.snapshots.specs.Steps.MayHappen.{node_goes, master_hears}
 use Rattle.snapshots.specs.Steps.{MayHappen}
 use Rattle.snapshots.specs.Whole.{whole, whole_body, whole_effects, whole_message}
-use Rattle.snapshots.specs.World.{World, messages, outputs, whole_sent}
+use Rattle.snapshots.specs.World.{CutGroupWorld, messages, outputs, whole_sent}
 use Rattle.snapshots.specs.World.NodeGoes.{takes}
 use Rattle.snapshots.proofs.PastsAgree.{agreed_grows, has_agreed}
 use Rattle.snapshots.proofs.PastsKept.{StandsFor, past_stands}
@@ -99,7 +99,7 @@ activate_back {C = C} archive m from b e = by m.body refl (ap (λ (x : WholeMess
 -- ---- moments
 
 -- a node of the one is like that of the other
-pub record NodeLike {S C O : Type 0} (rules : Rules S C O) (ballot : ℕ) (w : World S C O) (n : ℕ) (p : WholeState S C) : Type 0 where
+pub record NodeLike {S C O : Type 0} (rules : Rules S C O) (ballot : ℕ) (w : CutGroupWorld S C O) (n : ℕ) (p : WholeState S C) : Type 0 where
   pub replica : ReplicaState S C
   pub stands : slice_get w.nodes n ≡ Some replica
   pub like : IsLike rules ballot p (whole w.archive replica)

@@ -33,7 +33,7 @@ use Rattle.snapshots.specs.ballot_base.Taking.{read_into, taken, with_places, wi
 use Rattle.snapshots.specs.agreement.MasterState.{MasterState}
 use Rattle.snapshots.specs.Matches.{IsBased}
 use Rattle.snapshots.specs.Whole.{whole, whole_body, whole_effects, whole_log, whole_message}
-use Rattle.snapshots.specs.World.{World}
+use Rattle.snapshots.specs.World.{CutGroupWorld}
 use Rattle.snapshots.proofs.Agreed.{fronts_stay}
 use Rattle.snapshots.proofs.Changing.{whole_handed}
 use Rattle.snapshots.proofs.Fronts.{whole_front, whole_long}
@@ -64,7 +64,7 @@ record Took {S C O : Type 0} (rules : Rules S C O) (archive : List C) (r : Repli
   is : taken rules r log ≡ Some took
   so : TookSo rules archive r log took
 
-module _ {S C O : Type 0} (rules : Rules S C O) (config : Config) (m : MasterState) (w : World S C O) (earlier : List (WholeMoment S C O))
+module _ {S C O : Type 0} (rules : Rules S C O) (config : Config) (m : MasterState) (w : CutGroupWorld S C O) (earlier : List (WholeMoment S C O))
     (k : Kept rules config m w earlier) (n : ℕ) (r : ReplicaState S C) (stands : slice_get w.nodes n ≡ Some r) (runs : r.stopped ≡ false) where
   abbrev pub W : WholeState S C
   W = whole w.archive r

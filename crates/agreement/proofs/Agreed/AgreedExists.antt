@@ -4,7 +4,7 @@ use Rattle.std.proofs.Common.{◌≡◌, ℕ, ◌<◌, ◌≤◌, ◌⊎◌, inl
 use Rattle.std.proofs.lemmas.Bool.{cases_lt}
 use Rattle.std.proofs.lemmas.List.{length-take-le}
 use Rattle.machine.specs.Machine.{Rules}
-use Rattle.agreement.specs.World.{World}
+use Rattle.agreement.specs.World.{GroupWorld}
 use Rattle.whole.specs.lists.Lists.{In, IsPrefixOf}
 use Rattle.whole.specs.lists.Lists.In.{here, there}
 use Rattle.agreement.specs.Inside.Chosen.{IsAgreedIn}
@@ -47,7 +47,7 @@ front_of {X = X} j k xs less within =
     (prefix_take j (take k xs))
 
 -- in an activated ballot the members' least acknowledged length is chosen
-pub chosen_least : {S C O : Type 0} (rules : Rules S C O) (w : World S C O) (h : History C) (b : ℕ) (g : Given) (l : Line C) →
+pub chosen_least : {S C O : Type 0} (rules : Rules S C O) (w : GroupWorld S C O) (h : History C) (b : ℕ) (g : Given) (l : Line C) →
     IsSoundWorld rules w h → In b h.activated → h.given b ≡ Some g → h.line b ≡ Some l → IsChosenIn w h b (chosen_length w.sent b g l)
 chosen_least {S = S} {C = C} rules w h b g l s active given lined = (
   g,
@@ -63,7 +63,7 @@ chosen_least {S = S} {C = C} rules w h b g l s active given lined = (
         told_less w h m b (length t.0.base) 0 (omega arith) (chosen_told w h b (length t.0.base) g m t.2 given i)
 
 -- and nothing longer is
-pub chosen_at_most : {S C O : Type 0} (rules : Rules S C O) (w : World S C O) (h : History C) (b j : ℕ) (g : Given) (l : Line C) →
+pub chosen_at_most : {S C O : Type 0} (rules : Rules S C O) (w : GroupWorld S C O) (h : History C) (b j : ℕ) (g : Given) (l : Line C) →
     IsSoundWorld rules w h → h.given b ≡ Some g → h.line b ≡ Some l → IsChosenIn w h b j → j ≤ chosen_length w.sent b g l
 chosen_at_most rules w h b j g l s given lined chosen =
     least_most (length l.list) (told_length w.sent b g l) g.members j
@@ -71,7 +71,7 @@ chosen_at_most rules w h b j g l s given lined chosen =
     (λ m i. told_at_most rules w h m b j g l s given lined (chosen_told w h b j g m chosen given i))
 
 -- that front of the newest ballot's list is the agreed list
-pub newest_agreed : {S C O : Type 0} (rules : Rules S C O) (w : World S C O) (h : History C) (b : ℕ) (older : List ℕ) (g : Given) (l : Line C) →
+pub newest_agreed : {S C O : Type 0} (rules : Rules S C O) (w : GroupWorld S C O) (h : History C) (b : ℕ) (older : List ℕ) (g : Given) (l : Line C) →
     IsSoundWorld rules w h → h.activated ≡ b ∷ older → h.given b ≡ Some g → h.line b ≡ Some l →
     IsAgreedIn w h (take (chosen_length w.sent b g l) l.list)
 newest_agreed {S = S} {C = C} rules w h b older g l s newest given lined =
@@ -112,7 +112,7 @@ newest_agreed {S = S} {C = C} rules w h b older g l s newest given lined =
         (front_of j (chosen_length w.sent b g l) l.list k top)
 
 -- there is an agreed list
-pub agreed_exists : {S C O : Type 0} (rules : Rules S C O) (m : MasterState) (w : World S C O) (h : History C) → IsSoundWorld rules w h → IsMaster m h →
+pub agreed_exists : {S C O : Type 0} (rules : Rules S C O) (m : MasterState) (w : GroupWorld S C O) (h : History C) → IsSoundWorld rules w h → IsMaster m h →
     (xs : List C) × IsAgreedIn w h xs
 agreed_exists {S = S} {C = C} rules m w h s k =
     let t = s.lines.told m.active (subst (λ bs. In m.active bs) (sym k.newest) here) in

@@ -5,7 +5,7 @@ use Rattle.std.proofs.lemmas.Bool.{cases_lt}
 use Rattle.std.proofs.lemmas.List.{length-take-le}
 use Rattle.machine.specs.Machine.{Rules}
 use Rattle.whole.specs.Replica.{ReplicaState}
-use Rattle.agreement.specs.World.{World}
+use Rattle.agreement.specs.World.{GroupWorld}
 use Rattle.whole.specs.lists.Lists.{In, IsPrefixOf}
 use Rattle.agreement.specs.Inside.Chosen.{ChosenList, IsAgreedIn}
 use Rattle.agreement.specs.Agreement.{Agrees}
@@ -24,7 +24,7 @@ use Rattle.agreement.proofs.Frame.Bases.{one_line}
 use Rattle.agreement.proofs.Agreed.AppliedAgreed.{chosen_list, applied_agreed, agreed_held}
 
 -- two logs that were installed in one ballot
-same_ballot : {S C O : Type 0} (rules : Rules S C O) (w : World S C O) (h : History C) (n k : ℕ) (r q : ReplicaState S C) → IsSoundWorld rules w h →
+same_ballot : {S C O : Type 0} (rules : Rules S C O) (w : GroupWorld S C O) (h : History C) (n k : ℕ) (r q : ReplicaState S C) → IsSoundWorld rules w h →
     slice_get w.nodes n ≡ Some r → slice_get w.nodes k ≡ Some q → r.held_in ≡ q.held_in → IsPrefixOf r.log q.log ⊎ IsPrefixOf q.log r.log
 same_ballot {S = S} {C = C} rules w h n k r q s e f same = by_ballot (cases_lt 0 r.held_in)
   where
@@ -38,7 +38,7 @@ same_ballot {S = S} {C = C} rules w h n k r q s e f same = by_ballot (cases_lt 0
         prefix_either r.log q.log a.2.0.list a.2.3 (subst (λ (u : Line C). IsPrefixOf q.log u.list) one b.2.3)
 
 -- the nodes agree
-pub sound_agrees : {S C O : Type 0} (rules : Rules S C O) (m : MasterState) (w : World S C O) (h : History C) (xs : List C) →
+pub sound_agrees : {S C O : Type 0} (rules : Rules S C O) (m : MasterState) (w : GroupWorld S C O) (h : History C) (xs : List C) →
     IsSoundWorld rules w h → IsMaster m h → IsAgreedIn w h xs → Agrees rules m w xs
 sound_agrees {S = S} {C = C} {O = O} rules m w h xs s k a =
     record {
@@ -49,7 +49,7 @@ sound_agrees {S = S} {C = C} {O = O} rules m w h xs s k a =
     }
 
 -- what left is in order
-pub sound_leaves : {S C O : Type 0} (rules : Rules S C O) (past : List (Moment S C O)) (w : World S C O) (h : History C) (xs : List C) →
+pub sound_leaves : {S C O : Type 0} (rules : Rules S C O) (past : List (Moment S C O)) (w : GroupWorld S C O) (h : History C) (xs : List C) →
     IsSoundWorld rules w h → IsAgreedIn w h xs → ((b : ℕ) → In b h.activated → WasActive past b) → LeftInOrder rules past w xs
 sound_leaves {S = S} {C = C} {O = O} rules past w h xs s a active =
     record {
@@ -68,7 +68,7 @@ sound_leaves {S = S} {C = C} {O = O} rules past w h xs s a active =
         (rising, omega (arith, p, z))
 
 -- the agreed list only grows
-pub agreed_grows : {S C O : Type 0} (rules : Rules S C O) (w v : World S C O) (h : History C) (xs ys : List C) → (g : HistoryGoesOn rules w h v) →
+pub agreed_grows : {S C O : Type 0} (rules : Rules S C O) (w v : GroupWorld S C O) (h : History C) (xs ys : List C) → (g : HistoryGoesOn rules w h v) →
     IsAgreedIn w h xs → IsAgreedIn v g.history ys → IsPrefixOf xs ys
 agreed_grows {S = S} {C = C} rules w v h xs ys g a b = by_chosen a.chosen
   where

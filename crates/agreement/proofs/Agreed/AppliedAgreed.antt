@@ -4,7 +4,7 @@ use Rattle.std.specs.Prelude.{slice_get}
 use Rattle.std.proofs.lemmas.Bool.{cases_lt}
 use Rattle.machine.specs.Machine.{Rules}
 use Rattle.whole.specs.Replica.{ReplicaState}
-use Rattle.agreement.specs.World.{World}
+use Rattle.agreement.specs.World.{GroupWorld}
 use Rattle.whole.specs.lists.Lists.{In, IsPrefixOf}
 use Rattle.whole.specs.lists.Lists.In.{here}
 use Rattle.agreement.specs.Inside.Chosen.{ChosenList, IsAgreedIn}
@@ -17,19 +17,19 @@ use Rattle.agreement.proofs.Frame.Bases.{chosen_told, sealed_bounds, base_is, on
 use Rattle.agreement.proofs.Frame.Taking.{activated_base}
 
 -- a chosen list, by its ballot
-pub chosen_list : {S C O : Type 0} (w : World S C O) (h : History C) (b k : ℕ) (l : Line C) → In b h.activated → h.line b ≡ Some l →
+pub chosen_list : {S C O : Type 0} (w : GroupWorld S C O) (h : History C) (b k : ℕ) (l : Line C) → In b h.activated → h.line b ≡ Some l →
     IsChosenIn w h b k → ChosenList w h (take k l.list)
 chosen_list w h b k l i e c = record { ballot = b; places = k; line = l; activated = i; lined = e; chosen = c; is = refl }
 
 -- what a node applied begins the agreed list
-pub applied_agreed : {S C O : Type 0} (w : World S C O) (h : History C) (r : ReplicaState S C) (xs : List C) → IsAgreedIn w h xs → Applied w h r →
+pub applied_agreed : {S C O : Type 0} (w : GroupWorld S C O) (h : History C) (r : ReplicaState S C) (xs : List C) → IsAgreedIn w h xs → Applied w h r →
     IsPrefixOf (take r.committed r.log) xs
 applied_agreed w h r xs a (nothing e) = subst (λ k. IsPrefixOf (take k r.log) xs) (sym e) (record { rest = xs; is = refl })
 applied_agreed w h r xs a (in_ballot b k l i up e chosen front) =
     prefix_then front (a.longest (take k l.list) (chosen_list w h b k l i e chosen))
 
 -- what is chosen in the newest ballot is held by its members
-newest_held : {S C O : Type 0} (rules : Rules S C O) (w : World S C O) (h : History C) (b k : ℕ) (older : List ℕ) (g : Given) (l : Line C)
+newest_held : {S C O : Type 0} (rules : Rules S C O) (w : GroupWorld S C O) (h : History C) (b k : ℕ) (older : List ℕ) (g : Given) (l : Line C)
     (n : ℕ) (r : ReplicaState S C) → IsSoundWorld rules w h → h.activated ≡ b ∷ older → h.given b ≡ Some g → In (n + 1) g.members →
     h.line b ≡ Some l → IsChosenIn w h b k → slice_get w.nodes n ≡ Some r → IsPrefixOf (take k l.list) r.log
 newest_held {S = S} {C = C} {O = O} rules w h b k older g l n r s newest given member lined chosen stands = by_order (cases_lt b r.held_in)
@@ -71,7 +71,7 @@ newest_held {S = S} {C = C} {O = O} rules w h b k older g l n r s newest given m
         subst (λ (us : List C). IsPrefixOf us r.log) (sym (take_prefix k list long)) (prefix_take k r.log)
 
 -- the agreed list is held by the members of the newest ballot
-pub agreed_held : {S C O : Type 0} (rules : Rules S C O) (w : World S C O) (h : History C) (xs : List C) (b : ℕ) (older : List ℕ) (g : Given)
+pub agreed_held : {S C O : Type 0} (rules : Rules S C O) (w : GroupWorld S C O) (h : History C) (xs : List C) (b : ℕ) (older : List ℕ) (g : Given)
     (n : ℕ) (r : ReplicaState S C) → IsSoundWorld rules w h → (xs ≡ []) ⊎ ChosenList w h xs → h.activated ≡ b ∷ older → h.given b ≡ Some g →
     In (n + 1) g.members → slice_get w.nodes n ≡ Some r → IsPrefixOf xs r.log
 agreed_held {S = S} {C = C} rules w h xs b older g n r s (inl none) newest given member stands =

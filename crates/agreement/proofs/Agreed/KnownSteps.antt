@@ -12,7 +12,7 @@ use Rattle.agreement.specs.MasterState.{MasterState}
 use Rattle.agreement.specs.Moments.{Moment, HasConfig, WasActive, HasTold}
 use Rattle.agreement.specs.Moments.HasConfig.{was_assigned}
 use Rattle.agreement.specs.Steps.{MayHappen}
-use Rattle.agreement.specs.World.{World}
+use Rattle.agreement.specs.World.{GroupWorld}
 use Rattle.agreement.proofs.Frame.Going.{goes_same, extends_then}
 use Rattle.agreement.proofs.Agreed.PastGrows.{config_stays, active_stays, told_stays}
 use Rattle.agreement.proofs.Runs.RunsGoOn.{StepGoesOn}
@@ -21,7 +21,7 @@ use Rattle.agreement.proofs.Runs.Serves.{serving_step}
 use Rattle.agreement.proofs.Agreed.PastIsKnown.{IsKnown, told_now}
 
 -- a group that serves continues serving
-pub serves_then : {S C O : Type 0} (rules : Rules S C O) (m k : MasterState) (w v : World S C O) (h : History C) (adds : List (ℕ × C)) →
+pub serves_then : {S C O : Type 0} (rules : Rules S C O) (m k : MasterState) (w v : GroupWorld S C O) (h : History C) (adds : List (ℕ × C)) →
     Serves rules m w h → (x : StepGoesOn rules w h k v adds) → MayHappen rules m w k v → Serves rules k v x.run.group.goes_on.history
 serves_then rules m k w v h adds s x step =
     record {

@@ -6,7 +6,7 @@ use Rattle.std.proofs.lemmas.Bool.{cases_eq, cases_lt, eq-eqb, ne_eqb}
 use Rattle.machine.specs.Machine.{Rules}
 use Rattle.whole.specs.Messages.{Message, Body}
 use Rattle.whole.specs.Messages.Body.{NewBallot, Join, State, Install, Installed, Activate, Activated, Superseded, Append, Held, Commit}
-use Rattle.agreement.specs.World.{World}
+use Rattle.agreement.specs.World.{GroupWorld}
 use Rattle.whole.specs.lists.Lists.{In}
 use Rattle.whole.specs.lists.Lists.In.{here, there}
 use Rattle.agreement.specs.Inside.Ballots.{Given, Line, History, Told}
@@ -20,7 +20,7 @@ pub one_given : (o : Option Given) (g k : Given) → o ≡ Some g → o ≡ Some
 one_given o g k e f = cc
 
 -- what a message acknowledges was acknowledged
-told_of_body : {S C O : Type 0} (w : World S C O) (h : History C) (m b receiver : ℕ) (body : Body C) → Told w h m b 0 →
+told_of_body : {S C O : Type 0} (w : GroupWorld S C O) (h : History C) (m b receiver : ℕ) (body : Body C) → Told w h m b 0 →
     In (receiver, record { from = m; body = body }) w.sent → Told w h m b (told_by b body)
 told_of_body w h m b receiver (NewBallot x members a old) t i = t
 told_of_body w h m b receiver (Join x a) t i = t
@@ -47,7 +47,7 @@ told_of_body {S = S} {C = C} w h m b receiver (Held x held) t i = by_ballot (cas
 told_of_body w h m b receiver (Commit x held) t i = t
 
 -- and so with its sender
-told_of_message : {S C O : Type 0} (w : World S C O) (h : History C) (m b receiver : ℕ) (message : Message C) → Told w h m b 0 →
+told_of_message : {S C O : Type 0} (w : GroupWorld S C O) (h : History C) (m b receiver : ℕ) (message : Message C) → Told w h m b 0 →
     In (receiver, message) w.sent → Told w h m b (told_in m b message)
 told_of_message {S = S} {C = C} w h m b receiver message t i = by_sender (cases_eq message.from m)
   where
@@ -67,7 +67,7 @@ of_max P x y p q = by_order (cases_lt x y)
     by_order (inr more) = let f : max x y ≡ x = omega (arith, more) in subst P (sym f) p
 
 -- the most that a member acknowledged was acknowledged
-told_most : {S C O : Type 0} (w : World S C O) (h : History C) (m b : ℕ) (sent : List (ℕ × Message C)) → Told w h m b 0 →
+told_most : {S C O : Type 0} (w : GroupWorld S C O) (h : History C) (m b : ℕ) (sent : List (ℕ × Message C)) → Told w h m b 0 →
     ((x : ℕ × Message C) → In x sent → In x w.sent) → Told w h m b (max_told m b sent)
 told_most w h m b [] t all = t
 told_most w h m b (x ∷ sent) t all =
@@ -89,7 +89,7 @@ installed_is : (C : Type 0) (m b held : ℕ) → told_in {C = C} m b (record { f
 installed_is C m b held = ap (λ k. cond k (cond (b == b) held 0) 0) (eq-eqb m m refl) ∙ ap (λ k. cond k held 0) (eq-eqb b b refl)
 
 -- a member acknowledged its length, if it acknowledged anything
-pub told_whole : {S C O : Type 0} (w : World S C O) (h : History C) (m b : ℕ) (g : Given) (l : Line C) → h.given b ≡ Some g →
+pub told_whole : {S C O : Type 0} (w : GroupWorld S C O) (h : History C) (m b : ℕ) (g : Given) (l : Line C) → h.given b ≡ Some g →
     h.line b ≡ Some l → Told w h m b 0 → Told w h m b (told_length w.sent b g l m)
 told_whole w h m b g l given lined t = by_primary (cases_eq m g.primary)
   where
@@ -102,7 +102,7 @@ told_whole w h m b g l given lined t = by_primary (cases_eq m g.primary)
         (told_most w h m b w.sent t (λ x i. i))
 
 -- and no node acknowledged more
-pub told_at_most : {S C O : Type 0} (rules : Rules S C O) (w : World S C O) (h : History C) (m b j : ℕ) (g : Given) (l : Line C) →
+pub told_at_most : {S C O : Type 0} (rules : Rules S C O) (w : GroupWorld S C O) (h : History C) (m b j : ℕ) (g : Given) (l : Line C) →
     IsSoundWorld rules w h → h.given b ≡ Some g → h.line b ≡ Some l → Told w h m b j → j ≤ told_length w.sent b g l m
 told_at_most {S = S} {C = C} rules w h m b j g l s given lined t = by_primary (cases_eq m g.primary)
   where

@@ -21,13 +21,13 @@ use Rattle.agreement.specs.Primaries.{IsPrimary}
 use Rattle.agreement.specs.Proposals.{rows_in, taken_at, taken_by, taken_in, taken_of, takes_at}
 use Rattle.agreement.specs.Steps.{MayHappen}
 use Rattle.agreement.specs.Steps.MayHappen.{node_takes, node_stops, master_assigns, master_hears, assignment_lost, answer_lost}
-use Rattle.agreement.specs.World.{World}
+use Rattle.agreement.specs.World.{GroupWorld}
 use Rattle.agreement.proofs.Agreed.OnePrimary.{one_primary_a_ballot}
 use Rattle.agreement.proofs.Orders.Taken.{Went, none_taken, proposal_went, taken_when_added, taken_when_same}
 use Rattle.agreement.proofs.Orders.Taken.Went.{was_added, was_refused, has_stopped}
 
 -- a node that is no primary of the ballot takes nothing in it
-other_takes : {S C O : Type 0} (rules : Rules S C O) (w : World S C O) (ballot i : ℕ) (r : ReplicaState S C) (c : C) (new : ReplicaState S C)
+other_takes : {S C O : Type 0} (rules : Rules S C O) (w : GroupWorld S C O) (ballot i : ℕ) (r : ReplicaState S C) (c : C) (new : ReplicaState S C)
     (given : List (Effect C O)) → slice_get w.nodes i ≡ Some r → Went rules r c new given → (IsPrimary w i ballot → ⊥) →
     rows_in ballot (taken_by r new (Proposes c)) ≡ []
 other_takes {S = S} {C = C} rules w ballot i r c new given stands (was_refused e f) away =
@@ -40,7 +40,7 @@ other_takes {S = S} {C = C} rules w ballot i r c new given stands (was_added act
     (ne_eqb r.joined ballot (λ same. away (record { replica = r; stands = stands; active = active; joined = same })))
 
 -- a step takes in the ballot what its primary takes
-step_takes : {S C O : Type 0} (rules : Rules S C O) (m : MasterState) (w : World S C O) (k : MasterState) (v : World S C O) →
+step_takes : {S C O : Type 0} (rules : Rules S C O) (m : MasterState) (w : GroupWorld S C O) (k : MasterState) (v : GroupWorld S C O) →
     (step : MayHappen rules m w k v) → (n ballot : ℕ) → ((i : ℕ) → IsPrimary w i ballot → i ≡ n) →
     rows_in ballot (taken_in step) ≡ rows_in ballot (takes_at n step)
 step_takes {S = S} {C = C} {O = O} rules m w k v (node_takes i r input {new = new} {given = given} stands runs may loses) n ballot one =

@@ -16,7 +16,7 @@ use Rattle.agreement.specs.MasterState.{MasterState}
 use Rattle.agreement.specs.Moments.{Moment}
 use Rattle.agreement.specs.Proposals.{proposal_of}
 use Rattle.agreement.specs.Steps.{MayHappen}
-use Rattle.agreement.specs.World.{World, moved}
+use Rattle.agreement.specs.World.{GroupWorld, moved}
 use Rattle.agreement.proofs.Agreed.KnownSteps.{serves_then}
 use Rattle.agreement.proofs.Frame.Framing.{within_of}
 use Rattle.agreement.proofs.Frame.Later.{applied_kept}
@@ -24,18 +24,18 @@ use Rattle.agreement.proofs.Runs.RunsGoOn.{group_goes_on}
 use Rattle.agreement.proofs.Runs.Serves.{one_step}
 
 -- what the nodes applied at these moments
-abbrev pub WereApplied : {S C O : Type 0} → List (Moment S C O) → World S C O → History C → Type 0
+abbrev pub WereApplied : {S C O : Type 0} → List (Moment S C O) → GroupWorld S C O → History C → Type 0
 WereApplied {S} {C} {O} past w h =
     (c : Moment S C O) → In c past → (n : ℕ) (r : ReplicaState S C) → slice_get c.world.nodes n ≡ Some r → Applied w h r
 
 -- .. is so still after a step
-pub were_applied : {S C O : Type 0} (rules : Rules S C O) (past : List (Moment S C O)) (w v : World S C O) (h i : History C) → IsSoundWorld rules w h →
+pub were_applied : {S C O : Type 0} (rules : Rules S C O) (past : List (Moment S C O)) (w v : GroupWorld S C O) (h i : History C) → IsSoundWorld rules w h →
     Extends w h v i → ((b : ℕ) → In b h.activated → In b i.activated) → WereApplied past w h → WereApplied past v i
 were_applied rules past w v h i s extends active were c j n r stands =
     applied_kept w v h i r extends active (within_of rules w h s) (were c j n r stands)
 
 -- the rows that were taken, with the history whose lists have them in order
-pub record IsOrdered {S C O : Type 0} (rules : Rules S C O) (past : List (Moment S C O)) (m : MasterState) (w : World S C O)
+pub record IsOrdered {S C O : Type 0} (rules : Rules S C O) (past : List (Moment S C O)) (m : MasterState) (w : GroupWorld S C O)
     (rows : List (ℕ × C)) : Type 0 where
   pub history : History C
   pub serves : Serves rules m w history
@@ -43,13 +43,13 @@ pub record IsOrdered {S C O : Type 0} (rules : Rules S C O) (past : List (Moment
   pub own : OwnLines rules.start_of history rows
 
 -- a step with no proposal
-pub plain_step : {S C O : Type 0} (rules : Rules S C O) (past : List (Moment S C O)) (m : MasterState) (w : World S C O) (k : MasterState) (v : World S C O) (rows : List (ℕ × C)) →
+pub plain_step : {S C O : Type 0} (rules : Rules S C O) (past : List (Moment S C O)) (m : MasterState) (w : GroupWorld S C O) (k : MasterState) (v : GroupWorld S C O) (rows : List (ℕ × C)) →
     (step : MayHappen rules m w k v) → proposal_of step ≡ [] → IsOrdered rules past m w rows → IsOrdered rules past k v rows
 plain_step {S = S} {C = C} {O = O} rules past m w k v rows step none q = by_step (one_step rules m w k v step)
   where
     by_step : ((k ≡ m) × (v ≡ w)) ⊎ ((g : GroupStep rules m w k v) × (adds_of g ≡ proposal_of step)) → IsOrdered rules past k v rows
     by_step (inl (same, still)) =
-        subst (λ (x : MasterState). IsOrdered rules past x v rows) (sym same) (subst (λ (u : World S C O). IsOrdered rules past m u rows) (sym still) q)
+        subst (λ (x : MasterState). IsOrdered rules past x v rows) (sym same) (subst (λ (u : GroupWorld S C O). IsOrdered rules past m u rows) (sym still) q)
     by_step (inr (goes, adds)) =
         let s = q.serves in
         let x = group_goes_on rules m k w v q.history s.sound s.long s.replays s.master goes in
@@ -74,10 +74,10 @@ set_same (y ∷ xs) zero x e = let h : x ≡ y = cc in ap (λ z. z ∷ xs) h
 set_same (y ∷ xs) (suc n) x e = ap (λ zs. y ∷ zs) (set_same xs n x e)
 
 -- a node that does nothing leaves the world
-pub moved_same : {S C O : Type 0} (w : World S C O) (n : ℕ) (r new : ReplicaState S C) (given : List (Effect C O)) → slice_get w.nodes n ≡ Some r →
+pub moved_same : {S C O : Type 0} (w : GroupWorld S C O) (n : ℕ) (r new : ReplicaState S C) (given : List (Effect C O)) → slice_get w.nodes n ≡ Some r →
     new ≡ r → given ≡ [] → moved w n new given ≡ w
 moved_same {S = S} {C = C} {O = O} w n r new given stands e f =
     ap (λ (x : ReplicaState S C). moved w n x given) e ∙ ap (moved w n r) f
-    ∙ ap (λ ns. let u : World S C O = record { nodes = ns; sent = w.sent ++ []; left = w.left ++ [] } in u) (set_same w.nodes n r stands)
-    ∙ ap (λ us. let u : World S C O = record { nodes = w.nodes; sent = us; left = w.left ++ [] } in u) (append-nil w.sent)
-    ∙ ap (λ us. let u : World S C O = record { nodes = w.nodes; sent = w.sent; left = us } in u) (append-nil w.left)
+    ∙ ap (λ ns. let u : GroupWorld S C O = record { nodes = ns; sent = w.sent ++ []; left = w.left ++ [] } in u) (set_same w.nodes n r stands)
+    ∙ ap (λ us. let u : GroupWorld S C O = record { nodes = w.nodes; sent = us; left = w.left ++ [] } in u) (append-nil w.sent)
+    ∙ ap (λ us. let u : GroupWorld S C O = record { nodes = w.nodes; sent = w.sent; left = us } in u) (append-nil w.left)

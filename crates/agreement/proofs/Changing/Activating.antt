@@ -12,7 +12,7 @@ use Rattle.whole.specs.Replica.{ReplicaState, is_installing, others, progress_at
 use Rattle.whole.specs.Sending.{Outcome}
 use Rattle.whole.specs.Serving.{max_places}
 use Rattle.whole.specs.Activating.{on_activated}
-use Rattle.agreement.specs.World.{World}
+use Rattle.agreement.specs.World.{GroupWorld}
 use Rattle.whole.specs.lists.Lists.{In, IsPrefixOf}
 use Rattle.whole.specs.lists.Lists.In.{here, there}
 use Rattle.agreement.specs.Inside.Ballots.{Given, History, Told}
@@ -49,7 +49,7 @@ none_of [] short = refl
 none_of (x ∷ xs) short = absurd (omega (arith, short))
 
 -- the new primary leads, if all members hold its log
-activated_leads : {S C O : Type 0} (rules : Rules S C O) (w : World S C O) (h : History C) (n : ℕ) (r : ReplicaState S C) →
+activated_leads : {S C O : Type 0} (rules : Rules S C O) (w : GroupWorld S C O) (h : History C) (n : ℕ) (r : ReplicaState S C) →
     IsSoundWorld rules w h → slice_get w.nodes n ≡ Some r → IsInstalling w h n r → r.lacking ≡ [] → In r.joined h.activated →
     Leading w h n (record (applied_to rules r (length r.log)) { role = Active; progress = progress_at (length r.log) (others r.id r.members) })
 activated_leads {S = S} {C = C} rules w h n r s stands j none active =
@@ -95,7 +95,7 @@ activated_leads {S = S} {C = C} rules w h n r s stands j none active =
     by_member m (inr i) = inr (followed_in (length r.log) (others r.id r.members) m i)
 
 -- an Activated that comes
-pub keeps_activated : {S C O : Type 0} (rules : Rules S C O) (w : World S C O) (h : History C) (n : ℕ) (r : ReplicaState S C)
+pub keeps_activated : {S C O : Type 0} (rules : Rules S C O) (w : GroupWorld S C O) (h : History C) (n : ℕ) (r : ReplicaState S C)
     (from b : ℕ) → IsSoundWorld rules w h → slice_get w.nodes n ≡ Some r → r.machine ≡ replay rules (take r.committed r.log) →
     In (n + 1, record { from = from; body = Activated b }) w.sent → KeepsAdding rules w h n (λ c x. x ≡ rules.start_of c) (on_activated rules r b)
 keeps_activated {S = S} {C = C} {O = O} rules w h n r from b s stands ran sent =

@@ -7,7 +7,7 @@ use Rattle.whole.specs.Messages.Body.{Install, Installed}
 use Rattle.whole.specs.Replica.{ReplicaState}
 use Rattle.whole.specs.Sending.{Outcome, message_to}
 use Rattle.whole.specs.Changing.{on_install}
-use Rattle.agreement.specs.World.{World, moved}
+use Rattle.agreement.specs.World.{GroupWorld, moved}
 use Rattle.whole.specs.lists.Lists.{In, IsPrefixOf}
 use Rattle.agreement.specs.Inside.Ballots.{Given, Line, History}
 use Rattle.agreement.specs.Inside.Keeps.LineAdds.{as_it_was}
@@ -27,7 +27,7 @@ use Rattle.whole.proofs.ChangeRows.{on_install-takes, on_install-answers, on_ins
 use Rattle.agreement.proofs.Changing.SameNode.{same_node}
 
 -- an Install that is answered
-install_answered : {S C O : Type 0} (rules : Rules S C O) (w : World S C O) (h : History C) (n : ℕ) (r : ReplicaState S C)
+install_answered : {S C O : Type 0} (rules : Rules S C O) (w : GroupWorld S C O) (h : History C) (n : ℕ) (r : ReplicaState S C)
     (from b : ℕ) (log : List C) → IsSoundWorld rules w h → slice_get w.nodes n ≡ Some r → InstallHeard w h n from b log →
     r.joined ≡ b → r.held_in ≡ b →
     KeepsSoundness rules w h n (record { state = r; effects = message_to O r.id (Installed b (length log)) from ∷ [] })
@@ -67,7 +67,7 @@ install_answered {S = S} {C = C} {O = O} rules w h n r from b log s stands q joi
     moves = sends.moves
 
 -- an Install that comes
-pub keeps_install : {S C O : Type 0} (rules : Rules S C O) (w : World S C O) (h : History C) (n : ℕ) (r : ReplicaState S C)
+pub keeps_install : {S C O : Type 0} (rules : Rules S C O) (w : GroupWorld S C O) (h : History C) (n : ℕ) (r : ReplicaState S C)
     (from b : ℕ) (log : List C) → IsSoundWorld rules w h → slice_get w.nodes n ≡ Some r →
     In (n + 1, record { from = from; body = Install b log }) w.sent → KeepsSoundness rules w h n (on_install O r from b log)
 keeps_install {S = S} {C = C} {O = O} rules w h n r from b log s stands sent =

@@ -8,7 +8,7 @@ use Rattle.whole.specs.Messages.Body.{Install, Installed}
 use Rattle.whole.specs.Losses.{Thinned}
 use Rattle.whole.specs.Replica.{ReplicaState}
 use Rattle.whole.specs.Sending.{message_to}
-use Rattle.agreement.specs.World.{World, messages, outputs}
+use Rattle.agreement.specs.World.{GroupWorld, messages, outputs}
 use Rattle.whole.specs.lists.Lists.{In, IsPrefixOf}
 use Rattle.whole.specs.lists.Lists.In.{here, there}
 use Rattle.agreement.specs.Inside.Ballots.{Given, Line, History}
@@ -32,12 +32,12 @@ same_front {C = C} k xs ys within p =
     twice (suc k) (x ∷ xs) = ap (λ us. x ∷ us) (twice k xs)
 
 -- an Installed that is sent
-pub record Sends {S C O : Type 0} (w : World S C O) (h : History C) (n : ℕ) (old new : ReplicaState S C) (given : List (Effect C O)) : Type 0 where
+pub record Sends {S C O : Type 0} (w : GroupWorld S C O) (h : History C) (n : ℕ) (old new : ReplicaState S C) (given : List (Effect C O)) : Type 0 where
   pub moves : MovesAt w h h.line n old new given
   pub silent : outputs given ≡ []
 
 -- what an Install says, of the node that receives it
-pub record InstallHeard {S C O : Type 0} (w : World S C O) (h : History C) (n from b : ℕ) (log : List C) : Type 0 where
+pub record InstallHeard {S C O : Type 0} (w : GroupWorld S C O) (h : History C) (n from b : ℕ) (log : List C) : Type 0 where
   pub ballot : Given
   pub is_of : IsOf h b ballot
   pub sender : from ≡ ballot.primary
@@ -47,13 +47,13 @@ pub record InstallHeard {S C O : Type 0} (w : World S C O) (h : History C) (n fr
   pub lined : h.line b ≡ Some line
   pub base : line.base ≡ log
 
-pub install_heard : {S C O : Type 0} (w : World S C O) (h : History C) (n from b : ℕ) (log : List C) → SpeaksTruth w h (n + 1) from (Install b log) →
+pub install_heard : {S C O : Type 0} (w : GroupWorld S C O) (h : History C) (n from b : ℕ) (log : List C) → SpeaksTruth w h (n + 1) from (Install b log) →
     InstallHeard w h n from b log
 install_heard w h n from b log (g, o, f, other, (l, lined, base)) =
     record { ballot = g; is_of = o; sender = f; member = other.0; backup = other.1; line = l; lined = lined; base = base }
 
 -- the node sends Installed
-pub installed_sends : {S C O : Type 0} (rules : Rules S C O) (w : World S C O) (h : History C) (n from b : ℕ) (log : List C)
+pub installed_sends : {S C O : Type 0} (rules : Rules S C O) (w : GroupWorld S C O) (h : History C) (n from b : ℕ) (log : List C)
     (r new : ReplicaState S C) (given : List (Effect C O)) → IsSoundWorld rules w h → slice_get w.nodes n ≡ Some r →
     InstallHeard w h n from b log → r.joined ≤ b → b ≡ new.held_in → length log ≤ length new.log → r.joined ≤ new.joined → r.committed ≤ new.committed →
     Thinned given (message_to O r.id (Installed b (length log)) from ∷ []) → Sends w h n r new given
@@ -80,7 +80,7 @@ installed_sends {S = S} {C = C} {O = O} rules w h n from b log r new given s sta
         )
 
 -- and says so rightly
-pub installed_says : {S C O : Type 0} (w v : World S C O) (h i : History C) (n from b id : ℕ) (log : List C) →
+pub installed_says : {S C O : Type 0} (w v : GroupWorld S C O) (h i : History C) (n from b id : ℕ) (log : List C) →
     InstallHeard w h n from b log → id ≡ n + 1 → Extends w h v i →
     (to : ℕ) (m : Message C) → In (to, m) (messages (message_to O id (Installed b (length log)) from ∷ [])) → SpeaksTruth v i to m.from m.body
 installed_says w v h i n from b id log q is x to m (there j) = elim j [ ]

@@ -6,7 +6,7 @@ use Rattle.whole.specs.Messages.{Message, Effect}
 use Rattle.whole.specs.Messages.Body.{Installed}
 use Rattle.whole.specs.Replica.{ReplicaState, is_installing, others}
 use Rattle.whole.specs.Activating.{activates}
-use Rattle.agreement.specs.World.{World, messages, outputs, moved}
+use Rattle.agreement.specs.World.{GroupWorld, messages, outputs, moved}
 use Rattle.whole.specs.lists.Lists.{In}
 use Rattle.whole.specs.lists.Lists.In.{here, there}
 use Rattle.agreement.specs.Inside.Ballots.{Given, Line, History, Told, Applied}
@@ -23,7 +23,7 @@ use Rattle.agreement.proofs.Frame.Roles.{role_installing}
 use Rattle.agreement.proofs.Changing.OtherMembers.{in_others, others_in}
 
 -- if nobody lacks the log, every member acknowledged the base
-pub all_installed : {S C O : Type 0} (w : World S C O) (h : History C) (n : ℕ) (r : ReplicaState S C) (i : IsInstalling w h n r) →
+pub all_installed : {S C O : Type 0} (w : GroupWorld S C O) (h : History C) (n : ℕ) (r : ReplicaState S C) (i : IsInstalling w h n r) →
     r.lacking ≡ [] → (g : Given) × (h.given r.joined ≡ Some g) × ((m : ℕ) → In m g.members → Told w h m r.joined (length i.line.base))
 all_installed w h n r i none =
     (i.leads.0, i.leads.1, λ m j. by_noted m (i.noted m (subst (λ ms. In m ms) (sym i.leads.3) j)))
@@ -33,7 +33,7 @@ all_installed w h n r i none =
     by_noted m (inr t) = t
 
 -- an Installed that is noted
-pub installed_noted : {S C O : Type 0} (rules : Rules S C O) (w : World S C O) (h : History C) (n : ℕ) (r : ReplicaState S C)
+pub installed_noted : {S C O : Type 0} (rules : Rules S C O) (w : GroupWorld S C O) (h : History C) (n : ℕ) (r : ReplicaState S C)
     (from b held : ℕ) → IsSoundWorld rules w h → slice_get w.nodes n ≡ Some r →
     In (n + 1, record { from = from; body = Installed b held }) w.sent → r.joined ≡ b → is_installing r.role ≡ true →
     KeepsSoundness rules w h n (record {

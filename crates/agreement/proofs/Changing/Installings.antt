@@ -8,7 +8,7 @@ use Rattle.whole.specs.Messages.Body.{Installed}
 use Rattle.whole.specs.Replica.{ReplicaState, is_installing}
 use Rattle.whole.specs.Sending.{Outcome}
 use Rattle.whole.specs.Activating.{on_installed}
-use Rattle.agreement.specs.World.{World}
+use Rattle.agreement.specs.World.{GroupWorld}
 use Rattle.whole.specs.lists.Lists.{In}
 use Rattle.agreement.specs.Inside.Ballots.{History}
 use Rattle.agreement.specs.Inside.Keeps.{KeepsSoundness}
@@ -18,7 +18,7 @@ use Rattle.whole.proofs.ChangeRows.{on_installed-stays, on_installed-counts}
 use Rattle.agreement.proofs.Changing.InstalledCounts.{installed_noted}
 
 -- an Installed that comes
-pub keeps_installed : {S C O : Type 0} (rules : Rules S C O) (w : World S C O) (h : History C) (n : ℕ) (r : ReplicaState S C)
+pub keeps_installed : {S C O : Type 0} (rules : Rules S C O) (w : GroupWorld S C O) (h : History C) (n : ℕ) (r : ReplicaState S C)
     (from b held : ℕ) → IsSoundWorld rules w h → slice_get w.nodes n ≡ Some r →
     In (n + 1, record { from = from; body = Installed b held }) w.sent → KeepsSoundness rules w h n (on_installed O r from b)
 keeps_installed {S = S} {C = C} {O = O} rules w h n r from b held s stands sent =

@@ -6,7 +6,7 @@ use Rattle.whole.specs.Messages.Body.{Installed}
 use Rattle.whole.specs.ballot_base.declared.status.Role.TheVariants.{Backup}
 use Rattle.whole.specs.Replica.{ReplicaState}
 use Rattle.whole.specs.Sending.{message_to}
-use Rattle.agreement.specs.World.{World, moved}
+use Rattle.agreement.specs.World.{GroupWorld, moved}
 use Rattle.whole.specs.lists.Lists.{In, IsPrefixOf}
 use Rattle.agreement.specs.Inside.Ballots.{Given, History, Applied}
 use Rattle.agreement.specs.Inside.Ballots.Applied.{nothing, in_ballot}
@@ -26,7 +26,7 @@ use Rattle.agreement.proofs.Frame.Telling.{told_placed, told_in_log}
 use Rattle.agreement.proofs.Changing.InstallHeard.{same_front, Sends, InstallHeard, installed_sends, installed_says}
 
 -- an Install that is taken
-pub install_taken : {S C O : Type 0} (rules : Rules S C O) (w : World S C O) (h : History C) (n : ℕ) (r : ReplicaState S C)
+pub install_taken : {S C O : Type 0} (rules : Rules S C O) (w : GroupWorld S C O) (h : History C) (n : ℕ) (r : ReplicaState S C)
     (from b : ℕ) (log : List C) → IsSoundWorld rules w h → slice_get w.nodes n ≡ Some r → InstallHeard w h n from b log →
     r.joined ≤ b → r.held_in < b → r.committed ≤ length log →
     KeepsSoundness rules w h n (record {

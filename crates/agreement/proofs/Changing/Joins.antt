@@ -9,7 +9,7 @@ use Rattle.whole.specs.ballot_base.declared.status.Role.TheVariants.{Backup}
 use Rattle.whole.specs.Replica.{ReplicaState}
 use Rattle.whole.specs.Sending.{Outcome, message_to}
 use Rattle.whole.specs.Changing.{on_join}
-use Rattle.agreement.specs.World.{World, messages, moved}
+use Rattle.agreement.specs.World.{GroupWorld, messages, moved}
 use Rattle.whole.specs.lists.Lists.{In}
 use Rattle.whole.specs.lists.Lists.In.{here, there}
 use Rattle.agreement.specs.Inside.Ballots.{Given, History, Applied, Sealed, BallotListsStand}
@@ -50,7 +50,7 @@ answers_of r b low true e = joins (ltb-true r.joined b e)
 answers_of r b low false e = stays (let high = ltb-false r.joined b e in omega (arith, low, high))
 
 -- a node that answers is as it should be
-answers_node : {S C O : Type 0} (v : World S C O) (h : History C) (n : ℕ) (r new : ReplicaState S C) (b : ℕ) (g : Given) →
+answers_node : {S C O : Type 0} (v : GroupWorld S C O) (h : History C) (n : ℕ) (r new : ReplicaState S C) (b : ℕ) (g : Given) →
     Answers r b new → h.given b ≡ Some g → (old : Given) → h.given g.previous ≡ Some old → In (n + 1) old.members →
     IsSoundNode v h n r → IsSoundNode v h n new
 answers_node v h n r new b g (stays e) given old given_old member t = t
@@ -79,7 +79,7 @@ answers_node {S = S} {C = C} {O = O} v h n r new b g (joins less) given old give
     by_applied (in_ballot c k l i up e chosen front) = in_ballot c k l i (omega (arith, up, less)) e chosen front
 
 -- a Join that is answered
-join_answered : {S C O : Type 0} (rules : Rules S C O) (w : World S C O) (h : History C) (n : ℕ) (r new : ReplicaState S C)
+join_answered : {S C O : Type 0} (rules : Rules S C O) (w : GroupWorld S C O) (h : History C) (n : ℕ) (r new : ReplicaState S C)
     (from b a : ℕ) → IsSoundWorld rules w h → slice_get w.nodes n ≡ Some r → SpeaksTruth w h (n + 1) from (Join b a) →
     r.joined ≤ b → Answers r b new →
     KeepsSoundness rules w h n (record { state = new; effects = message_to O r.id (State b r.log) from ∷ [] })
@@ -122,7 +122,7 @@ join_answered {S = S} {C = C} {O = O} rules w h n r new from b a s stands (g, is
         )
 
 -- a Join that comes
-pub keeps_join : {S C O : Type 0} (rules : Rules S C O) (w : World S C O) (h : History C) (n : ℕ) (r : ReplicaState S C)
+pub keeps_join : {S C O : Type 0} (rules : Rules S C O) (w : GroupWorld S C O) (h : History C) (n : ℕ) (r : ReplicaState S C)
     (from b a : ℕ) → IsSoundWorld rules w h → slice_get w.nodes n ≡ Some r →
     In (n + 1, record { from = from; body = Join b a }) w.sent → KeepsSoundness rules w h n (on_join O r from b a)
 keeps_join {S = S} {C = C} {O = O} rules w h n r from b a s stands sent = by_condition (cases_Bool (nat_le r.joined b && nat_le a r.held_in))

@@ -9,7 +9,7 @@ use Rattle.whole.specs.ballot_base.declared.status.Role.TheVariants.{Fetching}
 use Rattle.whole.specs.Replica.{ReplicaState}
 use Rattle.whole.specs.Sending.{Outcome, message_to_each}
 use Rattle.whole.specs.Changing.{on_new_ballot}
-use Rattle.agreement.specs.World.{World, messages, outputs, moved}
+use Rattle.agreement.specs.World.{GroupWorld, messages, outputs, moved}
 use Rattle.whole.specs.lists.Lists.{In}
 use Rattle.whole.specs.lists.Lists.In.{here, there}
 use Rattle.agreement.specs.Inside.Ballots.{Given, Line, History, Applied}
@@ -36,7 +36,7 @@ outputs_to_each O id body [] = refl
 outputs_to_each O id body (x ∷ tos) = outputs_to_each O id body tos
 
 -- a ballot that its primary has not joined has no list
-no_line_yet : {S C O : Type 0} (rules : Rules S C O) (w : World S C O) (h : History C) (n : ℕ) (r : ReplicaState S C) (b : ℕ) (g : Given) →
+no_line_yet : {S C O : Type 0} (rules : Rules S C O) (w : GroupWorld S C O) (h : History C) (n : ℕ) (r : ReplicaState S C) (b : ℕ) (g : Given) →
     IsSoundNode w h n r → h.given b ≡ Some g → g.primary ≡ n + 1 → r.joined < b → (o : Option (Line C)) → h.line b ≡ o → h.line b ≡ None
 no_line_yet rules w h n r b g s given primary low None e = e
 no_line_yet rules w h n r b g s given primary low (Some l) e =
@@ -44,7 +44,7 @@ no_line_yet rules w h n r b g s given primary low (Some l) e =
     let order = s.placed.order in absurd (omega (arith, up, order, low))
 
 -- a NewBallot that is taken
-new_ballot_taken : {S C O : Type 0} (rules : Rules S C O) (w : World S C O) (h : History C) (n : ℕ) (r : ReplicaState S C)
+new_ballot_taken : {S C O : Type 0} (rules : Rules S C O) (w : GroupWorld S C O) (h : History C) (n : ℕ) (r : ReplicaState S C)
     (from b a : ℕ) (members old : List ℕ) → IsSoundWorld rules w h → slice_get w.nodes n ≡ Some r →
     SpeaksTruth w h (n + 1) from (NewBallot b members a old) → r.joined < b →
     KeepsSoundness rules w h n (record {
@@ -120,7 +120,7 @@ new_ballot_taken {S = S} {C = C} {O = O} rules w h n r from b a members old s st
         by_applied (in_ballot c k l i up e chosen front) = in_ballot c k l i (omega (arith, up, low)) e chosen front
 
 -- a NewBallot that comes
-pub keeps_new_ballot : {S C O : Type 0} (rules : Rules S C O) (w : World S C O) (h : History C) (n : ℕ) (r : ReplicaState S C)
+pub keeps_new_ballot : {S C O : Type 0} (rules : Rules S C O) (w : GroupWorld S C O) (h : History C) (n : ℕ) (r : ReplicaState S C)
     (from b a : ℕ) (members old : List ℕ) → IsSoundWorld rules w h → slice_get w.nodes n ≡ Some r →
     In (n + 1, record { from = from; body = NewBallot b members a old }) w.sent →
     KeepsSoundness rules w h n (on_new_ballot O r b members a old)

@@ -2,7 +2,7 @@
 use Rattle.std.proofs.Common.{ℕ, ◌⊎◌, inl, inr, List, length, refl, arith}
 use Rattle.whole.specs.Messages.{Effect}
 use Rattle.whole.specs.Replica.{ReplicaState}
-use Rattle.agreement.specs.World.{World, moved}
+use Rattle.agreement.specs.World.{GroupWorld, moved}
 use Rattle.agreement.specs.Inside.Ballots.{Line, History, Told}
 use Rattle.agreement.specs.Inside.Extending.{Extends, AcknowledgedIsWithin}
 use Rattle.agreement.specs.Inside.MovesAt.{MovesAt, with_lines}
@@ -13,7 +13,7 @@ use Rattle.agreement.proofs.Frame.SaysLater.{of_kept}
 use Rattle.agreement.proofs.Frame.Telling.{told_placed, told_in_log}
 
 -- a node that acknowledges more and stays as it was
-pub same_node : {S C O : Type 0} (w : World S C O) (h : History C) (n : ℕ) (r : ReplicaState S C) (given : List (Effect C O)) →
+pub same_node : {S C O : Type 0} (w : GroupWorld S C O) (h : History C) (n : ℕ) (r : ReplicaState S C) (given : List (Effect C O)) →
     MovesAt w h h.line n r r given → AcknowledgedIsWithin w h → IsSoundNode w h n r → IsSoundNode (moved w n r given) (with_lines h h.line) n r
 same_node {S = S} {C = C} {O = O} w h n r given q within s =
     record {
@@ -56,7 +56,7 @@ same_node {S = S} {C = C} {O = O} w h n r given q within s =
       };
     }
   where
-    v : World S C O
+    v : GroupWorld S C O
     v = moved w n r given
 
     i : History C

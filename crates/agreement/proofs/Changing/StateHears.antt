@@ -2,14 +2,14 @@
 use Rattle.std.proofs.Common.{◌≡◌, ℕ, ◌+◌, ◌<◌, inl, inr, List, Some, None, ap, sym, ◌∙◌}
 use Rattle.whole.specs.Messages.Body.{State}
 use Rattle.whole.specs.Replica.{ReplicaState}
-use Rattle.agreement.specs.World.{World}
+use Rattle.agreement.specs.World.{GroupWorld}
 use Rattle.whole.specs.lists.Lists.{IsPrefixOf}
 use Rattle.agreement.specs.Inside.Ballots.{Given, Line, History, Sealed}
 use Rattle.agreement.specs.Inside.Sound.{IsFetching}
 use Rattle.agreement.specs.Inside.Saying.{SpeaksTruth, IsOf, IsOffered}
 
 -- what a fetching primary knows when a State of its ballot comes
-pub record StateHeard {S C O : Type 0} (w : World S C O) (h : History C) (n : ℕ) (r : ReplicaState S C) (xs : List C) : Type 0 where
+pub record StateHeard {S C O : Type 0} (w : GroupWorld S C O) (h : History C) (n : ℕ) (r : ReplicaState S C) (xs : List C) : Type 0 where
   pub ballot : Given
   pub is_of : IsOf h r.joined ballot
   pub primary : ballot.primary ≡ n + 1
@@ -21,7 +21,7 @@ pub record StateHeard {S C O : Type 0} (w : World S C O) (h : History C) (n : �
   pub lined_before : h.line ballot.previous ≡ Some before
   pub front : IsPrefixOf xs before.list
 
-pub state_heard : {S C O : Type 0} (w : World S C O) (h : History C) (n : ℕ) (r : ReplicaState S C) (from b : ℕ) (xs : List C) →
+pub state_heard : {S C O : Type 0} (w : GroupWorld S C O) (h : History C) (n : ℕ) (r : ReplicaState S C) (from b : ℕ) (xs : List C) →
     r.joined ≡ b → IsFetching w h n r → SpeaksTruth w h (n + 1) from (State b xs) → StateHeard w h n r xs
 state_heard {S = S} {C = C} {O = O} w h n r from b xs same ((g0, given0, primary0, members0), below, unlined, q) (g, is_of, to, j1, j2, sealed, offered) =
     by_offer offered

@@ -5,7 +5,7 @@ use Rattle.machine.specs.Machine.{Rules}
 use Rattle.whole.specs.ballot_base.declared.status.Role.TheVariants.{Installing}
 use Rattle.whole.specs.Replica.{ReplicaState, others}
 use Rattle.whole.specs.Changing.{installs}
-use Rattle.agreement.specs.World.{World, moved}
+use Rattle.agreement.specs.World.{GroupWorld, moved}
 use Rattle.whole.specs.lists.Lists.{In, IsPrefixOf}
 use Rattle.agreement.specs.Inside.Ballots.{Given, Line, History, Told, Applied}
 use Rattle.agreement.specs.Inside.Extending.{Extends}
@@ -34,7 +34,7 @@ use Rattle.agreement.proofs.Frame.Telling.{told_placed, told_in_log}
 use Rattle.agreement.proofs.Serving.Ticking.{says_installs, silent_installs, dumb_installs, from_installs}
 
 -- a State that is taken
-pub state_taken : {S C O : Type 0} (rules : Rules S C O) (w : World S C O) (h : History C) (n : ℕ) (r : ReplicaState S C) (xs : List C) →
+pub state_taken : {S C O : Type 0} (rules : Rules S C O) (w : GroupWorld S C O) (h : History C) (n : ℕ) (r : ReplicaState S C) (xs : List C) →
     IsSoundWorld rules w h → slice_get w.nodes n ≡ Some r → StateHeard w h n r xs → r.committed ≤ length xs →
     KeepsSoundness rules w h n (record {
       state = record r { held_in = r.joined; log = xs; role = Installing; lacking = others r.id r.members };
@@ -57,7 +57,7 @@ state_taken {S = S} {C = C} {O = O} rules w h n r xs s stands q long given thinn
     new : ReplicaState S C
     new = record r { held_in = r.joined; log = xs; role = Installing; lacking = others r.id r.members }
 
-    v : World S C O
+    v : GroupWorld S C O
     v = moved w n new given
 
     begun : Line C

@@ -8,7 +8,7 @@ use Rattle.whole.specs.ballot_base.declared.status.Role.TheVariants.{Installing}
 use Rattle.whole.specs.Replica.{ReplicaState, is_fetching, others}
 use Rattle.whole.specs.Sending.{Outcome}
 use Rattle.whole.specs.Changing.{installs, on_state}
-use Rattle.agreement.specs.World.{World}
+use Rattle.agreement.specs.World.{GroupWorld}
 use Rattle.whole.specs.lists.Lists.{In}
 use Rattle.agreement.specs.Inside.Ballots.{History}
 use Rattle.agreement.specs.Inside.Keeps.{KeepsSoundness}
@@ -20,7 +20,7 @@ use Rattle.agreement.proofs.Changing.StateHears.{state_heard}
 use Rattle.agreement.proofs.Changing.StateTaken.{state_taken}
 
 -- a State that comes
-pub keeps_state : {S C O : Type 0} (rules : Rules S C O) (w : World S C O) (h : History C) (n : ℕ) (r : ReplicaState S C)
+pub keeps_state : {S C O : Type 0} (rules : Rules S C O) (w : GroupWorld S C O) (h : History C) (n : ℕ) (r : ReplicaState S C)
     (from b : ℕ) (xs : List C) → IsSoundWorld rules w h → slice_get w.nodes n ≡ Some r →
     In (n + 1, record { from = from; body = State b xs }) w.sent → KeepsSoundness rules w h n (on_state O r b xs)
 keeps_state {S = S} {C = C} {O = O} rules w h n r from b xs s stands sent =

@@ -8,7 +8,7 @@ use Rattle.whole.specs.ballot_base.declared.status.Role.TheVariants.{Backup}
 use Rattle.whole.specs.Replica.{ReplicaState, is_installing}
 use Rattle.whole.specs.Sending.{Outcome}
 use Rattle.whole.specs.Activating.{on_superseded}
-use Rattle.agreement.specs.World.{World, moved}
+use Rattle.agreement.specs.World.{GroupWorld, moved}
 use Rattle.agreement.specs.Inside.Ballots.{History, Applied}
 use Rattle.agreement.specs.Inside.Ballots.Applied.{nothing, in_ballot}
 use Rattle.agreement.specs.Inside.Keeps.{KeepsSoundness}
@@ -18,7 +18,7 @@ use Rattle.agreement.proofs.Frame.Quiet.{before_quiet, quiet_keeps, keeps_nothin
 use Rattle.whole.proofs.ChangeRows.{on_superseded-stays, on_superseded-leaves}
 
 -- a Superseded that comes; nothing that it says is needed
-pub keeps_superseded : {S C O : Type 0} (rules : Rules S C O) (w : World S C O) (h : History C) (n : ℕ) (r : ReplicaState S C) (b : ℕ) →
+pub keeps_superseded : {S C O : Type 0} (rules : Rules S C O) (w : GroupWorld S C O) (h : History C) (n : ℕ) (r : ReplicaState S C) (b : ℕ) →
     IsSoundWorld rules w h → slice_get w.nodes n ≡ Some r → KeepsSoundness rules w h n (on_superseded O r b)
 keeps_superseded {S = S} {C = C} {O = O} rules w h n r b s stands = by_role (cases_Bool (r.joined == b && is_installing r.role))
   where

@@ -2,7 +2,7 @@
 use Rattle.std.proofs.Common.{ℕ}
 use Rattle.machine.specs.Machine.{Rules}
 use Rattle.whole.specs.Sending.{Outcome}
-use Rattle.agreement.specs.World.{World}
+use Rattle.agreement.specs.World.{GroupWorld}
 use Rattle.agreement.specs.Inside.Ballots.{Line, History}
 use Rattle.agreement.specs.Inside.Keeps.{KeepsAdding, LineAdds}
 use Rattle.agreement.specs.Inside.Keeps.LineAdds.{as_it_was, begins_after, adds_one}
@@ -14,7 +14,7 @@ line_less adds more h b k f (as_it_was e) = as_it_was e
 line_less adds more h b k f (begins_after g p e none before front) = begins_after g p e none before front
 line_less adds more h b k f (adds_one l c e same a) = adds_one l c e same (f b c a)
 
-pub adds_less : {S C O : Type 0} (rules : Rules S C O) (w : World S C O) (h : History C) (n : ℕ) (adds more : ℕ → C → Type 0)
+pub adds_less : {S C O : Type 0} (rules : Rules S C O) (w : GroupWorld S C O) (h : History C) (n : ℕ) (adds more : ℕ → C → Type 0)
     (o : Outcome S C O) → ((x : ℕ) (c : C) → adds x c → more x c) → KeepsAdding rules w h n adds o → KeepsAdding rules w h n more o
 adds_less rules w h n adds more o f keeps given thinned =
     let g = keeps given thinned in

@@ -1,6 +1,6 @@
 -- Bases.antt: a ballot has one list, and what is chosen before it lies within its base.
 use Rattle.std.proofs.Common.{◌≡◌, ℕ, ◌+◌, List, [], ◌∷◌, length, take, Some, Option, refl, ap, ◌∙◌, subst, arith}
-use Rattle.agreement.specs.World.{World}
+use Rattle.agreement.specs.World.{GroupWorld}
 use Rattle.whole.specs.lists.Lists.{In, IsPrefixOf}
 use Rattle.whole.specs.lists.Lists.In.{here, there}
 use Rattle.agreement.specs.Inside.Ballots.{Given, Line, History, Told, IsChosenIn, Sealed, IsChain, BallotListsStand}
@@ -11,7 +11,7 @@ pub one_line : {C : Type 0} (o : Option (Line C)) (l m : Line C) → o ≡ Some 
 one_line o l m e f = cc
 
 -- what is chosen was acknowledged by each member
-pub chosen_told : {S C O : Type 0} (w : World S C O) (h : History C) (b k : ℕ) (g : Given) (m : ℕ) → IsChosenIn w h b k →
+pub chosen_told : {S C O : Type 0} (w : GroupWorld S C O) (h : History C) (b k : ℕ) (g : Given) (m : ℕ) → IsChosenIn w h b k →
     h.given b ≡ Some g → In m g.members → Told w h m b k
 chosen_told w h b k g m chosen given member =
     chosen.2 m (subst (λ (x : Given). In m x.members) (one_ballot (h.given b) g chosen.0 given chosen.1) member)
@@ -20,14 +20,14 @@ chosen_told w h b k g m chosen given member =
     one_ballot o x y e f = cc
 
 -- what is chosen in a ballot begins what is sealed of it
-pub sealed_bounds : {S C O : Type 0} (w : World S C O) (h : History C) (b k : ℕ) (xs : List C) (l : Line C) →
+pub sealed_bounds : {S C O : Type 0} (w : GroupWorld S C O) (h : History C) (b k : ℕ) (xs : List C) (l : Line C) →
     h.line b ≡ Some l → Sealed w h b xs → IsChosenIn w h b k → IsPrefixOf (take k l.list) xs
 sealed_bounds {S = S} {C = C} w h b k xs l e s chosen =
     subst (λ (m : Line C). IsPrefixOf (take k m.list) xs) (one_line (h.line b) s.line l s.lined e)
     (s.covers k (chosen_told w h b k s.ballot (s.node + 1) chosen s.given s.member))
 
 -- what is sealed stays so of longer lists
-pub sealed_wider : {S C O : Type 0} (w : World S C O) (h : History C) (b : ℕ) (xs ys : List C) →
+pub sealed_wider : {S C O : Type 0} (w : GroupWorld S C O) (h : History C) (b : ℕ) (xs ys : List C) →
     Sealed w h b xs → IsPrefixOf xs ys → Sealed w h b ys
 sealed_wider w h b xs ys s p =
     record {
@@ -52,7 +52,7 @@ base_is l p = take_prefix (length l.base) p (omega arith) ∙ all_of l.base
     all_of (x ∷ xs) = ap (λ us. x ∷ us) (all_of xs)
 
 -- what is chosen in the activated ballot before one begins the base of that one
-next_base : {S C O : Type 0} (w : World S C O) (h : History C) → BallotListsStand w h → (b p : ℕ) (older : List ℕ) →
+next_base : {S C O : Type 0} (w : GroupWorld S C O) (h : History C) → BallotListsStand w h → (b p : ℕ) (older : List ℕ) →
     IsChain h (b ∷ (p ∷ older)) → (k : ℕ) → IsChosenIn w h p k → (lp lb : Line C) → h.line p ≡ Some lp → h.line b ≡ Some lb →
     IsPrefixOf (take k lp.list) lb.base
 next_base {S = S} {C = C} {O = O} w h lines b p older chain k chosen lp lb e f =
@@ -62,7 +62,7 @@ next_base {S = S} {C = C} {O = O} w h lines b p older chain k chosen lp lb e f =
     sealed_bounds w h p k lb.base lp e s chosen
 
 -- what is chosen in an older activated ballot begins the base of each later one
-pub before_base : {S C O : Type 0} (w : World S C O) (h : History C) → BallotListsStand w h → (b : ℕ) (older : List ℕ) →
+pub before_base : {S C O : Type 0} (w : GroupWorld S C O) (h : History C) → BallotListsStand w h → (b : ℕ) (older : List ℕ) →
     IsChain h (b ∷ older) → ((x : ℕ) → In x (b ∷ older) → In x h.activated) → (c k : ℕ) → In c older →
     IsChosenIn w h c k → (lc lb : Line C) → h.line c ≡ Some lc → h.line b ≡ Some lb →
     IsPrefixOf (take k lc.list) lb.base

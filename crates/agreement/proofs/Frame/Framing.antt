@@ -5,7 +5,7 @@ use Rattle.std.proofs.lemmas.Bool.{cases_eq}
 use Rattle.machine.specs.Machine.{Rules}
 use Rattle.whole.specs.Messages.{Effect}
 use Rattle.whole.specs.Replica.{ReplicaState}
-use Rattle.agreement.specs.World.{World, messages, moved}
+use Rattle.agreement.specs.World.{GroupWorld, messages, moved}
 use Rattle.agreement.specs.Inside.Ballots.{Line, History, Told}
 use Rattle.agreement.specs.Inside.Extending.{Extends, AcknowledgedIsWithin}
 use Rattle.agreement.specs.Inside.MovesAt.{MovesAt, with_lines, TellsNow}
@@ -15,7 +15,7 @@ use Rattle.whole.proofs.of_lists.Places.{get_set, get_set_other}
 use Rattle.whole.proofs.of_lists.Members.{in_left}
 
 -- what is acknowledged of a ballot with a list lies within it
-pub within_of : {S C O : Type 0} (rules : Rules S C O) (w : World S C O) (h : History C) → IsSoundWorld rules w h → AcknowledgedIsWithin w h
+pub within_of : {S C O : Type 0} (rules : Rules S C O) (w : GroupWorld S C O) (h : History C) → IsSoundWorld rules w h → AcknowledgedIsWithin w h
 within_of {S = S} {C = C} rules w h s m b k l e t = by_line (s.within m b k t)
   where
     by_line : (k ≡ 0) ⊎ ((l : Line C) × (h.line b ≡ Some l) × (k ≤ length l.list)) → k ≤ length l.list
@@ -36,7 +36,7 @@ get_moved {X = X} xs n m old new r stands e = by_place (cases_eq m n)
     by_place (inr other) = inr (other, get_set_other xs n m new other ∙ e)
 
 -- such a move extends the world
-pub move_extends : {S C O : Type 0} (w : World S C O) (h : History C) (line : ℕ → Option (Line C)) (n : ℕ)
+pub move_extends : {S C O : Type 0} (w : GroupWorld S C O) (h : History C) (line : ℕ → Option (Line C)) (n : ℕ)
     (old new : ReplicaState S C) (given : List (Effect C O)) → MovesAt w h line n old new given →
     Extends w h (moved w n new given) (with_lines h line)
 move_extends {S = S} {C = C} {O = O} w h line n old new given q =
@@ -65,7 +65,7 @@ move_extends {S = S} {C = C} {O = O} w h line n old new given q =
         let j = ap (λ (x : ReplicaState S C). x.joined) g in let low = l.low in inr (omega (arith, j, low))
 
 -- what is acknowledged stays within the lists
-pub move_within : {S C O : Type 0} (w : World S C O) (h : History C) (line : ℕ → Option (Line C)) (n : ℕ)
+pub move_within : {S C O : Type 0} (w : GroupWorld S C O) (h : History C) (line : ℕ → Option (Line C)) (n : ℕ)
     (old new : ReplicaState S C) (given : List (Effect C O)) → MovesAt w h line n old new given →
     ((m b k : ℕ) → Told w h m b k → (k ≡ 0) ⊎ ((l : Line C) × (h.line b ≡ Some l) × (k ≤ length l.list))) →
     (m b k : ℕ) → Told (moved w n new given) (with_lines h line) m b k →

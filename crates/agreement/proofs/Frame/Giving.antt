@@ -9,7 +9,7 @@ use Rattle.machine.specs.Machine.{Rules, replay}
 use Rattle.whole.specs.Messages.{Effect}
 use Rattle.whole.specs.Replica.{ReplicaState}
 use Rattle.whole.specs.Applying.{outputs_from, outputs_between}
-use Rattle.agreement.specs.World.{World, outputs, moved}
+use Rattle.agreement.specs.World.{GroupWorld, outputs, moved}
 use Rattle.whole.specs.lists.Lists.{In, IsPrefixOf}
 use Rattle.whole.specs.lists.Lists.In.{here, there}
 use Rattle.agreement.specs.Inside.Ballots.{Given, Line, History, IsChosenIn, AreBallots, BallotListsStand}
@@ -52,7 +52,7 @@ at_most b c (inl less) = omega (arith, less)
 at_most b c (inr (same, p)) = omega (arith, same)
 
 -- new outputs left
-pub left_more : {S C O : Type 0} (rules : Rules S C O) (w : World S C O) (h : History C) (line : ℕ → Option (Line C)) (n : ℕ)
+pub left_more : {S C O : Type 0} (rules : Rules S C O) (w : GroupWorld S C O) (h : History C) (line : ℕ → Option (Line C)) (n : ℕ)
     (old new : ReplicaState S C) (given : List (Effect C O)) → MovesAt w h line n old new given → IsSoundWorld rules w h →
     (b first past : ℕ) (g : Given) (l : Line C) → In b h.activated → h.given b ≡ Some g → g.primary ≡ n + 1 → line b ≡ Some l →
     first < past → length l.base ≤ first → old.committed ≤ first → past ≤ new.committed →
@@ -74,7 +74,7 @@ left_more {S = S} {C = C} {O = O} rules w h line n old new given q s b first pas
     now : Segment
     now = record { ballot = b; first = first; past = past }
 
-    v : World S C O
+    v : GroupWorld S C O
     v = moved w n new given
 
     i : History C

@@ -3,7 +3,7 @@ use Rattle.std.proofs.Common.{◌≡◌, ℕ, ◌+◌, ◌≤◌, ◌⊎◌, inl
 use Rattle.std.specs.Prelude.{slice_get}
 use Rattle.machine.specs.Machine.{Rules}
 use Rattle.whole.specs.Replica.{ReplicaState}
-use Rattle.agreement.specs.World.{World}
+use Rattle.agreement.specs.World.{GroupWorld}
 use Rattle.agreement.specs.Inside.Ballots.{History, Told}
 use Rattle.agreement.specs.Inside.Extending.{Extends}
 use Rattle.agreement.specs.Inside.Keeps.{HistoryGoesOn}
@@ -11,7 +11,7 @@ use Rattle.agreement.specs.Inside.Sound.{IsSoundWorld}
 use Rattle.whole.proofs.of_lists.Prefixes.{prefix_same, prefix_then}
 
 -- nothing happened
-abbrev pub goes_same : {S C O : Type 0} (rules : Rules S C O) (w : World S C O) (h : History C) → IsSoundWorld rules w h → HistoryGoesOn rules w h w
+abbrev pub goes_same : {S C O : Type 0} (rules : Rules S C O) (w : GroupWorld S C O) (h : History C) → IsSoundWorld rules w h → HistoryGoesOn rules w h w
 goes_same rules w h s =
     record {
       history = h;
@@ -27,7 +27,7 @@ goes_same rules w h s =
     }
 
 -- a later world of a later world
-pub extends_then : {S C O : Type 0} (u w v : World S C O) (g h i : History C) → Extends u g w h → Extends w h v i → Extends u g v i
+pub extends_then : {S C O : Type 0} (u w v : GroupWorld S C O) (g h i : History C) → Extends u g w h → Extends w h v i → Extends u g v i
 extends_then {S = S} {C = C} u w v g h i x y =
     record {
       sent = λ m j. y.sent m (x.sent m j);
@@ -43,7 +43,7 @@ extends_then {S = S} {C = C} u w v g h i x y =
     by_second n b k r e q up (inl t) = x.told n b k r e t
     by_second n b k r e q up (inr low) = inr (omega (arith, up, low))
 
-abbrev pub goes_then : {S C O : Type 0} (rules : Rules S C O) (u w v : World S C O) (g : History C) → (a : HistoryGoesOn rules u g w) →
+abbrev pub goes_then : {S C O : Type 0} (rules : Rules S C O) (u w v : GroupWorld S C O) (g : History C) → (a : HistoryGoesOn rules u g w) →
     HistoryGoesOn rules w a.history v → HistoryGoesOn rules u g v
 goes_then rules u w v g a b =
     record {

@@ -6,7 +6,7 @@ use Rattle.std.proofs.lemmas.Bool.{cases_eq}
 use Rattle.whole.specs.Messages.{Message, Body, Effect}
 use Rattle.whole.specs.Messages.Body.{Installed, Held}
 use Rattle.whole.specs.Replica.{ReplicaState}
-use Rattle.agreement.specs.World.{World, messages, outputs, moved}
+use Rattle.agreement.specs.World.{GroupWorld, messages, outputs, moved}
 use Rattle.whole.specs.lists.Lists.{In}
 use Rattle.agreement.specs.Inside.Ballots.{Line, History, Told}
 use Rattle.agreement.specs.Inside.Extending.{Extends, AcknowledgedIsWithin}
@@ -28,7 +28,7 @@ abbrev pub AreSilent : {C : Type 0} → List (ℕ × Message C) → Type 0
 AreSilent {C} sent = (to : ℕ) (m : Message C) → In (to, m) sent → IsSilent m.body
 
 -- a move by which a node went back to no lower ballot, and acknowledged nothing
-pub record MovesQuietly {S C O : Type 0} (w : World S C O) (n : ℕ) (old new : ReplicaState S C) (given : List (Effect C O)) : Type 0 where
+pub record MovesQuietly {S C O : Type 0} (w : GroupWorld S C O) (n : ℕ) (old new : ReplicaState S C) (given : List (Effect C O)) : Type 0 where
   pub stands : slice_get w.nodes n ≡ Some old
   pub rises : old.joined ≤ new.joined
   pub silent : AreSilent (messages given)
@@ -36,7 +36,7 @@ pub record MovesQuietly {S C O : Type 0} (w : World S C O) (n : ℕ) (old new : 
   pub committed : old.committed ≤ new.committed
 
 -- what is acknowledged after such a move was acknowledged before
-pub told_back : {S C O : Type 0} (w : World S C O) (h : History C) (n : ℕ) (old new : ReplicaState S C) (given : List (Effect C O)) →
+pub told_back : {S C O : Type 0} (w : GroupWorld S C O) (h : History C) (n : ℕ) (old new : ReplicaState S C) (given : List (Effect C O)) →
     MovesQuietly w n old new given → (m b k : ℕ) → Told (moved w n new given) h m b k → Told w h m b k
 told_back w h n old new given q m b k (told_at_opening g one none is member) = told_at_opening g one none is member
 told_back {S = S} {C = C} w h n old new given q m b k (told_by_held receiver held j below) =
@@ -56,7 +56,7 @@ told_back {S = S} {C = C} w h n old new given q m b k (told_by_installed receive
 told_back w h n old new given q m b k (told_as_primary g l is primary lined below) = told_as_primary g l is primary lined below
 
 -- the nodes after a move
-pub node_at : {S C O : Type 0} (w : World S C O) (n : ℕ) (old new : ReplicaState S C) (given : List (Effect C O)) → slice_get w.nodes n ≡ Some old →
+pub node_at : {S C O : Type 0} (w : GroupWorld S C O) (n : ℕ) (old new : ReplicaState S C) (given : List (Effect C O)) → slice_get w.nodes n ≡ Some old →
     (m : ℕ) (r : ReplicaState S C) → slice_get w.nodes m ≡ Some r →
     (s : ReplicaState S C) × (slice_get (set w.nodes n new) m ≡ Some s) × ((r ≡ s) ⊎ ((r ≡ old) × (s ≡ new)))
 node_at {S = S} {C = C} w n old new given stands m r e = by_place (cases_eq m n)
@@ -69,7 +69,7 @@ node_at {S = S} {C = C} w n old new given stands m r e = by_place (cases_eq m n)
     by_place (inr other) = (r, get_set_other w.nodes n m new other ∙ e, inl refl)
 
 -- such a move extends the world
-pub quiet_extends : {S C O : Type 0} (w : World S C O) (h : History C) (n : ℕ) (old new : ReplicaState S C) (given : List (Effect C O)) →
+pub quiet_extends : {S C O : Type 0} (w : GroupWorld S C O) (h : History C) (n : ℕ) (old new : ReplicaState S C) (given : List (Effect C O)) →
     MovesQuietly w n old new given → Extends w h (moved w n new given) h
 quiet_extends {S = S} {C = C} w h n old new given q =
     record {
@@ -89,7 +89,7 @@ quiet_extends {S = S} {C = C} w h n old new given q =
         (s, e, omega (arith, f, g, up))
 
 -- a node that did not move stays as it should be
-pub quiet_node : {S C O : Type 0} (w : World S C O) (h : History C) (n : ℕ) (old new : ReplicaState S C) (given : List (Effect C O)) →
+pub quiet_node : {S C O : Type 0} (w : GroupWorld S C O) (h : History C) (n : ℕ) (old new : ReplicaState S C) (given : List (Effect C O)) →
     MovesQuietly w n old new given → AcknowledgedIsWithin w h → (m : ℕ) (r : ReplicaState S C) → IsSoundNode w h m r →
     IsSoundNode (moved w n new given) h m r
 quiet_node {S = S} {C = C} {O = O} w h n old new given q within m r s =

@@ -1,7 +1,7 @@
 -- Later.antt: what is acknowledged, sealed and chosen stays so in a later world.
 use Rattle.std.proofs.Common.{◌≡◌, ℕ, zero, suc, ◌++◌, ◌+◌, ◌≤◌, ◌⊎◌, inl, inr, List, [], ◌∷◌, take, refl, ap, sym, ◌∙◌, subst, arith}
 use Rattle.whole.specs.Replica.{ReplicaState}
-use Rattle.agreement.specs.World.{World}
+use Rattle.agreement.specs.World.{GroupWorld}
 use Rattle.whole.specs.lists.Lists.{In, IsPrefixOf}
 use Rattle.agreement.specs.Inside.Ballots.{Line, History, Told, IsChosenIn, Sealed, Applied}
 use Rattle.agreement.specs.Inside.Extending.{Extends, AcknowledgedIsWithin}
@@ -20,7 +20,7 @@ takes {X = X} (suc k) {xs = x ∷ xs} {ys = y ∷ ys} p =
     record { rest = q.rest; is = ap (λ z. z ∷ take k ys) a ∙ ap (λ us. x ∷ us) q.is }
 
 -- what was acknowledged stays so
-pub told_kept : {S C O : Type 0} (w v : World S C O) (h i : History C) (m b k : ℕ) → Extends w h v i →
+pub told_kept : {S C O : Type 0} (w v : GroupWorld S C O) (h i : History C) (m b k : ℕ) → Extends w h v i →
     Told w h m b k → Told v i m b k
 told_kept w v h i m b k x (told_at_opening g one none given member) = told_at_opening g one none (x.given 1 g given) member
 told_kept w v h i m b k x (told_by_held receiver held j below) = told_by_held receiver held (x.sent _ j) below
@@ -31,7 +31,7 @@ told_kept w v h i m b k x (told_as_primary g l given primary lined below) =
     told_as_primary g y.0 (x.given b g given) primary y.1 (omega (arith, below, z))
 
 -- what is sealed stays sealed
-pub sealed_kept : {S C O : Type 0} (w v : World S C O) (h i : History C) (b : ℕ) (xs : List C) → Extends w h v i →
+pub sealed_kept : {S C O : Type 0} (w v : GroupWorld S C O) (h i : History C) (b : ℕ) (xs : List C) → Extends w h v i →
     AcknowledgedIsWithin w h → Sealed w h b xs → Sealed v i b xs
 sealed_kept {S = S} {C = C} {O = O} w v h i b xs x within s =
     let y = x.nodes s.node s.replica s.stands in
@@ -57,12 +57,12 @@ sealed_kept {S = S} {C = C} {O = O} w v h i b xs x within s =
     by_telling k l p (inr low) = absurd (let a = s.gone in omega (arith, a, low))
 
 -- what is chosen stays so
-pub chosen_kept : {S C O : Type 0} (w v : World S C O) (h i : History C) (b k : ℕ) → Extends w h v i → IsChosenIn w h b k →
+pub chosen_kept : {S C O : Type 0} (w v : GroupWorld S C O) (h i : History C) (b k : ℕ) → Extends w h v i → IsChosenIn w h b k →
     IsChosenIn v i b k
 chosen_kept w v h i b k x (g, given, told) = (g, x.given b g given, λ m j. told_kept w v h i m b k x (told m j))
 
 -- what a node applied stays chosen
-pub applied_kept : {S C O : Type 0} (w v : World S C O) (h i : History C) (r : ReplicaState S C) → Extends w h v i →
+pub applied_kept : {S C O : Type 0} (w v : GroupWorld S C O) (h i : History C) (r : ReplicaState S C) → Extends w h v i →
     ((b : ℕ) → In b h.activated → In b i.activated) → AcknowledgedIsWithin w h → Applied w h r → Applied v i r
 applied_kept w v h i r x active within (nothing e) = nothing e
 applied_kept {S = S} {C = C} w v h i r x active within (in_ballot b k l j low lined chosen front) =

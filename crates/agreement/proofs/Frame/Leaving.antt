@@ -6,7 +6,7 @@ use Rattle.std.proofs.lemmas.List.{append-nil}
 use Rattle.machine.specs.Machine.{Rules}
 use Rattle.whole.specs.Messages.{Effect}
 use Rattle.whole.specs.Replica.{ReplicaState}
-use Rattle.agreement.specs.World.{World, outputs, moved}
+use Rattle.agreement.specs.World.{GroupWorld, outputs, moved}
 use Rattle.whole.specs.lists.Lists.{In, IsPrefixOf}
 use Rattle.agreement.specs.Inside.Ballots.{Line, History, IsChosenIn}
 use Rattle.agreement.specs.Inside.Extending.{Extends}
@@ -19,7 +19,7 @@ use Rattle.agreement.proofs.Frame.Later.{chosen_kept, takes}
 use Rattle.agreement.proofs.Frame.Framing.{move_extends}
 
 -- what was chosen before is within any list that has all that is chosen after the move
-pub bounds_back : {S C O : Type 0} (w : World S C O) (h : History C) (v : World S C O) (i : History C) (agreed : List C) →
+pub bounds_back : {S C O : Type 0} (w : GroupWorld S C O) (h : History C) (v : GroupWorld S C O) (i : History C) (agreed : List C) →
     Extends w h v i → ((b : ℕ) → In b h.activated → In b i.activated) →
     ((b k : ℕ) (l : Line C) → In b i.activated → i.line b ≡ Some l → IsChosenIn v i b k → IsPrefixOf (take k l.list) agreed) →
     (b k : ℕ) (l : Line C) → In b h.activated → h.line b ≡ Some l → IsChosenIn w h b k → IsPrefixOf (take k l.list) agreed
@@ -28,7 +28,7 @@ bounds_back w h v i agreed x active bounds b k l j e c =
     prefix_then (takes k y.3) (bounds b k y.0 (active b j) y.1 (chosen_kept w v h i b k x c))
 
 -- the node of a ballot's primary has still applied all that it gave
-pub applied_still : {S C O : Type 0} (w : World S C O) (n : ℕ) (old new : ReplicaState S C) (past : ℕ) →
+pub applied_still : {S C O : Type 0} (w : GroupWorld S C O) (n : ℕ) (old new : ReplicaState S C) (past : ℕ) →
     slice_get w.nodes n ≡ Some old → old.committed ≤ new.committed → (m : ℕ) →
     ((r : ReplicaState S C) → slice_get w.nodes m ≡ Some r → past ≤ r.committed) →
     (r : ReplicaState S C) → slice_get (set w.nodes n new) m ≡ Some r → past ≤ r.committed
@@ -43,7 +43,7 @@ applied_still {S = S} {C = C} w n old new past stands up m before r e = by_place
     by_place (inr other) = before r (sym (get_set_other w.nodes n m new other) ∙ e)
 
 -- a segment stays one of what is chosen
-pub segment_kept : {S C O : Type 0} (w v : World S C O) (h i : History C) (s : Segment) → Extends w h v i →
+pub segment_kept : {S C O : Type 0} (w v : GroupWorld S C O) (h i : History C) (s : Segment) → Extends w h v i →
     ((b : ℕ) → In b h.activated → In b i.activated) →
     In s.ballot h.activated × (s.first < s.past)
     × IsChosenIn w h s.ballot s.past × ((l : Line C) × (h.line s.ballot ≡ Some l) × (length l.base ≤ s.first)) →
@@ -58,7 +58,7 @@ segment_kept w v h i s x active (j, rising, chosen, (l, lined, low)) =
     )
 
 -- no output left
-pub left_same : {S C O : Type 0} (rules : Rules S C O) (w : World S C O) (h : History C) (line : ℕ → Option (Line C)) (n : ℕ)
+pub left_same : {S C O : Type 0} (rules : Rules S C O) (w : GroupWorld S C O) (h : History C) (line : ℕ → Option (Line C)) (n : ℕ)
     (old new : ReplicaState S C) (given : List (Effect C O)) → MovesAt w h line n old new given → outputs given ≡ [] →
     LeftIs rules w h → LeftIs rules (moved w n new given) (with_lines h line)
 left_same {S = S} {C = C} {O = O} rules w h line n old new given q dumb s =

@@ -5,7 +5,7 @@ use Rattle.std.proofs.lemmas.Bool.{cases_eq, eq-eqb, ne_eqb}
 use Rattle.whole.specs.Messages.{Message, Body, Effect}
 use Rattle.whole.specs.Messages.Body.{NewBallot, Join, State, Install, Installed, Activate, Activated, Superseded, Append, Held, Commit}
 use Rattle.whole.specs.Replica.{ReplicaState}
-use Rattle.agreement.specs.World.{World, messages}
+use Rattle.agreement.specs.World.{GroupWorld, messages}
 use Rattle.whole.specs.lists.Lists.{In, IsPrefixOf}
 use Rattle.agreement.specs.Inside.Ballots.{Given, Line, History}
 use Rattle.agreement.specs.Inside.MovesAt.{MovesAt, LineGoesOn, TellsNow, lined_at}
@@ -47,7 +47,7 @@ silent_within line old new (Held b k) s = absurd s
 silent_within line old new (Commit b k) s = tt
 
 -- a move of a ballot's primary by which its list changes to the log
-pub list_moves : {S C O : Type 0} (w : World S C O) (h : History C) (n : ℕ) (old new : ReplicaState S C) (given : List (Effect C O))
+pub list_moves : {S C O : Type 0} (w : GroupWorld S C O) (h : History C) (n : ℕ) (old new : ReplicaState S C) (given : List (Effect C O))
     (b : ℕ) (k : Line C) (g : Given) → slice_get w.nodes n ≡ Some old → old.joined ≤ new.joined → old.committed ≤ new.committed →
     h.given b ≡ Some g → g.primary ≡ n + 1 → LineGoesOn w h b k →
     ((l : Line C) → h.line b ≡ Some l → (k.base ≡ l.base) × IsPrefixOf l.list k.list) →

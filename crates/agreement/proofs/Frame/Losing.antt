@@ -7,7 +7,7 @@ use Rattle.whole.specs.Losses.{Loses, halted}
 use Rattle.whole.specs.Losses.Thinned.{none}
 use Rattle.whole.specs.Replica.{ReplicaState}
 use Rattle.whole.specs.Sending.{Outcome, nothing_done}
-use Rattle.agreement.specs.World.{World, moved}
+use Rattle.agreement.specs.World.{GroupWorld, moved}
 use Rattle.agreement.specs.Inside.Ballots.{History}
 use Rattle.agreement.specs.Inside.Keeps.{NodeGoesOn, KeepsAdding}
 use Rattle.agreement.specs.Inside.Sound.{IsSoundWorld}
@@ -15,7 +15,7 @@ use Rattle.agreement.proofs.Frame.Adding.{adds_less}
 use Rattle.agreement.proofs.Frame.Quiet.{keeps_nothing, keeps_halted}
 
 -- a step with losses
-pub lossy_goes_on : {S C O : Type 0} (rules : Rules S C O) (w : World S C O) (h : History C) (n : ℕ) (old : ReplicaState S C)
+pub lossy_goes_on : {S C O : Type 0} (rules : Rules S C O) (w : GroupWorld S C O) (h : History C) (n : ℕ) (old : ReplicaState S C)
     (adds : ℕ → C → Type 0) (o : Outcome S C O) (new : ReplicaState S C) (given : List (Effect C O)) → IsSoundWorld rules w h → slice_get w.nodes n ≡ Some old →
     KeepsAdding rules w h n adds o → Loses rules old o new given → NodeGoesOn rules w h adds (moved w n new given)
 lossy_goes_on {S = S} {C = C} {O = O} rules w h n old adds o new given s stands keeps (inl (e, thinned)) =

@@ -3,7 +3,7 @@
 use Rattle.std.proofs.Common.{◌≡◌, ℕ, ◌+◌, ◌<◌, ◌⊎◌, inl, inr, List, length, Some, Option, sym, subst}
 use Rattle.whole.specs.Messages.{Effect}
 use Rattle.whole.specs.Replica.{ReplicaState}
-use Rattle.agreement.specs.World.{World, moved}
+use Rattle.agreement.specs.World.{GroupWorld, moved}
 use Rattle.whole.specs.lists.Lists.{In, IsPrefixOf}
 use Rattle.agreement.specs.Inside.Ballots.{TellsHere, Given, Line, History, Told, IsChosenIn, Sealed, BallotListsStand}
 use Rattle.agreement.specs.Inside.Extending.{AcknowledgedIsWithin}
@@ -15,7 +15,7 @@ use Rattle.agreement.proofs.Frame.Later.{sealed_kept, chosen_kept}
 use Rattle.agreement.proofs.Frame.Framing.{move_extends}
 
 -- the rows on lists
-pub move_lines : {S C O : Type 0} (w : World S C O) (h : History C) (line : ℕ → Option (Line C)) (n : ℕ)
+pub move_lines : {S C O : Type 0} (w : GroupWorld S C O) (h : History C) (line : ℕ → Option (Line C)) (n : ℕ)
     (old new : ReplicaState S C) (given : List (Effect C O)) → MovesAt w h line n old new given → AcknowledgedIsWithin w h →
     BallotListsStand w h → BallotListsStand (moved w n new given) (with_lines h line)
 move_lines {S = S} {C = C} {O = O} w h line n old new given q within s =
@@ -76,7 +76,7 @@ move_lines {S = S} {C = C} {O = O} w h line n old new given q within s =
     still b k (begins g none same given t p) = inr same
 
 -- what is newly acknowledged after a move is acknowledged by the node that moved
-pub tells_here : {S C O : Type 0} (w : World S C O) (h : History C) (line : ℕ → Option (Line C)) (n : ℕ)
+pub tells_here : {S C O : Type 0} (w : GroupWorld S C O) (h : History C) (line : ℕ → Option (Line C)) (n : ℕ)
     (old new : ReplicaState S C) (given : List (Effect C O)) → MovesAt w h line n old new given → (m b k : ℕ) →
     Told (moved w n new given) (with_lines h line) m b k → Told w h m b k ⊎ TellsHere (moved w n new given) m b k
 tells_here {S = S} {C = C} {O = O} w h line n old new given q m b k t = by_teller (q.tells m b k t)

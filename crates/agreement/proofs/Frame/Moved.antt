@@ -6,7 +6,7 @@ use Rattle.std.proofs.lemmas.Bool.{cases_eq}
 use Rattle.machine.specs.Machine.{Rules}
 use Rattle.whole.specs.Messages.{Message, Effect}
 use Rattle.whole.specs.Replica.{ReplicaState}
-use Rattle.agreement.specs.World.{World, messages, moved}
+use Rattle.agreement.specs.World.{GroupWorld, messages, moved}
 use Rattle.whole.specs.lists.Lists.{In}
 use Rattle.agreement.specs.Inside.Ballots.{Line, History, AreBallots, IsChain}
 use Rattle.agreement.specs.Inside.MovesAt.{MovesAt, with_lines}
@@ -38,7 +38,7 @@ ballots_same h line s =
     }
 
 -- a move keeps a world sound
-pub move_sound : {S C O : Type 0} (rules : Rules S C O) (w : World S C O) (h : History C) (line : ℕ → Option (Line C)) (n : ℕ)
+pub move_sound : {S C O : Type 0} (rules : Rules S C O) (w : GroupWorld S C O) (h : History C) (line : ℕ → Option (Line C)) (n : ℕ)
     (old new : ReplicaState S C) (given : List (Effect C O)) → IsSoundWorld rules w h → MovesAt w h line n old new given →
     IsSoundNode (moved w n new given) (with_lines h line) n new →
     ((to : ℕ) (m : Message C) → In (to, m) (messages given) → SpeaksTruth (moved w n new given) (with_lines h line) to m.from m.body) →

@@ -2,7 +2,7 @@
 use Rattle.std.proofs.Common.{◌≡◌, ℕ, ◌+◌, ◌⊎◌, inl, inr, List, length, Some, Option, sym, ◌∙◌, subst, arith}
 use Rattle.whole.specs.Messages.{Effect}
 use Rattle.whole.specs.Replica.{ReplicaState}
-use Rattle.agreement.specs.World.{World, moved}
+use Rattle.agreement.specs.World.{GroupWorld, moved}
 use Rattle.whole.specs.lists.Lists.{IsPrefixOf}
 use Rattle.agreement.specs.Inside.Ballots.{Given, Line, History, Told}
 use Rattle.agreement.specs.Inside.Extending.{Extends, AcknowledgedIsWithin}
@@ -14,7 +14,7 @@ use Rattle.agreement.proofs.Frame.SaysLater.{of_kept}
 use Rattle.agreement.proofs.Frame.Framing.{move_extends}
 
 -- the lists lie between the base and the list of a ballot that grows
-pub between_kept : {S C O : Type 0} (w v : World S C O) (h i : History C) (b : ℕ) (xs : List C) → Extends w h v i →
+pub between_kept : {S C O : Type 0} (w v : GroupWorld S C O) (h i : History C) (b : ℕ) (xs : List C) → Extends w h v i →
     (g : Given) × (h.given b ≡ Some g) × ((l : Line C) × (h.line b ≡ Some l) × IsPrefixOf l.base xs × IsPrefixOf xs l.list) →
     (g : Given) × (i.given b ≡ Some g) × ((l : Line C) × (i.line b ≡ Some l) × IsPrefixOf l.base xs × IsPrefixOf xs l.list)
 between_kept {S = S} {C = C} w v h i b xs x (g, given, (l, lined, base, list)) =
@@ -22,7 +22,7 @@ between_kept {S = S} {C = C} w v h i b xs x (g, given, (l, lined, base, list)) =
     (g, x.given b g given, (y.0, y.1, subst (λ (us : List C). IsPrefixOf us xs) (sym y.2) base, prefix_then list y.3))
 
 -- a node that did not move
-pub other_node : {S C O : Type 0} (w : World S C O) (h : History C) (line : ℕ → Option (Line C)) (n : ℕ)
+pub other_node : {S C O : Type 0} (w : GroupWorld S C O) (h : History C) (line : ℕ → Option (Line C)) (n : ℕ)
     (old new : ReplicaState S C) (given : List (Effect C O)) → MovesAt w h line n old new given → AcknowledgedIsWithin w h →
     (m : ℕ) (r : ReplicaState S C) → (m ≡ n → ⊥) → IsSoundNode w h m r →
     IsSoundNode (moved w n new given) (with_lines h line) m r
@@ -68,7 +68,7 @@ other_node {S = S} {C = C} {O = O} w h line n old new given q within m r other s
       };
     }
   where
-    v : World S C O
+    v : GroupWorld S C O
     v = moved w n new given
 
     i : History C

@@ -7,7 +7,7 @@ use Rattle.whole.specs.Messages.{Message, Effect}
 use Rattle.whole.specs.Losses.{halted}
 use Rattle.whole.specs.Replica.{ReplicaState}
 use Rattle.whole.specs.Sending.{Outcome, nothing_done}
-use Rattle.agreement.specs.World.{World, messages, outputs, moved}
+use Rattle.agreement.specs.World.{GroupWorld, messages, outputs, moved}
 use Rattle.whole.specs.lists.Lists.{In}
 use Rattle.agreement.specs.Inside.Ballots.{History, Applied}
 use Rattle.agreement.specs.Inside.Ballots.Applied.{nothing, in_ballot}
@@ -21,13 +21,13 @@ use Rattle.agreement.proofs.Frame.Joining.{told_back, AreSilent, MovesQuietly, q
 use Rattle.agreement.proofs.Frame.QuietWorlds.{quiet_sound}
 
 -- the node of a quiet step before it, seen in the world after it
-pub before_quiet : {S C O : Type 0} (rules : Rules S C O) (w : World S C O) (h : History C) (n : ℕ) (old new : ReplicaState S C)
+pub before_quiet : {S C O : Type 0} (rules : Rules S C O) (w : GroupWorld S C O) (h : History C) (n : ℕ) (old new : ReplicaState S C)
     (given : List (Effect C O)) → IsSoundWorld rules w h → MovesQuietly w n old new given → IsSoundNode (moved w n new given) h n old
 before_quiet rules w h n old new given s q =
     quiet_node w h n old new given q (within_of rules w h s) n old (s.nodes n old q.stands)
 
 -- a step that says nothing and has no output
-pub quiet_keeps : {S C O : Type 0} (rules : Rules S C O) (w : World S C O) (h : History C) (n : ℕ) (old : ReplicaState S C) (o : Outcome S C O) →
+pub quiet_keeps : {S C O : Type 0} (rules : Rules S C O) (w : GroupWorld S C O) (h : History C) (n : ℕ) (old : ReplicaState S C) (o : Outcome S C O) →
     IsSoundWorld rules w h → slice_get w.nodes n ≡ Some old → old.joined ≤ o.state.joined → old.committed ≤ o.state.committed →
     AreSilent (messages o.effects) → outputs o.effects ≡ [] →
     ((given : List (Effect C O)) → MovesQuietly w n old o.state given → IsSoundNode (moved w n o.state given) h n o.state) →
@@ -56,7 +56,7 @@ quiet_keeps {S = S} {C = C} {O = O} rules w h n old o s stands rises committed s
     }
 
 -- a step that does nothing
-pub keeps_nothing : {S C O : Type 0} (rules : Rules S C O) (w : World S C O) (h : History C) (n : ℕ) (old : ReplicaState S C) (o : Outcome S C O) →
+pub keeps_nothing : {S C O : Type 0} (rules : Rules S C O) (w : GroupWorld S C O) (h : History C) (n : ℕ) (old : ReplicaState S C) (o : Outcome S C O) →
     IsSoundWorld rules w h → slice_get w.nodes n ≡ Some old → o ≡ nothing_done O old → KeepsSoundness rules w h n o
 keeps_nothing {S = S} {C = C} {O = O} rules w h n old o s stands e =
     subst (λ (x : Outcome S C O). KeepsSoundness rules w h n x) (sym e)
@@ -64,7 +64,7 @@ keeps_nothing {S = S} {C = C} {O = O} rules w h n old o s stands e =
     (λ given q. before_quiet rules w h n old old given s q) (λ given q to m i. elim i [ ]))
 
 -- a node that stops
-pub keeps_halted : {S C O : Type 0} (rules : Rules S C O) (w : World S C O) (h : History C) (n : ℕ) (old : ReplicaState S C) →
+pub keeps_halted : {S C O : Type 0} (rules : Rules S C O) (w : GroupWorld S C O) (h : History C) (n : ℕ) (old : ReplicaState S C) →
     IsSoundWorld rules w h → slice_get w.nodes n ≡ Some old → KeepsSoundness rules w h n (record { state = halted rules old; effects = [] })
 keeps_halted {S = S} {C = C} {O = O} rules w h n old s stands =
     quiet_keeps rules w h n old (record { state = halted rules old; effects = [] }) s stands (omega arith) (omega arith)

@@ -6,7 +6,7 @@ use Rattle.std.proofs.lemmas.List.{append-nil}
 use Rattle.machine.specs.Machine.{Rules}
 use Rattle.whole.specs.Messages.{Message, Effect}
 use Rattle.whole.specs.Replica.{ReplicaState}
-use Rattle.agreement.specs.World.{World, messages, moved}
+use Rattle.agreement.specs.World.{GroupWorld, messages, moved}
 use Rattle.whole.specs.lists.Lists.{In}
 use Rattle.agreement.specs.Inside.Ballots.{Given, History, BallotListsStand}
 use Rattle.agreement.specs.Inside.Extending.{Extends, AcknowledgedIsWithin}
@@ -20,7 +20,7 @@ use Rattle.agreement.proofs.Frame.SaysLater.{says_kept}
 use Rattle.agreement.proofs.Frame.Joining.{MovesQuietly, told_back, quiet_extends, quiet_node}
 
 -- the rows on lists after such a move
-pub quiet_lines : {S C O : Type 0} (w : World S C O) (h : History C) (n : ℕ) (old new : ReplicaState S C) (given : List (Effect C O)) →
+pub quiet_lines : {S C O : Type 0} (w : GroupWorld S C O) (h : History C) (n : ℕ) (old new : ReplicaState S C) (given : List (Effect C O)) →
     MovesQuietly w n old new given → AcknowledgedIsWithin w h → BallotListsStand w h → BallotListsStand (moved w n new given) h
 quiet_lines w h n old new given q within s =
     let x = quiet_extends w h n old new given q in
@@ -36,7 +36,7 @@ quiet_lines w h n old new given q within s =
 
 -- a move that says nothing keeps a world sound, if the node is as it should be and its messages are
 -- so
-pub quiet_sound : {S C O : Type 0} (rules : Rules S C O) (w : World S C O) (h : History C) (n : ℕ) (old new : ReplicaState S C)
+pub quiet_sound : {S C O : Type 0} (rules : Rules S C O) (w : GroupWorld S C O) (h : History C) (n : ℕ) (old new : ReplicaState S C)
     (given : List (Effect C O)) → IsSoundWorld rules w h → AcknowledgedIsWithin w h → MovesQuietly w n old new given →
     IsSoundNode (moved w n new given) h n new →
     ((to : ℕ) (m : Message C) → In (to, m) (messages given) → SpeaksTruth (moved w n new given) h to m.from m.body) →

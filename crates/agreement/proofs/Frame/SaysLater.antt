@@ -2,7 +2,7 @@
 use Rattle.std.proofs.Common.{ℕ, ◌≤◌, inl, inr, List, length, ap, sym, ◌∙◌, subst, arith}
 use Rattle.whole.specs.Messages.{Body}
 use Rattle.whole.specs.Messages.Body.{NewBallot, Join, State, Install, Installed, Activate, Activated, Superseded, Append, Held, Commit}
-use Rattle.agreement.specs.World.{World}
+use Rattle.agreement.specs.World.{GroupWorld}
 use Rattle.whole.specs.lists.Lists.{In, IsPrefixOf}
 use Rattle.agreement.specs.Inside.Ballots.{Given, History, Told, IsChosenIn}
 use Rattle.agreement.specs.Inside.Extending.{Extends, AcknowledgedIsWithin}
@@ -11,14 +11,14 @@ use Rattle.agreement.specs.Inside.Ballots.Told.{told_at_opening, told_by_held, t
 use Rattle.whole.proofs.of_lists.Prefixes.{prefix_then, prefix_length, prefix_get}
 use Rattle.agreement.proofs.Frame.Later.{sealed_kept, chosen_kept}
 
-pub joined_kept : {S C O : Type 0} (w v : World S C O) (h i : History C) (m b : ℕ) → Extends w h v i → HasJoined w m b → HasJoined v m b
+pub joined_kept : {S C O : Type 0} (w v : GroupWorld S C O) (h i : History C) (m b : ℕ) → Extends w h v i → HasJoined w m b → HasJoined v m b
 joined_kept w v h i m b x (n, is, (r, stands, low)) =
     let y = x.nodes n r stands in (n, is, (y.0, y.1, (let a = y.2 in omega (arith, low, a))))
 
-pub of_kept : {S C O : Type 0} (w v : World S C O) (h i : History C) (b : ℕ) (g : Given) → Extends w h v i → IsOf h b g → IsOf i b g
+pub of_kept : {S C O : Type 0} (w v : GroupWorld S C O) (h i : History C) (b : ℕ) (g : Given) → Extends w h v i → IsOf h b g → IsOf i b g
 of_kept w v h i b g x o = record { given = x.given b g o.given; later = o.later }
 
-pub offered_kept : {S C O : Type 0} (w v : World S C O) (h i : History C) (b : ℕ) (g : Given) (xs : List C) → Extends w h v i →
+pub offered_kept : {S C O : Type 0} (w v : GroupWorld S C O) (h i : History C) (b : ℕ) (g : Given) (xs : List C) → Extends w h v i →
     IsOffered h b g xs → IsOffered i b g xs
 offered_kept w v h i b g xs x (inl (p, lined, front)) =
     let z = x.lines g.previous p lined in inl (z.0, z.1, prefix_then front z.3)
@@ -27,7 +27,7 @@ offered_kept {S = S} {C = C} w v h i b g xs x (inr (l, lined, base, front)) =
     inr (z.0, z.1, subst (λ (us : List C). IsPrefixOf us xs) (sym z.2) base, prefix_then front z.3)
 
 -- what a message says stays so
-pub says_kept : {S C O : Type 0} (w v : World S C O) (h i : History C) (to from : ℕ) (body : Body C) → Extends w h v i →
+pub says_kept : {S C O : Type 0} (w v : GroupWorld S C O) (h i : History C) (to from : ℕ) (body : Body C) → Extends w h v i →
     ((b : ℕ) → In b h.activated → In b i.activated) → AcknowledgedIsWithin w h → SpeaksTruth w h to from body → SpeaksTruth v i to from body
 says_kept w v h i to from (NewBallot b ms a am) x active within (g, o, s, t, p, q, (old, given, members)) =
     (g, of_kept w v h i b g x o, s, t, p, q, (old, x.given a old given, members))
@@ -81,7 +81,7 @@ says_kept w v h i to from (Commit b held) x active within (g, given, s, p, j, ch
     (g, x.given b g given, s, p, active b j, chosen_kept w v h i b held x chosen)
 
 -- a node that has acknowledged more has acknowledged less
-pub told_less : {S C O : Type 0} (w : World S C O) (h : History C) (m b k j : ℕ) → j ≤ k → Told w h m b k → Told w h m b j
+pub told_less : {S C O : Type 0} (w : GroupWorld S C O) (h : History C) (m b k j : ℕ) → j ≤ k → Told w h m b k → Told w h m b j
 told_less w h m b k j less (told_at_opening g one none given member) = told_at_opening g one (omega (arith, none, less)) given member
 told_less w h m b k j less (told_by_held receiver held i below) = told_by_held receiver held i (omega (arith, less, below))
 told_less w h m b k j less (told_by_installed receiver held i below) = told_by_installed receiver held i (omega (arith, less, below))

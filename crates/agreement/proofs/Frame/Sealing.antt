@@ -3,7 +3,7 @@ use Rattle.std.proofs.Common.{◌≡◌, ℕ, ◌+◌, ◌<◌, ◌≤◌, ◌�
 use Rattle.std.specs.Prelude.{slice_get}
 use Rattle.std.proofs.lemmas.Bool.{cases_lt}
 use Rattle.whole.specs.Replica.{ReplicaState}
-use Rattle.agreement.specs.World.{World}
+use Rattle.agreement.specs.World.{GroupWorld}
 use Rattle.whole.specs.lists.Lists.{In, IsPrefixOf}
 use Rattle.agreement.specs.Inside.Saying.{IsOffered}
 use Rattle.agreement.specs.Inside.Ballots.{Given, Line, History, Told, IsChosenIn, Sealed, AreBallots, BallotListsStand, IsPlaced}
@@ -11,7 +11,7 @@ use Rattle.whole.proofs.of_lists.Prefixes.{prefix_then, prefix_take, take_prefix
 use Rattle.agreement.proofs.Frame.Bases.{chosen_told, sealed_wider}
 
 -- whoever joined a ballot as a member of the earlier one has a log that seals the earlier one
-pub joined_seals : {S C O : Type 0} (w : World S C O) (h : History C) → AreBallots h → BallotListsStand w h →
+pub joined_seals : {S C O : Type 0} (w : GroupWorld S C O) (h : History C) → AreBallots h → BallotListsStand w h →
     (n : ℕ) (r : ReplicaState S C) → slice_get w.nodes n ≡ Some r → IsPlaced w h n r →
     (b : ℕ) (g a : Given) → h.given b ≡ Some g → 0 < g.previous → h.given g.previous ≡ Some a →
     In (n + 1) a.members → r.joined ≡ b → Sealed w h g.previous r.log
@@ -82,7 +82,7 @@ joined_seals {S = S} {C = C} {O = O} w h ballots lines n r stands placed b g a g
             (lines.sealed b g l given later (ap h.line (sym same) ∙ lined)) base
 
 -- and its log is one that may be sent to the new primary
-pub joined_offers : {S C O : Type 0} (w : World S C O) (h : History C) → AreBallots h → BallotListsStand w h →
+pub joined_offers : {S C O : Type 0} (w : GroupWorld S C O) (h : History C) → AreBallots h → BallotListsStand w h →
     (n : ℕ) (r : ReplicaState S C) → IsPlaced w h n r →
     (b : ℕ) (g a : Given) → h.given b ≡ Some g → 0 < g.previous → h.given g.previous ≡ Some a →
     In (n + 1) a.members → r.joined ≡ b → IsOffered h b g r.log

@@ -2,7 +2,7 @@
 use Rattle.std.proofs.Common.{◌≡◌, ℕ, ◌+◌, ◌<◌, ◌≤◌, ◌⊎◌, inl, inr, List, [], ◌∷◌, length, take, Some, refl, ap, sym, ◌∙◌, subst, arith}
 use Rattle.std.proofs.lemmas.Bool.{cases_lt}
 use Rattle.whole.specs.Replica.{ReplicaState}
-use Rattle.agreement.specs.World.{World}
+use Rattle.agreement.specs.World.{GroupWorld}
 use Rattle.whole.specs.lists.Lists.{In, IsPrefixOf}
 use Rattle.whole.specs.lists.Lists.In.{here, there}
 use Rattle.agreement.specs.Inside.Ballots.{Given, Line, History, IsChosenIn, Sealed, IsChain, AreBallots, BallotListsStand, IsPlaced, Applied}
@@ -18,7 +18,7 @@ chain_falls h b (p ∷ older) chain x (there i) =
     let a = chain_falls h p older chain.1 x i in let c = chain.0.4 in omega (arith, a, c)
 
 -- what is chosen in an activated ballot begins the base of each higher one
-higher_base : {S C O : Type 0} (w : World S C O) (h : History C) → BallotListsStand w h → (c d k : ℕ) (b : ℕ) (older : List ℕ) →
+higher_base : {S C O : Type 0} (w : GroupWorld S C O) (h : History C) → BallotListsStand w h → (c d k : ℕ) (b : ℕ) (older : List ℕ) →
     IsChain h (b ∷ older) → ((x : ℕ) → In x (b ∷ older) → In x h.activated) → In c (b ∷ older) →
     In d (b ∷ older) → c < d → IsChosenIn w h c k → (lc ld : Line C) → h.line c ≡ Some lc → h.line d ≡ Some ld →
     IsPrefixOf (take k lc.list) ld.base
@@ -31,7 +31,7 @@ higher_base w h lines c d k b [] chain active (there i) (there j) less chosen lc
 higher_base w h lines c d k b (p ∷ older) chain active (there i) (there j) less chosen lc ld e f =
     higher_base w h lines c d k p older chain.1 (λ x y. active x (there y)) i j less chosen lc ld e f
 
-pub activated_base : {S C O : Type 0} (w : World S C O) (h : History C) → AreBallots h → BallotListsStand w h → (c d k : ℕ) →
+pub activated_base : {S C O : Type 0} (w : GroupWorld S C O) (h : History C) → AreBallots h → BallotListsStand w h → (c d k : ℕ) →
     In c h.activated → In d h.activated → c < d → IsChosenIn w h c k → (lc ld : Line C) → h.line c ≡ Some lc →
     h.line d ≡ Some ld → IsPrefixOf (take k lc.list) ld.base
 activated_base {S = S} {C = C} w h ballots lines c d k i j less chosen lc ld e f = by_list h.activated refl ballots.chain
@@ -43,7 +43,7 @@ activated_base {S = S} {C = C} w h ballots lines c d k i j less chosen lc ld e f
         (subst (λ bs. In c bs) same i) (subst (λ bs. In d bs) same j) less chosen lc ld e f
 
 -- a member that has not taken the ballot's list yet loses nothing that it applied
-pub may_take : {S C O : Type 0} (w : World S C O) (h : History C) → AreBallots h → BallotListsStand w h →
+pub may_take : {S C O : Type 0} (w : GroupWorld S C O) (h : History C) → AreBallots h → BallotListsStand w h →
     (n : ℕ) (r : ReplicaState S C) → IsPlaced w h n r → Applied w h r →
     (b : ℕ) (g : Given) → h.given b ≡ Some g → 0 < g.previous → In (n + 1) g.members → r.held_in < b → r.joined ≤ b →
     (xs : List C) → Sealed w h g.previous xs → IsPrefixOf (take r.committed r.log) xs

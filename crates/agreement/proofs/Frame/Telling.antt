@@ -6,7 +6,7 @@ use Rattle.std.proofs.lemmas.Bool.{cases_eq}
 use Rattle.whole.specs.Messages.{Message, Body, Effect}
 use Rattle.whole.specs.Messages.Body.{Held, Installed}
 use Rattle.whole.specs.Replica.{ReplicaState}
-use Rattle.agreement.specs.World.{World, messages, moved}
+use Rattle.agreement.specs.World.{GroupWorld, messages, moved}
 use Rattle.whole.specs.lists.Lists.{In}
 use Rattle.agreement.specs.Inside.Ballots.{Given, Line, History, Told, IsPlaced}
 use Rattle.agreement.specs.Inside.Ballots.Told.{told_at_opening, told_by_held, told_by_installed, told_as_primary}
@@ -36,7 +36,7 @@ tells_less line old new b k j less t =
     }
 
 -- what is acknowledged after a move
-pub tells_of : {S C O : Type 0} (w : World S C O) (h : History C) (line : ℕ → Option (Line C)) (n : ℕ) (old new : ReplicaState S C)
+pub tells_of : {S C O : Type 0} (w : GroupWorld S C O) (h : History C) (line : ℕ → Option (Line C)) (n : ℕ) (old new : ReplicaState S C)
     (given : List (Effect C O)) →
     ((b : ℕ) (g : Given) → h.given b ≡ Some g → (g.primary ≡ n + 1 → ⊥) → line b ≡ h.line b) →
     ((b : ℕ) (l : Line C) → line b ≡ Some l → (h.line b ≡ Some l) ⊎ TellsNow line old new b (length l.list)) →
@@ -75,7 +75,7 @@ tells_of {S = S} {C = C} w h line n old new given own fresh now m b k (told_as_p
         inl (told_as_primary g l is primary (sym (own b g is (λ e. other (sym primary ∙ e))) ∙ lined) below)
 
 -- a move that changes no list
-pub same_moves : {S C O : Type 0} (w : World S C O) (h : History C) (n : ℕ) (old new : ReplicaState S C) (given : List (Effect C O)) →
+pub same_moves : {S C O : Type 0} (w : GroupWorld S C O) (h : History C) (n : ℕ) (old new : ReplicaState S C) (given : List (Effect C O)) →
     slice_get w.nodes n ≡ Some old → old.joined ≤ new.joined → old.committed ≤ new.committed →
     ((to : ℕ) (m : Message C) → In (to, m) (messages given) → (m.from ≡ n + 1) × TellsWithin h.line old new m.body) →
     MovesAt w h h.line n old new given
@@ -92,7 +92,7 @@ same_moves w h n old new given stands rises committed now =
 
 -- the place of a node that moved: what it acknowledged is in no higher ballot, and no longer than
 -- its log
-pub told_placed : {S C O : Type 0} (w : World S C O) (h : History C) (line : ℕ → Option (Line C)) (n : ℕ) (old new : ReplicaState S C)
+pub told_placed : {S C O : Type 0} (w : GroupWorld S C O) (h : History C) (line : ℕ → Option (Line C)) (n : ℕ) (old new : ReplicaState S C)
     (given : List (Effect C O)) → MovesAt w h line n old new given → IsPlaced w h n old → old.held_in ≤ new.held_in →
     (b k : ℕ) → Told (moved w n new given) (with_lines h line) (n + 1) b k → b ≤ new.held_in
 told_placed {S = S} {C = C} w h line n old new given q p up b k t = by_teller (q.tells (n + 1) b k t)
@@ -101,7 +101,7 @@ told_placed {S = S} {C = C} w h line n old new given q p up b k t = by_teller (q
     by_teller (inl before) = let z = p.told b k before in omega (arith, z, up)
     by_teller (inr (same, now)) = let z = now.held in omega (arith, z)
 
-pub told_in_log : {S C O : Type 0} (w : World S C O) (h : History C) (line : ℕ → Option (Line C)) (n : ℕ) (old new : ReplicaState S C)
+pub told_in_log : {S C O : Type 0} (w : GroupWorld S C O) (h : History C) (line : ℕ → Option (Line C)) (n : ℕ) (old new : ReplicaState S C)
     (given : List (Effect C O)) → MovesAt w h line n old new given → IsPlaced w h n old →
     (old.held_in < new.held_in) ⊎ ((old.held_in ≡ new.held_in) × (length old.log ≤ length new.log)) →
     (k : ℕ) → Told (moved w n new given) (with_lines h line) (n + 1) new.held_in k → k ≤ length new.log

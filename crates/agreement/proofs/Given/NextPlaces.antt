@@ -17,7 +17,7 @@ use Rattle.agreement.specs.MasterState.{AssignRefusal, MasterState, refusal}
 use Rattle.agreement.specs.Moments.Moments.{went_on}
 use Rattle.agreement.specs.Steps.{MayHappen, world_after}
 use Rattle.agreement.specs.Steps.MayHappen.{node_takes, node_stops, master_assigns, master_hears, assignment_lost, answer_lost}
-use Rattle.agreement.specs.World.{World, outputs}
+use Rattle.agreement.specs.World.{GroupWorld, outputs}
 use Rattle.agreement.proofs.Agreed.PastAgrees.{nodes_agree}
 use Rattle.agreement.proofs.Agreed.PastKnown.{past_known}
 use Rattle.agreement.proofs.Effects.{thinned_outputs}
@@ -76,7 +76,7 @@ pub some_same : {X : Type 0} (o : Option X) (x y : X) → o ≡ Some x → o ≡
 some_same o x y e f = cc
 
 -- a step of the group, of which the node at index n may be another's
-group_step_gives : {S C O : Type 0} (rules : Rules S C O) (m : MasterState) (w : World S C O) (k : MasterState) (v : World S C O) →
+group_step_gives : {S C O : Type 0} (rules : Rules S C O) (m : MasterState) (w : GroupWorld S C O) (k : MasterState) (v : GroupWorld S C O) →
     (step : MayHappen rules m w k v) → (n : ℕ) (old new : ReplicaState S C) → slice_get w.nodes n ≡ Some old → slice_get v.nodes n ≡ Some new →
     (old.stopped ≡ false → old.machine ≡ replay rules (take old.committed old.log)) → old.committed ≤ length old.log →
     new.committed ≤ length new.log → GivesNext rules old new new.log (given_in n step)
@@ -88,7 +88,7 @@ group_step_gives {S = S} {C = C} {O = O} rules m w k v step n old new stood stan
         same_gives rules old new new.log given nothing (ap (λ (x : ReplicaState S C). x.committed) e)
         (λ a. sym (ap (λ (x : ReplicaState S C). is_active x.role) e) ∙ a) inside
 
-    by_step : {k : MasterState} {v : World S C O} (step : MayHappen rules m w k v) → slice_get v.nodes n ≡ Some new →
+    by_step : {k : MasterState} {v : GroupWorld S C O} (step : MayHappen rules m w k v) → slice_get v.nodes n ≡ Some new →
         GivesNext rules old new new.log (given_in n step)
     by_step (node_takes i r input {new = x} {given = given} at runs may loses) there = by_place (cases_eq n i)
       where

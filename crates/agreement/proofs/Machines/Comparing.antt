@@ -5,7 +5,7 @@ use Rattle.std.proofs.lemmas.Bool.{cases_lt}
 use Rattle.std.proofs.lemmas.List.{length-take-le}
 use Rattle.machine.specs.Machine.{Rules}
 use Rattle.whole.specs.Replica.{ReplicaState}
-use Rattle.agreement.specs.World.{World}
+use Rattle.agreement.specs.World.{GroupWorld}
 use Rattle.whole.specs.lists.Lists.{In, IsPrefixOf}
 use Rattle.agreement.specs.Inside.Ballots.{Line, History, IsChosenIn, Applied}
 use Rattle.agreement.specs.Inside.Ballots.Applied.{nothing, in_ballot}
@@ -19,7 +19,7 @@ use Rattle.agreement.proofs.Frame.Bases.{one_line}
 use Rattle.agreement.proofs.Frame.Taking.{activated_base}
 
 -- of two lists that are chosen in activated ballots one begins the other
-pub chosen_either : {S C O : Type 0} (rules : Rules S C O) (w : World S C O) (h : History C) (b d k j : ℕ) (l m : Line C) → IsSoundWorld rules w h →
+pub chosen_either : {S C O : Type 0} (rules : Rules S C O) (w : GroupWorld S C O) (h : History C) (b d k j : ℕ) (l m : Line C) → IsSoundWorld rules w h →
     In b h.activated → In d h.activated → h.line b ≡ Some l → h.line d ≡ Some m → IsChosenIn w h b k → IsChosenIn w h d j →
     IsPrefixOf (take k l.list) (take j m.list) ⊎ IsPrefixOf (take j m.list) (take k l.list)
 chosen_either {S = S} {C = C} rules w h b d k j l m s x y e f c g = by_order (cases_lt b d) (cases_lt d b)
@@ -51,7 +51,7 @@ front_of_longer {X = X} xs ys zs p q short =
         all_of (x ∷ xs) = ap (λ us. x ∷ us) (all_of xs)
 
 -- who applied no more than another has the same places
-pub applied_same : {S C O : Type 0} (rules : Rules S C O) (w : World S C O) (h : History C) (r q : ReplicaState S C) → IsSoundWorld rules w h →
+pub applied_same : {S C O : Type 0} (rules : Rules S C O) (w : GroupWorld S C O) (h : History C) (r q : ReplicaState S C) → IsSoundWorld rules w h →
     Applied w h r → Applied w h q → r.committed ≤ length r.log → q.committed ≤ length q.log → r.committed ≤ q.committed →
     IsPrefixOf (take r.committed r.log) (take q.committed q.log)
 applied_same rules w h r q s (nothing e) y a b low =
@@ -74,7 +74,7 @@ applied_same {S = S} {C = C} rules w h r q s (in_ballot c k l i up e chosen fron
 
 -- what a node applied stays in its log after each of its moves, so its machine stays the replay of
 -- its applied places
-pub applied_stays : {S C O : Type 0} (rules : Rules S C O) (w v : World S C O) (h : History C) (n : ℕ) (old new : ReplicaState S C)
+pub applied_stays : {S C O : Type 0} (rules : Rules S C O) (w v : GroupWorld S C O) (h : History C) (n : ℕ) (old new : ReplicaState S C)
     (adds : ℕ → C → Type 0) → IsSoundWorld rules w h → (g : NodeGoesOn rules w h adds v) → slice_get w.nodes n ≡ Some old →
     slice_get v.nodes n ≡ Some new → old.committed ≤ new.committed → take old.committed new.log ≡ take old.committed old.log
 applied_stays {S = S} {C = C} rules w v h n old new adds s g stands after up =

@@ -8,7 +8,7 @@ use Rattle.whole.specs.Losses.{Loses}
 use Rattle.whole.specs.Protocol.{Input, replica_step}
 use Rattle.whole.specs.Replica.{ReplicaState}
 use Rattle.whole.proofs.AppliesInOrder.{replay_goes_on}
-use Rattle.agreement.specs.World.{World, moved}
+use Rattle.agreement.specs.World.{GroupWorld, moved}
 use Rattle.agreement.specs.Inside.Ballots.{History}
 use Rattle.agreement.specs.Inside.Keeps.{NodeGoesOn}
 use Rattle.agreement.specs.Replays.{IsReplay, AreReplays}
@@ -20,7 +20,7 @@ use Rattle.agreement.proofs.Machines.StepApplies.{step_applies}
 
 -- a node that continues by the places that are new is a replay still: what it applied before stays
 -- in its log
-replay_kept : {S C O : Type 0} (rules : Rules S C O) (w : World S C O) (h : History C) (n : ℕ) (old new : ReplicaState S C)
+replay_kept : {S C O : Type 0} (rules : Rules S C O) (w : GroupWorld S C O) (h : History C) (n : ℕ) (old new : ReplicaState S C)
     (given : List (Effect C O)) (adds : ℕ → C → Type 0) → IsSoundWorld rules w h → NodeGoesOn rules w h adds (moved w n new given) →
     slice_get w.nodes n ≡ Some old → Applies rules old new → IsReplay rules old → IsReplay rules new
 replay_kept {C = C} rules w h n old new given adds s g stands a ran =
@@ -28,7 +28,7 @@ replay_kept {C = C} rules w h n old new given adds s g stands a ran =
     (ran ∙ ap (replay rules) (sym (applied_stays rules w (moved w n new given) h n old new adds s g stands (get_set w.nodes n old new stands) a.up)))
 
 -- the other nodes are as they were
-pub replays_moved : {S C O : Type 0} (rules : Rules S C O) (w : World S C O) (n : ℕ) (old new : ReplicaState S C)
+pub replays_moved : {S C O : Type 0} (rules : Rules S C O) (w : GroupWorld S C O) (n : ℕ) (old new : ReplicaState S C)
     (given : List (Effect C O)) → slice_get w.nodes n ≡ Some old → AreReplays rules w → (new.stopped ≡ false → IsReplay rules new) →
     AreReplays rules (moved w n new given)
 replays_moved {S = S} {C = C} rules w n old new given stands all ran m r e runs = by_place (cases_eq m n)
@@ -41,7 +41,7 @@ replays_moved {S = S} {C = C} rules w n old new given stands all ran m r e runs 
     by_place (inr other) = all m r (sym (get_set_other w.nodes n m new other) ∙ e) runs
 
 -- a step of a node, perhaps with losses
-pub step_replays : {S C O : Type 0} (rules : Rules S C O) (w : World S C O) (h : History C) (n : ℕ) (old : ReplicaState S C) (input : Input C)
+pub step_replays : {S C O : Type 0} (rules : Rules S C O) (w : GroupWorld S C O) (h : History C) (n : ℕ) (old : ReplicaState S C) (input : Input C)
     (new : ReplicaState S C) (given : List (Effect C O)) (adds : ℕ → C → Type 0) → IsSoundWorld rules w h →
     NodeGoesOn rules w h adds (moved w n new given) → slice_get w.nodes n ≡ Some old → old.stopped ≡ false → AreReplays rules w →
     Loses rules old (replica_step rules old input) new given → AreReplays rules (moved w n new given)

@@ -3,7 +3,7 @@ use Rattle.std.proofs.Common.{◌≡◌, ℕ, ◌≤◌, ◌⊎◌, inl, inr, Li
 use Rattle.std.proofs.lemmas.Bool.{cases_eq, eq-eqb, ne_eqb}
 use Rattle.machine.specs.Machine.{Rules}
 use Rattle.whole.specs.ballot_base.declared.config.Config.{Config}
-use Rattle.agreement.specs.World.{World}
+use Rattle.agreement.specs.World.{GroupWorld}
 use Rattle.whole.specs.lists.Lists.{In}
 use Rattle.whole.specs.lists.Lists.In.{here, there}
 use Rattle.agreement.specs.Inside.Ballots.{Given, History, IsChain}
@@ -48,7 +48,7 @@ abbrev pub ActivatedNow : {C : Type 0} → History C → MasterState → History
 ActivatedNow h k i = (b : ℕ) → In b i.activated → In b h.activated ⊎ (k.active ≡ b)
 
 -- the master has given a ballot, and sends it to its primary
-pub record Assigned {S C O : Type 0} (rules : Rules S C O) (m : MasterState) (w : World S C O) (h : History C) (o : MasterOutcome C) : Type 0 where
+pub record Assigned {S C O : Type 0} (rules : Rules S C O) (m : MasterState) (w : GroupWorld S C O) (h : History C) (o : MasterOutcome C) : Type 0 where
   pub goes_on : HistoryGoesOn rules w h (sends_from_master w o)
   pub master : IsMaster o.state goes_on.history
   -- no list of a ballot changes

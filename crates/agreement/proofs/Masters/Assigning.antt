@@ -2,7 +2,7 @@
 use Rattle.std.proofs.Common.{◌≡◌, ℕ, ◌+◌, ◌<◌, ◌≤◌, ◌⊎◌, inl, inr, Some, Option, refl, ap, sym, ◌∙◌, subst, arith}
 use Rattle.machine.specs.Machine.{Rules}
 use Rattle.whole.specs.ballot_base.declared.config.Config.{Config}
-use Rattle.agreement.specs.World.{World}
+use Rattle.agreement.specs.World.{GroupWorld}
 use Rattle.whole.specs.lists.Lists.{In}
 use Rattle.whole.specs.lists.Lists.In.{here}
 use Rattle.agreement.specs.Inside.Ballots.{Given, History, IsChain, AreBallots}
@@ -17,7 +17,7 @@ use Rattle.agreement.proofs.Masters.MasterMoves.{master_goes_on, master_lost}
 use Rattle.agreement.proofs.Masters.Assigned.{given_here, given_other, given_cases, at_most_newest, Assigned}
 
 -- a configuration whose primary is a member is given a ballot
-pub assign_goes_on : {S C O : Type 0} (rules : Rules S C O) (m : MasterState) (w : World S C O) (h : History C) (config : Config) →
+pub assign_goes_on : {S C O : Type 0} (rules : Rules S C O) (m : MasterState) (w : GroupWorld S C O) (h : History C) (config : Config) →
     IsSoundWorld rules w h → IsMaster m h → In config.primary config.members → Assigned rules m w h (assigned C m config)
 assign_goes_on {S = S} {C = C} {O = O} rules m w h config s k member =
     record {

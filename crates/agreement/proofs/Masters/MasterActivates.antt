@@ -5,7 +5,7 @@ use Rattle.std.proofs.lemmas.Bool.{cases_Bool, eqb-true}
 use Rattle.machine.specs.Machine.{Rules}
 use Rattle.whole.specs.ballot_base.declared.config.Config.{Config}
 use Rattle.whole.specs.Messages.Body.{Activate, Activated}
-use Rattle.agreement.specs.World.{World}
+use Rattle.agreement.specs.World.{GroupWorld}
 use Rattle.whole.specs.lists.Lists.{In}
 use Rattle.whole.specs.lists.Lists.In.{here, there}
 use Rattle.agreement.specs.Inside.Ballots.{Given, Line, History, IsChosenIn, IsChain, AreBallots}
@@ -21,7 +21,7 @@ use Rattle.agreement.proofs.Masters.MasterMoves.{master_goes_on, master_lost}
 use Rattle.agreement.proofs.Masters.MasterAnswers.{answer_goes_on}
 
 -- the ballot that waits is activated
-waiting_goes_on : {S C O : Type 0} (rules : Rules S C O) (m : MasterState) (w : World S C O) (h : History C) (b from : ℕ) (config : Config) →
+waiting_goes_on : {S C O : Type 0} (rules : Rules S C O) (m : MasterState) (w : GroupWorld S C O) (h : History C) (b from : ℕ) (config : Config) →
     IsSoundWorld rules w h → IsMaster m h → SpeaksTruth w h 0 from (Activate b) → m.waiting ≡ Some (b, config) →
     Assigned rules m w h (record {
       state = record m { active = b; members = config.members; waiting = None };
@@ -112,7 +112,7 @@ waiting_goes_on {S = S} {C = C} {O = O} rules m w h b from config s k (g, is_of,
         (g, is_of.given, sender, here)
 
 -- an Activate that comes to the master
-pub activate_goes_on : {S C O : Type 0} (rules : Rules S C O) (m : MasterState) (w : World S C O) (h : History C) (b from : ℕ) →
+pub activate_goes_on : {S C O : Type 0} (rules : Rules S C O) (m : MasterState) (w : GroupWorld S C O) (h : History C) (b from : ℕ) →
     IsSoundWorld rules w h → IsMaster m h → In (0, record { from = from; body = Activate b }) w.sent →
     (waiting : Option (ℕ × Config)) → m.waiting ≡ waiting → Assigned rules m w h (activated C m b from waiting)
 activate_goes_on rules m w h b from s k sent None e = answer_goes_on rules m w h b from s k (s.said 0 _ sent)

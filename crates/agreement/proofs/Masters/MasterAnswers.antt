@@ -4,7 +4,7 @@ use Rattle.std.specs.Prelude.{◌==◌}
 use Rattle.std.proofs.lemmas.Bool.{eqb-true}
 use Rattle.machine.specs.Machine.{Rules}
 use Rattle.whole.specs.Messages.Body.{Activate, Activated, Superseded}
-use Rattle.agreement.specs.World.{World}
+use Rattle.agreement.specs.World.{GroupWorld}
 use Rattle.whole.specs.lists.Lists.{In}
 use Rattle.whole.specs.lists.Lists.In.{here}
 use Rattle.agreement.specs.Inside.Ballots.{History}
@@ -20,7 +20,7 @@ use Rattle.agreement.proofs.Masters.MasterSends.{ToldBack}
 use Rattle.agreement.proofs.Masters.MasterMoves.{master_goes_on, master_lost}
 
 -- a ballot that does not wait is answered
-pub answer_goes_on : {S C O : Type 0} (rules : Rules S C O) (m : MasterState) (w : World S C O) (h : History C) (b from : ℕ) →
+pub answer_goes_on : {S C O : Type 0} (rules : Rules S C O) (m : MasterState) (w : GroupWorld S C O) (h : History C) (b from : ℕ) →
     IsSoundWorld rules w h → IsMaster m h → SpeaksTruth w h 0 from (Activate b) → Assigned rules m w h (activated C m b from None)
 answer_goes_on {S = S} {C = C} {O = O} rules m w h b from s k (g, is_of, sender, (l, lined, chosen)) =
     record {

@@ -3,7 +3,7 @@ use Rattle.std.proofs.Common.{◌≡◌, ℕ, ◌<◌, List, [], ◌∷◌, leng
 use Rattle.std.proofs.lemmas.List.{append-nil}
 use Rattle.machine.specs.Machine.{Rules}
 use Rattle.whole.specs.Messages.{Message}
-use Rattle.agreement.specs.World.{World}
+use Rattle.agreement.specs.World.{GroupWorld}
 use Rattle.whole.specs.lists.Lists.{In}
 use Rattle.whole.specs.lists.Lists.In.{here, there}
 use Rattle.agreement.specs.Inside.Ballots.{Given, Line, History, IsChosenIn, AreBallots}
@@ -16,7 +16,7 @@ use Rattle.agreement.proofs.Frame.Joining.{IsSilent, AreSilent}
 use Rattle.agreement.proofs.Masters.MasterSends.{with_ballots, ToldBack, master_sends}
 
 -- a message of the master
-pub master_goes_on : {S C O : Type 0} (rules : Rules S C O) (w : World S C O) (h : History C) (o : MasterOutcome C)
+pub master_goes_on : {S C O : Type 0} (rules : Rules S C O) (w : GroupWorld S C O) (h : History C) (o : MasterOutcome C)
     (given : ℕ → Option Given) (activated : List ℕ) → IsSoundWorld rules w h → IsSilent o.body →
     ((c : ℕ) (g : Given) → h.given c ≡ Some g → given c ≡ Some g) →
     ((c : ℕ) (g : Given) → given c ≡ Some g → 0 < c) →
@@ -39,7 +39,7 @@ master_goes_on {S = S} {C = C} rules w h o given activated s silent more positiv
     by_says to m (there i) = elim i [ ]
 
 -- and the same if it is lost
-pub master_lost : {S C O : Type 0} (rules : Rules S C O) (w : World S C O) (h : History C)
+pub master_lost : {S C O : Type 0} (rules : Rules S C O) (w : GroupWorld S C O) (h : History C)
     (given : ℕ → Option Given) (activated : List ℕ) → IsSoundWorld rules w h →
     ((c : ℕ) (g : Given) → h.given c ≡ Some g → given c ≡ Some g) →
     ((c : ℕ) (g : Given) → given c ≡ Some g → 0 < c) →

@@ -2,7 +2,7 @@
 use Rattle.std.proofs.Common.{◌≡◌, ℕ, ◌+◌, ◌<◌, ◌≤◌, ◌⊎◌, inl, inr, List, length, Some, Option, arith}
 use Rattle.std.proofs.lemmas.Bool.{cases_lt}
 use Rattle.whole.specs.Replica.{ReplicaState}
-use Rattle.agreement.specs.World.{World}
+use Rattle.agreement.specs.World.{GroupWorld}
 use Rattle.whole.specs.lists.Lists.{In}
 use Rattle.agreement.specs.Inside.Ballots.{Given, Line, History, Told, BallotListsStand}
 use Rattle.agreement.specs.Inside.Extending.{Extends, AcknowledgedIsWithin}
@@ -12,7 +12,7 @@ use Rattle.agreement.proofs.Frame.SaysLater.{of_kept}
 use Rattle.agreement.proofs.Frame.Others.{between_kept}
 
 -- a node, with more ballots
-pub node_with_ballots : {S C O : Type 0} (w v : World S C O) (h : History C) (given : ℕ → Option Given) (activated : List ℕ) (n : ℕ)
+pub node_with_ballots : {S C O : Type 0} (w v : GroupWorld S C O) (h : History C) (given : ℕ → Option Given) (activated : List ℕ) (n : ℕ)
     (r : ReplicaState S C) → Extends w h v (record h { given = given; activated = activated }) →
     ((c : ℕ) → In c h.activated → In c activated) → AcknowledgedIsWithin w h →
     ((c : ℕ) (g : Given) → given c ≡ Some g → (x : Given) × (h.given c ≡ Some x) → h.given c ≡ Some g) →

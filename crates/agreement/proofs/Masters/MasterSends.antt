@@ -3,7 +3,7 @@ use Rattle.std.proofs.Common.{◌≡◌, ℕ, ◌+◌, ◌<◌, ◌⊎◌, inl, 
 use Rattle.machine.specs.Machine.{Rules}
 use Rattle.whole.specs.Messages.{Message}
 use Rattle.whole.specs.Messages.Body.{Held, Installed}
-use Rattle.agreement.specs.World.{World}
+use Rattle.agreement.specs.World.{GroupWorld}
 use Rattle.whole.specs.lists.Lists.{In}
 use Rattle.whole.specs.lists.Lists.In.{here, there}
 use Rattle.agreement.specs.Inside.Ballots.{Given, Line, History, Told, IsChosenIn, IsChain, AreBallots}
@@ -39,11 +39,11 @@ chain_has_one h (b ∷ []) c = subst (λ x. In 1 (x ∷ [])) (sym c) here
 chain_has_one h (b ∷ (p ∷ older)) c = there (chain_has_one h (p ∷ older) c.1)
 
 -- nothing more is acknowledged
-abbrev pub ToldBack : {S C O : Type 0} → World S C O → History C → World S C O → History C → Type 0
+abbrev pub ToldBack : {S C O : Type 0} → GroupWorld S C O → History C → GroupWorld S C O → History C → Type 0
 ToldBack w h v i = (m b k : ℕ) → Told v i m b k → Told w h m b k
 
 -- messages of the master, perhaps none
-pub master_sends : {S C O : Type 0} (rules : Rules S C O) (w : World S C O) (h : History C) (extra : List (ℕ × Message C))
+pub master_sends : {S C O : Type 0} (rules : Rules S C O) (w : GroupWorld S C O) (h : History C) (extra : List (ℕ × Message C))
     (given : ℕ → Option Given) (activated : List ℕ) → IsSoundWorld rules w h → AreSilent extra →
     ((c : ℕ) (g : Given) → h.given c ≡ Some g → given c ≡ Some g) →
     ((c : ℕ) (g : Given) → given c ≡ Some g → 0 < c) →
@@ -82,7 +82,7 @@ master_sends {S = S} {C = C} {O = O} rules w h extra given activated s silent mo
   told_back,
 )
   where
-    v : World S C O
+    v : GroupWorld S C O
     v = record w { sent = w.sent ++ extra }
 
     i : History C

@@ -9,7 +9,7 @@ use Rattle.whole.specs.Protocol.{Input}
 use Rattle.whole.specs.Protocol.Input.{Receives, Proposes, Ticks}
 use Rattle.whole.specs.Replica.{ReplicaState}
 use Rattle.agreement.specs.Proposals.{proposal_by}
-use Rattle.agreement.specs.World.{World}
+use Rattle.agreement.specs.World.{GroupWorld}
 use Rattle.whole.specs.lists.Lists.{IsPrefixOf}
 use Rattle.agreement.specs.Inside.Ballots.{Line, History}
 use Rattle.agreement.specs.Inside.GroupSteps.{AddsBy}
@@ -32,12 +32,12 @@ same_rows : {C : Type 0} (start_of : ℕ → C) (h : History C) (rows adds : Lis
 same_rows start_of h rows adds s = record { later = rows; way = inl refl; own = s }
 
 -- lists stay there
-still_lined : {S C O : Type 0} (rules : Rules S C O) (w v : World S C O) (h : History C) (adds : ℕ → C → Type 0) →
+still_lined : {S C O : Type 0} (rules : Rules S C O) (w v : GroupWorld S C O) (h : History C) (adds : ℕ → C → Type 0) →
     (g : NodeGoesOn rules w h adds v) → (b : ℕ) (l : Line C) → h.line b ≡ Some l → (k : Line C) × (g.history.line b ≡ Some k)
 still_lined rules w v h adds g b l e = let z = g.extends.lines b l e in (z.0, z.1)
 
 -- a proposal that was added to no list, or to that of its ballot
-own_by_proposal : {S C O : Type 0} (rules : Rules S C O) (w v : World S C O) (h : History C) (p : ℕ) (c : C) (rows : List (ℕ × C)) →
+own_by_proposal : {S C O : Type 0} (rules : Rules S C O) (w v : GroupWorld S C O) (h : History C) (p : ℕ) (c : C) (rows : List (ℕ × C)) →
     (g : NodeGoesOn rules w h (λ b x. (b ≡ p) × (x ≡ c)) v) → OwnLines rules.start_of h rows →
     (o : Option (Line C)) → g.history.line p ≡ o → OwnGoesOn rules.start_of g.history rows ((p, c) ∷ [])
 own_by_proposal {S = S} {C = C} {O = O} rules w v h p c rows g s None unlined =
@@ -79,7 +79,7 @@ own_by_proposal {S = S} {C = C} {O = O} rules w v h p c rows g s (Some k) lined 
         }
 
 -- a step of a node
-pub own_goes_on : {S C O : Type 0} (rules : Rules S C O) (w v : World S C O) (h : History C) (r : ReplicaState S C) (input : Input C)
+pub own_goes_on : {S C O : Type 0} (rules : Rules S C O) (w v : GroupWorld S C O) (h : History C) (r : ReplicaState S C) (input : Input C)
     (rows : List (ℕ × C)) → (g : NodeGoesOn rules w h (AddsBy rules r input) v) → OwnLines rules.start_of h rows →
     OwnGoesOn rules.start_of g.history rows (proposal_by r input)
 own_goes_on rules w v h r (Receives message) rows g s =
@@ -93,7 +93,7 @@ own_goes_on rules w v h r Ticks rows g s =
 
 -- what clients need of it: in each log the commands of one ballot are a prefix of those proposed in
 -- it
-pub own_in_logs : {S C O : Type 0} (rules : Rules S C O) (w : World S C O) (h : History C) (rows : List (ℕ × C)) → IsSoundWorld rules w h →
+pub own_in_logs : {S C O : Type 0} (rules : Rules S C O) (w : GroupWorld S C O) (h : History C) (rows : List (ℕ × C)) → IsSoundWorld rules w h →
     OwnLines rules.start_of h rows → (n : ℕ) (r : ReplicaState S C) → slice_get w.nodes n ≡ Some r → (names : C → Bool) (ballot : ℕ) →
     IsOfBallot rules.start_of names ballot rows → IsPrefixOf (filter names r.log) (filter names (commands_of rows))
 own_in_logs {S = S} {C = C} rules w h rows s own n r stands names ballot of = by_ballot (cases_lt 0 r.held_in)

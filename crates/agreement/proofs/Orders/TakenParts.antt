@@ -12,7 +12,7 @@ use Rattle.agreement.specs.Proposals.{IsPartOf, proposal_of, proposals_of, taken
 use Rattle.agreement.specs.Proposals.IsPartOf.{nothing_left, with_one, without_one}
 use Rattle.agreement.specs.Steps.{MayHappen}
 use Rattle.agreement.specs.Steps.MayHappen.{node_takes, node_stops, master_assigns, master_hears, assignment_lost, answer_lost}
-use Rattle.agreement.specs.World.{World}
+use Rattle.agreement.specs.World.{GroupWorld}
 
 -- a list is a part of itself with more after it, and parts join
 part_none : {X : Type 0} (ys : List X) → IsPartOf [] ys
@@ -33,7 +33,7 @@ parts_join (with_one p) q = with_one (parts_join p q)
 parts_join (without_one p) q = without_one (parts_join p q)
 
 -- what is taken was proposed
-step_takes_part : {S C O : Type 0} (rules : Rules S C O) (m : MasterState) (w : World S C O) (k : MasterState) (v : World S C O) →
+step_takes_part : {S C O : Type 0} (rules : Rules S C O) (m : MasterState) (w : GroupWorld S C O) (k : MasterState) (v : GroupWorld S C O) →
     (step : MayHappen rules m w k v) → IsPartOf (taken_in step) (proposal_of step)
 step_takes_part rules m w k v (node_takes n r input {new = new} {given = given} stands runs may loses) =
     part_if (nat_lt (length r.log) (length new.log)) _
@@ -51,7 +51,7 @@ taken_are_part rules config (b ∷ (a ∷ past)) (went_on came step) =
 taken_are_part rules config (b ∷ (a ∷ past)) (learned came learns) = taken_are_part rules config (a ∷ past) came
 
 -- what one node took was taken
-takes_at_in : {S C O : Type 0} (rules : Rules S C O) (m : MasterState) (w : World S C O) (k : MasterState) (v : World S C O) →
+takes_at_in : {S C O : Type 0} (rules : Rules S C O) (m : MasterState) (w : GroupWorld S C O) (k : MasterState) (v : GroupWorld S C O) →
     (step : MayHappen rules m w k v) → (n : ℕ) (row : ℕ × C) → In row (takes_at n step) → In row (taken_in step)
 takes_at_in {C = C} rules m w k v (node_takes i r input {new = new} {given = given} stands runs may loses) n row j = by (i == n) j
   where

@@ -17,12 +17,12 @@ use Rattle.agreement.specs.MasterState.{MasterState}
 use Rattle.agreement.specs.Proposals.{IsTaken, proposal_of, taken_by, taken_in, takes_at}
 use Rattle.agreement.specs.Steps.{MayHappen}
 use Rattle.agreement.specs.Steps.MayHappen.{node_takes, node_stops, master_assigns, master_hears, assignment_lost, answer_lost}
-use Rattle.agreement.specs.World.{World, log_of, moved}
+use Rattle.agreement.specs.World.{GroupWorld, log_of, moved}
 use Rattle.agreement.proofs.Orders.Taken.{Went, none_taken, not_in, proposal_went, taken_when_added, taken_when_same}
 use Rattle.agreement.proofs.Orders.Taken.Went.{was_added, was_refused, has_stopped}
 
 -- the log of a node that moved, and those of the others
-same_logs : {S C O : Type 0} (w : World S C O) (n m : ℕ) (r new : ReplicaState S C) → slice_get w.nodes n ≡ Some r → new.log ≡ r.log →
+same_logs : {S C O : Type 0} (w : GroupWorld S C O) (n m : ℕ) (r new : ReplicaState S C) → slice_get w.nodes n ≡ Some r → new.log ≡ r.log →
     log_of (slice_get (set w.nodes n new) m) ≡ log_of (slice_get w.nodes m)
 same_logs {S = S} {C = C} w n m r new stands same = by_place (cases_eq m n)
   where
@@ -33,7 +33,7 @@ same_logs {S = S} {C = C} w n m r new stands same = by_place (cases_eq m n)
     by_place (inr other) = ap log_of (get_set_other w.nodes n m new other)
 
 -- what is taken is at once
-stands_at_once : {S C O : Type 0} (rules : Rules S C O) (w : World S C O) (n : ℕ) (r : ReplicaState S C) (c : C) (new : ReplicaState S C)
+stands_at_once : {S C O : Type 0} (rules : Rules S C O) (w : GroupWorld S C O) (n : ℕ) (r : ReplicaState S C) (c : C) (new : ReplicaState S C)
     (given : List (Effect C O)) → slice_get w.nodes n ≡ Some r → r.stopped ≡ false → Went rules r c new given →
     (row : ℕ × C) → In row (taken_by r new (Proposes c)) → IsTaken w (moved w n new given) n row
 stands_at_once {S = S} {C = C} rules w n r c new given stands runs (was_refused e f) row i =
@@ -60,7 +60,7 @@ stands_at_once {S = S} {C = C} {O = O} rules w n r c new given stands runs (was_
     by_row x (there j) = elim j [ ]
 
 -- by the input
-input_stands : {S C O : Type 0} (rules : Rules S C O) (w : World S C O) (n : ℕ) (r : ReplicaState S C) (input : Input C) (new : ReplicaState S C)
+input_stands : {S C O : Type 0} (rules : Rules S C O) (w : GroupWorld S C O) (n : ℕ) (r : ReplicaState S C) (input : Input C) (new : ReplicaState S C)
     (given : List (Effect C O)) → slice_get w.nodes n ≡ Some r → r.stopped ≡ false → Loses rules r (replica_step rules r input) new given →
     (row : ℕ × C) → In row (taken_by r new input) → IsTaken w (moved w n new given) n row
 input_stands rules w n r (Proposes c) new given stands runs loses row i =
@@ -71,7 +71,7 @@ input_stands rules w n r Ticks new given stands runs loses row i =
     absurd (not_in row _ (none_taken (nat_lt (length r.log) (length new.log))) i)
 
 -- what is not taken changes no log
-changes_no_log : {S C O : Type 0} (rules : Rules S C O) (w : World S C O) (n : ℕ) (r : ReplicaState S C) (c : C) (new : ReplicaState S C)
+changes_no_log : {S C O : Type 0} (rules : Rules S C O) (w : GroupWorld S C O) (n : ℕ) (r : ReplicaState S C) (c : C) (new : ReplicaState S C)
     (given : List (Effect C O)) → slice_get w.nodes n ≡ Some r → Went rules r c new given → taken_by r new (Proposes c) ≡ [] →
     (m : ℕ) → log_of (slice_get (set w.nodes n new) m) ≡ log_of (slice_get w.nodes m)
 changes_no_log {S = S} {C = C} rules w n r c new given stands (was_refused e f) nothing m =
@@ -82,7 +82,7 @@ changes_no_log {S = S} {C = C} rules w n r c new given stands (was_added active 
     let z = taken_when_added r new c (ap (λ (x : ReplicaState S C). x.log) e ∙ added-log rules r c) in absurd cc
 
 -- by the step
-stands_then : {S C O : Type 0} (rules : Rules S C O) (m : MasterState) (w : World S C O) (k : MasterState) (v : World S C O) →
+stands_then : {S C O : Type 0} (rules : Rules S C O) (m : MasterState) (w : GroupWorld S C O) (k : MasterState) (v : GroupWorld S C O) →
     (step : MayHappen rules m w k v) → (n : ℕ) (row : ℕ × C) → In row (takes_at n step) → IsTaken w v n row
 stands_then {S = S} {C = C} {O = O} rules m w k v (node_takes i r input {new = new} {given = given} stands runs may loses) n row j = by_place (cases_eq i n) j
   where
@@ -99,7 +99,7 @@ stands_then rules m w k v (master_hears from b sent) n row j = elim j [ ]
 stands_then rules m w k v (assignment_lost config) n row j = elim j [ ]
 stands_then rules m w k v (answer_lost from b sent) n row j = elim j [ ]
 
-somewhere_then : {S C O : Type 0} (rules : Rules S C O) (m : MasterState) (w : World S C O) (k : MasterState) (v : World S C O) →
+somewhere_then : {S C O : Type 0} (rules : Rules S C O) (m : MasterState) (w : GroupWorld S C O) (k : MasterState) (v : GroupWorld S C O) →
     (step : MayHappen rules m w k v) → (row : ℕ × C) → In row (taken_in step) → (n : ℕ) × In row (takes_at n step)
 somewhere_then rules m w k v (node_takes i r input {new = new} {given = given} stands runs may loses) row j =
     (i, subst (λ b. In row (cond b (taken_by r new input) [])) (sym (eq-eqb i i refl)) j)
@@ -109,7 +109,7 @@ somewhere_then rules m w k v (master_hears from b sent) row j = elim j [ ]
 somewhere_then rules m w k v (assignment_lost config) row j = elim j [ ]
 somewhere_then rules m w k v (answer_lost from b sent) row j = elim j [ ]
 
-stays_then : {S C O : Type 0} (rules : Rules S C O) (m : MasterState) (w : World S C O) (k : MasterState) (v : World S C O) →
+stays_then : {S C O : Type 0} (rules : Rules S C O) (m : MasterState) (w : GroupWorld S C O) (k : MasterState) (v : GroupWorld S C O) →
     (step : MayHappen rules m w k v) → taken_in step ≡ [] → (row : ℕ × C) → In row (proposal_of step) →
     (n : ℕ) → log_of (slice_get v.nodes n) ≡ log_of (slice_get w.nodes n)
 stays_then rules m w k v (node_takes n r (Proposes c) {new = new} {given = given} stands runs may loses) nothing row i x =

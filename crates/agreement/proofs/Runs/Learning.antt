@@ -19,7 +19,7 @@ use Rattle.agreement.specs.Inside.Keeps.{KeepsSoundness}
 use Rattle.agreement.specs.Inside.Serves.{IsLedByNode, Serves}
 use Rattle.agreement.specs.Inside.Sound.{IsSoundWorld, IsSoundNode}
 use Rattle.agreement.specs.MasterState.{MasterState}
-use Rattle.agreement.specs.World.{World, moved}
+use Rattle.agreement.specs.World.{GroupWorld, moved}
 use Rattle.agreement.proofs.Frame.Joining.{MovesQuietly, quiet_extends}
 use Rattle.agreement.proofs.Frame.Later.{chosen_kept}
 use Rattle.agreement.proofs.Frame.Quiet.{before_quiet, quiet_keeps}
@@ -32,14 +32,14 @@ use Rattle.agreement.proofs.Starts.Begins.{begun_lines}
 use Rattle.agreement.proofs.Starts.LongActive.{long_moved}
 
 -- whom a node learns from: it applied these places, which it has, too, and had joined no higher ballot
-pub record Teaches {S C O : Type 0} (w : World S C O) (h : History C) (r t : ReplicaState S C) (k : ℕ) : Type 0 where
+pub record Teaches {S C O : Type 0} (w : GroupWorld S C O) (h : History C) (r t : ReplicaState S C) (k : ℕ) : Type 0 where
   pub applied : Applied w h t
   pub joined : t.joined ≤ r.joined
   pub had : k ≤ t.committed
   pub same : take k t.log ≡ take k r.log
 
 -- then these places are chosen in a ballot that is not above the one that the node joined
-pub learned_applied : {S C O : Type 0} (rules : Rules S C O) (w : World S C O) (h : History C) (r t : ReplicaState S C) (k : ℕ) →
+pub learned_applied : {S C O : Type 0} (rules : Rules S C O) (w : GroupWorld S C O) (h : History C) (r t : ReplicaState S C) (k : ℕ) →
     Teaches w h r t k → Applied w h (applied_to rules r k)
 learned_applied {S = S} {C = C} {O = O} rules w h r t k y = by_way y.applied
   where
@@ -51,7 +51,7 @@ learned_applied {S = S} {C = C} {O = O} rules w h r t k y = by_way y.applied
         (prefix_then (prefix_take k (take t.committed t.log)) front))
 
 -- a node that learns
-pub keeps_learned : {S C O : Type 0} (rules : Rules S C O) (w : World S C O) (h : History C) (n : ℕ) (r t : ReplicaState S C) (k : ℕ) →
+pub keeps_learned : {S C O : Type 0} (rules : Rules S C O) (w : GroupWorld S C O) (h : History C) (n : ℕ) (r t : ReplicaState S C) (k : ℕ) →
     IsSoundWorld rules w h → slice_get w.nodes n ≡ Some r → is_active r.role ≡ false → r.committed ≤ k → k ≤ length r.log → Teaches w h r t k →
     KeepsSoundness rules w h n (record { state = applied_to rules r k; effects = [] })
 keeps_learned {S = S} {C = C} {O = O} rules w h n r t k s stands passive up within y =
@@ -94,7 +94,7 @@ keeps_learned {S = S} {C = C} {O = O} rules w h n r t k s stands passive up with
             in_ballot c j l i low e (chosen_kept w (moved w n new given) h h c j (quiet_extends w h n r new given q) chosen) front
 
 -- so the group continues
-pub learned_goes_on : {S C O : Type 0} (rules : Rules S C O) (m : MasterState) (w : World S C O) (h : History C) (n : ℕ) (r t : ReplicaState S C) (k : ℕ) →
+pub learned_goes_on : {S C O : Type 0} (rules : Rules S C O) (m : MasterState) (w : GroupWorld S C O) (h : History C) (n : ℕ) (r t : ReplicaState S C) (k : ℕ) →
     Serves rules m w h → slice_get w.nodes n ≡ Some r → r.stopped ≡ false → is_active r.role ≡ false → r.committed ≤ k → k ≤ length r.log →
     Teaches w h r t k → StepGoesOn rules w h m (moved w n (applied_to rules r k) []) []
 learned_goes_on {S = S} {C = C} {O = O} rules m w h n r t k v stands runs passive up within y =
@@ -114,7 +114,7 @@ learned_goes_on {S = S} {C = C} {O = O} rules m w h n r t k v stands runs passiv
     }
 
 -- and serves as before
-pub learned_serves : {S C O : Type 0} (rules : Rules S C O) (m : MasterState) (w : World S C O) (h : History C) (n : ℕ) (r : ReplicaState S C) (k : ℕ) →
+pub learned_serves : {S C O : Type 0} (rules : Rules S C O) (m : MasterState) (w : GroupWorld S C O) (h : History C) (n : ℕ) (r : ReplicaState S C) (k : ℕ) →
     Serves rules m w h → slice_get w.nodes n ≡ Some r → (x : StepGoesOn rules w h m (moved w n (applied_to rules r k) []) []) →
     Serves rules m (moved w n (applied_to rules r k) []) x.run.group.goes_on.history
 learned_serves {S = S} {C = C} {O = O} rules m w h n r k s stands x =

@@ -8,7 +8,7 @@ use Rattle.whole.specs.Protocol.Input.{Ticks}
 use Rattle.whole.specs.Protocol.{replica_step}
 use Rattle.whole.specs.lists.Lists.{In}
 use Rattle.agreement.specs.Proposals.{proposal_by}
-use Rattle.agreement.specs.World.{World}
+use Rattle.agreement.specs.World.{GroupWorld}
 use Rattle.agreement.specs.Inside.Ballots.{Line, History, Told, TellsHere}
 use Rattle.agreement.specs.Inside.Begun.{AreBegun, BeginsOrFollows, AreLong}
 use Rattle.agreement.specs.Inside.GroupSteps.{adds_of, AddsBy, GroupStep}
@@ -34,7 +34,7 @@ use Rattle.agreement.proofs.Runs.Steps.{GroupGoesOn, by_history, by_master, by_l
 
 -- a group continues soundly, its machines are replays, and its ballots still begin with their
 -- starts
-pub record RunGoesOn {S C O : Type 0} (rules : Rules S C O) (w : World S C O) (h : History C) (m : MasterState) (v : World S C O)
+pub record RunGoesOn {S C O : Type 0} (rules : Rules S C O) (w : GroupWorld S C O) (h : History C) (m : MasterState) (v : GroupWorld S C O)
     (adds : List (ℕ × C)) : Type 0 where
   pub group : GroupGoesOn rules w h m v adds
   pub long : AreLong v group.goes_on.history
@@ -42,7 +42,7 @@ pub record RunGoesOn {S C O : Type 0} (rules : Rules S C O) (w : World S C O) (h
   pub begun : AreBegun rules.start_of h → AreBegun rules.start_of group.goes_on.history
 
 -- one step, with what is newly acknowledged, given and activated in it
-pub record StepGoesOn {S C O : Type 0} (rules : Rules S C O) (w : World S C O) (h : History C) (m : MasterState) (v : World S C O)
+pub record StepGoesOn {S C O : Type 0} (rules : Rules S C O) (w : GroupWorld S C O) (h : History C) (m : MasterState) (v : GroupWorld S C O)
     (adds : List (ℕ × C)) : Type 0 where
   pub run : RunGoesOn rules w h m v adds
   pub tells : (x b k : ℕ) → Told v run.group.goes_on.history x b k → Told w h x b k ⊎ TellsHere v x b k
@@ -57,7 +57,7 @@ may_add adds more h b k (begins_after g p e unlined before front) = begins_after
 may_add adds more h b k (adds_one l c e same a) = adds_one l c e same a.0
 
 -- after a move of a node that adds so
-abbrev node_may : {S C O : Type 0} (rules : Rules S C O) (w v : World S C O) (h : History C) (adds more : ℕ → C → Type 0) →
+abbrev node_may : {S C O : Type 0} (rules : Rules S C O) (w v : GroupWorld S C O) (h : History C) (adds more : ℕ → C → Type 0) →
     NodeGoesOn rules w h (λ x c. adds x c × more x c) v → NodeGoesOn rules w h adds v
 node_may rules w v h adds more g =
     record {
@@ -75,7 +75,7 @@ begun_same : {C : Type 0} (start_of : ℕ → C) (h i : History C) → i.line �
 begun_same {C = C} start_of h i e begun b k f = begun b k (ap (λ (g : ℕ → Option (Line C)). g b) (sym e) ∙ f)
 
 -- whatever happens
-pub group_goes_on : {S C O : Type 0} (rules : Rules S C O) (m k : MasterState) (w v : World S C O) (h : History C) →
+pub group_goes_on : {S C O : Type 0} (rules : Rules S C O) (m k : MasterState) (w v : GroupWorld S C O) (h : History C) →
     IsSoundWorld rules w h → AreLong w h → AreReplays rules w → IsMaster m h → (step : GroupStep rules m w k v) → StepGoesOn rules w h k v (adds_of step)
 group_goes_on {C = C} rules m k w v h s long all master (takes n r input {new = new} {given = given} stands runs may loses) =
     let g = lossy_goes_on rules w h n r (λ b c. AddsBy rules r input b c × BeginsOrFollows rules.start_of h b c) (replica_step rules r input) _ _ s stands

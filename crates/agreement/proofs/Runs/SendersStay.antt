@@ -9,7 +9,7 @@ use Rattle.whole.specs.ballot_base.declared.config.Config.{Config}
 use Rattle.whole.specs.Losses.{Loses, halted}
 use Rattle.whole.specs.Protocol.{Input, replica_step}
 use Rattle.whole.specs.Replica.{ReplicaState}
-use Rattle.agreement.specs.World.{World, messages, moved}
+use Rattle.agreement.specs.World.{GroupWorld, messages, moved}
 use Rattle.whole.specs.lists.Lists.{In}
 use Rattle.whole.specs.lists.Lists.In.{here, there}
 use Rattle.whole.proofs.of_lists.Members.{in_append}
@@ -41,7 +41,7 @@ loses_from {C = C} {O = O} rules r input new given (inr (inr (e, f))) to m i =
     elim (subst (λ (us : List (Effect C O)). In (to, m) (messages us)) f i) [ ]
 
 -- a node's move
-pub moved_senders : {S C O : Type 0} (rules : Rules S C O) (w : World S C O) (h : History C) (n : ℕ) (r new : ReplicaState S C) (given : List (Effect C O)) →
+pub moved_senders : {S C O : Type 0} (rules : Rules S C O) (w : GroupWorld S C O) (h : History C) (n : ℕ) (r new : ReplicaState S C) (given : List (Effect C O)) →
     IsSoundWorld rules w h → slice_get w.nodes n ≡ Some r → ((to : ℕ) (m : Message C) → In (to, m) (messages given) → m.from ≡ r.id) →
     AreSenders w → AreSenders (moved w n new given)
 moved_senders {S = S} {C = C} {O = O} rules w h n r new given s stands from senders to m i = by_age (in_append w.sent (messages given) i)
@@ -57,7 +57,7 @@ from_one : {C : Type 0} (receiver from : ℕ) (body : Body C) (to : ℕ) (m : Me
 from_one receiver from body to m here = refl
 from_one receiver from body to m (there j) = elim j [ ]
 
-master_senders : {S C O : Type 0} (w : World S C O) (o : MasterOutcome C) → AreSenders w → AreSenders (sends_from_master w o)
+master_senders : {S C O : Type 0} (w : GroupWorld S C O) (o : MasterOutcome C) → AreSenders w → AreSenders (sends_from_master w o)
 master_senders {C = C} w o senders to m i = by_age (in_append w.sent _ i)
   where
     by_age : In (to, m) w.sent ⊎ In {X = ℕ × Message C} (to, m) ((o.receiver, record { from = 0; body = o.body }) ∷ []) → (m.from ≡ 0) ⊎ IsNode (length w.nodes) m.from
@@ -65,7 +65,7 @@ master_senders {C = C} w o senders to m i = by_age (in_append w.sent _ i)
     by_age (inr now) = inl (from_one o.receiver 0 o.body to m now)
 
 -- whatever happens
-pub senders_stay : {S C O : Type 0} (rules : Rules S C O) (m : MasterState) (w : World S C O) (k : MasterState) (v : World S C O) (h : History C) →
+pub senders_stay : {S C O : Type 0} (rules : Rules S C O) (m : MasterState) (w : GroupWorld S C O) (k : MasterState) (v : GroupWorld S C O) (h : History C) →
     IsSoundWorld rules w h → MayHappen rules m w k v → AreSenders w → AreSenders v
 senders_stay rules m w k v h s (node_takes n r input {new = new} {given = given} stands runs may loses) senders =
     moved_senders rules w h n r new given s stands (loses_from rules r input new given loses) senders
@@ -81,7 +81,7 @@ senders_stay {C = C} rules m w k v h s (master_assigns config) senders = by_refu
     by_refusal None = master_senders w (assigned C m config) senders
 
 -- the number of nodes stays
-same_nodes : {S C O : Type 0} (rules : Rules S C O) (m : MasterState) (w : World S C O) (k : MasterState) (v : World S C O) →
+same_nodes : {S C O : Type 0} (rules : Rules S C O) (m : MasterState) (w : GroupWorld S C O) (k : MasterState) (v : GroupWorld S C O) →
     MayHappen rules m w k v → length v.nodes ≡ length w.nodes
 same_nodes rules m w k v (node_takes n r input {new = new} stands runs may loses) = length-set w.nodes n new
 same_nodes rules m w k v (node_stops n r stands) = length-set w.nodes n (halted rules r)
@@ -95,16 +95,16 @@ same_nodes {S = S} {C = C} {O = O} rules m w k v (master_assigns config) = by_re
     by_refusal None = refl
 
 -- the active ballot stays, or it is the one that waited, and its primary asked for it
-abbrev IsAsked : {S C O : Type 0} → MasterState → World S C O → ℕ → Type 0
+abbrev IsAsked : {S C O : Type 0} → MasterState → GroupWorld S C O → ℕ → Type 0
 IsAsked m w b = (from : ℕ) × In (0, record { from = from; body = Activate b }) w.sent × ((config : Config) × (m.waiting ≡ Some (b, config)))
 
-asked_by : {S C O : Type 0} (m k : MasterState) (w : World S C O) (b from : ℕ) → In (0, record { from = from; body = Activate b }) w.sent →
+asked_by : {S C O : Type 0} (m k : MasterState) (w : GroupWorld S C O) (b from : ℕ) → In (0, record { from = from; body = Activate b }) w.sent →
     (k.active ≡ m.active) ⊎ ((k.active ≡ b) × ((config : Config) × (m.waiting ≡ Some (b, config)))) →
     (k.active ≡ m.active) ⊎ IsAsked m w k.active
 asked_by m k w b from sent (inl same) = inl same
 asked_by m k w b from sent (inr (is, waits)) = inr (subst (λ x. IsAsked m w x) (sym is) (from, sent, waits))
 
-active_then : {S C O : Type 0} (rules : Rules S C O) (m : MasterState) (w : World S C O) (k : MasterState) (v : World S C O) →
+active_then : {S C O : Type 0} (rules : Rules S C O) (m : MasterState) (w : GroupWorld S C O) (k : MasterState) (v : GroupWorld S C O) →
     MayHappen rules m w k v → (k.active ≡ m.active) ⊎ IsAsked m w k.active
 active_then rules m w k v (node_takes n r input stands runs may loses) = inl refl
 active_then rules m w k v (node_stops n r stands) = inl refl
@@ -122,7 +122,7 @@ active_then {S = S} {C = C} {O = O} rules m w k v (assignment_lost config) = by_
     by_refusal None = inl refl
 
 -- who asks for the ballot that waits is its primary, a member, and so no master
-asked_led : {S C O : Type 0} (rules : Rules S C O) (m : MasterState) (w : World S C O) (h : History C) (b : ℕ) →
+asked_led : {S C O : Type 0} (rules : Rules S C O) (m : MasterState) (w : GroupWorld S C O) (h : History C) (b : ℕ) →
     Serves rules m w h → IsAsked m w b → IsLedByNode (length w.nodes) h b
 asked_led {S = S} {C = C} {O = O} rules m w h b s (from, sent, (config, waits)) = by_sender (s.senders 0 _ sent)
   where
@@ -145,7 +145,7 @@ asked_led {S = S} {C = C} {O = O} rules m w h b s (from, sent, (config, waits)) 
     by_sender (inr node) = (said.0, said.1, subst (λ x. IsNode (length w.nodes) x) said.2 node)
 
 -- the primary of the active ballot is a node
-pub led_then : {S C O : Type 0} (rules : Rules S C O) (m : MasterState) (w : World S C O) (k : MasterState) (v : World S C O) (h i : History C) →
+pub led_then : {S C O : Type 0} (rules : Rules S C O) (m : MasterState) (w : GroupWorld S C O) (k : MasterState) (v : GroupWorld S C O) (h i : History C) →
     Serves rules m w h → Extends w h v i → MayHappen rules m w k v → IsLedByNode (length v.nodes) i k.active
 led_then {S = S} {C = C} {O = O} rules m w k v h i s extends step =
     subst (λ j. IsLedByNode j i k.active) (sym (same_nodes rules m w k v step)) (given_still (by_active (active_then rules m w k v step)))

@@ -3,7 +3,7 @@ use Rattle.std.proofs.Common.{◌⊎◌, inl, inr, ◌≡◌, ℕ, zero, suc, �
 use Rattle.std.specs.Prelude.{slice_get}
 use Rattle.machine.specs.Machine.{Rules}
 use Rattle.agreement.specs.Proposals.{proposal_of}
-use Rattle.agreement.specs.World.{World}
+use Rattle.agreement.specs.World.{GroupWorld}
 use Rattle.whole.specs.lists.Lists.{In}
 use Rattle.agreement.specs.Inside.Chosen.{IsAgreedIn}
 use Rattle.agreement.specs.MasterState.{AssignRefusal, refusal, master_after, MasterState}
@@ -20,7 +20,7 @@ use Rattle.agreement.specs.Inside.Serves.{IsLedByNode, IsNode}
 use Rattle.agreement.proofs.Masters.Assigns.{lawful_is, not_refused, serving_assigned, serving_activated}
 
 -- a step of such a group changes nothing, or is one of the group that takes in the same proposal
-pub one_step : {S C O : Type 0} (rules : Rules S C O) (m : MasterState) (w : World S C O) (k : MasterState) (v : World S C O) →
+pub one_step : {S C O : Type 0} (rules : Rules S C O) (m : MasterState) (w : GroupWorld S C O) (k : MasterState) (v : GroupWorld S C O) →
     (step : MayHappen rules m w k v) →
     ((k ≡ m) × (v ≡ w)) ⊎ ((g : GroupStep rules m w k v) × (adds_of g ≡ proposal_of step))
 one_step rules m w k v (node_takes n r input stands runs may loses) = inr (takes n r input stands runs may loses, refl)
@@ -42,7 +42,7 @@ one_step {S = S} {C = C} {O = O} rules m w k v (assignment_lost config) = by_ref
     by_refusal None e = inr (assigns_unheard config (lawful_is config (not_refused m config e).0).0, refl)
 
 -- a step keeps that members of the ballot that waits have numbers of nodes
-pub serving_step : {S C O : Type 0} (rules : Rules S C O) (m : MasterState) (w : World S C O) (k : MasterState) (v : World S C O) → MayHappen rules m w k v →
+pub serving_step : {S C O : Type 0} (rules : Rules S C O) (m : MasterState) (w : GroupWorld S C O) (k : MasterState) (v : GroupWorld S C O) → MayHappen rules m w k v →
     IsServing m → IsServing k
 serving_step rules m w k v (node_takes n r input stands runs may loses) s = s
 serving_step rules m w k v (node_stops n r stands) s = s
@@ -58,7 +58,7 @@ node_there (x ∷ xs) zero low = (x, refl)
 node_there (x ∷ xs) (suc n) low = node_there xs n (omega (arith, low))
 
 -- the primary of the active ballot is a member that is a node, and holds the agreed list
-pub serves_held : {S C O : Type 0} (rules : Rules S C O) (m : MasterState) (w : World S C O) (h : History C) (xs : List C) → IsSoundWorld rules w h →
+pub serves_held : {S C O : Type 0} (rules : Rules S C O) (m : MasterState) (w : GroupWorld S C O) (h : History C) (xs : List C) → IsSoundWorld rules w h →
     IsMaster m h → IsLedByNode (length w.nodes) h m.active → IsAgreedIn w h xs → Holds m w xs
 serves_held {S = S} {C = C} {O = O} rules m w h xs s k led agreed = by_number (subst (λ (y : Given). IsNode (length w.nodes) y.primary) same led.2)
   where

@@ -8,7 +8,7 @@ use Rattle.whole.specs.Messages.Body.{NewBallot, Join, State, Install, Installed
 use Rattle.whole.specs.Protocol.{Input, received, replica_step}
 use Rattle.whole.specs.Protocol.Input.{Receives, Proposes, Ticks}
 use Rattle.whole.specs.Replica.{ReplicaState}
-use Rattle.agreement.specs.World.{World}
+use Rattle.agreement.specs.World.{GroupWorld}
 use Rattle.whole.specs.lists.Lists.{In}
 use Rattle.agreement.specs.Inside.Ballots.{Line, History}
 use Rattle.agreement.specs.Inside.GroupSteps.{AddsBy}
@@ -41,7 +41,7 @@ use Rattle.agreement.proofs.Changing.Superseding.{keeps_superseded}
 use Rattle.agreement.proofs.Serving.Ticking.{keeps_tick}
 
 -- a message that comes
-keeps_received : {S C O : Type 0} (rules : Rules S C O) (w : World S C O) (h : History C) (n : ℕ) (r : ReplicaState S C) (from : ℕ)
+keeps_received : {S C O : Type 0} (rules : Rules S C O) (w : GroupWorld S C O) (h : History C) (n : ℕ) (r : ReplicaState S C) (from : ℕ)
     (body : Body C) → IsSoundWorld rules w h → slice_get w.nodes n ≡ Some r → IsReplay rules r → In (n + 1, record { from = from; body = body }) w.sent →
     KeepsAdding rules w h n (λ b c. c ≡ rules.start_of b) (received rules r from body)
 keeps_received rules w h n r from (NewBallot b members a old) s e ran i = adds_less rules w h n (λ b c. ⊥) (λ b c. c ≡ rules.start_of b) _ (λ b c z. absurd z) (keeps_new_ballot rules w h n r from b a members old s e i)
@@ -57,7 +57,7 @@ keeps_received rules w h n r from (Held b held) s e ran i = adds_less rules w h 
 keeps_received rules w h n r from (Commit b held) s e ran i = adds_less rules w h n (λ b c. ⊥) (λ b c. c ≡ rules.start_of b) _ (λ b c z. absurd z) (keeps_commit rules w h n r from b held s e i)
 
 -- the step of a node
-pub keeps_step : {S C O : Type 0} (rules : Rules S C O) (w : World S C O) (h : History C) (n : ℕ) (r : ReplicaState S C) (input : Input C) →
+pub keeps_step : {S C O : Type 0} (rules : Rules S C O) (w : GroupWorld S C O) (h : History C) (n : ℕ) (r : ReplicaState S C) (input : Input C) →
     IsSoundWorld rules w h → slice_get w.nodes n ≡ Some r → IsReplay rules r → MayTake w n input → KeepsAdding rules w h n (AddsBy rules r input) (replica_step rules r input)
 keeps_step rules w h n r (Receives message) s e ran i = keeps_received rules w h n r message.from message.body s e ran i
 keeps_step rules w h n r (Proposes c) s e ran i = keeps_proposed rules w h n r c s e ran
@@ -65,7 +65,7 @@ keeps_step rules w h n r Ticks s e ran i =
     keeps_tick rules w h n r s e (λ a. keeps_tick_active rules w h n r s e a) r.role refl
 
 -- a group continues soundly
-pub record GroupGoesOn {S C O : Type 0} (rules : Rules S C O) (w : World S C O) (h : History C) (m : MasterState) (v : World S C O)
+pub record GroupGoesOn {S C O : Type 0} (rules : Rules S C O) (w : GroupWorld S C O) (h : History C) (m : MasterState) (v : GroupWorld S C O)
     (adds : List (ℕ × C)) : Type 0 where
   pub goes_on : HistoryGoesOn rules w h v
   pub master : IsMaster m goes_on.history
@@ -78,7 +78,7 @@ master_same m h line k =
     record { older = k.older; newest = k.newest; active_members = k.active_members; numbered = k.numbered; waits = k.waits }
 
 -- after a move of a node
-abbrev pub by_history : {S C O : Type 0} (rules : Rules S C O) (w v : World S C O) (h : History C) (m : MasterState) (adds : ℕ → C → Type 0) (news : List (ℕ × C)) →
+abbrev pub by_history : {S C O : Type 0} (rules : Rules S C O) (w v : GroupWorld S C O) (h : History C) (m : MasterState) (adds : ℕ → C → Type 0) (news : List (ℕ × C)) →
     IsMaster m h → (g : NodeGoesOn rules w h adds v) →
     ((rows : List (ℕ × C)) → OwnLines rules.start_of h rows → OwnGoesOn rules.start_of g.history rows news) → GroupGoesOn rules w h m v news
 by_history {S = S} {C = C} rules w v h m adds news k g own =
@@ -89,7 +89,7 @@ by_history {S = S} {C = C} rules w v h m adds news k g own =
     }
 
 -- after a message of the master
-abbrev pub by_master : {S C O : Type 0} (rules : Rules S C O) (w : World S C O) (h : History C) (m : MasterState) (o : MasterOutcome C) →
+abbrev pub by_master : {S C O : Type 0} (rules : Rules S C O) (w : GroupWorld S C O) (h : History C) (m : MasterState) (o : MasterOutcome C) →
     Assigned rules m w h o → GroupGoesOn rules w h o.state (sends_from_master w o) []
 by_master {S = S} {C = C} rules w h m o a =
     record {
@@ -105,7 +105,7 @@ by_master {S = S} {C = C} rules w h m o a =
     }
 
 -- and if it is lost
-abbrev pub by_lost : {S C O : Type 0} (rules : Rules S C O) (w : World S C O) (h : History C) (m : MasterState) (o : MasterOutcome C) →
+abbrev pub by_lost : {S C O : Type 0} (rules : Rules S C O) (w : GroupWorld S C O) (h : History C) (m : MasterState) (o : MasterOutcome C) →
     Assigned rules m w h o → GroupGoesOn rules w h o.state w []
 by_lost {S = S} {C = C} rules w h m o a =
     record {

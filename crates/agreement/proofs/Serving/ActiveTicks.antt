@@ -9,7 +9,7 @@ use Rattle.whole.specs.Replica.{ReplicaState}
 use Rattle.whole.specs.Sending.{Outcome, message_to_followed}
 use Rattle.whole.specs.Serving.{append_at, appends_after, on_tick_active}
 use Rattle.whole.proofs.MessageRows.{on_tick_active-is}
-use Rattle.agreement.specs.World.{World, messages, outputs}
+use Rattle.agreement.specs.World.{GroupWorld, messages, outputs}
 use Rattle.whole.specs.lists.Lists.{In}
 use Rattle.whole.specs.lists.Lists.In.{here, there}
 use Rattle.agreement.specs.Inside.Ballots.{History, Told, IsChosenIn}
@@ -68,7 +68,7 @@ silent_after {C = C} O id b log (reached ∷ progress) =
     at_reached (Some c) = refl
 
 -- an active primary's committed places are chosen
-pub active_chosen : {S C O : Type 0} (w : World S C O) (h : History C) (n : ℕ) (r : ReplicaState S C) (a : IsActive w h n r) →
+pub active_chosen : {S C O : Type 0} (w : GroupWorld S C O) (h : History C) (n : ℕ) (r : ReplicaState S C) (a : IsActive w h n r) →
     (k : ℕ) → k ≤ length a.line.list → ((reached : Progress) → In reached r.progress → k ≤ reached.held) → IsChosenIn w h r.joined k
 active_chosen {S = S} {C = C} {O = O} w h n r a k within followed =
     (a.leads.0, a.leads.1, λ m i. by_reached m (a.covered m (subst (λ ms. In m ms) (sym a.leads.3) i)))
@@ -80,19 +80,19 @@ active_chosen {S = S} {C = C} {O = O} w h n r a k within followed =
         (told_less w h reached.member r.joined reached.held k (followed reached j) (a.followed reached j).3)
 
 -- the list of an active primary's ballot is its log
-pub active_log : {S C O : Type 0} (w : World S C O) (h : History C) (n : ℕ) (r : ReplicaState S C) → IsSoundNode w h n r →
+pub active_log : {S C O : Type 0} (w : GroupWorld S C O) (h : History C) (n : ℕ) (r : ReplicaState S C) → IsSoundNode w h n r →
     (a : IsActive w h n r) → r.log ≡ a.line.list
 active_log w h n r s a =
     s.primary_log a.leads.0 a.line (ap h.given a.own ∙ a.leads.1) a.leads.2 (ap h.line a.own ∙ a.lined)
 
 -- a member with a progress is another member
-pub followed_other : {S C O : Type 0} (w : World S C O) (h : History C) (n : ℕ) (r : ReplicaState S C) (a : IsActive w h n r) →
+pub followed_other : {S C O : Type 0} (w : GroupWorld S C O) (h : History C) (n : ℕ) (r : ReplicaState S C) (a : IsActive w h n r) →
     (reached : Progress) → In reached r.progress → In reached.member a.leads.0.members × (reached.member ≡ a.leads.0.primary → ⊥)
 followed_other w h n r a reached i =
     (subst (λ ms. In reached.member ms) a.leads.3 (a.followed reached i).0, λ e. a.others reached i (e ∙ a.leads.2))
 
 -- a tick of an active primary
-pub keeps_tick_active : {S C O : Type 0} (rules : Rules S C O) (w : World S C O) (h : History C) (n : ℕ) (r : ReplicaState S C) →
+pub keeps_tick_active : {S C O : Type 0} (rules : Rules S C O) (w : GroupWorld S C O) (h : History C) (n : ℕ) (r : ReplicaState S C) →
     IsSoundWorld rules w h → slice_get w.nodes n ≡ Some r → IsActive w h n r → KeepsSoundness rules w h n (on_tick_active O r)
 keeps_tick_active {S = S} {C = C} {O = O} rules w h n r s stands a =
     subst (λ (o : Outcome S C O). KeepsSoundness rules w h n o) (sym (on_tick_active-is O r))

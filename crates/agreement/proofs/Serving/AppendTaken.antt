@@ -7,7 +7,7 @@ use Rattle.whole.specs.Messages.Body.{Append, Held}
 use Rattle.whole.specs.Replica.{ReplicaState}
 use Rattle.whole.specs.Sending.{message_to}
 use Rattle.whole.specs.Serving.{extended}
-use Rattle.agreement.specs.World.{World, messages, moved}
+use Rattle.agreement.specs.World.{GroupWorld, messages, moved}
 use Rattle.whole.specs.lists.Lists.{In, IsPrefixOf}
 use Rattle.whole.specs.lists.Lists.In.{here, there}
 use Rattle.agreement.specs.Inside.Ballots.{Given, Line, History, Applied}
@@ -31,7 +31,7 @@ use Rattle.agreement.proofs.Frame.Telling.{TellsWithin, same_moves, told_placed,
 use Rattle.agreement.proofs.Serving.Extending.{extended_front, extended_grows}
 
 -- an Append that is taken
-pub append_taken : {S C O : Type 0} (rules : Rules S C O) (w : World S C O) (h : History C) (n : ℕ) (r : ReplicaState S C)
+pub append_taken : {S C O : Type 0} (rules : Rules S C O) (w : GroupWorld S C O) (h : History C) (n : ℕ) (r : ReplicaState S C)
     (from b place : ℕ) (c : C) → IsSoundWorld rules w h → slice_get w.nodes n ≡ Some r → SpeaksTruth w h (n + 1) from (Append b place c) →
     Follows r b → place ≤ length r.log →
     (g : Given) (l : Line C) → h.given b ≡ Some g → h.line b ≡ Some l → IsPrefixOf l.base r.log → IsPrefixOf r.log l.list →

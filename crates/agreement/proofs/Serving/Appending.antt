@@ -8,7 +8,7 @@ use Rattle.whole.specs.Replica.{ReplicaState}
 use Rattle.whole.specs.Sending.{Outcome, message_to}
 use Rattle.whole.specs.Serving.{follows, extended, on_append}
 use Rattle.whole.proofs.MessageRows.{on_append-elsewhere, on_append-gap, on_append-takes}
-use Rattle.agreement.specs.World.{World}
+use Rattle.agreement.specs.World.{GroupWorld}
 use Rattle.whole.specs.lists.Lists.{In, IsPrefixOf}
 use Rattle.agreement.specs.Inside.Ballots.{Given, Line, History}
 use Rattle.agreement.specs.Inside.Keeps.{KeepsSoundness}
@@ -19,7 +19,7 @@ use Rattle.agreement.proofs.Frame.Quiet.{keeps_nothing}
 use Rattle.agreement.proofs.Serving.AppendTaken.{append_taken}
 
 -- an Append that comes
-pub keeps_append : {S C O : Type 0} (rules : Rules S C O) (w : World S C O) (h : History C) (n : ℕ) (r : ReplicaState S C)
+pub keeps_append : {S C O : Type 0} (rules : Rules S C O) (w : GroupWorld S C O) (h : History C) (n : ℕ) (r : ReplicaState S C)
     (from b place : ℕ) (c : C) → IsSoundWorld rules w h → slice_get w.nodes n ≡ Some r →
     In (n + 1, record { from = from; body = Append b place c }) w.sent → KeepsSoundness rules w h n (on_append O r from b place c)
 keeps_append {S = S} {C = C} {O = O} rules w h n r from b place c s stands sent = by_role (cases_Bool (follows r b))

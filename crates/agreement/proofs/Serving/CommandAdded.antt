@@ -7,7 +7,7 @@ use Rattle.whole.specs.Replica.{ReplicaState}
 use Rattle.whole.specs.Sending.{Outcome, message_to_followed}
 use Rattle.whole.specs.Serving.{added}
 use Rattle.whole.proofs.StepRows.{added-is}
-use Rattle.agreement.specs.World.{World, moved}
+use Rattle.agreement.specs.World.{GroupWorld, moved}
 use Rattle.whole.specs.lists.Lists.{In}
 use Rattle.agreement.specs.Inside.Ballots.{History}
 use Rattle.agreement.specs.Inside.Keeps.{KeepsAdding}
@@ -25,7 +25,7 @@ use Rattle.agreement.proofs.Serving.Leading.{Leading, longer}
 use Rattle.agreement.proofs.Serving.Growing.{grown_ready}
 
 -- a command is added, and sent
-pub keeps_added : {S C O : Type 0} (rules : Rules S C O) (w : World S C O) (h : History C) (n : ℕ) (old r : ReplicaState S C) (c : C) →
+pub keeps_added : {S C O : Type 0} (rules : Rules S C O) (w : GroupWorld S C O) (h : History C) (n : ℕ) (old r : ReplicaState S C) (c : C) →
     IsSoundWorld rules w h → slice_get w.nodes n ≡ Some old → Leading w h n r → r.id ≡ old.id → r.joined ≡ old.joined →
     r.held_in ≡ old.held_in → r.log ≡ old.log → old.committed ≤ r.committed → r.machine ≡ replay rules (take r.committed r.log) →
     KeepsAdding rules w h n (λ b x. (b ≡ r.joined) × (x ≡ c)) (added rules r c)

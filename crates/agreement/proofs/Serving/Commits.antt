@@ -11,7 +11,7 @@ use Rattle.whole.specs.Sending.{Outcome, message_to_followed, sent_first}
 use Rattle.whole.specs.Applying.{applied_to, outputs_from, outputs_to, outputs_between}
 use Rattle.whole.specs.Serving.{least, commit_at}
 use Rattle.whole.proofs.StepRows.{commit_at-goes, commit_at-stays, least-le}
-use Rattle.agreement.specs.World.{World, messages, outputs, moved}
+use Rattle.agreement.specs.World.{GroupWorld, messages, outputs, moved}
 use Rattle.whole.specs.lists.Lists.{In}
 use Rattle.agreement.specs.Inside.Ballots.{Line, History, IsChosenIn}
 use Rattle.agreement.specs.Inside.Keeps.{KeepsAdding}
@@ -31,7 +31,7 @@ use Rattle.agreement.proofs.Frame.Moved.{move_sound}
 use Rattle.agreement.proofs.Serving.Ready.{Ready, committed_node}
 
 -- what a primary sends first, and then with its commit
-pub ready_keeps : {S C O : Type 0} (rules : Rules S C O) (w : World S C O) (h : History C) (line : ℕ → Option (Line C)) (n : ℕ)
+pub ready_keeps : {S C O : Type 0} (rules : Rules S C O) (w : GroupWorld S C O) (h : History C) (line : ℕ → Option (Line C)) (n : ℕ)
     (old r : ReplicaState S C) (adds : ℕ → C → Type 0) (firsts : List (Effect C O)) → IsSoundWorld rules w h → Ready rules w h line n old r adds → outputs firsts ≡ [] →
     r.id ≡ n + 1 → r.machine ≡ replay rules (take r.committed r.log) →
     ((to : ℕ) (m : Message C) → In (to, m) (messages firsts) → (m.from ≡ n + 1) × IsSilent m.body) →

@@ -10,7 +10,7 @@ use Rattle.whole.specs.Replica.{ReplicaState, is_backup}
 use Rattle.whole.specs.Sending.{Outcome}
 use Rattle.whole.specs.Serving.{follows, on_commit}
 use Rattle.whole.proofs.MessageRows.{on_commit-elsewhere, on_commit-past, on_commit-takes}
-use Rattle.agreement.specs.World.{World, moved}
+use Rattle.agreement.specs.World.{GroupWorld, moved}
 use Rattle.whole.specs.lists.Lists.{In, IsPrefixOf}
 use Rattle.agreement.specs.Inside.Ballots.{Given, Line, History, Applied}
 use Rattle.agreement.specs.Inside.Ballots.Applied.{nothing, in_ballot}
@@ -35,7 +35,7 @@ follows_is r b e =
     record { joined = eqb-true r.joined b q.0; held = eqb-true r.held_in b q.1; backup = p.1 }
 
 -- a Commit that is taken
-commit_taken : {S C O : Type 0} (rules : Rules S C O) (w : World S C O) (h : History C) (n : ℕ) (r : ReplicaState S C)
+commit_taken : {S C O : Type 0} (rules : Rules S C O) (w : GroupWorld S C O) (h : History C) (n : ℕ) (r : ReplicaState S C)
     (from b held : ℕ) → IsSoundWorld rules w h → slice_get w.nodes n ≡ Some r → SpeaksTruth w h (n + 1) from (Commit b held) →
     Follows r b → held ≤ length r.log →
     KeepsSoundness rules w h n (record { state = applied_to rules r (max r.committed held); effects = [] })
@@ -81,7 +81,7 @@ commit_taken {S = S} {C = C} {O = O} rules w h n r from b held s stands said f w
         by_order t (inr less) = as_before (omega (arith, less)) t.applied
 
 -- a Commit that comes
-pub keeps_commit : {S C O : Type 0} (rules : Rules S C O) (w : World S C O) (h : History C) (n : ℕ) (r : ReplicaState S C)
+pub keeps_commit : {S C O : Type 0} (rules : Rules S C O) (w : GroupWorld S C O) (h : History C) (n : ℕ) (r : ReplicaState S C)
     (from b held : ℕ) → IsSoundWorld rules w h → slice_get w.nodes n ≡ Some r →
     In (n + 1, record { from = from; body = Commit b held }) w.sent → KeepsSoundness rules w h n (on_commit rules r b held)
 keeps_commit {S = S} {C = C} {O = O} rules w h n r from b held s stands sent = by_role (cases_Bool (follows r b))

@@ -5,7 +5,7 @@ use Rattle.std.proofs.lemmas.List.{length-append}
 use Rattle.machine.specs.Machine.{Rules}
 use Rattle.whole.specs.Messages.{Effect}
 use Rattle.whole.specs.Replica.{ReplicaState}
-use Rattle.agreement.specs.World.{World, moved}
+use Rattle.agreement.specs.World.{GroupWorld, moved}
 use Rattle.whole.specs.lists.Lists.{In, IsPrefixOf}
 use Rattle.agreement.specs.Inside.Ballots.{Line, History, Applied}
 use Rattle.agreement.specs.Inside.Ballots.Applied.{nothing, in_ballot}
@@ -25,7 +25,7 @@ use Rattle.agreement.proofs.Frame.Telling.{told_placed, told_in_log}
 use Rattle.agreement.proofs.Serving.Leading.{Leading, longer}
 
 -- the primary is ready to commit
-pub grown_ready : {S C O : Type 0} (rules : Rules S C O) (w : World S C O) (h : History C) (n : ℕ) (old r : ReplicaState S C) (c : C) →
+pub grown_ready : {S C O : Type 0} (rules : Rules S C O) (w : GroupWorld S C O) (h : History C) (n : ℕ) (old r : ReplicaState S C) (c : C) →
     IsSoundWorld rules w h → slice_get w.nodes n ≡ Some old → (q : Leading w h n r) → r.id ≡ old.id → r.joined ≡ old.joined →
     r.held_in ≡ old.held_in → r.log ≡ old.log → old.committed ≤ r.committed →
     Ready rules w h (lined_at r.joined (longer q.line c) h.line) n old (record r { log = r.log ++ c ∷ [] })

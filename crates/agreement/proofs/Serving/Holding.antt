@@ -11,7 +11,7 @@ use Rattle.whole.specs.Replica.{ReplicaState, is_active}
 use Rattle.whole.specs.Sending.{Outcome}
 use Rattle.whole.specs.Serving.{raised, raised_progress, leads, on_held}
 use Rattle.whole.proofs.MessageRows.{raised_progress-member, on_held-elsewhere, on_held-raises}
-use Rattle.agreement.specs.World.{World, moved}
+use Rattle.agreement.specs.World.{GroupWorld, moved}
 use Rattle.whole.specs.lists.Lists.{In}
 use Rattle.agreement.specs.Inside.Ballots.{History, Told, Applied}
 use Rattle.agreement.specs.Inside.Ballots.Told.{told_by_held}
@@ -31,7 +31,7 @@ use Rattle.agreement.proofs.Frame.Telling.{same_moves, told_placed, told_in_log}
 use Rattle.agreement.proofs.Serving.Raising.{in_raised, raised_in, raised_told}
 
 -- the primary is ready to commit
-raised_ready : {S C O : Type 0} (rules : Rules S C O) (w : World S C O) (h : History C) (n : ℕ) (r : ReplicaState S C) (from held : ℕ) →
+raised_ready : {S C O : Type 0} (rules : Rules S C O) (w : GroupWorld S C O) (h : History C) (n : ℕ) (r : ReplicaState S C) (from held : ℕ) →
     IsSoundWorld rules w h → slice_get w.nodes n ≡ Some r → r.role ≡ Active → Told w h from r.joined held →
     Ready rules w h h.line n r (record r { progress = raised from held r.progress }) (λ b c. ⊥)
 raised_ready {S = S} {C = C} {O = O} rules w h n r from held s stands role heard =
@@ -123,7 +123,7 @@ raised_ready {S = S} {C = C} {O = O} rules w h n r from held s stands role heard
             a.others before j (sym (ap (λ (y : Progress). y.member) e ∙ raised_progress-member from held before) ∙ f)
 
 -- a Held that comes
-pub keeps_held : {S C O : Type 0} (rules : Rules S C O) (w : World S C O) (h : History C) (n : ℕ) (r : ReplicaState S C)
+pub keeps_held : {S C O : Type 0} (rules : Rules S C O) (w : GroupWorld S C O) (h : History C) (n : ℕ) (r : ReplicaState S C)
     (from b held : ℕ) → IsSoundWorld rules w h → slice_get w.nodes n ≡ Some r → r.machine ≡ replay rules (take r.committed r.log) →
     In (n + 1, record { from = from; body = Held b held }) w.sent → KeepsSoundness rules w h n (on_held rules r from b held)
 keeps_held {S = S} {C = C} {O = O} rules w h n r from b held s stands ran sent = by_role (cases_Bool (leads r b))

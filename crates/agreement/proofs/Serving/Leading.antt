@@ -3,14 +3,14 @@ use Rattle.std.proofs.Common.{◌≡◌, ℕ, ◌+◌, ◌≤◌, ◌⊎◌, [],
 use Rattle.whole.specs.ballot_base.declared.status.Progress.{Progress}
 use Rattle.whole.specs.ballot_base.declared.status.Role.TheVariants.{Active}
 use Rattle.whole.specs.Replica.{ReplicaState}
-use Rattle.agreement.specs.World.{World}
+use Rattle.agreement.specs.World.{GroupWorld}
 use Rattle.whole.specs.lists.Lists.{In}
 use Rattle.agreement.specs.Inside.Ballots.{Given, Line, History, Told, Applied}
 use Rattle.agreement.specs.Inside.Sound.{IsActive, IsSoundNode}
 use Rattle.agreement.proofs.Serving.ActiveTicks.{active_log}
 
 -- a primary of an activated ballot, before the command is added
-pub record Leading {S C O : Type 0} (w : World S C O) (h : History C) (n : ℕ) (r : ReplicaState S C) : Type 0 where
+pub record Leading {S C O : Type 0} (w : GroupWorld S C O) (h : History C) (n : ℕ) (r : ReplicaState S C) : Type 0 where
   pub role : r.role ≡ Active
   pub ballot : Given
   pub is_given : h.given r.joined ≡ Some ballot
@@ -30,7 +30,7 @@ pub record Leading {S C O : Type 0} (w : World S C O) (h : History C) (n : ℕ) 
   pub others : (reached : Progress) → In reached r.progress → reached.member ≡ n + 1 → ⊥
 
 -- an active primary is one
-pub active_leading : {S C O : Type 0} (w : World S C O) (h : History C) (n : ℕ) (r : ReplicaState S C) → IsSoundNode w h n r →
+pub active_leading : {S C O : Type 0} (w : GroupWorld S C O) (h : History C) (n : ℕ) (r : ReplicaState S C) → IsSoundNode w h n r →
     r.role ≡ Active → IsActive w h n r → Leading w h n r
 active_leading w h n r t role a =
     record {

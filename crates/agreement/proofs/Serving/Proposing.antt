@@ -7,7 +7,7 @@ use Rattle.whole.specs.Replica.{ReplicaState, is_active}
 use Rattle.whole.specs.Sending.{Outcome}
 use Rattle.whole.specs.Serving.{proposed, max_places}
 use Rattle.whole.proofs.StepRows.{proposed-adds, proposed-not_active, proposed-full}
-use Rattle.agreement.specs.World.{World}
+use Rattle.agreement.specs.World.{GroupWorld}
 use Rattle.agreement.specs.Inside.Ballots.{History}
 use Rattle.agreement.specs.Inside.Keeps.{KeepsAdding}
 use Rattle.agreement.specs.Inside.Sound.{IsSoundWorld}
@@ -18,7 +18,7 @@ use Rattle.agreement.proofs.Frame.Quiet.{keeps_nothing}
 use Rattle.agreement.proofs.Frame.Roles.{role_active}
 
 -- a proposal
-pub keeps_proposed : {S C O : Type 0} (rules : Rules S C O) (w : World S C O) (h : History C) (n : ℕ) (r : ReplicaState S C) (c : C) →
+pub keeps_proposed : {S C O : Type 0} (rules : Rules S C O) (w : GroupWorld S C O) (h : History C) (n : ℕ) (r : ReplicaState S C) (c : C) →
     IsSoundWorld rules w h → slice_get w.nodes n ≡ Some r → r.machine ≡ replay rules (take r.committed r.log) →
     KeepsAdding rules w h n (λ b x. (b ≡ r.joined) × (x ≡ c)) (proposed rules r c)
 keeps_proposed {S = S} {C = C} {O = O} rules w h n r c s stands ran = by_role (cases_Bool (is_active r.role))

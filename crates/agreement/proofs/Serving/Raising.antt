@@ -3,7 +3,7 @@ use Rattle.std.proofs.Common.{◌≡◌, ℕ, ◌<◌, ◌≤◌, ◌⊎◌, inl
 use Rattle.std.proofs.lemmas.Bool.{cases_eq, cases_lt, eq-eqb, ne_eqb}
 use Rattle.whole.specs.ballot_base.declared.status.Progress.{Progress}
 use Rattle.whole.specs.Serving.{raised, raised_progress}
-use Rattle.agreement.specs.World.{World}
+use Rattle.agreement.specs.World.{GroupWorld}
 use Rattle.whole.specs.lists.Lists.{In}
 use Rattle.whole.specs.lists.Lists.In.{here, there}
 use Rattle.agreement.specs.Inside.Ballots.{History, Told}
@@ -23,7 +23,7 @@ raised_in member held (m ∷ progress) reached here = here
 raised_in member held (m ∷ progress) reached (there i) = there (raised_in member held progress reached i)
 
 -- a raised progress is no lower, and acknowledged
-pub raised_told : {S C O : Type 0} (w : World S C O) (h : History C) (from b held : ℕ) (before : Progress) → Told w h from b held →
+pub raised_told : {S C O : Type 0} (w : GroupWorld S C O) (h : History C) (from b held : ℕ) (before : Progress) → Told w h from b held →
     Told w h before.member b before.held →
     (before.held ≤ (raised_progress from held before).held) × Told w h before.member b (raised_progress from held before).held
 raised_told {S = S} {C = C} {O = O} w h from b held before heard told = by_member (cases_eq before.member from)

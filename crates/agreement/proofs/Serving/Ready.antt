@@ -6,7 +6,7 @@ use Rattle.whole.specs.ballot_base.declared.status.Progress.{Progress}
 use Rattle.whole.specs.ballot_base.declared.status.Role.TheVariants.{Active}
 use Rattle.whole.specs.Replica.{ReplicaState}
 use Rattle.whole.specs.Applying.{applied_to}
-use Rattle.agreement.specs.World.{World, messages, moved}
+use Rattle.agreement.specs.World.{GroupWorld, messages, moved}
 use Rattle.whole.specs.lists.Lists.{In}
 use Rattle.agreement.specs.Inside.Ballots.{Line, History}
 use Rattle.agreement.specs.Inside.Ballots.Applied.{in_ballot}
@@ -19,7 +19,7 @@ use Rattle.agreement.proofs.Frame.Later.{takes}
 use Rattle.agreement.proofs.Frame.EqualLists.{prefix_of_same}
 
 -- a primary whose log and progress have changed, and that has not committed yet
-pub record Ready {S C O : Type 0} (rules : Rules S C O) (w : World S C O) (h : History C) (line : ℕ → Option (Line C)) (n : ℕ) (old r : ReplicaState S C)
+pub record Ready {S C O : Type 0} (rules : Rules S C O) (w : GroupWorld S C O) (h : History C) (line : ℕ → Option (Line C)) (n : ℕ) (old r : ReplicaState S C)
     (adds : ℕ → C → Type 0) : Type 0 where
   pub role : r.role ≡ Active
   pub after : old.committed ≤ r.committed
@@ -31,7 +31,7 @@ pub record Ready {S C O : Type 0} (rules : Rules S C O) (w : World S C O) (h : H
       IsSoundNode (moved w n (record r { committed = k; machine = t }) given) (with_lines h line) n r
 
 -- a primary that has committed is as it should be
-pub committed_node : {S C O : Type 0} (rules : Rules S C O) (v : World S C O) (i : History C) (n : ℕ) (r : ReplicaState S C) → IsSoundNode v i n r → r.role ≡ Active →
+pub committed_node : {S C O : Type 0} (rules : Rules S C O) (v : GroupWorld S C O) (i : History C) (n : ℕ) (r : ReplicaState S C) → IsSoundNode v i n r → r.role ≡ Active →
     (k : ℕ) → r.committed ≤ k → k ≤ length r.log → ((reached : Progress) → In reached r.progress → k ≤ reached.held) →
     IsSoundNode v i n (applied_to rules r k)
 committed_node {S = S} {C = C} rules v i n r t role k up within followed =

@@ -11,7 +11,7 @@ use Rattle.whole.specs.Sending.{message_to_each}
 use Rattle.whole.specs.Changing.{on_tick_fetching, installs}
 use Rattle.whole.specs.Serving.{on_tick_active}
 use Rattle.whole.specs.Protocol.{ticked}
-use Rattle.agreement.specs.World.{World, messages, outputs, moved}
+use Rattle.agreement.specs.World.{GroupWorld, messages, outputs, moved}
 use Rattle.whole.specs.lists.Lists.{In}
 use Rattle.whole.specs.lists.Lists.In.{here, there}
 use Rattle.agreement.specs.Inside.Ballots.{Given, History}
@@ -26,7 +26,7 @@ use Rattle.agreement.proofs.Changing.NewBallots.{said_to_each, outputs_to_each}
 use Rattle.agreement.proofs.Frame.Quiet.{before_quiet, quiet_keeps, keeps_nothing}
 
 -- a step that changes no node, whose messages are so already and say nothing
-pub speaking_keeps : {S C O : Type 0} (rules : Rules S C O) (w : World S C O) (h : History C) (n : ℕ) (r : ReplicaState S C)
+pub speaking_keeps : {S C O : Type 0} (rules : Rules S C O) (w : GroupWorld S C O) (h : History C) (n : ℕ) (r : ReplicaState S C)
     (effects : List (Effect C O)) → IsSoundWorld rules w h → slice_get w.nodes n ≡ Some r → AreSilent (messages effects) →
     outputs effects ≡ [] → ((to : ℕ) (m : Message C) → In (to, m) (messages effects) → SpeaksTruth w h to m.from m.body) →
     KeepsSoundness rules w h n (record { state = r; effects = effects })
@@ -41,7 +41,7 @@ same_given : (o : Option Given) (x y : Given) → o ≡ Some x → o ≡ Some y 
 same_given o x y e f = cc
 
 -- a tick of a new primary that waits for a log
-keeps_tick_fetching : {S C O : Type 0} (rules : Rules S C O) (w : World S C O) (h : History C) (n : ℕ) (r : ReplicaState S C) →
+keeps_tick_fetching : {S C O : Type 0} (rules : Rules S C O) (w : GroupWorld S C O) (h : History C) (n : ℕ) (r : ReplicaState S C) →
     IsSoundWorld rules w h → slice_get w.nodes n ≡ Some r → IsFetching w h n r → KeepsSoundness rules w h n (on_tick_fetching O r)
 keeps_tick_fetching {S = S} {C = C} {O = O} rules w h n r s stands (leads, low, none, (g, is_of, prev, (old, given, olds))) =
     speaking_keeps rules w h n r (message_to_each O r.id (Join r.joined r.previous) r.previous_members) s stands
@@ -61,7 +61,7 @@ keeps_tick_fetching {S = S} {C = C} {O = O} rules w h n r s stands (leads, low, 
     id = (s.nodes n r stands).id
 
 -- what a new primary says whose log is being installed
-pub says_installs : {S C O : Type 0} (w : World S C O) (h : History C) (n : ℕ) (r : ReplicaState S C) → r.id ≡ n + 1 → IsInstalling w h n r →
+pub says_installs : {S C O : Type 0} (w : GroupWorld S C O) (h : History C) (n : ℕ) (r : ReplicaState S C) → r.id ≡ n + 1 → IsInstalling w h n r →
     (ms : List ℕ) → r.lacking ≡ ms → (to : ℕ) (m : Message C) → In (to, m) (messages (installs O r ms)) →
     SpeaksTruth w h to m.from m.body
 says_installs {S = S} {C = C} {O = O} w h n r id j [] none to m (there i) = elim i [ ]
@@ -100,7 +100,7 @@ from_installs O r (x ∷ ms) to m i =
     said_to_each O (λ to m. m.from ≡ r.id) r.id (Install r.joined r.log) (x ∷ ms) (λ to i. refl) to m i
 
 -- a tick of a node
-pub keeps_tick : {S C O : Type 0} (rules : Rules S C O) (w : World S C O) (h : History C) (n : ℕ) (r : ReplicaState S C) →
+pub keeps_tick : {S C O : Type 0} (rules : Rules S C O) (w : GroupWorld S C O) (h : History C) (n : ℕ) (r : ReplicaState S C) →
     IsSoundWorld rules w h → slice_get w.nodes n ≡ Some r →
     (IsActive w h n r → KeepsSoundness rules w h n (on_tick_active O r)) →
     (role : Role) → r.role ≡ role → KeepsSoundness rules w h n (ticked O r role)

@@ -7,7 +7,7 @@ use Rattle.whole.specs.Protocol.{Input, replica_step}
 use Rattle.whole.specs.Protocol.Input.{Receives, Proposes, Ticks}
 use Rattle.whole.specs.Replica.{ReplicaState, is_active}
 use Rattle.whole.proofs.StepRows.{proposed-not_active}
-use Rattle.agreement.specs.World.{World}
+use Rattle.agreement.specs.World.{GroupWorld}
 use Rattle.whole.specs.lists.Lists.{In}
 use Rattle.agreement.specs.Inside.Ballots.{Line, History}
 use Rattle.agreement.specs.Inside.Begun.{AreBegun, BeginsOrFollows, AreLong}
@@ -26,7 +26,7 @@ use Rattle.agreement.proofs.Frame.Bases.{one_line}
 use Rattle.agreement.proofs.Runs.Steps.{keeps_step}
 
 -- the lists after a step
-pub begun_lines : {S C O : Type 0} (rules : Rules S C O) (w v : World S C O) (h : History C) (adds : ℕ → C → Type 0) →
+pub begun_lines : {S C O : Type 0} (rules : Rules S C O) (w v : GroupWorld S C O) (h : History C) (adds : ℕ → C → Type 0) →
     ((b : ℕ) (c : C) → adds b c → BeginsOrFollows rules.start_of h b c) → IsSoundWorld rules w h → (g : NodeGoesOn rules w h adds v) →
     AreBegun rules.start_of h → AreBegun rules.start_of g.history
 begun_lines {S = S} {C = C} rules w v h adds may s g begun b k e = by_line (g.added b k e)
@@ -65,7 +65,7 @@ follows_active h r (inl one) l lined still = one
 follows_active h r (inr longer) l lined still = let z = longer l lined in let u = ap length still in absurd (omega (arith, z, u))
 
 -- what a step of a node adds is as it was said, and begins or follows
-pub keeps_begun : {S C O : Type 0} (rules : Rules S C O) (w : World S C O) (h : History C) (n : ℕ) (r : ReplicaState S C) (input : Input C) →
+pub keeps_begun : {S C O : Type 0} (rules : Rules S C O) (w : GroupWorld S C O) (h : History C) (n : ℕ) (r : ReplicaState S C) (input : Input C) →
     IsSoundWorld rules w h → AreLong w h → slice_get w.nodes n ≡ Some r → IsReplay rules r → MayTake w n input →
     KeepsAdding rules w h n (λ b c. AddsBy rules r input b c × BeginsOrFollows rules.start_of h b c) (replica_step rules r input)
 keeps_begun rules w h n r (Receives message) s long e ran i =

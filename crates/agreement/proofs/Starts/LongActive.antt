@@ -8,7 +8,7 @@ use Rattle.whole.specs.Messages.{Effect}
 use Rattle.whole.specs.Losses.{Loses}
 use Rattle.whole.specs.Protocol.{Input, replica_step}
 use Rattle.whole.specs.Replica.{ReplicaState}
-use Rattle.agreement.specs.World.{World, moved}
+use Rattle.agreement.specs.World.{GroupWorld, moved}
 use Rattle.agreement.specs.Inside.Ballots.{Line, History}
 use Rattle.agreement.specs.Inside.Begun.{AreLong}
 use Rattle.agreement.specs.Inside.Keeps.{NodeGoesOn}
@@ -35,18 +35,18 @@ loses_begins {S = S} {C = C} rules r input new given (inr (inr (e, f))) =
     inl (λ x. (sym (ap (λ (y : ReplicaState S C). y.role) e) ∙ x, ap (λ (y : ReplicaState S C). y.joined) e))
 
 -- the master changes no list
-pub long_same : {S C O : Type 0} (w : World S C O) (h i : History C) → i.line ≡ h.line → AreLong w h → AreLong w i
+pub long_same : {S C O : Type 0} (w : GroupWorld S C O) (h i : History C) → i.line ≡ h.line → AreLong w h → AreLong w i
 long_same {S = S} {C = C} w h i e long = subst (λ (line : ℕ → Option (Line C)). AreLong w (record h { line = line })) (sym e) long
 
 -- after a move of a node
-pub long_moved : {S C O : Type 0} (rules : Rules S C O) (w v : World S C O) (h : History C) (adds : ℕ → C → Type 0) (n : ℕ) (old new : ReplicaState S C)
+pub long_moved : {S C O : Type 0} (rules : Rules S C O) (w v : GroupWorld S C O) (h : History C) (adds : ℕ → C → Type 0) (n : ℕ) (old new : ReplicaState S C)
     (given : List (Effect C O)) → IsSoundWorld rules w h → slice_get w.nodes n ≡ Some old → (g : NodeGoesOn rules w h adds v) → AreLong w h →
     v ≡ moved w n new given →
     StaysActive {O = O} old (record { state = new; effects = [] }) ⊎ Begins {O = O} old (record { state = new; effects = [] }) → AreLong v g.history
 long_moved {S = S} {C = C} {O = O} rules w v h adds n old new given s stands g long same how m r e active = by_place (cases_eq m n)
   where
     nodes : slice_get (set w.nodes n new) m ≡ Some r
-    nodes = ap (λ (x : World S C O). slice_get x.nodes m) (sym same) ∙ e
+    nodes = ap (λ (x : GroupWorld S C O). slice_get x.nodes m) (sym same) ∙ e
 
     still : (b : ℕ) → (b ≡ 1) ⊎ ((l : Line C) → h.line b ≡ Some l → length l.base < length l.list) → ((l : Line C) × (h.line b ≡ Some l)) →
         (b ≡ 1) ⊎ ((l : Line C) → g.history.line b ≡ Some l → length l.base < length l.list)

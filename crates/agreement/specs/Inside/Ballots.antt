@@ -3,7 +3,7 @@ use Rattle.std.specs.Prelude.{ℕ, ◌+◌, ◌<◌, ◌≤◌, ◌≡◌, ◌�
 use Rattle.std.specs.Prelude.{Option, Some}
 use Rattle.whole.specs.Messages.Body.{Held, Installed}
 use Rattle.whole.specs.Replica.{ReplicaState}
-use Rattle.agreement.specs.World.{World}
+use Rattle.agreement.specs.World.{GroupWorld}
 use Rattle.whole.specs.lists.Lists.{In, IsPrefixOf}
 
 -- a ballot as the master gave it; ballot 1 has the previous ballot 0
@@ -24,7 +24,7 @@ pub record History (C : Type 0) : Type 0 where
   pub line : ℕ → Option (Line C)
 
 -- node m has acknowledged the first k places of the ballot's list
-pub data Told {S C O : Type 0} (w : World S C O) (h : History C) (m b k : ℕ) : Type 0 where
+pub data Told {S C O : Type 0} (w : GroupWorld S C O) (h : History C) (m b k : ℕ) : Type 0 where
   -- nothing of ballot 1 at its opening
   told_at_opening : (g : Given) → b ≡ 1 → k ≡ 0 → h.given 1 ≡ Some g → In m g.members →
       Told w h m b k
@@ -39,7 +39,7 @@ pub data Told {S C O : Type 0} (w : World S C O) (h : History C) (m b k : ℕ) :
       h.line b ≡ Some l → k ≤ length l.list → Told w h m b k
 
 -- a node acknowledges in the ballot in which it holds its log, and no more than its log has
-pub record TellsHere {S C O : Type 0} (v : World S C O) (m b k : ℕ) : Type 0 where
+pub record TellsHere {S C O : Type 0} (v : GroupWorld S C O) (m b k : ℕ) : Type 0 where
   pub node : ℕ
   pub replica : ReplicaState S C
   pub number : m ≡ node + 1
@@ -48,13 +48,13 @@ pub record TellsHere {S C O : Type 0} (v : World S C O) (m b k : ℕ) : Type 0 w
   pub short : k ≤ length replica.log
 
 -- every member of the ballot has acknowledged k places
-abbrev pub IsChosenIn : {S C O : Type 0} → World S C O → History C → ℕ → ℕ → Type 0
+abbrev pub IsChosenIn : {S C O : Type 0} → GroupWorld S C O → History C → ℕ → ℕ → Type 0
 IsChosenIn w h b k = (g : Given) × (h.given b ≡ Some g) × ((m : ℕ) → In m g.members →
     Told w h m b k)
 
 -- some member has left the ballot for good, and all that it acknowledged there is a prefix of the
 -- list
-pub record Sealed {S C O : Type 0} (w : World S C O) (h : History C) (b : ℕ)
+pub record Sealed {S C O : Type 0} (w : GroupWorld S C O) (h : History C) (b : ℕ)
     (xs : List C) : Type 0 where
   pub node : ℕ
   pub ballot : Given
@@ -88,7 +88,7 @@ pub record AreBallots {C : Type 0} (h : History C) : Type 0 where
   pub led : (b : ℕ) (g : Given) → h.given b ≡ Some g → In g.primary g.members
 
 -- the rows on a ballot's lists
-pub record BallotListsStand {S C O : Type 0} (w : World S C O) (h : History C) : Type 0 where
+pub record BallotListsStand {S C O : Type 0} (w : GroupWorld S C O) (h : History C) : Type 0 where
   pub lined : (b : ℕ) (l : Line C) → h.line b ≡ Some l → (g : Given) × (h.given b ≡ Some g)
   pub prefix : (b : ℕ) (l : Line C) → h.line b ≡ Some l → IsPrefixOf l.base l.list
   pub sealed : (b : ℕ) (g : Given) (l : Line C) → h.given b ≡ Some g → 0 < g.previous →
@@ -102,7 +102,7 @@ pub record BallotListsStand {S C O : Type 0} (w : World S C O) (h : History C) :
       (l : Line C) × (h.line b ≡ Some l) × IsChosenIn w h b (length l.base)
 
 -- the rows on a node that the lemmas below need
-pub record IsPlaced {S C O : Type 0} (w : World S C O) (h : History C) (n : ℕ)
+pub record IsPlaced {S C O : Type 0} (w : GroupWorld S C O) (h : History C) (n : ℕ)
     (r : ReplicaState S C) : Type 0 where
   pub order : r.held_in ≤ r.joined
   pub between : 0 < r.held_in →
@@ -112,7 +112,7 @@ pub record IsPlaced {S C O : Type 0} (w : World S C O) (h : History C) (n : ℕ)
   pub told_here : (k : ℕ) → Told w h (n + 1) r.held_in k → k ≤ length r.log
 
 -- what a node applied is chosen in an activated ballot that is not above the one that it joined
-pub data Applied {S C O : Type 0} (w : World S C O) (h : History C)
+pub data Applied {S C O : Type 0} (w : GroupWorld S C O) (h : History C)
     (r : ReplicaState S C) : Type 0 where
   nothing : r.committed ≡ 0 → Applied w h r  -- it applied nothing
   -- this ballot is one

@@ -1,11 +1,11 @@
 -- What is chosen and agreed by the history of ballots.
 use Rattle.std.specs.Prelude.{ℕ, ◌≡◌, ◌⊎◌, List, [], take, Some}
-use Rattle.agreement.specs.World.{World}
+use Rattle.agreement.specs.World.{GroupWorld}
 use Rattle.whole.specs.lists.Lists.{In, IsPrefixOf}
 use Rattle.agreement.specs.Inside.Ballots.{Line, History, IsChosenIn}
 
 -- a list that is chosen in an activated ballot
-pub record ChosenList {S C O : Type 0} (w : World S C O) (h : History C)
+pub record ChosenList {S C O : Type 0} (w : GroupWorld S C O) (h : History C)
     (xs : List C) : Type 0 where
   pub ballot : ℕ
   pub places : ℕ
@@ -16,7 +16,7 @@ pub record ChosenList {S C O : Type 0} (w : World S C O) (h : History C)
   pub is : xs ≡ take places line.list
 
 -- the longest list that is chosen in an activated ballot, or none if there is none
-pub record IsAgreedIn {S C O : Type 0} (w : World S C O) (h : History C)
+pub record IsAgreedIn {S C O : Type 0} (w : GroupWorld S C O) (h : History C)
     (xs : List C) : Type 0 where
   pub chosen : (xs ≡ []) ⊎ ChosenList w h xs
   pub longest : (ys : List C) → ChosenList w h ys → IsPrefixOf ys xs

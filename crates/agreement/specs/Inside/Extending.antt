@@ -2,13 +2,13 @@
 use Rattle.std.specs.Prelude.{ℕ, ◌+◌, ◌≤◌, ◌≡◌, ◌⊎◌, length, slice_get, Some}
 use Rattle.whole.specs.Messages.{Message}
 use Rattle.whole.specs.Replica.{ReplicaState}
-use Rattle.agreement.specs.World.{World}
+use Rattle.agreement.specs.World.{GroupWorld}
 use Rattle.whole.specs.lists.Lists.{In, IsPrefixOf}
 use Rattle.agreement.specs.Inside.Ballots.{Given, Line, History, Told}
 
 -- a later world: what was output and acknowledged stays, no node goes back to a lower ballot, and
 -- none acknowledges in a ballot that it has left
-pub record Extends {S C O : Type 0} (w : World S C O) (h : History C) (v : World S C O)
+pub record Extends {S C O : Type 0} (w : GroupWorld S C O) (h : History C) (v : GroupWorld S C O)
     (i : History C) : Type 0 where
   pub sent : (x : ℕ × Message C) → In x w.sent → In x v.sent
   pub nodes : (n : ℕ) (r : ReplicaState S C) → slice_get w.nodes n ≡ Some r →
@@ -22,7 +22,7 @@ pub record Extends {S C O : Type 0} (w : World S C O) (h : History C) (v : World
       Told w h (n + 1) b k ⊎ (r.joined ≤ b)
 
 -- what is acknowledged lies within the ballot's list
-abbrev pub AcknowledgedIsWithin : {S C O : Type 0} → World S C O → History C → Type 0
+abbrev pub AcknowledgedIsWithin : {S C O : Type 0} → GroupWorld S C O → History C → Type 0
 AcknowledgedIsWithin {S = S} {C = C} w h =
     (m b k : ℕ) (l : Line C) → h.line b ≡ Some l → Told w h m b k →
     k ≤ length l.list

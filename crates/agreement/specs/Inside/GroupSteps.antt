@@ -9,7 +9,7 @@ use Rattle.whole.specs.Protocol.{Input, replica_step}
 use Rattle.whole.specs.Protocol.Input.{Receives, Proposes, Ticks}
 use Rattle.whole.specs.Replica.{ReplicaState}
 use Rattle.agreement.specs.Proposals.{proposal_by}
-use Rattle.agreement.specs.World.{World, moved}
+use Rattle.agreement.specs.World.{GroupWorld, moved}
 use Rattle.whole.specs.lists.Lists.{In}
 use Rattle.agreement.specs.MasterState.{MasterState, assigned, activated}
 use Rattle.agreement.specs.Steps.{sends_from_master, MayTake}
@@ -23,40 +23,41 @@ AddsBy rules r Ticks b c = ⊥
 
 -- what may happen in a group: a node takes its step, perhaps with losses, or stops; the master does
 -- an Assign or receives an Activate
-pub data GroupStep {S C O : Type 0} (rules : Rules S C O) : MasterState → World S C O →
-    MasterState → World S C O → Type 0 where
+pub data GroupStep {S C O : Type 0} (rules : Rules S C O) : MasterState → GroupWorld S C O →
+    MasterState → GroupWorld S C O → Type 0 where
   -- a node receives a message, takes a proposal, or ticks, perhaps with losses
-  takes : {m : MasterState} {w : World S C O} (n : ℕ) (r : ReplicaState S C)
+  takes : {m : MasterState} {w : GroupWorld S C O} (n : ℕ) (r : ReplicaState S C)
       (input : Input C) {new : ReplicaState S C}
       {given : List (Effect C O)} → slice_get w.nodes n ≡ Some r → r.stopped ≡ false →
       MayTake w n input →
       Loses rules r (replica_step rules r input) new given →
       GroupStep rules m w m (moved w n new given)
   -- a node stops
-  stops : {m : MasterState} {w : World S C O} (n : ℕ) (r : ReplicaState S C) →
+  stops : {m : MasterState} {w : GroupWorld S C O} (n : ℕ) (r : ReplicaState S C) →
       slice_get w.nodes n ≡ Some r →
       GroupStep rules m w m (moved w n (halted rules r) [])
   -- the master gives a ballot
-  assigns : {m : MasterState} {w : World S C O} (config : Config) →
+  assigns : {m : MasterState} {w : GroupWorld S C O} (config : Config) →
       In config.primary config.members →
       GroupStep rules m w (assigned C m config).state (sends_from_master w (assigned C m config))
   -- the master answers an Activate
-  hears : {m : MasterState} {w : World S C O} (from b : ℕ) →
+  hears : {m : MasterState} {w : GroupWorld S C O} (from b : ℕ) →
       In (0, record { from = from; body = Activate b }) w.sent →
       GroupStep rules m w (activated C m b from m.waiting).state (sends_from_master w
       (activated C m b from m.waiting))
   -- the master gives a ballot, and its message is lost
-  assigns_unheard : {m : MasterState} {w : World S C O} (config : Config) →
+  assigns_unheard : {m : MasterState} {w : GroupWorld S C O} (config : Config) →
       In config.primary config.members →
       GroupStep rules m w (assigned C m config).state w
   -- the master hears an Activate, and its answer is lost
-  hears_unanswered : {m : MasterState} {w : World S C O} (from b : ℕ) →
+  hears_unanswered : {m : MasterState} {w : GroupWorld S C O} (from b : ℕ) →
       In (0, record { from = from; body = Activate b }) w.sent →
       GroupStep rules m w (activated C m b from m.waiting).state w
 
 -- the proposal of a step
 abbrev pub adds_of : {S C O : Type 0} {rules : Rules S C O} {m : MasterState}
-    {w : World S C O} {k : MasterState} {v : World S C O} → GroupStep rules m w k v → List (ℕ × C)
+    {w : GroupWorld S C O} {k : MasterState} {v : GroupWorld S C O} → GroupStep rules m w k v →
+    List (ℕ × C)
 adds_of (takes n r input stands runs may loses) = proposal_by r input
 adds_of (stops n r stands) = []
 adds_of (assigns config member) = []

@@ -6,15 +6,16 @@ use Rattle.machine.specs.Machine.{Rules}
 use Rattle.whole.specs.Messages.{Effect}
 use Rattle.whole.specs.Losses.{Thinned}
 use Rattle.whole.specs.Sending.{Outcome}
-use Rattle.agreement.specs.World.{World, moved}
+use Rattle.agreement.specs.World.{GroupWorld, moved}
 use Rattle.whole.specs.lists.Lists.{In, IsPrefixOf}
 use Rattle.agreement.specs.Inside.Ballots.{Told, TellsHere, Given, Line, History}
 use Rattle.agreement.specs.Inside.Extending.{Extends}
 use Rattle.agreement.specs.Inside.Sound.{IsSoundWorld}
 
 -- a later world is sound, with a history that continues from the one before
-pub record HistoryGoesOn {S C O : Type 0} (rules : Rules S C O) (w : World S C O) (h : History C)
-    (v : World S C O) : Type 0 where
+pub record HistoryGoesOn {S C O : Type 0} (rules : Rules S C O) (w : GroupWorld S C O)
+    (h : History C)
+    (v : GroupWorld S C O) : Type 0 where
   pub history : History C
   pub extends : Extends w h v history
   pub active : (b : ℕ) → In b h.activated → In b history.activated
@@ -36,9 +37,9 @@ pub data LineAdds {C : Type 0} (adds : ℕ → C →
 
 -- After a move of a node no ballot is given or activated that was not, and lists take only what may
 -- be added.
-pub record NodeGoesOn {S C O : Type 0} (rules : Rules S C O) (w : World S C O) (h : History C)
+pub record NodeGoesOn {S C O : Type 0} (rules : Rules S C O) (w : GroupWorld S C O) (h : History C)
     (adds : ℕ → C → Type 0)
-    (v : World S C O) : Type 0 where
+    (v : GroupWorld S C O) : Type 0 where
   pub history : History C
   pub extends : Extends w h v history
   pub active : (b : ℕ) → In b h.activated → In b history.activated
@@ -50,14 +51,13 @@ pub record NodeGoesOn {S C O : Type 0} (rules : Rules S C O) (w : World S C O) (
 
 -- whichever of its messages are lost, the outcome of a node's step is sound, and adds no more than
 -- it may
-abbrev pub KeepsAdding : {S C O : Type 0} → Rules S C O → World S C O → History C → ℕ → (ℕ → C →
-    Type 0) → Outcome S C O → Type 0
+abbrev pub KeepsAdding : {S C O : Type 0} → Rules S C O → GroupWorld S C O → History C → ℕ →
+    (ℕ → C → Type 0) → Outcome S C O → Type 0
 KeepsAdding {S = S} {C = C} {O = O} rules w h n adds o =
     (given : List (Effect C O)) → Thinned given o.effects →
     NodeGoesOn rules w h adds (moved w n o.state given)
 
 -- whichever of its messages are lost, the outcome of a node's step is sound, and adds nothing
-abbrev pub KeepsSoundness : {S C O : Type 0} → Rules S C O → World S C O → History C → ℕ →
-    Outcome S C O →
-    Type 0
+abbrev pub KeepsSoundness : {S C O : Type 0} → Rules S C O → GroupWorld S C O → History C → ℕ →
+    Outcome S C O → Type 0
 KeepsSoundness rules w h n o = KeepsAdding rules w h n (λ b c. ⊥) o

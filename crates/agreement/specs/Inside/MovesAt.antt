@@ -3,7 +3,7 @@ use Rattle.std.specs.Prelude.{ℕ, ◌+◌, ◌≤◌, ◌≡◌, ◌⊎◌, ◌
 use Rattle.std.specs.Prelude.{None, if◌then◌else◌}
 use Rattle.whole.specs.Messages.{Effect}
 use Rattle.whole.specs.Replica.{ReplicaState}
-use Rattle.agreement.specs.World.{World, moved}
+use Rattle.agreement.specs.World.{GroupWorld, moved}
 use Rattle.whole.specs.lists.Lists.{In, IsPrefixOf}
 use Rattle.agreement.specs.Inside.Ballots.{Given, Line, History, Told, Sealed}
 
@@ -12,7 +12,7 @@ abbrev pub with_lines : {C : Type 0} → History C → (ℕ → Option (Line C))
 with_lines h line = record h { line = line }
 
 -- how the list of a ballot may change: it grows in an activated ballot, or it begins as its base
-pub data LineGoesOn {S C O : Type 0} (w : World S C O) (h : History C) (b : ℕ)
+pub data LineGoesOn {S C O : Type 0} (w : GroupWorld S C O) (h : History C) (b : ℕ)
     (k : Line C) : Type 0 where
   -- it stays
   stays : h.line b ≡ Some k → LineGoesOn w h b k
@@ -37,7 +37,7 @@ pub record TellsNow {S C : Type 0} (line : ℕ →
 
 -- a move of the node at index n: it went back to no lower ballot, and only it acknowledged more, in
 -- no ballot that it left
-pub record MovesAt {S C O : Type 0} (w : World S C O) (h : History C) (line : ℕ →
+pub record MovesAt {S C O : Type 0} (w : GroupWorld S C O) (h : History C) (line : ℕ →
     Option (Line C)) (n : ℕ)
     (old new : ReplicaState S C) (given : List (Effect C O)) : Type 0 where
   pub stands : slice_get w.nodes n ≡ Some old

@@ -4,12 +4,12 @@ use Rattle.whole.specs.Messages.{Body}
 use Rattle.whole.specs.Messages.Body.{NewBallot, Join, State, Install, Installed, Activate}
 use Rattle.whole.specs.Messages.Body.{Activated, Superseded, Append, Held, Commit}
 use Rattle.whole.specs.Replica.{ReplicaState}
-use Rattle.agreement.specs.World.{World}
+use Rattle.agreement.specs.World.{GroupWorld}
 use Rattle.whole.specs.lists.Lists.{In, IsPrefixOf}
 use Rattle.agreement.specs.Inside.Ballots.{Given, Line, History, IsChosenIn, Sealed}
 
 -- the node of a number has joined at least a ballot
-abbrev pub HasJoined : {S C O : Type 0} → World S C O → ℕ → ℕ → Type 0
+abbrev pub HasJoined : {S C O : Type 0} → GroupWorld S C O → ℕ → ℕ → Type 0
 HasJoined {S} {C} w m b =
     (n : ℕ) × (m ≡ n + 1) × ((r : ReplicaState S C) × (slice_get w.nodes n ≡ Some r)
     × (b ≤ r.joined))
@@ -31,7 +31,7 @@ IsOther g m = In m g.members × (m ≡ g.primary → ⊥)
 
 -- what a message to a receiver says is true; a rejected ballot is below the active one, or was
 -- superseded
-abbrev pub SpeaksTruth : {S C O : Type 0} → World S C O → History C → ℕ → ℕ → Body C → Type 0
+abbrev pub SpeaksTruth : {S C O : Type 0} → GroupWorld S C O → History C → ℕ → ℕ → Body C → Type 0
 SpeaksTruth w h to from (NewBallot b members a old_members) =
     (g : Given) × IsOf h b g × (from ≡ 0) × (to ≡ g.primary) × (members ≡ g.members)
     × (a ≡ g.previous)

@@ -7,7 +7,7 @@ use Rattle.agreement.specs.Inside.Begun.{AreBegun, AreLong}
 use Rattle.agreement.specs.MasterState.{MasterState}
 use Rattle.agreement.specs.Replays.{AreReplays}
 use Rattle.agreement.specs.Inside.Sound.{IsSoundWorld}
-use Rattle.agreement.specs.World.{World}
+use Rattle.agreement.specs.World.{GroupWorld}
 use Rattle.whole.specs.Messages.{Message}
 use Rattle.whole.specs.lists.Lists.{In}
 
@@ -16,7 +16,7 @@ abbrev pub IsNode : ℕ → ℕ → Type 0
 IsNode nodes x = (n : ℕ) × (x ≡ n + 1) × (n < nodes)
 
 -- every sender is the master or a node
-abbrev pub AreSenders : {S C O : Type 0} → World S C O → Type 0
+abbrev pub AreSenders : {S C O : Type 0} → GroupWorld S C O → Type 0
 AreSenders {C = C} w = (to : ℕ) (m : Message C) → In (to, m) w.sent →
     (m.from ≡ 0) ⊎ IsNode (length w.nodes) m.from
 
@@ -26,7 +26,7 @@ IsLedByNode nodes h b = (g : Given) × (h.given b ≡ Some g) × IsNode nodes g.
 
 -- its ballots, messages and nodes are as they should be, the primary of its active ballot is a
 -- node, and each ballot's list has its start after its base
-pub record Serves {S C O : Type 0} (rules : Rules S C O) (m : MasterState) (w : World S C O)
+pub record Serves {S C O : Type 0} (rules : Rules S C O) (m : MasterState) (w : GroupWorld S C O)
     (h : History C) : Type 0 where
   pub sound : IsSoundWorld rules w h
   pub master : IsMaster m h

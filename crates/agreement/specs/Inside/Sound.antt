@@ -8,7 +8,7 @@ use Rattle.whole.specs.ballot_base.declared.status.Progress.{Progress}
 use Rattle.whole.specs.ballot_base.declared.status.Role.TheVariants.{Fetching, Installing, Active}
 use Rattle.whole.specs.Replica.{ReplicaState}
 use Rattle.whole.specs.Applying.{outputs_between}
-use Rattle.agreement.specs.World.{World, outputs}
+use Rattle.agreement.specs.World.{GroupWorld, outputs}
 use Rattle.whole.specs.lists.Lists.{In, IsPrefixOf}
 use Rattle.agreement.specs.Inside.Ballots.{Given, Line, History, Told, IsChosenIn, AreBallots}
 use Rattle.agreement.specs.Inside.Ballots.{BallotListsStand, IsPlaced, Applied}
@@ -16,12 +16,13 @@ use Rattle.agreement.specs.Leaving.{AreInOrder, Segment}
 use Rattle.agreement.specs.Inside.Saying.{IsOf, SpeaksTruth}
 
 -- what a leader's fields are, by its role
-abbrev pub Leads : {S C O : Type 0} → World S C O → History C → ℕ → ReplicaState S C → Type 0
+abbrev pub Leads : {S C O : Type 0} → GroupWorld S C O → History C → ℕ → ReplicaState S C → Type 0
 Leads {S} {C} w h n r =
     (g : Given) × (h.given r.joined ≡ Some g) × (g.primary ≡ n + 1) × (r.members ≡ g.members)
 
 -- a new primary that waits for a log: its ballot has no list yet
-abbrev pub IsFetching : {S C O : Type 0} → World S C O → History C → ℕ → ReplicaState S C → Type 0
+abbrev pub IsFetching : {S C O : Type 0} → GroupWorld S C O → History C → ℕ → ReplicaState S C →
+    Type 0
 IsFetching w h n r =
     Leads w h n r × (r.held_in < r.joined) × (h.line r.joined ≡ None)
     × ((g : Given) × IsOf h r.joined g × (r.previous ≡ g.previous)
@@ -29,7 +30,7 @@ IsFetching w h n r =
 
 -- a new primary that sends its log: this is its ballot's list, and those that do not lack it hold
 -- it
-pub record IsInstalling {S C O : Type 0} (w : World S C O) (h : History C) (n : ℕ)
+pub record IsInstalling {S C O : Type 0} (w : GroupWorld S C O) (h : History C) (n : ℕ)
     (r : ReplicaState S C) :
     Type 0 where
   pub leads : Leads w h n r
@@ -43,7 +44,7 @@ pub record IsInstalling {S C O : Type 0} (w : World S C O) (h : History C) (n : 
 
 -- an active primary: its ballot is activated, and each other member has acknowledged what its
 -- progress says
-pub record IsActive {S C O : Type 0} (w : World S C O) (h : History C) (n : ℕ)
+pub record IsActive {S C O : Type 0} (w : GroupWorld S C O) (h : History C) (n : ℕ)
     (r : ReplicaState S C) :
     Type 0 where
   pub leads : Leads w h n r
@@ -61,7 +62,7 @@ pub record IsActive {S C O : Type 0} (w : World S C O) (h : History C) (n : ℕ)
   pub others : (reached : Progress) → In reached r.progress → reached.member ≡ n + 1 → ⊥
 
 -- a node is as it should be
-pub record IsSoundNode {S C O : Type 0} (w : World S C O) (h : History C) (n : ℕ)
+pub record IsSoundNode {S C O : Type 0} (w : GroupWorld S C O) (h : History C) (n : ℕ)
     (r : ReplicaState S C) :
     Type 0 where
   pub id : r.id ≡ n + 1
@@ -80,7 +81,7 @@ pub record IsSoundNode {S C O : Type 0} (w : World S C O) (h : History C) (n : �
   pub active : r.role ≡ Active → IsActive w h n r
 
 -- the outputs that left are those of segments in order, each a part of what is chosen in its ballot
-pub record LeftIs {S C O : Type 0} (rules : Rules S C O) (w : World S C O)
+pub record LeftIs {S C O : Type 0} (rules : Rules S C O) (w : GroupWorld S C O)
     (h : History C) : Type 0 where
   pub segments : List Segment
   pub left : (agreed : List C) → ((b k : ℕ) (l : Line C) → In b h.activated → h.line b ≡ Some l →
@@ -95,7 +96,7 @@ pub record LeftIs {S C O : Type 0} (rules : Rules S C O) (w : World S C O)
   pub in_order : AreInOrder segments
 
 -- what holds for a world
-pub record IsSoundWorld {S C O : Type 0} (rules : Rules S C O) (w : World S C O)
+pub record IsSoundWorld {S C O : Type 0} (rules : Rules S C O) (w : GroupWorld S C O)
     (h : History C) : Type 0 where
   pub ballots : AreBallots h
   pub lines : BallotListsStand w h
