@@ -22,7 +22,7 @@ pub record SendsCounted {S C O : Type 0} (old : CountedReplica S C) (wanted : Li
 
 -- the step was done, or one with losses that were counted, and only if there was something to lose:
 -- a message, a place, or a snapshot that has to be read and does not thaw
-pub record Heard {S C O : Type 0} (rules : Rules S C O) (old : CountedReplica S C)
+pub record HeardOrLost {S C O : Type 0} (rules : Rules S C O) (old : CountedReplica S C)
     (outcome : Outcome S C O)
     (unread : Bool) (new : CountedReplica S C) (before after : List (Effect C O)) : Type 0 where
   pub given : List (Effect C O)
@@ -33,9 +33,9 @@ pub record Heard {S C O : Type 0} (rules : Rules S C O) (old : CountedReplica S 
       × (SendsAndAddsNothing old.state outcome → unread ≡ true))
 
 -- the step was done, or one with losses that were counted, when no snapshot has to be read
-abbrev pub Went : {S C O : Type 0} → Rules S C O → CountedReplica S C → Outcome S C O →
+abbrev pub WentOrLost : {S C O : Type 0} → Rules S C O → CountedReplica S C → Outcome S C O →
     CountedReplica S C → List (Effect C O) → List (Effect C O) → Type 0
-Went rules old outcome new before after = Heard rules old outcome false new before after
+WentOrLost rules old outcome new before after = HeardOrLost rules old outcome false new before after
 
 -- what is left by a proposal for which there was no memory
 abbrev pub Lacks : {S C O : Type 0} →

@@ -38,14 +38,14 @@ abbrev pub one_more : ℕ → ℕ
 one_more losses = min (losses + 1) greatest_count
 
 -- the step itself, or a step with losses that was counted
-abbrev pub Steps : {S C O : Type 0} → Rules S C O →
+abbrev pub StepsOrLost : {S C O : Type 0} → Rules S C O →
     CountedReplica S C → Outcome S C O → CountedReplica S C → List (Effect C O) → Type 0
-Steps rules old outcome new given =
+StepsOrLost rules old outcome new given =
     ((new.state ≡ outcome.state) × (given ≡ outcome.effects) × (new.losses ≡ old.losses))
     ⊎ (Loses rules old.state outcome new.state given × (new.losses ≡ one_more old.losses))
 
 -- the step was done, perhaps with messages missing, which was counted
-pub record Done {S C O : Type 0} (old : CountedReplica S C) (outcome : Outcome S C O)
+pub record DoneOrLost {S C O : Type 0} (old : CountedReplica S C) (outcome : Outcome S C O)
     (new : CountedReplica S C)
     (before after : List (Effect C O)) : Type 0 where
   pub given : List (Effect C O)
@@ -63,9 +63,9 @@ pub record SendsAndAddsNothing {S C O : Type 0} (old : ReplicaState S C) (outcom
   pub same_committed : outcome.state.committed ≡ old.committed
 
 -- a call's effects were appended to what was there, and they are those of the step
-pub record Stepped {S C O : Type 0} (rules : Rules S C O) (old : CountedReplica S C)
+pub record SteppedOrLost {S C O : Type 0} (rules : Rules S C O) (old : CountedReplica S C)
     (outcome : Outcome S C O) (new : CountedReplica S C)
     (before after : List (Effect C O)) : Type 0 where
   pub given : List (Effect C O)
   pub appended : after ≡ before ++ given
-  pub steps : Steps rules old outcome new given
+  pub steps : StepsOrLost rules old outcome new given

@@ -2,7 +2,7 @@
 use Rattle.std.proofs.Common.{◌≡◌, inl, inr, ℕ, true, false, not, List, Some, refl, sym, ap, ◌∙◌, subst}
 use Rattle.std.proofs.lemmas.Bool.{both_ways}
 use Rattle.world_base.specs.ballot_base.declared.message.Effect.{Effect}
-use Rattle.world_base.specs.ballot_base.Losses.{Steps}
+use Rattle.world_base.specs.ballot_base.Losses.{StepsOrLost}
 use Rattle.world_base.specs.ballot_base.Protocol.{Input}
 use Rattle.world_base.specs.ballot_base.Replica.{CountedReplica, ReplicaState, is_active}
 use Rattle.world_base.specs.ballot_base.Sending.{Outcome}
@@ -111,7 +111,7 @@ calm_keeps core turn (drops port piece) o calm of =
 -- ---- a move in which it receives something
 
 lossy_stays : (old new : CountedReplica State Command) (outcome : Outcome State Command Output) (given : List (Effect Command Output)) →
-    StaysOr old.state outcome.state → Steps rules old outcome new given → StaysOr old.state new.state
+    StaysOr old.state outcome.state → StepsOrLost rules old outcome new given → StaysOr old.state new.state
 lossy_stays old new outcome given or (inl (state, effects, rest)) = subst (λ (r : ReplicaState State Command). StaysOr old.state r) (sym state) or
 lossy_stays old new outcome given or (inr (inl (state, rest), counted)) = subst (λ (r : ReplicaState State Command). StaysOr old.state r) (sym state) or
 lossy_stays old new outcome given or (inr (inr (inl (state, rest)), counted)) = inl (ap (λ (r : ReplicaState State Command). r.joined) state)

@@ -5,7 +5,7 @@ use Rattle.exactly_once.specs.packet.Spelling.{spelling}
 use Rattle.exactly_once.specs.packet.declared.packet.Packet.{Packet}
 use Rattle.exactly_once.specs.packet.declared.packet.Packet.TheVariants as packets
 use Rattle.world_base.specs.ballot_base.declared.message.Effect.{Effect}
-use Rattle.world_base.specs.ballot_base.Losses.{Steps}
+use Rattle.world_base.specs.ballot_base.Losses.{StepsOrLost}
 use Rattle.world_base.specs.ballot_base.Protocol.{Input}
 use Rattle.world_base.specs.ballot_base.Protocol.Input.{Receives, Ticks}
 use Rattle.world_base.specs.ballot_base.Replica.{CountedReplica, ReplicaState}
@@ -128,7 +128,7 @@ same_up : (r s : ReplicaState State Command) → s ≡ r → r.joined ≤ s.join
 same_up r s e = subst (λ (t : ReplicaState State Command). r.joined ≤ t.joined) (sym e) (same_le r.joined)
 
 pub steps_up : (old new : CountedReplica State Command) (outcome : Outcome State Command Output) (given : List (Effect Command Output)) →
-    Up old.state outcome → Steps rules old outcome new given → old.state.joined ≤ new.state.joined
+    Up old.state outcome → StepsOrLost rules old outcome new given → old.state.joined ≤ new.state.joined
 steps_up old new outcome given up (inl (state, effects, rest)) =
     subst (λ (t : ReplicaState State Command). old.state.joined ≤ t.joined) (sym state) up
 steps_up old new outcome given up (inr (inl (state, rest), counted)) =

@@ -34,7 +34,7 @@ use Rattle.world_clients.specs.SlotsAreValid.{SlotsAreValid, targets_of_clients}
 use Rattle.world.specs.Quiet.{EventTakesNoMemory}
 use Rattle.world_clients.specs.Carrying.{CanCarryUp, CannotCarryDown, CarriesDownOn}
 use Rattle.world.specs.Inside.Carrying.{CannotCarryUpOn, CarriesUpOn}
-use Rattle.world.specs.Inside.Steps.{IsCounted, EventIsDone, Meets}
+use Rattle.world.specs.Inside.Steps.{IsCounted, EventIsDone, MeetsOrLost}
 use Rattle.world.specs.Inside.Calling.{with_one_loss}
 use Rattle.world.specs.World.{WorldState}
 use Rattle.world.proofs.GroupGoes.{with_nodes}
@@ -44,7 +44,7 @@ use Rattle.world.proofs.StandsThere.{connected, numbered_at, way_found}
 -- ---- the master
 
 pub assign_meets : (r : Result (Unit {0}) Idle) (config : Config) (old : WorldState) (new : NodesState) → OnOk r (GivesIn config old.nodes new)
-    → IsErr r ↔ (refusal old.nodes.master config ≡ None → ⊥) → OnErr r (new ≡ old.nodes) → Meets (events.Assign config) old r (with_nodes new old)
+    → IsErr r ↔ (refusal old.nodes.master config ≡ None → ⊥) → OnErr r (new ≡ old.nodes) → MeetsOrLost (events.Assign config) old r (with_nodes new old)
 assign_meets (Ok x) config old new gives idle same =
     inl (record {
       can = λ refused. both_ways false refl (idle.1 refused);
@@ -297,7 +297,7 @@ never_opened number count w none = inl (ap (λ (o : Option ConnectionSlot). is_h
 
 -- an event that was done is counted if its nodes counted a loss, and one that is counted already is
 -- not counted again
-pub step_happens : (event : Event) (old mid new : WorldState) (before counted : ℕ) → before ≡ old.nodes.losses → counted ≡ old.losses → Meets event old (Ok tt) mid
+pub step_happens : (event : Event) (old mid new : WorldState) (before counted : ℕ) → before ≡ old.nodes.losses → counted ≡ old.losses → MeetsOrLost event old (Ok tt) mid
     → (EventTakesNoMemory event old → mid.nodes.losses ≡ old.nodes.losses) → IsCounted before counted mid new → EventHappens event old (Ok tt) new
 step_happens event old mid new before counted is so_many (inl d) quiet (inl none) =
     let w = none.1 (d.uncounted ∙ sym so_many) in let kept = w.0 in let below = w.1 in

@@ -9,7 +9,7 @@ ghost use Rattle.world.specs.Quiet.{EventTakesNoMemory};
 ghost use Rattle.world.specs.Cannot.{is_serving};
 ghost use Rattle.world.specs.Inside.Connecting.{BeginsConnection, ConnectsAt, MayOpenNone};
 ghost use Rattle.world.specs.Inside.Calling.{CountsRefusal};
-ghost use Rattle.world.specs.Inside.Steps.{PublishesAsked, IsTrace, Meets};
+ghost use Rattle.world.specs.Inside.Steps.{PublishesAsked, IsTrace, MeetsOrLost};
 
 use crate::world::World;
 use packet::{ClientId, QoS};
@@ -30,7 +30,7 @@ impl World {
     /// of a ballot changes nothing.
     pub(crate) fn open(&mut self, client: &ClientId, node: u8) -> Result<(), Idle>
         ensures goes { IsTrace self.old self.new }
-        ensures meets { Meets (Event.Open client.now node) self.old result self.new }
+        ensures meets { MeetsOrLost (Event.Open client.now node) self.old result self.new }
         ensures once { CountsOnce self.old self.new }
         ensures quiet { EventTakesNoMemory (Event.Open client.now node) self.old →
             self.new ≡ self.old }
@@ -108,7 +108,7 @@ impl World {
     /// Lets a client lose its connection. `Idle` comes if there is no such client, or it has none.
     pub(crate) fn abandon(&mut self, client: &ClientId) -> Result<(), Idle>
         ensures goes { IsTrace self.old self.new }
-        ensures meets { Meets (Event.Abandon client.now)
+        ensures meets { MeetsOrLost (Event.Abandon client.now)
             self.old result self.new }
         ensures still { self.new.losses ≡ self.old.losses }
         ensures nodes { self.new.nodes ≡ self.old.nodes }
@@ -126,7 +126,7 @@ impl World {
     /// Lets a client disconnect. `Idle` comes if there is no such client, or it has no connection.
     pub(crate) fn disconnect(&mut self, client: &ClientId) -> Result<(), Idle>
         ensures goes { IsTrace self.old self.new }
-        ensures meets { Meets (Event.Disconnect client.now)
+        ensures meets { MeetsOrLost (Event.Disconnect client.now)
             self.old result self.new }
         ensures once { CountsOnce self.old self.new }
     {
@@ -148,7 +148,7 @@ impl World {
     ) -> Result<(), Idle>
         ensures asked { PublishesAsked (Event.Publish client.now publication.now)
             self.old result self.new }
-        ensures meets { Meets (Event.Publish client.now publication.now)
+        ensures meets { MeetsOrLost (Event.Publish client.now publication.now)
             self.old result self.new }
         ensures once { CountsOnce self.old self.new }
     {
@@ -170,7 +170,7 @@ impl World {
         qos: QoS,
     ) -> Result<(), Idle>
         ensures goes { IsTrace self.old self.new }
-        ensures meets { Meets (Event.Subscribe client.now filter.now qos)
+        ensures meets { MeetsOrLost (Event.Subscribe client.now filter.now qos)
             self.old result self.new }
         ensures once { CountsOnce self.old self.new }
     {
@@ -187,7 +187,7 @@ impl World {
     /// Lets a client unsubscribe from a filter. `Idle` comes as for `publish`.
     pub(crate) fn unsubscribe(&mut self, client: &ClientId, filter: &Filter) -> Result<(), Idle>
         ensures goes { IsTrace self.old self.new }
-        ensures meets { Meets (Event.Unsubscribe client.now filter.now)
+        ensures meets { MeetsOrLost (Event.Unsubscribe client.now filter.now)
             self.old result self.new }
         ensures once { CountsOnce self.old self.new }
     {

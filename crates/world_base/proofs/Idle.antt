@@ -18,7 +18,7 @@ use Rattle.node_connections.specs.Connections.{has_failed, is_open_at, is_propos
 use Rattle.node_connections.specs.ConnectionChanges.{changed_where, closed_connection, with_unread}
 use Rattle.world_base.specs.Core.{CoreState, StepOutcome}
 use Rattle.world_base.specs.Failing.{loses_all_failed}
-use Rattle.world_base.specs.Inside.{RanStep, RunningStep, DoesOutcome, WithoutFailure}
+use Rattle.world_base.specs.Inside.{RanOrLost, RunningStep, DoesOutcome, WithoutFailure}
 use Rattle.world_base.specs.KeepAlive.{ends_all_silent, ends_silent}
 use Rattle.world_base.specs.Losses.{DoesNothing, IsHeardQuietly, IsIgnored, ReadsNone, ItemTakesNoMemory, was_proposed}
 use Rattle.world_base.specs.Lossy.{Account, Drives, Repeated, without_effects}
@@ -171,7 +171,7 @@ turns_ignored item a b x y idle turns =
     subst (λ (t : StepOutcome). DoesOutcome a b x y t) (sym (ap (λ (t : StepOutcome). then_also t loses_all_failed) (takes_nothing item a.core idle))) turns
 
 pub ran_ignored : (item : Item) (a b : CoreState) (x y : List (Effect Command Output)) → DoesNothing item a →
-    RanStep LosesAllFailed a b x y → RanStep (ActsOn item) a b x y
+    RanOrLost LosesAllFailed a b x y → RanOrLost (ActsOn item) a b x y
 ran_ignored item a b x y idle ran =
     ran_then (DoesItem item) LosesAllFailed a a b x x y (ran_without_effects (DoesItem item) a a x (takes_idle item a idle)) ran
 

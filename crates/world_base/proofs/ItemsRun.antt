@@ -13,30 +13,30 @@ use Rattle.world_base.specs.declared.item.Item.{Item}
 use Rattle.world_base.specs.declared.item.Item.TheVariants.{Opened, Cut, Crash}
 use Rattle.node_connections.specs.Connections.{has_failed}
 use Rattle.world_base.specs.Core.{CoreState, CountedCore, StepOutcome, rules}
-use Rattle.world_base.specs.Inside.{RanStep, RunningStep, DoesOutcome}
+use Rattle.world_base.specs.Inside.{RanOrLost, RunningStep, DoesOutcome}
 use Rattle.world_base.specs.Losses.{IsExactly, NodeStepped, NodeSteps, ItemTakesNoMemory}
 use Rattle.world_base.specs.Lossy.{without_effects}
 use Rattle.world_base.specs.LossyStep.{ActsOn, Cuts, AcceptsConnection, RunsOn, DoesItem}
 use Rattle.world_base.specs.Step.{acts_on, node_step, with_next_connection, settled}
 use Rattle.world_base.proofs.Accounts.{ran_without_effects}
 
-pub ran_item : (item same : Item) (a b : CoreState) (x y : List (Effect Command Output)) → item ≡ same → RanStep (DoesItem same) a b x y →
-    RanStep (DoesItem item) a b x y
-ran_item item same a b x y is ran = subst (λ (i : Item). RanStep (DoesItem i) a b x y) (sym is) ran
+pub ran_item : (item same : Item) (a b : CoreState) (x y : List (Effect Command Output)) → item ≡ same → RanOrLost (DoesItem same) a b x y →
+    RanOrLost (DoesItem item) a b x y
+ran_item item same a b x y is ran = subst (λ (i : Item). RanOrLost (DoesItem i) a b x y) (sym is) ran
 
 opens_by : (port : Port) (a b : CoreState) → (b ≡ with_next_connection port a) ⊎ (b ≡ a) → AcceptsConnection port a (without_effects b)
 opens_by port a b (inl e) = inl (ap without_effects e)
 opens_by port a b (inr e) = inr (ap without_effects e)
 
 pub ran_opened : (port : Port) (now : ℕ) (a b : CoreState) (x : List (Effect Command Output)) → (b ≡ with_next_connection port a) ⊎ (b ≡ a) →
-    RanStep (DoesItem (Opened port now)) a b x x
+    RanOrLost (DoesItem (Opened port now)) a b x x
 ran_opened port now a b x did = ran_without_effects (DoesItem (Opened port now)) a b x (opens_by port a b did)
 
-pub ran_cut : (a b : CoreState) (x : List (Effect Command Output)) → Cuts a (without_effects b) → RanStep (DoesItem Cut) a b x x
+pub ran_cut : (a b : CoreState) (x : List (Effect Command Output)) → Cuts a (without_effects b) → RanOrLost (DoesItem Cut) a b x x
 ran_cut a b x did = ran_without_effects (DoesItem Cut) a b x did
 
 pub ran_crashed : (a : CoreState) (replica : CountedReplica State Command) (x : List (Effect Command Output)) →
-    replica ≡ record a.replica { state = halted rules a.replica.state } → RanStep (DoesItem Crash) a (record a { replica = replica }) x x
+    replica ≡ record a.replica { state = halted rules a.replica.state } → RanOrLost (DoesItem Crash) a (record a { replica = replica }) x x
 ran_crashed a replica x is =
     ran_without_effects (DoesItem Crash) a (record a { replica = replica }) x
     (ap (λ (r : CountedReplica State Command). without_effects (record a { replica = r })) is)
@@ -58,7 +58,7 @@ steps_by old a b outcome new losses x y turns settles true e counted = inr count
 steps_by old a b outcome new losses x y turns settles false e counted = inl (exactly_by old a b outcome new losses x y turns settles e counted)
 
 pub stepped_by : (old : CountedCore) (item : Item) (a b : RunningStep) (new : CoreState) (losses : ℕ) (x y : List (Effect Command Output)) →
-    a.core ≡ old.core → DoesOutcome a b x y (acts_on item a.core) → RanStep (ActsOn item) a.core b.core x y → new ≡ settled b.core →
+    a.core ≡ old.core → DoesOutcome a b x y (acts_on item a.core) → RanOrLost (ActsOn item) a.core b.core x y → new ≡ settled b.core →
     losses ≡ (if b.out_of_memory then one_more old.losses else old.losses) → a.out_of_memory ≡ false →
     (ItemTakesNoMemory item a.core → find has_failed a.core.connections ≡ None → b.out_of_memory ≡ a.out_of_memory) →
     NodeStepped old item (record { core = new; losses = losses }) x y

@@ -7,7 +7,7 @@ use Rattle.broker_spec.specs.declared.command.Command.{Command}
 use Rattle.broker_spec.specs.declared.command.Output.{Output}
 use Rattle.ballot.specs.ballot_base.Logs.{places}
 use Rattle.ballot.specs.ballot_base.declared.message.Effect.{Effect}
-use Rattle.ballot.specs.ballot_base.Losses.{Done, Steps, Thinned, halted, one_more}
+use Rattle.ballot.specs.ballot_base.Losses.{DoneOrLost, StepsOrLost, Thinned, halted, one_more}
 use Rattle.ballot.specs.ballot_base.Replica.{CountedReplica, is_active}
 use Rattle.ballot.specs.ballot_base.Sending.{Outcome}
 use Rattle.ballot.specs.ballot_base.Serving.{added, max_places, proposed}
@@ -21,10 +21,10 @@ use Rattle.world_base.specs.Effects.{has_room}
 use Rattle.world_base.proofs.Asked.{left_true}
 
 done_steps : (old new : CountedReplica State Command) (outcome : Outcome State Command Output) (given : List (Effect Command Output)) →
-    Done old outcome new [] given → Steps rules old outcome new given
+    DoneOrLost old outcome new [] given → StepsOrLost rules old outcome new given
 done_steps old new outcome given did = by did.counted
   where
-    by : ((did.given ≡ outcome.effects) × (new.losses ≡ old.losses)) ⊎ (new.losses ≡ one_more old.losses) → Steps rules old outcome new given
+    by : ((did.given ≡ outcome.effects) × (new.losses ≡ old.losses)) ⊎ (new.losses ≡ one_more old.losses) → StepsOrLost rules old outcome new given
     by (inl exact) = inl (did.state, did.appended ∙ exact.0, exact.1)
     by (inr counted) =
         inr (inl (did.state, subst (λ (l : List (Effect Command Output)). Thinned l outcome.effects) (sym did.appended) did.thinned), counted)
@@ -65,7 +65,7 @@ pub proposals_are_steps : ProposalsAreSteps
 proposals_are_steps command core did (inl takes) = (
   λ serving. record {
     replica = takes.replica;
-    steps = subst (λ (o : Outcome State Command Output). Steps rules core.replica o takes.replica did.given)
+    steps = subst (λ (o : Outcome State Command Output). StepsOrLost rules core.replica o takes.replica did.given)
         (sym (proposed-adds rules core.replica.state command (active_of core serving) (room_of core takes.room)))
         (done_steps core.replica takes.replica (added rules core.replica.state command) did.given takes.done);
     handles = takes.handles;
@@ -76,7 +76,7 @@ proposals_are_steps command core did (inr (no_room full is)) = (
   λ serving. subst (λ (d : Account). ReplicaSteps (proposed rules core.replica.state command) core d) (sym is)
       (record {
         replica = core.replica;
-        steps = subst (λ (o : Outcome State Command Output). Steps rules core.replica o core.replica [])
+        steps = subst (λ (o : Outcome State Command Output). StepsOrLost rules core.replica o core.replica [])
             (sym (proposed-full rules core.replica.state command (active_of core serving) (full_of core serving full)))
             (inl (refl, refl, refl));
         handles = nothing;

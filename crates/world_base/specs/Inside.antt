@@ -7,7 +7,7 @@ use Rattle.broker_spec.specs.declared.command.Command.{Command}
 use Rattle.broker_spec.specs.declared.command.Command.TheVariants as commands
 use Rattle.broker_spec.specs.declared.command.Output.{Output}
 use Rattle.ballot.specs.ballot_base.declared.message.Effect.{Effect}
-use Rattle.ballot.specs.ballot_base.Losses.{Done, Steps}
+use Rattle.ballot.specs.ballot_base.Losses.{DoneOrLost, StepsOrLost}
 use Rattle.ballot.specs.ballot_base.Replica.{CountedReplica}
 use Rattle.ballot.specs.ballot_base.Sending.{Outcome}
 use Rattle.ballot.specs.ballot_base.Serving.{added}
@@ -56,7 +56,7 @@ StepsReplica old new outcome given = new.out_of_memory ≡ false →
 
 -- what was done, when memory may have run out; the messages that were sent were appended to what
 -- was there
-pub record RanStep (Did : CoreState → Account → Type 0) (old new : CoreState)
+pub record RanOrLost (Did : CoreState → Account → Type 0) (old new : CoreState)
     (before after : List (Effect Command Output)) : Type 0 where
   pub did : Account
   pub runs : Did old did
@@ -75,7 +75,7 @@ pub record StepsReplicaOrLoses (outcome : Outcome State Command Output) (old new
     (given : List (Effect Command Output)) : Type 0 where
   pub replica : CountedReplica State Command
   pub core : new ≡ record old { replica = replica }
-  pub steps : Steps rules old.replica outcome replica given
+  pub steps : StepsOrLost rules old.replica outcome replica given
 
 -- a command that was proposed to the replica only, with its answer
 pub record Took (command : Command) (old new : CoreState)
@@ -83,7 +83,7 @@ pub record Took (command : Command) (old new : CoreState)
   pub room : has_room old ≡ true
   pub replica : CountedReplica State Command
   pub core : new ≡ record old { replica = replica }
-  pub done : Done old.replica (added rules old.replica.state command) replica [] given
+  pub done : DoneOrLost old.replica (added rules old.replica.state command) replica [] given
 
 -- the replica took the command, or declined it and gave nothing
 abbrev pub Answered : Bool → Command → CoreState → CoreState → List (Effect Command Output) → Type 0

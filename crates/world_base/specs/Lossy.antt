@@ -7,7 +7,7 @@ use Rattle.broker_spec.specs.declared.command.Output.TheVariants as outputs
 use Rattle.ballot.specs.ballot_base.declared.message.Effect.{Effect}
 use Rattle.ballot.specs.ballot_base.declared.message.Effect.TheVariants.{To, Out}
 use Rattle.ballot.specs.ballot_base.declared.message.Message.{Message}
-use Rattle.ballot.specs.ballot_base.Losses.{Done, Steps}
+use Rattle.ballot.specs.ballot_base.Losses.{DoneOrLost, StepsOrLost}
 use Rattle.ballot.specs.ballot_base.Protocol.{Input}
 use Rattle.ballot.specs.ballot_base.Replica.{CountedReplica}
 use Rattle.ballot.specs.ballot_base.Sending.{Outcome}
@@ -89,7 +89,7 @@ pub data HandlesAll : List (Effect Command Output) → CoreState → CoreState �
 pub record ReplicaSteps (outcome : Outcome State Command Output) (core : CoreState)
     (did : Account) : Type 0 where
   pub replica : CountedReplica State Command
-  pub steps : Steps rules core.replica outcome replica did.given
+  pub steps : StepsOrLost rules core.replica outcome replica did.given
   pub handles : HandlesAll did.given (record core { replica = replica }) did.core did.messages
 
 -- a message of another node, or a tick
@@ -101,5 +101,5 @@ Drives input core did = ReplicaSteps (outcome_of_input input core.replica.state)
 pub record TakesCommand (command : Command) (core : CoreState) (did : Account) : Type 0 where
   pub room : has_room core ≡ true
   pub replica : CountedReplica State Command
-  pub done : Done core.replica (added rules core.replica.state command) replica [] did.given
+  pub done : DoneOrLost core.replica (added rules core.replica.state command) replica [] did.given
   pub handles : HandlesAll did.given (record core { replica = replica }) did.core did.messages

@@ -5,7 +5,7 @@ ghost use Rattle.ballot.specs.ballot_base.Losses.{greatest_count};
 ghost use Rattle.ballot.specs.ballot_base.Protocol.Input.{Receives, Ticks};
 ghost use Rattle.ballot.specs.ballot_base.Serving.{proposed};
 ghost use Rattle.world_base.specs.Core.{rules, serves};
-ghost use Rattle.world_base.specs.Inside.{StepsReplicaOrLoses, Answered, HandledAll, DoesExactly, DoesOutcome, StepsReplica, ProposedBy, RanStep, WithoutFailure};
+ghost use Rattle.world_base.specs.Inside.{StepsReplicaOrLoses, Answered, HandledAll, DoesExactly, DoesOutcome, StepsReplica, ProposedBy, RanOrLost, WithoutFailure};
 ghost use Rattle.world_base.specs.Losses.{IsHeardQuietly, ReadsNone};
 ghost use Rattle.world_base.specs.Lossy.{Drives, Performs, without_effects};
 ghost use Rattle.world_base.specs.LossyStep.{Cuts};
@@ -21,7 +21,7 @@ impl SteppingNode {
     pub fn propose(&mut self, command: Command, effects: &mut Vec<Effect<Command, Output>>) -> bool
         ensures exact { DoesOutcome self.old self.new effects.old.items effects.new.items
             (proposes command self.old.core) }
-        ensures lossy { RanStep (ProposedBy result command) self.old.core self.new.core
+        ensures lossy { RanOrLost (ProposedBy result command) self.old.core self.new.core
             effects.old.items effects.new.items }
         ensures taken { self.new.out_of_memory ≡ false → result ≡ has_room self.old.core }
     {
@@ -57,7 +57,7 @@ impl SteppingNode {
     pub fn receive(&mut self, message: Message<Command>, effects: &mut Vec<Effect<Command, Output>>)
         ensures exact { DoesOutcome self.old self.new effects.old.items effects.new.items
             (drives (Receives message) self.old.core) }
-        ensures lossy { RanStep (Drives (Receives message)) self.old.core self.new.core
+        ensures lossy { RanOrLost (Drives (Receives message)) self.old.core self.new.core
             effects.old.items effects.new.items }
         ensures quiet { IsHeardQuietly message self.old.core → ReadsNone message self.old.core →
             WithoutFailure self.old self.new }
@@ -88,7 +88,7 @@ impl SteppingNode {
     pub fn tick(&mut self, effects: &mut Vec<Effect<Command, Output>>)
         ensures exact { DoesOutcome self.old self.new effects.old.items effects.new.items
             (drives Ticks self.old.core) }
-        ensures lossy { RanStep
+        ensures lossy { RanOrLost
             (Drives Ticks) self.old.core self.new.core effects.old.items effects.new.items }
     {
         let mut given = Vec::new(self.alloc);

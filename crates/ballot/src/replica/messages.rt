@@ -1,8 +1,8 @@
 // What a replica does with each message of another node.
 
 ghost use Rattle.std.specs.Prelude.{◌≡◌, ◌<◌, ◌↔◌, true, false, [], ◌∷◌, OnOk, OnErr, IsErr};
-ghost use Rattle.ballot.specs.Inside.{Heard, SendsCounted, Went};
-ghost use Rattle.ballot_base.specs.Losses.{Stepped, SendsAndAddsNothing, one_more};
+ghost use Rattle.ballot.specs.Inside.{HeardOrLost, SendsCounted, WentOrLost};
+ghost use Rattle.ballot_base.specs.Losses.{SteppedOrLost, SendsAndAddsNothing, one_more};
 ghost use Rattle.ballot_base.specs.Sending.{message_to};
 ghost use Rattle.ballot_base.specs.Unread.{is_unread};
 ghost use Rattle.ballot_base.specs.Protocol.{received, replica_step};
@@ -25,7 +25,7 @@ impl<M: Machine> Replica<M> {
     ) -> Result<(), Halted>
         // The protocol's step, or one in which memory ran out and that was counted.
         ensures step { self.old.state.stopped ≡ false →
-            Stepped M.rules self.old (replica_step M.rules self.old.state (Receives message))
+            SteppedOrLost M.rules self.old (replica_step M.rules self.old.state (Receives message))
             self.new out.old.items out.new.items }
         // A message that sends, adds and applies nothing never runs out of memory, unless a
         // snapshot has to be read.
@@ -59,7 +59,7 @@ impl<M: Machine> Replica<M> {
         out: &mut Vec<Effect<M::Command, M::Output>>,
     ) -> Result<(), Halted>
         requires { self.old.state.stopped ≡ false }
-        ensures went { Heard M.rules self.old (received M.rules self.old.state from body)
+        ensures went { HeardOrLost M.rules self.old (received M.rules self.old.state from body)
             (is_unread M.rules self.old.state body) self.new out.old.items out.new.items }
         ensures unread { is_unread M.rules self.old.state body ≡ true →
             self.new ≡ record self.old { losses = one_more self.old.losses } }
@@ -96,7 +96,7 @@ impl<M: Machine> Replica<M> {
         command: M::Command,
         out: &mut Vec<Effect<M::Command, M::Output>>,
     )
-        ensures went { Went M.rules self.old
+        ensures went { WentOrLost M.rules self.old
             (on_append M.Output self.old.state from ballot place command) self.new
             out.old.items out.new.items }
         ensures runs { self.new.state.stopped ≡ self.old.state.stopped }
@@ -139,7 +139,7 @@ impl<M: Machine> Replica<M> {
         out: &mut Vec<Effect<M::Command, M::Output>>,
     ) -> Result<(), Halted>
         requires { self.old.state.stopped ≡ false }
-        ensures went { Went M.rules self.old (on_held M.rules self.old.state from ballot held)
+        ensures went { WentOrLost M.rules self.old (on_held M.rules self.old.state from ballot held)
             self.new out.old.items out.new.items }
         ensures ok { OnOk result (self.new.state.stopped ≡ false) }
         ensures err { OnErr result ((self.new.state.stopped ≡ true) ×
@@ -168,7 +168,7 @@ impl<M: Machine> Replica<M> {
     // outputs.
     fn on_commit(&mut self, ballot: u64, held: u64) -> Result<(), Halted>
         requires { self.old.state.stopped ≡ false }
-        ensures went { Went M.rules self.old (on_commit M.rules self.old.state ballot held)
+        ensures went { WentOrLost M.rules self.old (on_commit M.rules self.old.state ballot held)
             self.new [] [] }
         ensures ok { OnOk result (self.new.state.stopped ≡ false) }
         ensures err { OnErr result (self.new.state.stopped ≡ true) }

@@ -39,9 +39,9 @@ pub record EventIsDone (event : Event) (old new : WorldState) : Type 0 where
   pub uncounted : new.losses ≡ old.losses
 
 -- the result of an event, before the step counts what its nodes counted
-abbrev pub Meets : Event → WorldState → Result (Unit {0}) Idle → WorldState → Type 0
-Meets event old (Err idle) new = CannotHappen event old × (new ≡ old)
-Meets event old (Ok done) new = EventIsDone event old new ⊎ HappensLosing event old new
+abbrev pub MeetsOrLost : Event → WorldState → Result (Unit {0}) Idle → WorldState → Type 0
+MeetsOrLost event old (Err idle) new = CannotHappen event old × (new ≡ old)
+MeetsOrLost event old (Ok done) new = EventIsDone event old new ⊎ HappensLosing event old new
 
 -- Nothing is counted if the nodes' count of losses is what it was; otherwise one loss is counted,
 -- if the world's count is still what it was.

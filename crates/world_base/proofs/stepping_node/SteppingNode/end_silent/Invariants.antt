@@ -1,4 +1,4 @@
-use Rattle.world_base.specs.Inside.{RanStep, DoesOutcome}
+use Rattle.world_base.specs.Inside.{RanOrLost, DoesOutcome}
 use Rattle.world_base.specs.KeepAlive.{ends_silent}
 use Rattle.world_base.specs.Lossy.{Repeated}
 use Rattle.world_base.specs.LossyReading.{EndsSilent}
@@ -8,5 +8,5 @@ use Rattle.world_base.proofs.stepping_node.SteppingNode.end_silent.Given as goal
 abbrev pub invariant-loop-connection : goal.invariant-loop-connection
 invariant-loop-connection l = record {
   exact : DoesOutcome l.initial.self l.self l.initial.effects.items l.effects.items (repeated l._connection (ends_silent l.initial.now) l.initial.self.core);
-  lossy : RanStep (Repeated l._connection (EndsSilent l.initial.now)) l.initial.self.core l.self.core l.initial.effects.items l.effects.items;
+  lossy : RanOrLost (Repeated l._connection (EndsSilent l.initial.now)) l.initial.self.core l.self.core l.initial.effects.items l.effects.items;
 }
