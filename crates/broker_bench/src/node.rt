@@ -5,10 +5,10 @@ use crate::traffic::{Part, Traffic, connect, packets_of, subscribe};
 use anyhow::{Result, anyhow, ensure};
 use ballot::{Config, Members};
 use bench_base::nanos_each;
+use node_core::{Item, NodeCore, Piece, Port};
 use packet::QoS;
 use std::alloc::Global;
 use std::time::CpuClock;
-use world_base::{Item, NodeCore, Piece, Port};
 
 /// How many publications a figure rests on.
 const PUBLICATIONS: u32 = 61_440;

@@ -13,9 +13,9 @@ use Rattle.node_group.specs.broker_spec.Connection.{ConnectionName}
 use Rattle.node_group.specs.agreement.MasterState.{refusal}
 use Rattle.node_group.specs.snapshots.Moments.{Moment, Moments}
 use Rattle.node_group.proofs.of_snapshots.PastsAgree.{one_primary_a_ballot}
-use Rattle.node_group.specs.world_base.declared.Connection.{Connection}
-use Rattle.node_group.specs.world_base.Core.{CoreState, StepOutcome, rules}
-use Rattle.node_group.specs.world_base.Effects.{without_messages}
+use Rattle.node_group.specs.node_core.declared.Connection.{Connection}
+use Rattle.node_group.specs.node_core.Core.{CoreState, StepOutcome, rules}
+use Rattle.node_group.specs.node_core.Effects.{without_messages}
 use Rattle.node_group.specs.node_moves.Closed.{listed_named}
 use Rattle.node_group.specs.node_moves.Ends.{IsOrderly}
 use Rattle.node_group.specs.node_moves.LossyMoves.{LossyMoves}

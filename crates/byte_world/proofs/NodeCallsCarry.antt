@@ -5,11 +5,11 @@ use Rattle.std.proofs.lemmas.List.{append-nil}
 use Rattle.node_group.specs.lists.Lists.{In}
 use Rattle.node_group.specs.ballot_base.Protocol.Input.{Receives, Proposes, Ticks}
 use Rattle.node_group.specs.broker_spec.Connection.{ConnectionName}
-use Rattle.node_group.specs.world_base.declared.item.Item.TheVariants.{Peer, Tick, Opened, Bytes, Ended, Expel, Cut, Crash}
+use Rattle.node_group.specs.node_core.declared.item.Item.TheVariants.{Peer, Tick, Opened, Bytes, Ended, Expel, Cut, Crash}
 use Rattle.node_group.specs.ballot_base.Cutting.{can_cut}
-use Rattle.node_group.specs.world_base.Core.{CoreState, StepOutcome, rules}
-use Rattle.node_group.specs.world_base.Handing.{listed_at}
-use Rattle.node_group.specs.world_base.Reading.{open_at}
+use Rattle.node_group.specs.node_core.Core.{CoreState, StepOutcome, rules}
+use Rattle.node_group.specs.node_core.Handing.{listed_at}
+use Rattle.node_group.specs.node_core.Reading.{open_at}
 use Rattle.node_group.specs.node_moves.Ends.{came_on, piece_on}
 use Rattle.node_group.specs.node_moves.RunProposals.{bytes_on}
 use Rattle.node_group.specs.node_moves.Moves.{NodeCall, Moves, Runs, done}

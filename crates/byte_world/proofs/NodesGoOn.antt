@@ -11,13 +11,13 @@ use Rattle.node_group.specs.lists.Lists.{Each, In}
 use Rattle.node_group.specs.lists.Lists.In.{here, there}
 use Rattle.node_group.specs.agreement.MasterState.{refusal}
 use Rattle.node_group.proofs.of_packet_world.Lists.{same_or_other}
-use Rattle.node_group.specs.world_base.declared.Connection.{Connection}
-use Rattle.node_group.specs.world_base.declared.item.Item.{Item}
-use Rattle.node_group.specs.world_base.declared.item.Item.TheVariants.{Peer, Tick, Opened, Bytes, Ended, Expel, Cut, Crash}
-use Rattle.node_group.specs.world_base.declared.Port.{Port}
-use Rattle.node_group.specs.world_base.Core.{CoreState, StepOutcome}
-use Rattle.node_group.specs.world_base.LossyStep.{RunsOn}
-use Rattle.node_group.specs.world_base.Step.{next_name}
+use Rattle.node_group.specs.node_core.declared.Connection.{Connection}
+use Rattle.node_group.specs.node_core.declared.item.Item.{Item}
+use Rattle.node_group.specs.node_core.declared.item.Item.TheVariants.{Peer, Tick, Opened, Bytes, Ended, Expel, Cut, Crash}
+use Rattle.node_group.specs.node_core.declared.Port.{Port}
+use Rattle.node_group.specs.node_core.Core.{CoreState, StepOutcome}
+use Rattle.node_group.specs.node_core.LossyStep.{RunsOn}
+use Rattle.node_group.specs.node_core.Step.{next_name}
 use Rattle.node_group.specs.node_moves.Ends.{IsGiven, IsOrderly}
 use Rattle.node_group.specs.node_moves.Moves.{NodeCall, Runs, done}
 use Rattle.node_group.specs.node_moves.Moves.NodeCall.{takes, gives}

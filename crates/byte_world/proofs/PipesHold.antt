@@ -14,13 +14,13 @@ use Rattle.node_group.proofs.of_lists.Tests.{eq_is, eq_same}
 use Rattle.node_group.specs.cutter.Pipe.{Joins}
 use Rattle.node_group.specs.exactly_once.Sides.{ClientConnection}
 use Rattle.node_group.proofs.of_exactly_once.Takes.{same_name_self}
-use Rattle.node_group.specs.world_base.declared.Connection.{Connection as NodesEnd}
-use Rattle.node_group.specs.world_base.declared.item.Item.TheVariants.{Peer, Tick, Opened, Bytes, Ended, Expel, Cut, Crash}
-use Rattle.node_group.specs.world_base.declared.Port.{Port}
+use Rattle.node_group.specs.node_core.declared.Connection.{Connection as NodesEnd}
+use Rattle.node_group.specs.node_core.declared.item.Item.TheVariants.{Peer, Tick, Opened, Bytes, Ended, Expel, Cut, Crash}
+use Rattle.node_group.specs.node_core.declared.Port.{Port}
 use Rattle.node_group.specs.node_connections.Connections.{is_at, is_open_at}
-use Rattle.node_group.specs.world_base.Core.{CoreState}
-use Rattle.node_group.specs.world_base.Handing.{listed_at}
-use Rattle.node_group.specs.world_base.Reading.{open_at}
+use Rattle.node_group.specs.node_core.Core.{CoreState}
+use Rattle.node_group.specs.node_core.Handing.{listed_at}
+use Rattle.node_group.specs.node_core.Reading.{open_at}
 use Rattle.node_group.specs.node_moves.Ends.{IsGiven, piece_on}
 use Rattle.node_group.specs.node_moves.Moves.{NodeCall}
 use Rattle.node_group.specs.node_moves.Moves.NodeCall.{takes, gives}

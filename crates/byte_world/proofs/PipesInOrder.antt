@@ -5,8 +5,8 @@ use Rattle.node_group.specs.broker_spec.declared.command.Command.{Command}
 use Rattle.node_group.specs.broker_spec.Place.{Client}
 use Rattle.node_group.specs.lists.Lists.{In, IsPrefixOf}
 use Rattle.node_group.specs.exactly_once.Sides.{ClientConnection}
-use Rattle.node_group.specs.world_base.declared.Connection.{Connection as NodesEnd}
-use Rattle.node_group.specs.world_base.Core.{CoreState}
+use Rattle.node_group.specs.node_core.declared.Connection.{Connection as NodesEnd}
+use Rattle.node_group.specs.node_core.Core.{CoreState}
 use Rattle.node_group.specs.Group.{opening_cores}
 use Rattle.node_group.specs.Steps.{GroupTrace}
 use Rattle.node_group.specs.Steps.GroupTrace.{opened}

@@ -21,19 +21,19 @@ use Rattle.node_group.specs.broker_spec.declared.command.Output.TheVariants as o
 use Rattle.node_group.specs.lists.Lists.{Each, In}
 use Rattle.node_group.specs.lists.Lists.In.{here, there}
 use Rattle.node_group.proofs.of_lists.OfEach.{each_append, each_then}
-use Rattle.node_group.specs.world_base.declared.Connection.{Connection}
-use Rattle.node_group.specs.world_base.declared.item.Item.{Item}
+use Rattle.node_group.specs.node_core.declared.Connection.{Connection}
+use Rattle.node_group.specs.node_core.declared.item.Item.{Item}
 use Rattle.node_group.specs.ballot_base.Cutting.{can_cut}
-use Rattle.node_group.specs.world_base.declared.item.Item.TheVariants.{Peer, Tick, Opened, Bytes, Ended, Expel, Cut, Crash}
-use Rattle.node_group.specs.world_base.declared.Port.{Port}
+use Rattle.node_group.specs.node_core.declared.item.Item.TheVariants.{Peer, Tick, Opened, Bytes, Ended, Expel, Cut, Crash}
+use Rattle.node_group.specs.node_core.declared.Port.{Port}
 use Rattle.node_group.specs.node_connections.Connections.{fresh, is_at, is_first, is_listed, is_open_at, is_open_named, is_proposed}
 use Rattle.node_group.specs.node_connections.ConnectionChanges.{noted_proposed, changed_where, closed_connection, failing, nothing_pending, with_unread, left_with, max_pending, with_queued, putting}
-use Rattle.node_group.specs.world_base.Core.{CoreState, StepOutcome, serves}
-use Rattle.node_group.specs.world_base.Handing.{hands_over, left_by, listed_at}
-use Rattle.node_group.specs.world_base.KeepAlive.{ends_if, ends_silent, lowest_silent}
-use Rattle.node_group.specs.world_base.Reading.{takes_first_packet, changes, port_closed, loses, loses_open, open_at, reads, reads_next, reads_of, connect_refused, proposes_packet, unread_of}
-use Rattle.node_group.specs.world_base.Step.{acts_on, next_name, with_next_connection, does_item, cuts, with_cut}
-use Rattle.node_group.specs.world_base.Effects.{changes_named, drives, has_room, outcome_of_input, proposes, without_messages, repeated, with_effect}
+use Rattle.node_group.specs.node_core.Core.{CoreState, StepOutcome, serves}
+use Rattle.node_group.specs.node_core.Handing.{hands_over, left_by, listed_at}
+use Rattle.node_group.specs.node_core.KeepAlive.{ends_if, ends_silent, lowest_silent}
+use Rattle.node_group.specs.node_core.Reading.{takes_first_packet, changes, port_closed, loses, loses_open, open_at, reads, reads_next, reads_of, connect_refused, proposes_packet, unread_of}
+use Rattle.node_group.specs.node_core.Step.{acts_on, next_name, with_next_connection, does_item, cuts, with_cut}
+use Rattle.node_group.specs.node_core.Effects.{changes_named, drives, has_room, outcome_of_input, proposes, without_messages, repeated, with_effect}
 use Rattle.node_group.specs.node_moves.Moves.{NodeCall, done}
 use Rattle.node_group.specs.node_moves.Moves.NodeCall.{takes, gives}
 use Rattle.node_group.proofs.of_node_moves.EachKept.{IsKept, each_proposed, each_repeated, each_settled}

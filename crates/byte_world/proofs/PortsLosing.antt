@@ -14,27 +14,27 @@ use Rattle.node_group.specs.broker_spec.declared.command.Output.{Output}
 use Rattle.node_group.specs.broker_spec.declared.command.Output.TheVariants as outputs
 use Rattle.node_group.specs.lists.Lists.{Each}
 use Rattle.node_group.proofs.of_lists.OfEach.{each_then}
-use Rattle.node_group.specs.world_base.declared.Connection.{Connection}
-use Rattle.node_group.specs.world_base.declared.item.Item.{Item}
-use Rattle.node_group.specs.world_base.LossyStep.Cuts.{nothing_to_cut, cuts_log, forgets_cut}
-use Rattle.node_group.specs.world_base.declared.item.Item.TheVariants.{Peer, Tick, Opened, Bytes, Ended, Expel, Cut, Crash}
-use Rattle.node_group.specs.world_base.declared.Port.{Port}
+use Rattle.node_group.specs.node_core.declared.Connection.{Connection}
+use Rattle.node_group.specs.node_core.declared.item.Item.{Item}
+use Rattle.node_group.specs.node_core.LossyStep.Cuts.{nothing_to_cut, cuts_log, forgets_cut}
+use Rattle.node_group.specs.node_core.declared.item.Item.TheVariants.{Peer, Tick, Opened, Bytes, Ended, Expel, Cut, Crash}
+use Rattle.node_group.specs.node_core.declared.Port.{Port}
 use Rattle.node_group.specs.node_connections.Connections.{has_failed, is_at}
 use Rattle.node_group.specs.node_connections.ConnectionChanges.{noted_proposed, closed_connection, failing, with_unread, left_with, with_queued}
-use Rattle.node_group.specs.world_base.Core.{CoreState}
-use Rattle.node_group.specs.world_base.Failing.{closes_failed}
-use Rattle.node_group.specs.world_base.Lossy.{Account, HandlesAll, Drives, Repeated, Performs, TakesCommand, Then, without_effects}
-use Rattle.node_group.specs.world_base.LossyProposals.{Declines, ProposesCommand}
-use Rattle.node_group.specs.world_base.LossyProposals.Declines.{no_room, forgets, stops}
-use Rattle.node_group.specs.world_base.Lossy.HandlesAll.{nothing, does, sends, loses}
-use Rattle.node_group.specs.world_base.LossyStep.{ActsOn, HoldsBytes, LosesAllFailed, AcceptsConnection, ReadsPackets, RunsOn, DoesItem}
-use Rattle.node_group.specs.world_base.LossyReading.{TakesOr, TakesFirstPacket, ClosesConnection, EndsConnection, EndsSilent, LosesFailed, ReadsNext, Shuts}
-use Rattle.node_group.specs.world_base.LossyReading.EndsConnection.{none_open, unproposed, proposed}
-use Rattle.node_group.specs.world_base.LossyReading.EndsSilent.{none_silent, ends_one}
-use Rattle.node_group.specs.world_base.LossyReading.LosesFailed.{none_failed, tells_one}
-use Rattle.node_group.specs.world_base.LossyReading.ReadsNext.{waits, first, later, refuses, ends}
-use Rattle.node_group.specs.world_base.Reading.{changes, open_at, connect_refused, unread_of}
-use Rattle.node_group.specs.world_base.Step.{with_next_connection}
+use Rattle.node_group.specs.node_core.Core.{CoreState}
+use Rattle.node_group.specs.node_core.Failing.{closes_failed}
+use Rattle.node_group.specs.node_core.Lossy.{Account, HandlesAll, Drives, Repeated, Performs, TakesCommand, Then, without_effects}
+use Rattle.node_group.specs.node_core.LossyProposals.{Declines, ProposesCommand}
+use Rattle.node_group.specs.node_core.LossyProposals.Declines.{no_room, forgets, stops}
+use Rattle.node_group.specs.node_core.Lossy.HandlesAll.{nothing, does, sends, loses}
+use Rattle.node_group.specs.node_core.LossyStep.{ActsOn, HoldsBytes, LosesAllFailed, AcceptsConnection, ReadsPackets, RunsOn, DoesItem}
+use Rattle.node_group.specs.node_core.LossyReading.{TakesOr, TakesFirstPacket, ClosesConnection, EndsConnection, EndsSilent, LosesFailed, ReadsNext, Shuts}
+use Rattle.node_group.specs.node_core.LossyReading.EndsConnection.{none_open, unproposed, proposed}
+use Rattle.node_group.specs.node_core.LossyReading.EndsSilent.{none_silent, ends_one}
+use Rattle.node_group.specs.node_core.LossyReading.LosesFailed.{none_failed, tells_one}
+use Rattle.node_group.specs.node_core.LossyReading.ReadsNext.{waits, first, later, refuses, ends}
+use Rattle.node_group.specs.node_core.Reading.{changes, open_at, connect_refused, unread_of}
+use Rattle.node_group.specs.node_core.Step.{with_next_connection}
 use Rattle.node_group.proofs.of_node_moves.EachKept.{each_settled}
 use Rattle.node_group.proofs.of_node_moves.Kept.{failing_over, left_true, live}
 use Rattle.byte_world.proofs.PortsKept.{AllOf, Comes, IsFollowed, IsLater, IsOfOld, all_old, comes_later, each_at, each_changed, each_named, each_opened, is_put_out, is_shut, kept, old_later, shut_at}

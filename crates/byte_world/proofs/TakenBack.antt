@@ -5,12 +5,12 @@ use Rattle.std.proofs.lemmas.Bool.{both_ways}
 use Rattle.node_group.specs.ballot_base.declared.config.Config.{Config}
 use Rattle.node_group.specs.broker_spec.Connection.{ConnectionName}
 use Rattle.node_group.specs.lists.Lists.{In}
-use Rattle.node_group.specs.world_base.declared.Connection.{Connection as NodesEnd}
-use Rattle.node_group.specs.world_base.declared.item.Item.TheVariants.{Opened}
-use Rattle.node_group.specs.world_base.declared.Port.{Port}
-use Rattle.node_group.specs.world_base.Core.{CoreState}
+use Rattle.node_group.specs.node_core.declared.Connection.{Connection as NodesEnd}
+use Rattle.node_group.specs.node_core.declared.item.Item.TheVariants.{Opened}
+use Rattle.node_group.specs.node_core.declared.Port.{Port}
+use Rattle.node_group.specs.node_core.Core.{CoreState}
 use Rattle.node_group.specs.node_connections.Connections.{is_at}
-use Rattle.node_group.specs.world_base.Handing.{listed_at}
+use Rattle.node_group.specs.node_core.Handing.{listed_at}
 use Rattle.node_group.specs.node_moves.Moves.NodeCall.{takes}
 use Rattle.node_group.specs.Steps.{GroupTrace}
 use Rattle.node_group.specs.Steps.GroupTrace.{then_went}

@@ -11,9 +11,9 @@ use Rattle.node_group.specs.lists.Lists.{Each, In}
 use Rattle.node_group.proofs.of_lists.Places.{get_set, get_set_other}
 use Rattle.node_group.proofs.of_packet_world.Lists.{same_or_other, set_get}
 use Rattle.node_group.specs.exactly_once.Sides.{ClientConnection}
-use Rattle.node_group.specs.world_base.declared.Connection.{Connection as NodesEnd}
-use Rattle.node_group.specs.world_base.declared.Port.{Port}
-use Rattle.node_group.specs.world_base.Core.{CoreState}
+use Rattle.node_group.specs.node_core.declared.Connection.{Connection as NodesEnd}
+use Rattle.node_group.specs.node_core.declared.Port.{Port}
+use Rattle.node_group.specs.node_core.Core.{CoreState}
 use Rattle.node_group.specs.node_moves.Puts.{spelled}
 use Rattle.node_group.specs.Group.{Group}
 use Rattle.node_group.specs.Steps.{GroupTrace}

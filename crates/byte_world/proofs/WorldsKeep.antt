@@ -17,16 +17,16 @@ use Rattle.node_group.specs.cutter.Stream.{Stream, Takes}
 use Rattle.node_group.specs.lists.Lists.{Each, In}
 use Rattle.node_group.proofs.of_lists.Places.{get_set_other}
 use Rattle.node_group.proofs.of_packet_world.Lists.{same_or_other, set_get}
-use Rattle.node_group.specs.world_base.declared.Port.{Port}
+use Rattle.node_group.specs.node_core.declared.Port.{Port}
 use Rattle.node_group.specs.packet_world.Steps.{is_call}
 use Rattle.node_group.specs.exactly_once.Sides.{ClientConnection, Side}
 use Rattle.node_group.specs.exactly_once.Story.{StoryStep, Story}
 use Rattle.node_group.specs.exactly_once.Story.StoryStep.{takes as takes_next, others_take, receives, opens_anew, loses, disconnects, publishes_one, subscribes, unsubscribes}
 use Rattle.node_group.proofs.of_exactly_once.Takes.{same_name_self}
 use Rattle.node_group.proofs.of_exactly_once.publishing.Grown.{handled_grows}
-use Rattle.node_group.specs.world_base.declared.Connection.{Connection as NodesEnd}
-use Rattle.node_group.specs.world_base.declared.item.Item.TheVariants.{Peer, Tick, Opened, Bytes, Ended, Expel, Cut, Crash}
-use Rattle.node_group.specs.world_base.Core.{CoreState}
+use Rattle.node_group.specs.node_core.declared.Connection.{Connection as NodesEnd}
+use Rattle.node_group.specs.node_core.declared.item.Item.TheVariants.{Peer, Tick, Opened, Bytes, Ended, Expel, Cut, Crash}
+use Rattle.node_group.specs.node_core.Core.{CoreState}
 use Rattle.node_group.specs.node_moves.Moves.{NodeCall}
 use Rattle.node_group.specs.node_moves.Moves.NodeCall.{takes, gives}
 use Rattle.node_group.specs.node_moves.Puts.{spelled}

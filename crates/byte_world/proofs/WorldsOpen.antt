@@ -15,12 +15,12 @@ use Rattle.node_group.proofs.of_packet_world.Lists.{same_or_other, set_get}
 use Rattle.node_group.specs.cutter.Pipe.{Joins}
 use Rattle.node_group.specs.exactly_once.Sides.{ClientConnection}
 use Rattle.node_group.proofs.of_exactly_once.Takes.{same_name_self}
-use Rattle.node_group.specs.world_base.declared.Connection.{Connection as NodesEnd}
-use Rattle.node_group.specs.world_base.declared.item.Item.TheVariants.{Opened}
-use Rattle.node_group.specs.world_base.declared.Port.{Port}
-use Rattle.node_group.specs.world_base.Core.{CoreState}
-use Rattle.node_group.specs.world_base.Handing.{listed_at}
-use Rattle.node_group.specs.world_base.Step.{next_name}
+use Rattle.node_group.specs.node_core.declared.Connection.{Connection as NodesEnd}
+use Rattle.node_group.specs.node_core.declared.item.Item.TheVariants.{Opened}
+use Rattle.node_group.specs.node_core.declared.Port.{Port}
+use Rattle.node_group.specs.node_core.Core.{CoreState}
+use Rattle.node_group.specs.node_core.Handing.{listed_at}
+use Rattle.node_group.specs.node_core.Step.{next_name}
 use Rattle.node_group.specs.node_moves.Ends.{IsGiven, Precedes}
 use Rattle.node_group.specs.node_moves.Moves.NodeCall.{takes}
 use Rattle.node_group.specs.node_moves.Puts.{spelled}

@@ -3,8 +3,8 @@ use Rattle.std.specs.Prelude.{◌≡◌, ℕ, slice_get, Some}
 use Rattle.node_group.specs.lists.Lists.{In}
 use Rattle.node_group.specs.ballot_base.declared.config.Config.{Config}
 use Rattle.node_group.specs.broker_spec.Connection.{ConnectionName}
-use Rattle.node_group.specs.world_base.declared.Connection.{Connection}
-use Rattle.node_group.specs.world_base.Core.{CoreState}
+use Rattle.node_group.specs.node_core.declared.Connection.{Connection}
+use Rattle.node_group.specs.node_core.Core.{CoreState}
 use Rattle.node_group.specs.node_moves.Closed.{listed_named}
 use Rattle.node_group.specs.Group.{Group}
 use Rattle.node_group.specs.Steps.{GroupTrace, groups_on_trace}

@@ -5,9 +5,9 @@ use Rattle.node_group.specs.ballot_base.declared.config.Config.{Config}
 use Rattle.node_group.specs.broker_spec.Place.{Client}
 use Rattle.node_group.specs.lists.Lists.{In}
 use Rattle.node_group.specs.exactly_once.Sides.{ClientConnection}
-use Rattle.node_group.specs.world_base.declared.Connection.{Connection as NodesEnd}
-use Rattle.node_group.specs.world_base.declared.Port.{Port}
-use Rattle.node_group.specs.world_base.Core.{CoreState}
+use Rattle.node_group.specs.node_core.declared.Connection.{Connection as NodesEnd}
+use Rattle.node_group.specs.node_core.declared.Port.{Port}
+use Rattle.node_group.specs.node_core.Core.{CoreState}
 use Rattle.node_group.specs.node_moves.Ends.{IsOrderly}
 use Rattle.byte_world.specs.World.{ClientPipes, HasPipe, Pipe, World}
 use Rattle.byte_world.specs.Steps.{Reached}

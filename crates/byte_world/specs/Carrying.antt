@@ -1,10 +1,10 @@
 -- What a step of a group carries for connections: for a call of a node just its bytes.
 use Rattle.std.specs.Prelude.{◌≡◌, ℕ, Bool, true, false, List, [], Option, Some, None}
 use Rattle.node_group.specs.broker_spec.Connection.{ConnectionName}
-use Rattle.node_group.specs.world_base.declared.item.Item.TheVariants.{Peer, Tick, Opened, Bytes, Ended, Expel, Cut, Crash}
-use Rattle.node_group.specs.world_base.Core.{CoreState, StepOutcome}
-use Rattle.node_group.specs.world_base.Handing.{listed_at}
-use Rattle.node_group.specs.world_base.Reading.{open_at}
+use Rattle.node_group.specs.node_core.declared.item.Item.TheVariants.{Peer, Tick, Opened, Bytes, Ended, Expel, Cut, Crash}
+use Rattle.node_group.specs.node_core.Core.{CoreState, StepOutcome}
+use Rattle.node_group.specs.node_core.Handing.{listed_at}
+use Rattle.node_group.specs.node_core.Reading.{open_at}
 use Rattle.node_group.specs.node_moves.Ends.{piece_on}
 use Rattle.node_group.specs.node_moves.RunProposals.{bytes_on}
 use Rattle.node_group.specs.node_moves.Moves.{NodeCall, Runs}

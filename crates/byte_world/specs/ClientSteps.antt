@@ -8,7 +8,7 @@ use Rattle.node_group.specs.client_base.Handled.{lost}
 use Rattle.node_group.specs.lists.Lists.{Each}
 use Rattle.node_group.specs.exactly_once.Sides.{ClientConnection, Side}
 use Rattle.node_group.specs.exactly_once.Story.{Story}
-use Rattle.node_group.specs.world_base.declared.Port.{Port}
+use Rattle.node_group.specs.node_core.declared.Port.{Port}
 use Rattle.node_group.specs.node_moves.Puts.{spelled}
 use Rattle.byte_world.specs.World.{ClientPipes, Pipe, newly_written, packets_of, sent_up}
 

@@ -27,6 +27,6 @@ pub use Rattle.node_group.specs.packet_world as packet_world
 pub use Rattle.node_group.specs.session_base as session_base
 pub use Rattle.node_group.specs.snapshots as snapshots
 pub use Rattle.node_group.specs.whole as whole
-pub use Rattle.node_group.specs.world_base as world_base
+pub use Rattle.node_group.specs.node_core as node_core
 pub use Rattle.node_group.specs.ballot_base as ballot_base
 pub use Rattle.node_group.specs.node_connections as node_connections

@@ -4,9 +4,9 @@ use Rattle.node_group.specs.lists.Lists.{In}
 use Rattle.node_group.specs.ballot_base.declared.message.Effect.{Effect}
 use Rattle.node_group.specs.broker_spec.declared.command.Command.{Command}
 use Rattle.node_group.specs.broker_spec.declared.command.Output.{Output}
-use Rattle.node_group.specs.world_base.declared.item.Item.TheVariants.{Peer, Cut}
+use Rattle.node_group.specs.node_core.declared.item.Item.TheVariants.{Peer, Cut}
 use Rattle.node_group.specs.ballot_base.Cutting.{can_cut}
-use Rattle.node_group.specs.world_base.Core.{CoreState, StepOutcome, rules}
+use Rattle.node_group.specs.node_core.Core.{CoreState, StepOutcome, rules}
 use Rattle.node_group.specs.node_moves.Hearing.{HearsAtFirst}
 use Rattle.node_group.specs.node_moves.Moves.{NodeCall, Runs, done}
 use Rattle.node_group.specs.node_moves.Moves.NodeCall.{takes}

@@ -12,11 +12,11 @@ use Rattle.node_group.specs.client_base.Handled.{packet_handled}
 use Rattle.node_group.specs.exactly_once.Sides.{ClientConnection}
 use Rattle.node_group.specs.exactly_once.Story.{Story, StoryStep}
 use Rattle.node_group.specs.packet_world.Steps.{is_call}
-use Rattle.node_group.specs.world_base.declared.Connection.{Connection as NodesEnd}
-use Rattle.node_group.specs.world_base.declared.Port.{Port}
-use Rattle.node_group.specs.world_base.declared.item.Item.TheVariants.{Opened, Bytes}
-use Rattle.node_group.specs.world_base.Core.{CoreState}
-use Rattle.node_group.specs.world_base.Handing.{listed_at}
+use Rattle.node_group.specs.node_core.declared.Connection.{Connection as NodesEnd}
+use Rattle.node_group.specs.node_core.declared.Port.{Port}
+use Rattle.node_group.specs.node_core.declared.item.Item.TheVariants.{Opened, Bytes}
+use Rattle.node_group.specs.node_core.Core.{CoreState}
+use Rattle.node_group.specs.node_core.Handing.{listed_at}
 use Rattle.node_group.specs.node_moves.Moves.{NodeCall}
 use Rattle.node_group.specs.node_moves.Moves.NodeCall.{takes, gives}
 use Rattle.node_group.specs.Streams.{goes_down as goes_down_in}

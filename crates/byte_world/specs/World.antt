@@ -7,7 +7,7 @@ use Rattle.node_group.specs.ballot_base.declared.config.Config.{Config}
 use Rattle.node_group.specs.broker_spec.Place.{Client}
 use Rattle.node_group.specs.client_base.Keeper.{Keeper, Written, new_keeper}
 use Rattle.node_group.specs.exactly_once.Sides.{ClientConnection}
-use Rattle.node_group.specs.world_base.declared.Port.{Port}
+use Rattle.node_group.specs.node_core.declared.Port.{Port}
 use Rattle.node_group.specs.node_moves.Puts.{spelled}
 use Rattle.node_group.specs.Group.{Group, opening_group}
 

@@ -1,8 +1,8 @@
 -- StreamStaysWhole.antt: a stream is whole when it begins, and after each write.
 use Rattle.std.proofs.Common.{◌≡◌, ℕ, Option, List, [], ◌++◌, sym, subst}
 use Rattle.std.specs.Io.KnownBytes.{IsAtEnd}
-use Rattle.node_base.specs.Counted.{Watched}
-use Rattle.world_base.specs.declared.Handed.{Handed}
+use Rattle.devices.specs.Counted.{Watched}
+use Rattle.node_core.specs.declared.Handed.{Handed}
 use Rattle.connection.specs.declared.flow.Flow.{Flow}
 use Rattle.connection.specs.Life.{Lives}
 use Rattle.connection.specs.Life.Lives.{begins, goes_on}

@@ -2,7 +2,7 @@
 use Rattle.std.proofs.Common.{◌≡◌, ℕ, ◌≤◌, Option, None, Some, List, [], ◌∷◌, ◌++◌, length, take, drop, refl, sym, ◌∙◌, ap, subst, append_assoc}
 use Rattle.std.proofs.lemmas.List.{append-nil, take-append-drop}
 use Rattle.std.specs.Io.KnownBytes.{Appends, Keeps}
-use Rattle.world_base.specs.declared.Handed.{Handed}
+use Rattle.node_core.specs.declared.Handed.{Handed}
 use Rattle.connection.specs.Laws.{NothingIsLeftOut}
 use Rattle.connection.specs.Life.{Lives}
 use Rattle.connection.specs.Life.Lives.{begins, goes_on}

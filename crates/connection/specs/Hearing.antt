@@ -3,11 +3,11 @@
 use Rattle.std.specs.Prelude.{◌≡◌, ℕ, ◌≤◌, Bool, true, false, List, [], ◌∷◌, ◌++◌, length, map, Option}
 use Rattle.std.specs.List.{flat_map}
 use Rattle.std.specs.Io.KnownBytes.{Consumes, IsAtEnd}
-use Rattle.node_base.specs.Counted.{counted_once}
-use Rattle.node_base.specs.declared.counted.TheConstants.{PIECE_BYTES}
-use Rattle.world_base.specs.declared.Port.{Port}
-use Rattle.world_base.specs.declared.item.Item.{Item}
-use Rattle.world_base.specs.declared.item.Item.TheVariants.{Opened, Bytes, Ended}
+use Rattle.devices.specs.Counted.{counted_once}
+use Rattle.devices.specs.declared.counted.TheConstants.{PIECE_BYTES}
+use Rattle.node_core.specs.declared.Port.{Port}
+use Rattle.node_core.specs.declared.item.Item.{Item}
+use Rattle.node_core.specs.declared.item.Item.TheVariants.{Opened, Bytes, Ended}
 use Rattle.connection.specs.declared.ending.Ending.{Ending}
 use Rattle.connection.specs.declared.ending.Ending.TheVariants as endings
 

@@ -1,6 +1,6 @@
 -- What readers may want to know about these definitions.
 use Rattle.std.specs.Prelude.{ℕ, List, Option}
-use Rattle.world_base.specs.declared.Handed.{Handed}
+use Rattle.node_core.specs.declared.Handed.{Handed}
 use Rattle.connection.specs.Life.{Lives}
 use Rattle.connection.specs.Writing.{Writes}
 

@@ -1,7 +1,7 @@
 -- The writing of a connection over its whole life: one call after another, each of which begins
 -- with what the one before left.
 use Rattle.std.specs.Prelude.{ℕ, List, [], ◌++◌, Option}
-use Rattle.world_base.specs.declared.Handed.{Handed}
+use Rattle.node_core.specs.declared.Handed.{Handed}
 use Rattle.connection.specs.declared.flow.Flow.{Flow}
 use Rattle.connection.specs.Writing.{Flows}
 

@@ -1,8 +1,8 @@
 -- A connection's stream from its first byte on.
 use Rattle.std.specs.Prelude.{ℕ, List, Option}
 use Rattle.std.specs.Io.KnownBytes.{IsAtEnd}
-use Rattle.node_base.specs.Counted.{Watched}
-use Rattle.world_base.specs.declared.Handed.{Handed}
+use Rattle.devices.specs.Counted.{Watched}
+use Rattle.node_core.specs.declared.Handed.{Handed}
 use Rattle.connection.specs.Life.{Lives}
 
 -- a tap, what was handed over by it and is not yet written, and the device that is written to

@@ -1,9 +1,9 @@
 -- What is written of queued bytes, in order, and what is left.
 use Rattle.std.specs.Prelude.{◌≡◌, ℕ, ◌<◌, ◌⊎◌, List, [], ◌++◌, length, Option}
 use Rattle.std.specs.Io.KnownBytes.{Appends}
-use Rattle.node_base.specs.Counted.{counted_once}
-use Rattle.world_base.specs.declared.Handed.{Handed}
-use Rattle.world_base.specs.declared.Handed.TheVariants as answers
+use Rattle.devices.specs.Counted.{counted_once}
+use Rattle.node_core.specs.declared.Handed.{Handed}
+use Rattle.node_core.specs.declared.Handed.TheVariants as answers
 use Rattle.connection.specs.declared.left_write.LeftWrite.{LeftWrite}
 use Rattle.connection.specs.declared.left_write.LeftWrite.TheVariants as left_writes
 use Rattle.connection.specs.declared.flow.Flow.{Flow}

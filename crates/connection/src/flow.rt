@@ -7,10 +7,10 @@ use crate::left_write::LeftWrite;
 use crate::outlet::Outlet;
 use crate::tap::Tap;
 use crate::unwritten::Unwritten;
-use node_base::Counted;
+use devices::Counted;
+use node_core::Handed;
 use std::io::Write;
 use std::sync::Wait;
-use world_base::Handed;
 
 /// How [`write_out`] ended.
 #[derive(Clone, Copy, Debug, PartialEq, Eq)]

@@ -2,14 +2,14 @@
 
 ghost use Rattle.std.specs.Prelude.{◌≡◌, ◌++◌, ◌∷◌, []};
 
+use node_core::Item;
 use std::sync::Wait;
 use std::time::Clock;
-use world_base::Item;
 
 /// The receiver of a connection's reports, as a lane to a node's inbox with its clock.
 pub trait Hearer {
     ghost use Rattle.std.specs.Prelude.{Bool, List};
-    ghost use Rattle.world_base.specs.declared.item.Item.{Item};
+    ghost use Rattle.node_core.specs.declared.item.Item.{Item};
 
     // Everything that was reported to it, oldest first.
     ghost heard: { Self → List Item };

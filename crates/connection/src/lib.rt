@@ -14,12 +14,12 @@ mod reporting;
 mod tap;
 mod unwritten;
 
+pub use devices::{Counted, PIECE_BYTES};
 pub use ending::Ending;
 pub use flow::{Flow, write_out};
 pub use hearer::Hearer;
 pub use laws::nothing_is_left_out;
 pub use left_write::LeftWrite;
-pub use node_base::{Counted, PIECE_BYTES};
 pub use outflow::Outflow;
 pub use outlet::Outlet;
 pub use reporting::report_connection;

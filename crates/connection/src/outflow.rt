@@ -9,7 +9,7 @@ use crate::flow::{Flow, write_out};
 use crate::outlet::Outlet;
 use crate::tap::Tap;
 use crate::unwritten::Unwritten;
-use node_base::Counted;
+use devices::Counted;
 use std::alloc::Global;
 use std::io::Write;
 use std::marker::Model;

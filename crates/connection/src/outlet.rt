@@ -4,8 +4,8 @@ ghost use Rattle.std.specs.Prelude.{◌≡◌, IfOk, OnErr};
 ghost use Rattle.connection.specs.Writing.{HandsOver};
 
 use crate::tap::Tap;
+use node_core::{Handed, Memory};
 use std::sync::Wait;
-use world_base::{Handed, Memory};
 
 /// The source of the bytes that are queued for connections, each taken by its tap: a node, also one
 /// under a lock.

@@ -6,12 +6,12 @@ ghost use Rattle.connection.specs.Inside.{HearsOn, HearsPiece, faults_so_far};
 
 use crate::ending::Ending;
 use crate::hearer::Hearer;
-use node_base::{Counted, OneRead, PIECE_BYTES};
+use devices::{Counted, OneRead, PIECE_BYTES};
+use node_core::{Item, Piece, Port};
 use std::alloc::Global;
 use std::io::Read;
 use std::sync::Wait;
 use std::time::Clock;
-use world_base::{Item, Piece, Port};
 
 /// Reports a connection: that it was opened, then each piece that the device gives, then that it
 /// ended, however it did.

@@ -4,7 +4,7 @@
 /// without it. It cannot be copied, and its state tells one call from the next.
 pub trait Tap: Drop {
     ghost use Rattle.std.specs.Prelude.{List, ℕ};
-    ghost use Rattle.world_base.specs.declared.Handed.{Handed};
+    ghost use Rattle.node_core.specs.declared.Handed.{Handed};
 
     // Nothing was handed over by it yet.
     ghost opens: { Self → Type 0 };

@@ -6,12 +6,12 @@ ghost use Rattle.connection.specs.Writing.{HandsOver, LeavesSo, Writes, faults_w
 use crate::left_write::LeftWrite;
 use crate::outlet::Outlet;
 use crate::tap::Tap;
-use node_base::{Counted, OneWrite};
+use devices::{Counted, OneWrite};
+use node_core::{Handed, Memory};
 use std::alloc::{AllocError, Global};
 use std::io::Write;
 use std::marker::Model;
 use std::sync::Wait;
-use world_base::{Handed, Memory};
 
 /// How much capacity an empty one keeps for what comes next.
 const CAPACITY_KEPT: usize = 65_536;

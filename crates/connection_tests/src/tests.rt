@@ -1,5 +1,5 @@
 // Connections, and the devices below them, any call of which may fail.
 
 mod connections;
-mod devices;
+mod counted;
 mod fakes;

@@ -24,16 +24,16 @@ use Rattle.packet_world.specs.broker_spec.declared.command.Command.TheVariants a
 use Rattle.packet_world.specs.broker_spec.Connection.{ConnectionName}
 use Rattle.packet_world.specs.broker_spec.declared.command.Output.{Output}
 use Rattle.packet_world.specs.broker_spec.declared.command.Output.TheVariants as outputs
-use Rattle.node_moves.specs.world_base.declared.Connection.{Connection}
-use Rattle.node_moves.specs.world_base.declared.item.Item.TheVariants.{Bytes}
-use Rattle.node_moves.specs.world_base.declared.Port.{Port}
+use Rattle.node_moves.specs.node_core.declared.Connection.{Connection}
+use Rattle.node_moves.specs.node_core.declared.item.Item.TheVariants.{Bytes}
+use Rattle.node_moves.specs.node_core.declared.Port.{Port}
 use Rattle.node_moves.specs.node_connections.Connections.{is_at, is_first, is_open_at, is_open_named, is_closed, is_proposed}
 use Rattle.node_moves.specs.node_connections.ConnectionChanges.{noted_proposed, changed_where, closed_connection, with_unread, left_with, max_pending}
-use Rattle.node_moves.specs.world_base.Core.{CoreState, StepOutcome, rules, serves}
-use Rattle.node_moves.specs.world_base.Handing.{listed_at}
-use Rattle.node_moves.specs.world_base.Reading.{takes_first_packet, changes, loses, open_at, reads, reads_all, reads_next, reads_of, connect_refused, proposes_packet, unread_of}
-use Rattle.node_moves.specs.world_base.Step.{node_step}
-use Rattle.node_moves.specs.world_base.Effects.{has_room, after_replica_step, proposes, without_messages, repeated, with_effect}
+use Rattle.node_moves.specs.node_core.Core.{CoreState, StepOutcome, rules, serves}
+use Rattle.node_moves.specs.node_core.Handing.{listed_at}
+use Rattle.node_moves.specs.node_core.Reading.{takes_first_packet, changes, loses, open_at, reads, reads_all, reads_next, reads_of, connect_refused, proposes_packet, unread_of}
+use Rattle.node_moves.specs.node_core.Step.{node_step}
+use Rattle.node_moves.specs.node_core.Effects.{has_room, after_replica_step, proposes, without_messages, repeated, with_effect}
 use Rattle.node_moves.proofs.Views.{found_passes}
 use Rattle.escaping.specs.Answering.{AnswerAloneIsPutOut, PutsOutFirst}
 use Rattle.escaping.specs.Asking.{asked_now, proposal_at}

@@ -5,15 +5,15 @@ use Rattle.std.specs.List.{find, list_any}
 use Rattle.std.proofs.lemmas.Bool.{and_parts, and_right, eq-eqb, or_parts}
 use Rattle.node_moves.specs.ballot_base.Replica.{is_active}
 use Rattle.packet_world.specs.broker_spec.Connection.{ConnectionName, same_connection}
-use Rattle.node_moves.specs.world_base.declared.Connection.{Connection}
-use Rattle.node_moves.specs.world_base.declared.item.Item.TheVariants.{Peer}
-use Rattle.node_moves.specs.world_base.declared.Port.{Port}
+use Rattle.node_moves.specs.node_core.declared.Connection.{Connection}
+use Rattle.node_moves.specs.node_core.declared.item.Item.TheVariants.{Peer}
+use Rattle.node_moves.specs.node_core.declared.Port.{Port}
 use Rattle.node_moves.specs.node_connections.Connections.{fresh, is_at, is_listed, is_open_at, is_open_named, is_closed}
 use Rattle.node_moves.specs.node_connections.ConnectionChanges.{changed_where, closed_connection, nothing_pending}
-use Rattle.node_moves.specs.world_base.Core.{CoreState, StepOutcome, serves}
-use Rattle.node_moves.specs.world_base.Failing.{loses_all_failed}
-use Rattle.node_moves.specs.world_base.Handing.{hands_over, left_by, listed_at}
-use Rattle.node_moves.specs.world_base.Step.{node_step, settled}
+use Rattle.node_moves.specs.node_core.Core.{CoreState, StepOutcome, serves}
+use Rattle.node_moves.specs.node_core.Failing.{loses_all_failed}
+use Rattle.node_moves.specs.node_core.Handing.{hands_over, left_by, listed_at}
+use Rattle.node_moves.specs.node_core.Step.{node_step, settled}
 use Rattle.node_moves.proofs.Views.{found_passes}
 use Rattle.escaping.specs.Delivery.{heard_by}
 use Rattle.escaping.specs.Asking.{asked_now, proposal_at}

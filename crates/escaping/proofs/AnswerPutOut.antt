@@ -16,16 +16,16 @@ use Rattle.packet_world.specs.broker_spec.declared.command.Command.TheVariants a
 use Rattle.packet_world.specs.broker_spec.Connection.{ConnectionName}
 use Rattle.packet_world.specs.broker_spec.declared.command.Output.{Output}
 use Rattle.packet_world.specs.broker_spec.declared.command.Output.TheVariants as outputs
-use Rattle.node_moves.specs.world_base.declared.Connection.{Connection}
-use Rattle.node_moves.specs.world_base.declared.item.Item.TheVariants.{Peer}
-use Rattle.node_moves.specs.world_base.declared.Port.{Port}
+use Rattle.node_moves.specs.node_core.declared.Connection.{Connection}
+use Rattle.node_moves.specs.node_core.declared.item.Item.TheVariants.{Peer}
+use Rattle.node_moves.specs.node_core.declared.Port.{Port}
 use Rattle.node_moves.specs.node_connections.Connections.{has_failed, is_at, is_listed, is_open_named, is_closed}
 use Rattle.node_moves.specs.node_connections.ConnectionChanges.{changed_where, closed_connection, failing, max_pending, with_queued, putting}
-use Rattle.node_moves.specs.world_base.Core.{CoreState, StepOutcome, rules, serves}
-use Rattle.node_moves.specs.world_base.Failing.{closes_failed, loses_all_failed, loses_failed, loses_if}
-use Rattle.node_moves.specs.world_base.Handing.{listed_at}
-use Rattle.node_moves.specs.world_base.Step.{node_step, settled}
-use Rattle.node_moves.specs.world_base.Effects.{changes_named, drives, after_replica_step, proposes, without_messages, repeated, with_effect, performed_by}
+use Rattle.node_moves.specs.node_core.Core.{CoreState, StepOutcome, rules, serves}
+use Rattle.node_moves.specs.node_core.Failing.{closes_failed, loses_all_failed, loses_failed, loses_if}
+use Rattle.node_moves.specs.node_core.Handing.{listed_at}
+use Rattle.node_moves.specs.node_core.Step.{node_step, settled}
+use Rattle.node_moves.specs.node_core.Effects.{changes_named, drives, after_replica_step, proposes, without_messages, repeated, with_effect, performed_by}
 use Rattle.node_moves.proofs.Views.{found_passes}
 use Rattle.escaping.specs.Answering.{AnswerIsPutOut, PutsOutFirst}
 use Rattle.escaping.specs.Delivery.{heard_by}

@@ -22,7 +22,7 @@ use Rattle.packet_world.specs.broker_spec.Readings.{released_below}
 use Rattle.packet_world.specs.broker_spec.Sends.{all_started, publish_output, resent_outputs, repeated_output, first_output}
 use Rattle.packet_world.specs.broker_spec.Times.{entries_of}
 use Rattle.packet_world.proofs.of_broker_spec.ClientsInOrder.{same_self}
-use Rattle.node_moves.specs.world_base.Core.{rules}
+use Rattle.node_moves.specs.node_core.Core.{rules}
 use Rattle.packet_world.proofs.Answers.{past_push}
 use Rattle.packet_world.proofs.BrokerRules.{gives_answers}
 use Rattle.escaping.specs.Welcome.{IsSentTo, KeptSessionsAreWelcomed}

@@ -21,16 +21,16 @@ use Rattle.packet_world.specs.broker_spec.declared.command.Command.{Command}
 use Rattle.packet_world.specs.broker_spec.declared.command.Command.TheVariants as commands
 use Rattle.packet_world.specs.broker_spec.declared.command.Output.{Output}
 use Rattle.packet_world.specs.broker_base.State.{State}
-use Rattle.node_moves.specs.world_base.declared.Connection.{Connection}
-use Rattle.node_moves.specs.world_base.declared.item.Item.TheVariants.{Bytes}
-use Rattle.node_moves.specs.world_base.declared.Port.{Port}
+use Rattle.node_moves.specs.node_core.declared.Connection.{Connection}
+use Rattle.node_moves.specs.node_core.declared.item.Item.TheVariants.{Bytes}
+use Rattle.node_moves.specs.node_core.declared.Port.{Port}
 use Rattle.node_moves.specs.node_connections.Connections.{has_failed, is_at, is_first, is_listed, is_open_at, is_closed}
 use Rattle.node_moves.specs.node_connections.ConnectionChanges.{noted_proposed, changed_where, closed_connection, with_unread, left_with}
-use Rattle.node_moves.specs.world_base.Core.{CoreState, StepOutcome, rules, serves}
-use Rattle.node_moves.specs.world_base.Failing.{loses_all_failed}
-use Rattle.node_moves.specs.world_base.Reading.{changes, open_at, reads, reads_all, reads_next, reads_of, unread_of}
-use Rattle.node_moves.specs.world_base.Step.{node_step, settled}
-use Rattle.node_moves.specs.world_base.Effects.{has_room, is_message, proposes, without_messages, repeated, with_effect, then_also}
+use Rattle.node_moves.specs.node_core.Core.{CoreState, StepOutcome, rules, serves}
+use Rattle.node_moves.specs.node_core.Failing.{loses_all_failed}
+use Rattle.node_moves.specs.node_core.Reading.{changes, open_at, reads, reads_all, reads_next, reads_of, unread_of}
+use Rattle.node_moves.specs.node_core.Step.{node_step, settled}
+use Rattle.node_moves.specs.node_core.Effects.{has_room, is_message, proposes, without_messages, repeated, with_effect, then_also}
 use Rattle.node_moves.proofs.Views.{each_kept}
 use Rattle.escaping.specs.Asking.{ConnectIsProposed, asked_now, proposal_at, with_asked_connect}
 use Rattle.escaping.specs.Delivery.{ReportsItsLosses}

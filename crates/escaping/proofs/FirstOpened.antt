@@ -6,14 +6,14 @@ use Rattle.std.proofs.lemmas.Bool.{le-leb, lt-ltb, ne_eqb}
 use Rattle.std.proofs.lemmas.List.Elements.{filter-append}
 use Rattle.packet_world.proofs.of_lists.OfEach.{each_append}
 use Rattle.packet_world.specs.broker_spec.Connection.{ConnectionName, is_connection_name}
-use Rattle.node_moves.specs.world_base.declared.Connection.{Connection}
-use Rattle.node_moves.specs.world_base.declared.Port.{Port}
+use Rattle.node_moves.specs.node_core.declared.Connection.{Connection}
+use Rattle.node_moves.specs.node_core.declared.Port.{Port}
 use Rattle.node_moves.specs.node_connections.Connections.{fresh, has_failed, is_at, is_listed}
 use Rattle.node_moves.specs.node_connections.ConnectionChanges.{closed_connection}
-use Rattle.node_moves.specs.world_base.Core.{CoreState, StepOutcome, serves}
-use Rattle.node_moves.specs.world_base.Failing.{loses_all_failed}
-use Rattle.node_moves.specs.world_base.Step.{next_name, with_next_connection, settled}
-use Rattle.node_moves.specs.world_base.Effects.{without_messages}
+use Rattle.node_moves.specs.node_core.Core.{CoreState, StepOutcome, serves}
+use Rattle.node_moves.specs.node_core.Failing.{loses_all_failed}
+use Rattle.node_moves.specs.node_core.Step.{next_name, with_next_connection, settled}
+use Rattle.node_moves.specs.node_core.Effects.{without_messages}
 use Rattle.escaping.specs.Opening.{FirstIsOpened, first_name_of_node, with_first_connection}
 use Rattle.escaping.proofs.OneDelivery.{calm_finds, none_lost}
 

@@ -14,13 +14,13 @@ use Rattle.packet_world.specs.snapshots.World.{outputs}
 use Rattle.packet_world.specs.broker_spec.declared.command.Command.{Command}
 use Rattle.packet_world.specs.broker_spec.declared.command.Output.{Output}
 use Rattle.packet_world.specs.broker_base.State.{State}
-use Rattle.node_moves.specs.world_base.declared.Connection.{Connection}
-use Rattle.node_moves.specs.world_base.declared.item.Item.TheVariants.{Peer}
+use Rattle.node_moves.specs.node_core.declared.Connection.{Connection}
+use Rattle.node_moves.specs.node_core.declared.item.Item.TheVariants.{Peer}
 use Rattle.node_moves.specs.node_connections.Connections.{has_failed}
-use Rattle.node_moves.specs.world_base.Core.{CoreState, StepOutcome, serves}
-use Rattle.node_moves.specs.world_base.Failing.{closes_failed, loses_all_failed, loses_failed, loses_if}
-use Rattle.node_moves.specs.world_base.Step.{node_step, settled}
-use Rattle.node_moves.specs.world_base.Effects.{drives, is_message, after_replica_step, proposes, without_messages, repeated, with_effect, then_also}
+use Rattle.node_moves.specs.node_core.Core.{CoreState, StepOutcome, serves}
+use Rattle.node_moves.specs.node_core.Failing.{closes_failed, loses_all_failed, loses_failed, loses_if}
+use Rattle.node_moves.specs.node_core.Step.{node_step, settled}
+use Rattle.node_moves.specs.node_core.Effects.{drives, is_message, after_replica_step, proposes, without_messages, repeated, with_effect, then_also}
 use Rattle.node_moves.proofs.LossesReported.{each_loss_is_reported}
 use Rattle.escaping.specs.Delivery.{AStepIsADelivery, ReportsItsLosses, heard_by}
 

@@ -16,16 +16,16 @@ use Rattle.packet_world.specs.broker_spec.declared.command.Command.TheVariants a
 use Rattle.packet_world.specs.broker_spec.Connection.{ConnectionName}
 use Rattle.packet_world.specs.broker_spec.declared.command.Output.{Output}
 use Rattle.packet_world.specs.broker_spec.declared.command.Output.TheVariants.{Send}
-use Rattle.node_moves.specs.world_base.declared.Connection.{Connection}
-use Rattle.node_moves.specs.world_base.declared.item.Item.TheVariants.{Bytes, Peer}
-use Rattle.node_moves.specs.world_base.declared.Port.{Port}
+use Rattle.node_moves.specs.node_core.declared.Connection.{Connection}
+use Rattle.node_moves.specs.node_core.declared.item.Item.TheVariants.{Bytes, Peer}
+use Rattle.node_moves.specs.node_core.declared.Port.{Port}
 use Rattle.node_moves.specs.node_connections.Connections.{is_first, is_open_named}
 use Rattle.node_moves.specs.node_connections.ConnectionChanges.{max_pending}
-use Rattle.node_moves.specs.world_base.Core.{CoreState}
-use Rattle.node_moves.specs.world_base.Handing.{listed_at}
-use Rattle.node_moves.specs.world_base.Reading.{open_at}
-use Rattle.node_moves.specs.world_base.Step.{node_step}
-use Rattle.node_moves.specs.world_base.Effects.{has_room}
+use Rattle.node_moves.specs.node_core.Core.{CoreState}
+use Rattle.node_moves.specs.node_core.Handing.{listed_at}
+use Rattle.node_moves.specs.node_core.Reading.{open_at}
+use Rattle.node_moves.specs.node_core.Step.{node_step}
+use Rattle.node_moves.specs.node_core.Effects.{has_room}
 use Rattle.escaping.specs.Asking.{proposal_at}
 use Rattle.escaping.specs.Delivery.{heard_by}
 

@@ -10,16 +10,16 @@ use Rattle.packet_world.specs.broker_spec.declared.command.Command.{Command}
 use Rattle.packet_world.specs.broker_spec.declared.command.Command.TheVariants as commands
 use Rattle.packet_world.specs.broker_spec.declared.command.Output.{Output}
 use Rattle.packet_world.specs.broker_base.State.{State}
-use Rattle.node_moves.specs.world_base.declared.Connection.{Connection}
-use Rattle.node_moves.specs.world_base.declared.ConnectionStage.TheVariants.{Proposed}
-use Rattle.node_moves.specs.world_base.declared.item.Item.TheVariants.{Bytes}
-use Rattle.node_moves.specs.world_base.declared.Port.{Port}
+use Rattle.node_moves.specs.node_core.declared.Connection.{Connection}
+use Rattle.node_moves.specs.node_core.declared.ConnectionStage.TheVariants.{Proposed}
+use Rattle.node_moves.specs.node_core.declared.item.Item.TheVariants.{Bytes}
+use Rattle.node_moves.specs.node_core.declared.Port.{Port}
 use Rattle.node_moves.specs.node_connections.Connections.{is_first, is_listed, is_open_at}
 use Rattle.node_moves.specs.node_connections.ConnectionChanges.{changed_where}
-use Rattle.node_moves.specs.world_base.Core.{CoreState, rules}
-use Rattle.node_moves.specs.world_base.Reading.{open_at}
-use Rattle.node_moves.specs.world_base.Step.{node_step}
-use Rattle.node_moves.specs.world_base.Effects.{has_room}
+use Rattle.node_moves.specs.node_core.Core.{CoreState, rules}
+use Rattle.node_moves.specs.node_core.Reading.{open_at}
+use Rattle.node_moves.specs.node_core.Step.{node_step}
+use Rattle.node_moves.specs.node_core.Effects.{has_room}
 use Rattle.escaping.specs.Delivery.{ReportsItsLosses}
 
 -- the connection whose CONNECT became whole at this time

@@ -9,11 +9,11 @@ use Rattle.packet_world.specs.snapshots.World.{outputs}
 use Rattle.packet_world.specs.broker_spec.declared.command.Command.{Command}
 use Rattle.packet_world.specs.broker_spec.declared.command.Output.{Output}
 use Rattle.packet_world.specs.broker_base.State.{State}
-use Rattle.node_moves.specs.world_base.declared.Connection.{Connection}
-use Rattle.node_moves.specs.world_base.declared.item.Item.TheVariants.{Peer}
+use Rattle.node_moves.specs.node_core.declared.Connection.{Connection}
+use Rattle.node_moves.specs.node_core.declared.item.Item.TheVariants.{Peer}
 use Rattle.node_moves.specs.node_connections.Connections.{has_failed}
-use Rattle.node_moves.specs.world_base.Core.{CoreState, StepOutcome, rules}
-use Rattle.node_moves.specs.world_base.Step.{node_step}
+use Rattle.node_moves.specs.node_core.Core.{CoreState, StepOutcome, rules}
+use Rattle.node_moves.specs.node_core.Step.{node_step}
 
 -- what a message does to the node's replica
 abbrev pub heard_by : CoreState → Message Command → Outcome State Command Output

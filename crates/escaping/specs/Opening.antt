@@ -2,12 +2,12 @@
 use Rattle.std.specs.Prelude.{◌≡◌, ◌<◌, ◌≤◌, ℕ, true, false, [], ◌∷◌, ◌++◌, filter}
 use Rattle.std.specs.List.{list_any}
 use Rattle.packet_world.specs.broker_spec.Connection.{ConnectionName, max_ballot}
-use Rattle.node_moves.specs.world_base.declared.item.Item.TheVariants.{Opened}
-use Rattle.node_moves.specs.world_base.declared.Port.{Port}
+use Rattle.node_moves.specs.node_core.declared.item.Item.TheVariants.{Opened}
+use Rattle.node_moves.specs.node_core.declared.Port.{Port}
 use Rattle.node_moves.specs.node_connections.Connections.{fresh, is_at, is_listed}
-use Rattle.node_moves.specs.world_base.Core.{CoreState, serves}
-use Rattle.node_moves.specs.world_base.Step.{node_step}
-use Rattle.node_moves.specs.world_base.Effects.{without_messages}
+use Rattle.node_moves.specs.node_core.Core.{CoreState, serves}
+use Rattle.node_moves.specs.node_core.Step.{node_step}
+use Rattle.node_moves.specs.node_core.Effects.{without_messages}
 use Rattle.escaping.specs.Delivery.{ReportsItsLosses}
 
 -- the first name of the ballot that the node joined

@@ -8,14 +8,14 @@ use Rattle.node_moves.specs.ballot_base.Replica.{is_active}
 use Rattle.packet_world.specs.broker_spec.declared.command.Command.{Command}
 use Rattle.packet_world.specs.broker_spec.Connection.{ConnectionName}
 use Rattle.packet_world.specs.snapshots.World.{outputs}
-use Rattle.node_moves.specs.world_base.declared.Connection.{Connection}
-use Rattle.node_moves.specs.world_base.declared.item.Item.TheVariants.{Peer}
-use Rattle.node_moves.specs.world_base.declared.Port.{Port}
+use Rattle.node_moves.specs.node_core.declared.Connection.{Connection}
+use Rattle.node_moves.specs.node_core.declared.item.Item.TheVariants.{Peer}
+use Rattle.node_moves.specs.node_core.declared.Port.{Port}
 use Rattle.node_moves.specs.node_connections.Connections.{is_at, is_first, is_open_named}
-use Rattle.node_moves.specs.world_base.Core.{CoreState}
-use Rattle.node_moves.specs.world_base.Handing.{hands_over, listed_at}
-use Rattle.node_moves.specs.world_base.Reading.{open_at}
-use Rattle.node_moves.specs.world_base.Step.{node_step}
+use Rattle.node_moves.specs.node_core.Core.{CoreState}
+use Rattle.node_moves.specs.node_core.Handing.{hands_over, listed_at}
+use Rattle.node_moves.specs.node_core.Reading.{open_at}
+use Rattle.node_moves.specs.node_core.Step.{node_step}
 use Rattle.escaping.specs.Asking.{with_asked_connect}
 use Rattle.escaping.specs.Delivery.{ReportsItsLosses, heard_by}
 use Rattle.escaping.specs.Opening.{first_name_of_node, with_first_connection}

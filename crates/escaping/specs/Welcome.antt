@@ -12,7 +12,7 @@ use Rattle.packet_world.specs.broker_spec.declared.command.Output.{Output}
 use Rattle.packet_world.specs.broker_spec.declared.command.Output.TheVariants.{Send, Close}
 use Rattle.packet_world.specs.broker_spec.Past.{session_of}
 use Rattle.packet_world.specs.broker_spec.Place.{Client}
-use Rattle.node_moves.specs.world_base.Core.{rules}
+use Rattle.node_moves.specs.node_core.Core.{rules}
 
 -- an output that is a packet for this connection
 abbrev pub IsSentTo : ConnectionName → Output → Type 0

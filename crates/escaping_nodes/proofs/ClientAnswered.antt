@@ -32,15 +32,15 @@ use Rattle.world_nodes.specs.node_group.Group.{replica_of}
 use Rattle.escaping.specs.node_moves.Moves.NodeCall.{takes, gives}
 use Rattle.ways_out.specs.snapshots.Moments.{Moment, Moments, whole_moment}
 use Rattle.ways_out.specs.snapshots.World.{messages, outputs}
-use Rattle.escaping.specs.world_base.declared.Connection.{Connection}
-use Rattle.escaping.specs.world_base.declared.item.Item.TheVariants.{Bytes, Peer}
-use Rattle.escaping.specs.world_base.declared.Port.{Port}
+use Rattle.escaping.specs.node_core.declared.Connection.{Connection}
+use Rattle.escaping.specs.node_core.declared.item.Item.TheVariants.{Bytes, Peer}
+use Rattle.escaping.specs.node_core.declared.Port.{Port}
 use Rattle.escaping.specs.node_connections.Connections.{is_open_named}
 use Rattle.escaping.specs.node_connections.ConnectionChanges.{max_pending}
-use Rattle.escaping.specs.world_base.Core.{CoreState, CountedCore, StepOutcome, rules, serves}
-use Rattle.escaping.specs.world_base.Handing.{hands_over}
-use Rattle.escaping.specs.world_base.Step.{node_step}
-use Rattle.escaping.specs.world_base.Effects.{has_room}
+use Rattle.escaping.specs.node_core.Core.{CoreState, CountedCore, StepOutcome, rules, serves}
+use Rattle.escaping.specs.node_core.Handing.{hands_over}
+use Rattle.escaping.specs.node_core.Step.{node_step}
+use Rattle.escaping.specs.node_core.Effects.{has_room}
 use Rattle.escaping.proofs.of_node_moves.LossesReported.{each_loss_is_reported}
 use Rattle.ways_out.proofs.of_snapshots.Fronts.{whole_long}
 use Rattle.ways_out.proofs.of_snapshots.PastsKept.{StandsFor, past_stands}

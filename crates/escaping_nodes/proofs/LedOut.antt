@@ -11,7 +11,7 @@ use Rattle.ways_out.specs.agreement.MasterState.{MasterState, assigning}
 use Rattle.ways_out.specs.snapshots.Masters.{assigned}
 use Rattle.ways_out.specs.snapshots.Moments.{Moment, Moments, whole_moment}
 use Rattle.ways_out.specs.snapshots.Whole.{whole}
-use Rattle.escaping.specs.world_base.Core.{CountedCore, rules}
+use Rattle.escaping.specs.node_core.Core.{CountedCore, rules}
 use Rattle.ways_out.proofs.of_snapshots.PastsKept.{StandsFor, past_stands}
 use Rattle.ways_out.proofs.of_snapshots.Views.{get_whole}
 use Rattle.world_nodes.specs.ExactSteps.{after_giving}

@@ -22,14 +22,14 @@ use Rattle.ways_out.specs.agreement.MasterState.{MasterState}
 use Rattle.ways_out.specs.snapshots.Masters.{activated}
 use Rattle.ways_out.specs.snapshots.Moments.{Moment}
 use Rattle.ways_out.specs.snapshots.World.{messages, outputs}
-use Rattle.escaping.specs.world_base.declared.Connection.{Connection}
-use Rattle.escaping.specs.world_base.declared.item.Item.TheVariants.{Peer}
-use Rattle.escaping.specs.world_base.declared.Port.{Port}
+use Rattle.escaping.specs.node_core.declared.Connection.{Connection}
+use Rattle.escaping.specs.node_core.declared.item.Item.TheVariants.{Peer}
+use Rattle.escaping.specs.node_core.declared.Port.{Port}
 use Rattle.escaping.specs.node_connections.Connections.{has_failed, is_at, is_listed}
 use Rattle.escaping.specs.node_connections.ConnectionChanges.{changed_where, nothing_pending}
-use Rattle.escaping.specs.world_base.Core.{CoreState, CountedCore, rules}
-use Rattle.escaping.specs.world_base.Handing.{hands_over, left_by, listed_at}
-use Rattle.escaping.specs.world_base.Step.{node_step}
+use Rattle.escaping.specs.node_core.Core.{CoreState, CountedCore, rules}
+use Rattle.escaping.specs.node_core.Handing.{hands_over, left_by, listed_at}
+use Rattle.escaping.specs.node_core.Step.{node_step}
 use Rattle.world_nodes.proofs.of_node_group.Placed.{get_mapped, set_mapped, set_same}
 use Rattle.escaping.proofs.of_node_moves.ReplicaLeads.{StaysOr, step_stays}
 use Rattle.escaping.proofs.of_node_moves.Views.{each_filtered, each_kept}

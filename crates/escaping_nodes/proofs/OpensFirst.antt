@@ -18,13 +18,13 @@ use Rattle.escaping.specs.node_moves.Moves.NodeCall.{takes, gives}
 use Rattle.ways_out.specs.snapshots.Moments.{Moment}
 use Rattle.ways_out.specs.snapshots.Whole.{whole}
 use Rattle.ways_out.specs.snapshots.World.{messages}
-use Rattle.escaping.specs.world_base.declared.item.Item.TheVariants.{Opened}
-use Rattle.escaping.specs.world_base.declared.Port.{Port}
+use Rattle.escaping.specs.node_core.declared.item.Item.TheVariants.{Opened}
+use Rattle.escaping.specs.node_core.declared.Port.{Port}
 use Rattle.escaping.specs.node_connections.Connections.{is_open_named}
-use Rattle.escaping.specs.world_base.Core.{CoreState, CountedCore, StepOutcome, serves}
-use Rattle.escaping.specs.world_base.Handing.{hands_over}
-use Rattle.escaping.specs.world_base.Step.{node_step}
-use Rattle.escaping.specs.world_base.Effects.{without_messages}
+use Rattle.escaping.specs.node_core.Core.{CoreState, CountedCore, StepOutcome, serves}
+use Rattle.escaping.specs.node_core.Handing.{hands_over}
+use Rattle.escaping.specs.node_core.Step.{node_step}
+use Rattle.escaping.specs.node_core.Effects.{without_messages}
 use Rattle.escaping.proofs.of_node_moves.LossesReported.{each_loss_is_reported}
 use Rattle.escaping.proofs.AnswerAwaited.{first_awaits_connect, handing_keeps_the_connect}
 use Rattle.escaping.proofs.FirstOpened.{first_is_opened}

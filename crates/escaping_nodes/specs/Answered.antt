@@ -24,10 +24,10 @@ use Rattle.world_nodes.specs.node_group.Group.{replica_of}
 use Rattle.escaping.specs.node_moves.Moves.NodeCall.{takes}
 use Rattle.ways_out.specs.snapshots.Moments.{Moment, Moments, whole_moment}
 use Rattle.ways_out.specs.snapshots.Whole.{whole}
-use Rattle.escaping.specs.world_base.declared.item.Item.TheVariants.{Bytes, Peer}
-use Rattle.escaping.specs.world_base.declared.Port.{Port}
-use Rattle.escaping.specs.world_base.Core.{CountedCore, rules}
-use Rattle.escaping.specs.world_base.Step.{node_step}
+use Rattle.escaping.specs.node_core.declared.item.Item.TheVariants.{Bytes, Peer}
+use Rattle.escaping.specs.node_core.declared.Port.{Port}
+use Rattle.escaping.specs.node_core.Core.{CountedCore, rules}
+use Rattle.escaping.specs.node_core.Step.{node_step}
 use Rattle.world_nodes.specs.ExactSteps.{after_node_call}
 use Rattle.world_nodes.specs.Nodes.{NodesState}
 use Rattle.ways_out.specs.Deliveries.{NumbersAreApart, NodeIs, numbers_from}

@@ -9,9 +9,9 @@ use Rattle.escaping.specs.broker_base.State.{State}
 use Rattle.world_nodes.specs.node_group.Group.{replica_of}
 use Rattle.escaping.specs.node_moves.Moves.NodeCall.{takes, gives}
 use Rattle.ways_out.specs.snapshots.Moments.{Moment}
-use Rattle.escaping.specs.world_base.declared.item.Item.TheVariants.{Peer}
-use Rattle.escaping.specs.world_base.declared.Port.{Port}
-use Rattle.escaping.specs.world_base.Core.{CountedCore, rules}
+use Rattle.escaping.specs.node_core.declared.item.Item.TheVariants.{Peer}
+use Rattle.escaping.specs.node_core.declared.Port.{Port}
+use Rattle.escaping.specs.node_core.Core.{CountedCore, rules}
 use Rattle.world_nodes.specs.ExactSteps.{after_answer, after_node_call}
 use Rattle.world_nodes.specs.Nodes.{NodesState, cores_of}
 use Rattle.ways_out.specs.CutDeliveries.{Delivered}

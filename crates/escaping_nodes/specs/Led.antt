@@ -5,7 +5,7 @@ use Rattle.escaping.specs.broker_spec.declared.command.Command.{Command}
 use Rattle.escaping.specs.broker_spec.declared.command.Output.{Output}
 use Rattle.escaping.specs.broker_base.State.{State}
 use Rattle.ways_out.specs.snapshots.Moments.{Moment, Moments, whole_moment}
-use Rattle.escaping.specs.world_base.Core.{rules}
+use Rattle.escaping.specs.node_core.Core.{rules}
 use Rattle.world_nodes.specs.ExactSteps.{after_giving}
 use Rattle.world_nodes.specs.Nodes.{NodesState}
 use Rattle.ways_out.specs.Deliveries.{way_out}

@@ -13,10 +13,10 @@ use Rattle.world_nodes.specs.node_group.Group.{replica_of}
 use Rattle.escaping.specs.node_moves.Moves.NodeCall.{takes}
 use Rattle.ways_out.specs.snapshots.Moments.{Moment}
 use Rattle.ways_out.specs.snapshots.Whole.{whole}
-use Rattle.escaping.specs.world_base.declared.item.Item.TheVariants.{Opened}
-use Rattle.escaping.specs.world_base.declared.Port.{Port}
+use Rattle.escaping.specs.node_core.declared.item.Item.TheVariants.{Opened}
+use Rattle.escaping.specs.node_core.declared.Port.{Port}
 use Rattle.escaping.specs.node_connections.Connections.{is_at, is_open_named}
-use Rattle.escaping.specs.world_base.Core.{CountedCore}
+use Rattle.escaping.specs.node_core.Core.{CountedCore}
 use Rattle.world_nodes.specs.Asking.{welcomes_back}
 use Rattle.world_nodes.specs.ExactSteps.{after_node_call}
 use Rattle.world_nodes.specs.Nodes.{NodesState}

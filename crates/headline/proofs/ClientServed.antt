@@ -10,7 +10,7 @@ use Rattle.byte_world.specs.client_base.Handled.{lost}
 use Rattle.byte_world.specs.client_base.Keeper.{Keeper, new_keeper}
 use Rattle.byte_world.specs.exactly_once.Rows.{first_name, writer}
 use Rattle.byte_world.specs.exactly_once.Sides.{ClientConnection}
-use Rattle.byte_world.specs.world_base.declared.item.Item.TheVariants.{Opened}
+use Rattle.byte_world.specs.node_core.declared.item.Item.TheVariants.{Opened}
 use Rattle.byte_world.specs.node_connections.Connections.{fresh}
 use Rattle.byte_world.specs.node_group.Group.{opening_group}
 use Rattle.byte_world.specs.node_moves.Moves.NodeCall.{takes}

@@ -33,8 +33,8 @@ use Rattle.byte_world.specs.node_group.Steps.{GroupTrace}
 use Rattle.byte_world.specs.node_group.Steps.GroupTrace.{then_went}
 use Rattle.byte_world.proofs.of_node_group.Placed.{get_mapped, set_mapped}
 use Rattle.byte_world.specs.node_group.Carried.{answers_to}
-use Rattle.byte_world.specs.world_base.declared.item.Item.TheVariants.{Opened}
-use Rattle.byte_world.specs.world_base.declared.Port.{Port}
+use Rattle.byte_world.specs.node_core.declared.item.Item.TheVariants.{Opened}
+use Rattle.byte_world.specs.node_core.declared.Port.{Port}
 use Rattle.byte_world.specs.Steps.{DoesCall}
 use Rattle.byte_world.specs.ClientSteps.{after_connecting, after_packet, story_alone}
 use Rattle.byte_world.specs.World.{ClientPipes, HasPipe, Pipe, World, after_writing, newly_written, packets_of, sent_up, with_client}

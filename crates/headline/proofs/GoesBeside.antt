@@ -11,7 +11,7 @@ use Rattle.byte_world.proofs.of_snapshots.PastsAgree.{has_agreed}
 use Rattle.byte_world.specs.packet_world.World.{ClientsAreApart}
 use Rattle.byte_world.proofs.of_packet_world.Lists.{each_get, each_set}
 use Rattle.byte_world.proofs.of_packet_world.TakenOn.{map_set}
-use Rattle.byte_world.specs.world_base.Core.{rules}
+use Rattle.byte_world.specs.node_core.Core.{rules}
 use Rattle.byte_world.specs.node_group.Group.{Group, moment_of_nodes}
 use Rattle.byte_world.specs.node_group.Steps.{GroupStep, GroupTrace}
 use Rattle.byte_world.specs.node_group.Steps.GroupTrace.{then_went}

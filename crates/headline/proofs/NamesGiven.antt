@@ -12,14 +12,14 @@ use Rattle.byte_world.specs.lists.Lists.In.{here, there}
 use Rattle.byte_world.proofs.of_lists.OfEach.{each_append, each_then}
 use Rattle.byte_world.specs.agreement.MasterState.{refusal}
 use Rattle.byte_world.proofs.of_packet_world.Lists.{each_set}
-use Rattle.byte_world.specs.world_base.declared.Connection.{Connection}
-use Rattle.byte_world.specs.world_base.declared.item.Item.{Item}
-use Rattle.byte_world.specs.world_base.declared.item.Item.TheVariants.{Peer, Tick, Opened, Bytes, Ended, Expel, Cut, Crash}
-use Rattle.byte_world.specs.world_base.declared.Port.{Port}
+use Rattle.byte_world.specs.node_core.declared.Connection.{Connection}
+use Rattle.byte_world.specs.node_core.declared.item.Item.{Item}
+use Rattle.byte_world.specs.node_core.declared.item.Item.TheVariants.{Peer, Tick, Opened, Bytes, Ended, Expel, Cut, Crash}
+use Rattle.byte_world.specs.node_core.declared.Port.{Port}
 use Rattle.byte_world.specs.node_connections.Connections.{fresh, is_at}
-use Rattle.byte_world.specs.world_base.Core.{CoreState, StepOutcome, serves}
-use Rattle.byte_world.specs.world_base.LossyStep.{RunsOn}
-use Rattle.byte_world.specs.world_base.Step.{acts_on, next_name, with_next_connection, does_item}
+use Rattle.byte_world.specs.node_core.Core.{CoreState, StepOutcome, serves}
+use Rattle.byte_world.specs.node_core.LossyStep.{RunsOn}
+use Rattle.byte_world.specs.node_core.Step.{acts_on, next_name, with_next_connection, does_item}
 use Rattle.byte_world.specs.node_moves.Moves.{NodeCall, done}
 use Rattle.byte_world.specs.node_moves.Moves.NodeCall.{takes, gives}
 use Rattle.byte_world.proofs.of_node_moves.EachKept.{IsKept, each_repeated, each_settled}

@@ -23,7 +23,7 @@ use Rattle.byte_world.proofs.of_exactly_once.carrying.Handles.{handles as handle
 use Rattle.byte_world.specs.packet_world.World.{ClientsAreApart}
 use Rattle.byte_world.specs.packet_world.Steps.{is_call}
 use Rattle.byte_world.proofs.of_packet_world.Lists.{each_by, each_get, set_get}
-use Rattle.byte_world.specs.world_base.Core.{rules}
+use Rattle.byte_world.specs.node_core.Core.{rules}
 use Rattle.byte_world.specs.node_group.Group.{moment_of_nodes}
 use Rattle.byte_world.specs.node_group.Steps.{GroupTrace}
 use Rattle.byte_world.specs.Carried.{trace_of}

@@ -14,9 +14,9 @@ use Rattle.byte_world.specs.exactly_once.Rows.{writer}
 use Rattle.byte_world.specs.exactly_once.Sides.{ClientConnection, Side}
 use Rattle.byte_world.specs.exactly_once.Story.{StoryStep, Story}
 use Rattle.byte_world.specs.packet_world.Steps.{is_call}
-use Rattle.byte_world.specs.world_base.declared.item.Item.TheVariants.{Bytes}
-use Rattle.byte_world.specs.world_base.declared.Port.{Port}
-use Rattle.byte_world.specs.world_base.Core.{CoreState}
+use Rattle.byte_world.specs.node_core.declared.item.Item.TheVariants.{Bytes}
+use Rattle.byte_world.specs.node_core.declared.Port.{Port}
+use Rattle.byte_world.specs.node_core.Core.{CoreState}
 use Rattle.byte_world.specs.node_moves.Moves.{NodeCall, done}
 use Rattle.byte_world.specs.node_moves.Moves.NodeCall.{takes, gives}
 use Rattle.byte_world.specs.node_moves.Puts.{spelled}

@@ -23,15 +23,15 @@ use Rattle.byte_world.specs.ballot_base.Serving.{added, commit, commit_at, propo
 use Rattle.byte_world.specs.machine.Machine.{replay}
 use Rattle.byte_world.specs.broker_spec.declared.command.Command.{Command}
 use Rattle.byte_world.specs.broker_spec.declared.command.Command.TheVariants as commands
-use Rattle.byte_world.specs.world_base.declared.ConnectionStage.TheVariants.{Proposed}
-use Rattle.byte_world.specs.world_base.declared.item.Item.TheVariants.{Opened, Bytes}
+use Rattle.byte_world.specs.node_core.declared.ConnectionStage.TheVariants.{Proposed}
+use Rattle.byte_world.specs.node_core.declared.item.Item.TheVariants.{Opened, Bytes}
 use Rattle.byte_world.specs.node_connections.Connections.{fresh}
-use Rattle.byte_world.specs.world_base.Core.{CoreState, opening_core, rules}
-use Rattle.byte_world.specs.world_base.Failing.{loses_failed}
-use Rattle.byte_world.specs.world_base.Handing.{hands_over}
-use Rattle.byte_world.specs.world_base.Reading.{changes, reads_next}
-use Rattle.byte_world.specs.world_base.Step.{with_next_connection, settled}
-use Rattle.byte_world.specs.world_base.Effects.{changes_named, proposes, repeated}
+use Rattle.byte_world.specs.node_core.Core.{CoreState, opening_core, rules}
+use Rattle.byte_world.specs.node_core.Failing.{loses_failed}
+use Rattle.byte_world.specs.node_core.Handing.{hands_over}
+use Rattle.byte_world.specs.node_core.Reading.{changes, reads_next}
+use Rattle.byte_world.specs.node_core.Step.{with_next_connection, settled}
+use Rattle.byte_world.specs.node_core.Effects.{changes_named, proposes, repeated}
 use Rattle.byte_world.specs.node_moves.Moves.{done}
 use Rattle.byte_world.specs.node_moves.Moves.NodeCall.{takes, gives}
 use Rattle.byte_world.specs.exactly_once.Rows.{asks_for_news, first_name, news, writer}

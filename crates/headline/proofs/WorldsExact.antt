@@ -18,7 +18,7 @@ use Rattle.byte_world.specs.packet_world.Exact.{IsExactInStep as IsExactBeside}
 use Rattle.byte_world.specs.packet_world.World.{ClientsAreApart, ClientEnds, story_of as story_beside}
 use Rattle.byte_world.proofs.of_packet_world.Lists.{each_by, each_get}
 use Rattle.byte_world.proofs.of_packet_world.WorldsExact.{worlds_are_exact as worlds_beside_are_exact}
-use Rattle.byte_world.specs.world_base.Core.{rules}
+use Rattle.byte_world.specs.node_core.Core.{rules}
 use Rattle.byte_world.specs.node_group.Group.{moment_of_nodes}
 use Rattle.byte_world.specs.node_group.Steps.{GroupTrace}
 use Rattle.byte_world.proofs.of_node_group.Placed.{get_mapped}

@@ -11,7 +11,7 @@ use Rattle.byte_world.specs.session_base.declared.publication.Publication.{Publi
 use Rattle.byte_world.specs.session_base.Publication.{publish_for}
 use Rattle.byte_world.specs.exactly_once.Acceptance.{accepted_on}
 use Rattle.byte_world.specs.exactly_once.Rows.{asks_for_news, first_name, news, writer}
-use Rattle.byte_world.specs.world_base.Core.{CoreState}
+use Rattle.byte_world.specs.node_core.Core.{CoreState}
 use Rattle.byte_world.specs.Steps.{Reached}
 use Rattle.byte_world.specs.World.{ClientPipes, World}
 

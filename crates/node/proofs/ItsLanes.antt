@@ -3,7 +3,7 @@
 use Rattle.std.proofs.Common.{◌≡◌, ℕ, ◌<◌, List, length}
 use Rattle.std.specs.Prelude.{slice_index_or}
 use Rattle.mailbox.specs.Ends.{Sender}
-use Rattle.world_base.specs.declared.item.Item.{Item}
+use Rattle.node_core.specs.declared.item.Item.{Item}
 use Rattle.node.specs.Running.{AreItsLanes, Running}
 
 -- the lane at an index has the number of the inbox, and the index as its number

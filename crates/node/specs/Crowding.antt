@@ -1,7 +1,7 @@
 -- When a node takes nothing more from its clients, because other members lag.
 use Rattle.std.specs.Prelude.{ℕ, ◌+◌, ◌-◌, ◌≤◌, Bool, ◌&&◌, nat_le, min, if◌then◌else◌, Option, Some, None}
-use Rattle.world_base.specs.declared.Status.{Status}
-use Rattle.world_base.specs.ballot_base.Replica.{is_active}
+use Rattle.node_core.specs.declared.Status.{Status}
+use Rattle.node_core.specs.ballot_base.Replica.{is_active}
 
 -- What a node takes from its clients. `entering` bytes are in transit to it. Of those that it took,
 -- `earlier` are in the first `earlier_end` places of its log, and `later` in places after these.

@@ -4,13 +4,13 @@ use Rattle.std.specs.Prelude.{ℕ, ◌+◌, ◌*◌, ◌-◌, ◌^◌, Bool, ◌
 use Rattle.packet.specs.declared.packet.Packet.{Packet}
 use Rattle.packet.specs.declared.packet.Packet.TheVariants as packets
 use Rattle.packet.specs.declared.subscribe.Subscription.{Subscription}
-use Rattle.world_base.specs.broker_spec.declared.command.Command.{Command}
-use Rattle.world_base.specs.broker_spec.declared.command.Command.TheVariants as commands
-use Rattle.world_base.specs.Core.{CoreState}
-use Rattle.world_base.specs.declared.Body.{Body}
-use Rattle.world_base.specs.declared.Body.TheVariants.{Append, State, Install}
-use Rattle.world_base.specs.declared.item.Item.{Item}
-use Rattle.world_base.specs.declared.item.Item.TheVariants.{Peer, Bytes, Cut}
+use Rattle.node_core.specs.broker_spec.declared.command.Command.{Command}
+use Rattle.node_core.specs.broker_spec.declared.command.Command.TheVariants as commands
+use Rattle.node_core.specs.Core.{CoreState}
+use Rattle.node_core.specs.declared.Body.{Body}
+use Rattle.node_core.specs.declared.Body.TheVariants.{Append, State, Install}
+use Rattle.node_core.specs.declared.item.Item.{Item}
+use Rattle.node_core.specs.declared.item.Item.TheVariants.{Peer, Bytes, Cut}
 
 -- the size of a packet apart from its fixed part: topic and payload, or filters
 abbrev pub bytes_of_packet : Packet → ℕ

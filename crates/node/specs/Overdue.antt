@@ -1,7 +1,7 @@
 -- When a connection is ended because its first packet does not come.
 use Rattle.std.specs.Prelude.{ℕ, ◌+◌, Bool, false, nat_lt}
-use Rattle.world_base.specs.declared.Standing.{Standing}
-use Rattle.world_base.specs.declared.Standing.TheVariants.{Awaits, Open, Closed}
+use Rattle.node_core.specs.declared.Standing.{Standing}
+use Rattle.node_core.specs.declared.Standing.TheVariants.{Awaits, Open, Closed}
 
 -- the first packet of a connection is awaited, more than ten seconds after it was accepted; times
 -- count milliseconds

@@ -1,14 +1,14 @@
 -- A node and the items that it took.
 use Rattle.std.specs.Prelude.{◌≡◌, ℕ, ◌+◌, ◌-◌, ◌^◌, [], List, ◌∷◌, ◌++◌, min}
 use Rattle.mailbox.specs.Ends.{Taker}
-use Rattle.world_base.specs.broker_spec.declared.command.Command.{Command}
-use Rattle.world_base.specs.broker_spec.declared.command.Output.{Output}
-use Rattle.world_base.specs.ballot_base.declared.message.Effect.{Effect}
-use Rattle.world_base.specs.declared.item.Item.{Item}
-use Rattle.world_base.specs.declared.Port.{Port}
-use Rattle.world_base.specs.Core.{CountedCore, opening_core}
-use Rattle.world_base.specs.Handing.{hands_over}
-use Rattle.world_base.specs.Losses.{NodeStepped}
+use Rattle.node_core.specs.broker_spec.declared.command.Command.{Command}
+use Rattle.node_core.specs.broker_spec.declared.command.Output.{Output}
+use Rattle.node_core.specs.ballot_base.declared.message.Effect.{Effect}
+use Rattle.node_core.specs.declared.item.Item.{Item}
+use Rattle.node_core.specs.declared.Port.{Port}
+use Rattle.node_core.specs.Core.{CountedCore, opening_core}
+use Rattle.node_core.specs.Handing.{hands_over}
+use Rattle.node_core.specs.Losses.{NodeStepped}
 
 -- A chain from the first state of a node: one step for each item, in order, each with the lane from
 -- which it came. In between, queued bytes may have been handed over.

@@ -3,9 +3,9 @@
 ghost use Rattle.std.specs.Prelude.{◌≡◌, ◌+◌, ◌≤◌, None, false, true};
 ghost use Rattle.node.specs.Crowding.{admits, is_agreed, open_places, status_shown, took};
 
-use node_base::PIECE_BYTES;
+use devices::PIECE_BYTES;
+use node_core::Status;
 use std::marker::Model;
-use world_base::Status;
 
 /// How many places may be open when more bytes are taken.
 const MAX_OPEN: u64 = 4_096;

@@ -13,16 +13,16 @@ mod report;
 mod running;
 
 pub use cutting::cuts_after;
+pub use devices::{Gate, NoGate, PIECE_BYTES};
 pub use intake::Intake;
 pub use laws::{cuts_come_apart, cuts_come_often, open_bytes_are_counted};
 pub use naming::NodeNaming;
-pub use node_base::{Gate, NoGate, PIECE_BYTES};
+pub use node_core::{
+    Body, Command, Config, ConnectionName, Effect, Handed, Item, MAX_NODE, Members, Memory,
+    Message, NodeCore, OpeningError, Output, Piece, Port, ProposeError, Standing, Status,
+};
 pub use node_state::NodeState;
 pub use overdue::is_overdue;
 pub use permit::Permit;
 pub use report::Report;
 pub use running::{Node, Stated};
-pub use world_base::{
-    Body, Command, Config, ConnectionName, Effect, Handed, Item, MAX_NODE, Members, Memory,
-    Message, NodeCore, OpeningError, Output, Piece, Port, ProposeError, Standing, Status,
-};

@@ -7,7 +7,7 @@ use std::marker::Brand;
 /// caller passes [`Brand`] and chooses the nodes that it opened.
 pub trait NodeNaming: Naming {
     ghost use Rattle.std.specs.Prelude.{ℕ};
-    ghost use Rattle.world_base.specs.Core.{CountedCore};
+    ghost use Rattle.node_core.specs.Core.{CountedCore};
 
     ghost first_of: { ℕ → CountedCore };
 }

@@ -3,7 +3,7 @@
 ghost use Rattle.std.specs.Prelude.{◌≡◌};
 ghost use Rattle.node.specs.Overdue.{is_overdue};
 
-use world_base::Standing;
+use node_core::Standing;
 
 /// How long the first packet of a connection may take, in milliseconds.
 const FIRST_PACKET_MILLIS: u64 = 10_000;

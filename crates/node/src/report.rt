@@ -4,8 +4,8 @@ ghost use Rattle.std.specs.Prelude.{IfOk};
 ghost use Rattle.node.specs.Report.{HasCapacity};
 
 use mailbox::MAX_ITEMS;
+use node_core::{Item, Memory};
 use std::alloc::Global;
-use world_base::{Item, Memory};
 
 /// What happened to the items that were sent to a node, once it takes no more.
 #[derive(Drop)]

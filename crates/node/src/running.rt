@@ -8,14 +8,14 @@ use crate::naming::NodeNaming;
 use crate::node_state::NodeState;
 use crate::permit::Permit;
 use crate::report::Report;
+use devices::Gate;
 use mailbox::Lane;
-use node_base::Gate;
+use node_core::{Item, Memory};
 use std::alloc::Global;
 use std::marker::{Model, PhantomData};
 use std::sync::{Mutex, MutexGuard, Wait};
 use std::thread;
 use std::time::{Clock, Duration};
-use world_base::{Item, Memory};
 
 /// How many times, at most, a gate is asked before one taking.
 const GATE_ASKS: u32 = 10_000;

@@ -1,3 +1,3 @@
-pub mod Counted
-pub mod Engines
-pub mod Inside
+pub use Rattle.devices.specs.Counted
+pub use Rattle.devices.specs.Engines
+pub use Rattle.devices.specs.Inside

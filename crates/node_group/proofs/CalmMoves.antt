@@ -6,9 +6,9 @@ use Rattle.packet_world.specs.broker_base.State.{State}
 use Rattle.packet_world.specs.broker_spec.declared.command.Command.{Command}
 use Rattle.packet_world.specs.broker_spec.declared.command.Command.TheVariants as commands
 use Rattle.node_moves.specs.node_connections.ConnectionChanges.{noted_proposed, closed_connection, failing, left_with}
-use Rattle.node_moves.specs.world_base.Core.{CoreState, StepOutcome, rules}
-use Rattle.node_moves.specs.world_base.Lossy.{Account, TakesCommand}
-use Rattle.node_moves.specs.world_base.Reading.{changes}
+use Rattle.node_moves.specs.node_core.Core.{CoreState, StepOutcome, rules}
+use Rattle.node_moves.specs.node_core.Lossy.{Account, TakesCommand}
+use Rattle.node_moves.specs.node_core.Reading.{changes}
 use Rattle.node_moves.specs.LossyMoves.{LossyMoves}
 use Rattle.node_moves.specs.LossyParts.{hears_in}
 use Rattle.node_moves.specs.LossyMoves.LossyMoves.{exactly, hears_losing, first_losing, later_losing, tells_losing, expels_losing, forgets, halts, fails, unheard, drops}

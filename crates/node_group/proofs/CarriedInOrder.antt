@@ -19,7 +19,7 @@ use Rattle.packet_world.specs.snapshots.Moments.{IsAgreed, Moment, Moments}
 use Rattle.packet_world.specs.agreement.Proposals.{commands_of as commands_in}
 use Rattle.packet_world.specs.agreement.World.{can_open}
 use Rattle.packet_world.proofs.of_snapshots.PastsAgree.{has_agreed}
-use Rattle.node_moves.specs.world_base.Core.{CoreState, opening_core, rules}
+use Rattle.node_moves.specs.node_core.Core.{CoreState, opening_core, rules}
 use Rattle.node_moves.specs.Ends.{packet_commands_from}
 use Rattle.node_moves.specs.RunProposals.{bytes_on}
 use Rattle.node_moves.specs.ItemRuns.{came_with}

@@ -8,8 +8,8 @@ use Rattle.packet_world.specs.broker_spec.Connection.{ConnectionName}
 use Rattle.packet_world.specs.broker_base.State.{State}
 use Rattle.packet_world.specs.lists.Lists.{IsPrefixOf}
 use Rattle.packet_world.proofs.of_lists.Prefixes.{prefix_length, prefix_take, prefix_then, take_prefix}
-use Rattle.node_moves.specs.world_base.declared.Connection.{Connection}
-use Rattle.node_moves.specs.world_base.Handing.{pending_bytes}
+use Rattle.node_moves.specs.node_core.declared.Connection.{Connection}
+use Rattle.node_moves.specs.node_core.Handing.{pending_bytes}
 use Rattle.node_moves.proofs.Kept.{live}
 use Rattle.node_moves.proofs.Views.{some_none}
 use Rattle.node_group.specs.Carried.{answers_to}

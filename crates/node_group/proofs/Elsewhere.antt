@@ -11,10 +11,10 @@ use Rattle.packet_world.specs.broker_spec.declared.command.Command.TheVariants a
 use Rattle.packet_world.specs.broker_spec.Connection.{ConnectionName, same_connection}
 use Rattle.node_moves.specs.cutter.Pipe.{Joins}
 use Rattle.packet_world.specs.exactly_once.StoryCommands.{is_packet_of}
-use Rattle.node_moves.specs.world_base.declared.Port.{Port}
-use Rattle.node_moves.specs.world_base.declared.Connection.{Connection}
-use Rattle.node_moves.specs.world_base.Core.{CoreState, StepOutcome, serves}
-use Rattle.node_moves.specs.world_base.Reading.{open_at}
+use Rattle.node_moves.specs.node_core.declared.Port.{Port}
+use Rattle.node_moves.specs.node_core.declared.Connection.{Connection}
+use Rattle.node_moves.specs.node_core.Core.{CoreState, StepOutcome, serves}
+use Rattle.node_moves.specs.node_core.Reading.{open_at}
 use Rattle.node_moves.specs.Closed.{exact_refusal}
 use Rattle.node_moves.specs.Ends.{IsEnd, IsGiven, IsOrderly, open_named, piece_on}
 use Rattle.node_moves.specs.Ends.{came_on as exactly_came, move_proposal as exactly_proposed}

@@ -6,13 +6,13 @@ use Rattle.std.proofs.lemmas.List.{append-nil}
 use Rattle.packet_world.specs.broker_spec.Connection.{ConnectionName, is_connection_name}
 use Rattle.packet_world.specs.lists.Lists.{IsPrefixOf}
 use Rattle.packet_world.proofs.of_lists.Prefixes.{prefix_same}
-use Rattle.node_moves.specs.world_base.declared.Port.{Port}
-use Rattle.node_moves.specs.world_base.declared.Connection.{Connection}
+use Rattle.node_moves.specs.node_core.declared.Port.{Port}
+use Rattle.node_moves.specs.node_core.declared.Connection.{Connection}
 use Rattle.node_moves.specs.node_connections.Connections.{fresh, is_at, is_listed}
 use Rattle.node_moves.specs.node_connections.ConnectionChanges.{changed_where, closed_connection, nothing_pending}
-use Rattle.node_moves.specs.world_base.Core.{CoreState, StepOutcome, serves}
-use Rattle.node_moves.specs.world_base.Handing.{hands_over, left_by}
-use Rattle.node_moves.specs.world_base.Step.{next_name, with_next_connection, settled}
+use Rattle.node_moves.specs.node_core.Core.{CoreState, StepOutcome, serves}
+use Rattle.node_moves.specs.node_core.Handing.{hands_over, left_by}
+use Rattle.node_moves.specs.node_core.Step.{next_name, with_next_connection, settled}
 use Rattle.node_moves.specs.Closed.{listed_named}
 use Rattle.node_moves.specs.Ends.{IsOrderly}
 use Rattle.node_moves.specs.LossyMoves.{LossyMoves}

@@ -4,16 +4,16 @@ use Rattle.std.specs.List.{list_any}
 use Rattle.packet_world.specs.broker_spec.declared.command.Command.{Command}
 use Rattle.packet_world.specs.broker_spec.declared.command.Command.TheVariants as commands
 use Rattle.packet_world.specs.broker_spec.Connection.{ConnectionName, is_connection_name}
-use Rattle.node_moves.specs.world_base.declared.Port.{Port}
-use Rattle.node_moves.specs.world_base.declared.Connection.{Connection}
+use Rattle.node_moves.specs.node_core.declared.Port.{Port}
+use Rattle.node_moves.specs.node_core.declared.Connection.{Connection}
 use Rattle.node_moves.specs.node_connections.Connections.{fresh, is_at}
 use Rattle.node_moves.specs.node_connections.ConnectionChanges.{noted_proposed, closed_connection, failing, left_with}
-use Rattle.node_moves.specs.world_base.Core.{CoreState, StepOutcome, serves}
-use Rattle.node_moves.specs.world_base.Failing.{closes_failed}
-use Rattle.node_moves.specs.world_base.Lossy.{Account, TakesCommand}
-use Rattle.node_moves.specs.world_base.Reading.{changes}
-use Rattle.node_moves.specs.world_base.Step.{next_name, with_next_connection}
-use Rattle.node_moves.specs.world_base.Effects.{proposes}
+use Rattle.node_moves.specs.node_core.Core.{CoreState, StepOutcome, serves}
+use Rattle.node_moves.specs.node_core.Failing.{closes_failed}
+use Rattle.node_moves.specs.node_core.Lossy.{Account, TakesCommand}
+use Rattle.node_moves.specs.node_core.Reading.{changes}
+use Rattle.node_moves.specs.node_core.Step.{next_name, with_next_connection}
+use Rattle.node_moves.specs.node_core.Effects.{proposes}
 use Rattle.node_moves.specs.Ends.{IsGiven, IsOrderly}
 use Rattle.node_moves.specs.LossyMoves.{LossyMoves}
 use Rattle.node_moves.specs.LossyMoves.LossyMoves.{exactly, hears_losing, first_losing, later_losing, tells_losing, expels_losing, forgets, halts, fails, unheard, drops}

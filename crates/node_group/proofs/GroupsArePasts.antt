@@ -12,7 +12,7 @@ use Rattle.packet_world.specs.snapshots.Moments.Moments.{began}
 use Rattle.packet_world.specs.snapshots.Steps.{world_after}
 use Rattle.packet_world.specs.snapshots.Steps.MayHappen.{master_assigns, master_hears, assignment_lost, answer_lost}
 use Rattle.packet_world.specs.snapshots.World.{CutGroupWorld}
-use Rattle.node_moves.specs.world_base.Core.{rules}
+use Rattle.node_moves.specs.node_core.Core.{rules}
 use Rattle.node_group.specs.Group.{Group, group_after_outcome, moment_of_nodes, opening_group, with_master, with_record}
 use Rattle.node_group.specs.Steps.{GroupStep, all_given, all_proposed, after_assign, groups_on_trace, put_in_step}
 use Rattle.node_group.specs.Steps.GroupStep.{node_acts, node_loses, master_assigns as assigns, master_hears as hears_master, assigns_unheard, answers_unheard}

@@ -1,7 +1,7 @@
 -- What is handed over in a run of moves in which something may be lost.
 use Rattle.std.proofs.Common.{◌≡◌, ℕ, false, List, [], ◌++◌, refl, ap, ◌∙◌}
 use Rattle.packet_world.specs.broker_spec.Connection.{ConnectionName}
-use Rattle.node_moves.specs.world_base.Core.{CoreState, StepOutcome}
+use Rattle.node_moves.specs.node_core.Core.{CoreState, StepOutcome}
 use Rattle.node_moves.specs.LossyMoves.{LossyMoves}
 use Rattle.node_moves.specs.LossyParts.{is_handing}
 use Rattle.node_moves.specs.LossyRuns.{HandsNothing, LossyRuns}

@@ -17,10 +17,10 @@ use Rattle.packet_world.specs.broker_spec.declared.command.Output.{Output}
 use Rattle.packet_world.specs.snapshots.Moments.{Moment, Moments}
 use Rattle.packet_world.specs.snapshots.World.{messages, outputs}
 use Rattle.node_moves.specs.node_connections.ConnectionChanges.{noted_proposed, closed_connection, failing, left_with}
-use Rattle.node_moves.specs.world_base.Core.{CoreState, StepOutcome, rules, serves}
-use Rattle.node_moves.specs.world_base.Lossy.{Account, Drives, TakesCommand}
-use Rattle.node_moves.specs.world_base.Reading.{changes}
-use Rattle.node_moves.specs.world_base.Effects.{has_room, outcome_of_input}
+use Rattle.node_moves.specs.node_core.Core.{CoreState, StepOutcome, rules, serves}
+use Rattle.node_moves.specs.node_core.Lossy.{Account, Drives, TakesCommand}
+use Rattle.node_moves.specs.node_core.Reading.{changes}
+use Rattle.node_moves.specs.node_core.Effects.{has_room, outcome_of_input}
 use Rattle.node_moves.specs.LossyMoves.{LossyMoves, outcome_in}
 use Rattle.node_moves.specs.LossyParts.{move_effects, inputs_in}
 use Rattle.node_moves.specs.LossyRuns.{CutsThaw}

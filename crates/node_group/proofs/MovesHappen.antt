@@ -44,16 +44,16 @@ use Rattle.packet_world.proofs.of_agreement.Agreed.PastKnown.{past_known}
 use Rattle.packet_world.proofs.of_snapshots.NextPlaces.{answers_at_the_next_places}
 use Rattle.packet_world.proofs.of_agreement.Given.Places.{none_between}
 use Rattle.packet_world.proofs.of_agreement.Given.StepGives.{from_active}
-use Rattle.node_moves.specs.world_base.declared.Connection.{Connection}
-use Rattle.node_moves.specs.world_base.declared.Port.{Port}
-use Rattle.node_moves.specs.world_base.Core.{CoreState, StepOutcome, rules, serves}
-use Rattle.node_moves.specs.world_base.Failing.{closes_failed}
-use Rattle.node_moves.specs.world_base.Reading.{changes}
-use Rattle.node_moves.specs.world_base.Effects.{drives, has_room, outcome_of_input, after_replica_step, proposes, without_messages}
+use Rattle.node_moves.specs.node_core.declared.Connection.{Connection}
+use Rattle.node_moves.specs.node_core.declared.Port.{Port}
+use Rattle.node_moves.specs.node_core.Core.{CoreState, StepOutcome, rules, serves}
+use Rattle.node_moves.specs.node_core.Failing.{closes_failed}
+use Rattle.node_moves.specs.node_core.Reading.{changes}
+use Rattle.node_moves.specs.node_core.Effects.{drives, has_room, outcome_of_input, after_replica_step, proposes, without_messages}
 use Rattle.node_moves.specs.node_connections.ConnectionChanges.{noted_proposed, closed_connection, with_unread, left_with}
-use Rattle.node_moves.specs.world_base.Handing.{hands_over}
-use Rattle.node_moves.specs.world_base.Reading.{connect_refused}
-use Rattle.node_moves.specs.world_base.Step.{with_next_connection, settled, with_cut}
+use Rattle.node_moves.specs.node_core.Handing.{hands_over}
+use Rattle.node_moves.specs.node_core.Reading.{connect_refused}
+use Rattle.node_moves.specs.node_core.Step.{with_next_connection, settled, with_cut}
 use Rattle.node_moves.specs.Moves.{Moves, is_proposal}
 use Rattle.node_moves.specs.Moves.Moves.{hears, opens_one, holds, reads_first, reads_later, closes, refuses, loses_one, loses_next, expels_one, cuts_log, crashes, settles, hands}
 use Rattle.node_moves.specs.Puts.{move_effects}

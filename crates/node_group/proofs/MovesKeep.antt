@@ -21,8 +21,8 @@ use Rattle.node_moves.specs.cutter.Pipe.{IsPiped}
 use Rattle.packet_world.specs.exactly_once.Sends.{sends_to}
 use Rattle.packet_world.proofs.Answers.{counted_in, nothing_put}
 use Rattle.packet_world.proofs.Lists.{same_or_other}
-use Rattle.node_moves.specs.world_base.declared.Connection.{Connection}
-use Rattle.node_moves.specs.world_base.Core.{CoreState, StepOutcome, rules}
+use Rattle.node_moves.specs.node_core.declared.Connection.{Connection}
+use Rattle.node_moves.specs.node_core.Core.{CoreState, StepOutcome, rules}
 use Rattle.node_moves.specs.Closed.{listed_named}
 use Rattle.node_moves.specs.Ends.{IsEnd, IsGiven, IsOrderly, packet_commands_from, open_named, stream_of}
 use Rattle.node_moves.specs.Ends.IsEnd.{not_yet}

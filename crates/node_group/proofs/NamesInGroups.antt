@@ -7,13 +7,13 @@ use Rattle.packet_world.proofs.of_lists.OfEach.{each_append}
 use Rattle.node_moves.specs.ballot_base.declared.config.Config.{Config}
 use Rattle.packet_world.specs.agreement.MasterState.{AssignRefusal, master_after, refusal}
 use Rattle.packet_world.specs.broker_spec.Connection.{ConnectionName}
-use Rattle.node_moves.specs.world_base.declared.Connection.{Connection}
+use Rattle.node_moves.specs.node_core.declared.Connection.{Connection}
 use Rattle.node_moves.specs.node_connections.Connections.{is_listed, is_closed}
 use Rattle.node_moves.specs.node_connections.ConnectionChanges.{closed_connection}
-use Rattle.node_moves.specs.world_base.declared.item.Item.{Item}
-use Rattle.node_moves.specs.world_base.Core.{CoreState, StepOutcome, opening_core, serves}
-use Rattle.node_moves.specs.world_base.LossyStep.{RunsOn}
-use Rattle.node_moves.specs.world_base.Step.{acts_on, settled}
+use Rattle.node_moves.specs.node_core.declared.item.Item.{Item}
+use Rattle.node_moves.specs.node_core.Core.{CoreState, StepOutcome, opening_core, serves}
+use Rattle.node_moves.specs.node_core.LossyStep.{RunsOn}
+use Rattle.node_moves.specs.node_core.Step.{acts_on, settled}
 use Rattle.node_moves.specs.Closed.{listed_named}
 use Rattle.node_moves.specs.Ends.{IsOrderly}
 use Rattle.node_moves.specs.Keeping.{AreOfTheBallot}

@@ -19,7 +19,7 @@ use Rattle.packet_world.specs.whole.Replica.{ReplicaState as WholeState}
 use Rattle.packet_world.specs.snapshots.Whole.{whole, whole_log}
 use Rattle.packet_world.proofs.of_snapshots.Orders.{keeps_the_order, node_at}
 use Rattle.packet_world.proofs.of_agreement.Orders.NamesInLists.{filter_prefix}
-use Rattle.node_moves.specs.world_base.Core.{rules}
+use Rattle.node_moves.specs.node_core.Core.{rules}
 use Rattle.node_group.specs.Ballots.{IsInItsBallot}
 use Rattle.node_group.specs.Group.{Group, moment_of_nodes, replica_of}
 use Rattle.node_group.specs.Steps.{all_proposed, groups_on_trace}

@@ -14,7 +14,7 @@ use Rattle.packet_world.specs.broker_spec.declared.command.Command.{Command}
 use Rattle.packet_world.specs.broker_spec.Connection.{ConnectionName}
 use Rattle.packet_world.specs.exactly_once.StoryCommands.{is_packet_of}
 use Rattle.packet_world.specs.snapshots.Proposals.{proposal_by, taken_by}
-use Rattle.node_moves.specs.world_base.Core.{CoreState, rules, serves}
+use Rattle.node_moves.specs.node_core.Core.{CoreState, rules, serves}
 use Rattle.node_moves.specs.Moves.{is_proposal}
 use Rattle.node_moves.proofs.Kept.{left_true}
 use Rattle.node_moves.proofs.Taken.{proposed_log}

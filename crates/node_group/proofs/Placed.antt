@@ -9,8 +9,8 @@ use Rattle.packet_world.specs.broker_spec.declared.command.Command.{Command}
 use Rattle.packet_world.specs.broker_spec.declared.command.Output.{Output}
 use Rattle.packet_world.specs.snapshots.World.{messages}
 use Rattle.packet_world.specs.snapshots.Moments.{opening_nodes}
-use Rattle.node_moves.specs.world_base.Core.{opening_core, rules}
-use Rattle.node_moves.specs.world_base.Effects.{is_message}
+use Rattle.node_moves.specs.node_core.Core.{opening_core, rules}
+use Rattle.node_moves.specs.node_core.Effects.{is_message}
 use Rattle.std.specs.List.{filter}
 use Rattle.node_group.specs.Group.{opening_cores, replica_of}
 

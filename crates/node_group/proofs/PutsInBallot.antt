@@ -12,9 +12,9 @@ use Rattle.packet_world.specs.broker_spec.declared.command.Command.TheVariants a
 use Rattle.packet_world.specs.broker_spec.Connection.{ConnectionName}
 use Rattle.packet_world.specs.exactly_once.StoryCommands.{is_packet_of}
 use Rattle.node_moves.specs.node_connections.ConnectionChanges.{noted_proposed, left_with}
-use Rattle.node_moves.specs.world_base.Core.{CoreState, StepOutcome, serves}
-use Rattle.node_moves.specs.world_base.Lossy.{Account, TakesCommand}
-use Rattle.node_moves.specs.world_base.Reading.{changes}
+use Rattle.node_moves.specs.node_core.Core.{CoreState, StepOutcome, serves}
+use Rattle.node_moves.specs.node_core.Lossy.{Account, TakesCommand}
+use Rattle.node_moves.specs.node_core.Reading.{changes}
 use Rattle.node_moves.specs.Ends.{IsOrderly}
 use Rattle.node_moves.specs.Keeping.{AreOfTheBallot}
 use Rattle.node_moves.specs.LossyNames.{AreWhereItServes}

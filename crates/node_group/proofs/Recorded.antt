@@ -4,7 +4,7 @@ use Rattle.std.proofs.Common.{◌≡◌, ℕ, Bool, true, false, not, nat_lt, if
 use Rattle.std.proofs.lemmas.Bool.{and_parts, ltb-true}
 use Rattle.packet_world.specs.broker_spec.declared.command.Command.{Command}
 use Rattle.packet_world.specs.snapshots.World.{recorded}
-use Rattle.node_moves.specs.world_base.Core.{CoreState, StepOutcome}
+use Rattle.node_moves.specs.node_core.Core.{CoreState, StepOutcome}
 use Rattle.node_moves.specs.Keeping.{moves_replica}
 use Rattle.node_moves.specs.LossyMoves.{LossyMoves}
 use Rattle.node_moves.specs.LossyParts.{hears_in, inputs_in, inputs_of}

@@ -11,14 +11,14 @@ use Rattle.packet_world.specs.broker_spec.declared.command.Command.{Command}
 use Rattle.packet_world.specs.broker_spec.declared.command.Output.{Output}
 use Rattle.packet_world.specs.broker_spec.declared.command.Output.TheVariants as outputs
 use Rattle.packet_world.specs.broker_spec.Connection.{ConnectionName}
-use Rattle.node_moves.specs.world_base.declared.Port.{Port}
-use Rattle.node_moves.specs.world_base.declared.Connection.{Connection}
+use Rattle.node_moves.specs.node_core.declared.Port.{Port}
+use Rattle.node_moves.specs.node_core.declared.Connection.{Connection}
 use Rattle.node_moves.specs.node_connections.ConnectionChanges.{closed_connection, with_queued}
-use Rattle.node_moves.specs.world_base.Core.{CoreState, serves}
-use Rattle.node_moves.specs.world_base.Handing.{hands_over, left_by, listed_at}
-use Rattle.node_moves.specs.world_base.Reading.{changes}
-use Rattle.node_moves.specs.world_base.Step.{with_next_connection, settled}
-use Rattle.node_moves.specs.world_base.Effects.{changes_named, after_replica_step, with_effect}
+use Rattle.node_moves.specs.node_core.Core.{CoreState, serves}
+use Rattle.node_moves.specs.node_core.Handing.{hands_over, left_by, listed_at}
+use Rattle.node_moves.specs.node_core.Reading.{changes}
+use Rattle.node_moves.specs.node_core.Step.{with_next_connection, settled}
+use Rattle.node_moves.specs.node_core.Effects.{changes_named, after_replica_step, with_effect}
 use Rattle.node_group.specs.Group.{replica_of}
 
 -- ---- moves that leave it as it is

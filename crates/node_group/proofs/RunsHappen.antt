@@ -12,7 +12,7 @@ use Rattle.packet_world.specs.broker_spec.declared.command.Output.{Output}
 use Rattle.packet_world.specs.snapshots.Moments.{Moment, Moments}
 use Rattle.packet_world.specs.snapshots.Proposals.{proposals_of, taken_of}
 use Rattle.packet_world.specs.snapshots.World.{messages, outputs}
-use Rattle.node_moves.specs.world_base.Core.{CoreState, StepOutcome, rules}
+use Rattle.node_moves.specs.node_core.Core.{CoreState, StepOutcome, rules}
 use Rattle.node_moves.specs.LossyParts.{move_effects, inputs_in}
 use Rattle.node_moves.specs.LossyRuns.{AllFreeze, LossyRuns, all_inputs}
 use Rattle.node_moves.specs.LossyRuns.LossyRuns.{rests, goes_on}

@@ -16,8 +16,8 @@ use Rattle.packet_world.specs.agreement.Proposals.{commands_of as commands_in}
 use Rattle.packet_world.specs.snapshots.Proposals.{proposals_of, taken_of}
 use Rattle.packet_world.proofs.of_snapshots.PastsAgree.{has_agreed}
 use Rattle.node_moves.specs.node_connections.Connections.{is_closed}
-use Rattle.node_moves.specs.world_base.Core.{CoreState, StepOutcome, rules}
-use Rattle.node_moves.specs.world_base.Effects.{without_messages}
+use Rattle.node_moves.specs.node_core.Core.{CoreState, StepOutcome, rules}
+use Rattle.node_moves.specs.node_core.Effects.{without_messages}
 use Rattle.node_moves.specs.Ends.{IsOrderly}
 use Rattle.node_moves.specs.Keeping.{AreOfTheBallot}
 use Rattle.node_moves.specs.LossyMoves.{LossyMoves}

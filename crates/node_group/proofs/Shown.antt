@@ -24,7 +24,7 @@ use Rattle.packet_world.specs.PutOut.{outputs_alone, broker_rules}
 use Rattle.packet_world.proofs.Answers.{put_front, put_push}
 use Rattle.packet_world.proofs.Lists.{take_next, there_is}
 use Rattle.packet_world.proofs.PutOut.{between, given_more}
-use Rattle.node_moves.specs.world_base.Core.{rules}
+use Rattle.node_moves.specs.node_core.Core.{rules}
 use Rattle.node_moves.specs.Puts.{outputs_of, spelled}
 use Rattle.node_group.specs.Carried.{answers_to}
 

@@ -18,9 +18,9 @@ use Rattle.packet_world.specs.snapshots.Agreeing.{IsPrimary}
 use Rattle.packet_world.specs.snapshots.Whole.{whole}
 use Rattle.packet_world.proofs.of_snapshots.Views.{get_whole}
 use Rattle.packet_world.specs.agreement.Proposals.{commands_of as commands_in}
-use Rattle.node_moves.specs.world_base.declared.Connection.{Connection}
-use Rattle.node_moves.specs.world_base.Core.{CoreState, StepOutcome}
-use Rattle.node_moves.specs.world_base.Step.{next_name}
+use Rattle.node_moves.specs.node_core.declared.Connection.{Connection}
+use Rattle.node_moves.specs.node_core.Core.{CoreState, StepOutcome}
+use Rattle.node_moves.specs.node_core.Step.{next_name}
 use Rattle.node_moves.specs.Closed.{listed_named}
 use Rattle.node_moves.specs.Ends.{IsEnd, IsGiven, IsOrderly, Precedes, packet_commands_from, open_named, stream_of}
 use Rattle.node_moves.specs.LossyMoves.{LossyMoves}

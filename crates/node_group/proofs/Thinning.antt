@@ -11,10 +11,10 @@ use Rattle.packet_world.specs.broker_base.State.{State}
 use Rattle.packet_world.specs.broker_spec.declared.command.Command.{Command}
 use Rattle.packet_world.specs.broker_spec.declared.command.Output.{Output}
 use Rattle.packet_world.specs.snapshots.World.{messages, outputs}
-use Rattle.node_moves.specs.world_base.Core.{CoreState, rules}
-use Rattle.node_moves.specs.world_base.Lossy.{HandlesAll}
-use Rattle.node_moves.specs.world_base.Lossy.HandlesAll.{nothing, does, sends, loses as loses_one}
-use Rattle.node_moves.specs.world_base.Effects.{is_message}
+use Rattle.node_moves.specs.node_core.Core.{CoreState, rules}
+use Rattle.node_moves.specs.node_core.Lossy.{HandlesAll}
+use Rattle.node_moves.specs.node_core.Lossy.HandlesAll.{nothing, does, sends, loses as loses_one}
+use Rattle.node_moves.specs.node_core.Effects.{is_message}
 
 abbrev pub Given : Type 0
 Given = List (Effect Command Output)

@@ -12,7 +12,7 @@ use Rattle.packet_world.specs.agreement.MasterState.{MasterState, opening_master
 use Rattle.packet_world.specs.snapshots.Masters.{MasterOutcome}
 use Rattle.packet_world.specs.snapshots.Moments.{Moment}
 use Rattle.packet_world.specs.snapshots.World.{messages, outputs}
-use Rattle.node_moves.specs.world_base.Core.{CoreState, StepOutcome, opening_core}
+use Rattle.node_moves.specs.node_core.Core.{CoreState, StepOutcome, opening_core}
 
 -- Node n + 1 is at index n. All messages that were ever sent stay, each with its receiver: any may
 -- come late, again or never. So do the outputs that replicas gave, with their places in the log.

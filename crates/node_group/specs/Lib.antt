@@ -23,6 +23,6 @@ pub use Rattle.packet_world.specs as packet_world
 pub use Rattle.packet_world.specs.session_base as session_base
 pub use Rattle.packet_world.specs.snapshots as snapshots
 pub use Rattle.packet_world.specs.whole as whole
-pub use Rattle.node_moves.specs.world_base as world_base
+pub use Rattle.node_moves.specs.node_core as node_core
 pub use Rattle.packet_world.specs.ballot_base as ballot_base
 pub use Rattle.node_moves.specs.node_connections as node_connections

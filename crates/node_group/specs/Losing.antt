@@ -5,7 +5,7 @@ use Rattle.node_moves.specs.ballot_base.declared.message.Effect.{Effect}
 use Rattle.node_moves.specs.ballot_base.Protocol.{Input}
 use Rattle.packet_world.specs.broker_spec.declared.command.Command.{Command}
 use Rattle.packet_world.specs.broker_spec.declared.command.Output.{Output}
-use Rattle.node_moves.specs.world_base.Core.{CoreState, StepOutcome}
+use Rattle.node_moves.specs.node_core.Core.{CoreState, StepOutcome}
 use Rattle.node_moves.specs.LossyMoves.{LossyMoves}
 use Rattle.node_moves.specs.LossyParts.{move_effects, move_proposal}
 use Rattle.node_moves.specs.LossyRuns.{LossyRuns}

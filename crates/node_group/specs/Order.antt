@@ -8,7 +8,7 @@ use Rattle.packet_world.specs.exactly_once.StoryCommands.{is_packet_of}
 use Rattle.packet_world.specs.snapshots.Moments.{IsAgreed}
 use Rattle.packet_world.specs.snapshots.Whole.{whole_log}
 use Rattle.packet_world.specs.agreement.Proposals.{commands_of}
-use Rattle.node_moves.specs.world_base.Core.{CoreState}
+use Rattle.node_moves.specs.node_core.Core.{CoreState}
 use Rattle.node_group.specs.Group.{Group, moment_of_nodes, replica_of}
 use Rattle.node_group.specs.Steps.{GroupTrace, all_proposed, groups_on_trace}
 use Rattle.node_group.specs.Pasts.{HasPast}

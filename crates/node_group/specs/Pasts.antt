@@ -9,7 +9,7 @@ use Rattle.packet_world.specs.broker_spec.Connection.{ConnectionName}
 use Rattle.packet_world.specs.exactly_once.StoryCommands.{is_packet_of}
 use Rattle.packet_world.specs.snapshots.Moments.{Moment, Moments}
 use Rattle.packet_world.specs.snapshots.Proposals.{proposals_of, taken_of}
-use Rattle.node_moves.specs.world_base.Core.{rules}
+use Rattle.node_moves.specs.node_core.Core.{rules}
 use Rattle.node_group.specs.Group.{Group, moment_of_nodes}
 use Rattle.node_group.specs.Steps.{GroupTrace, all_proposed, groups_on_trace}
 

@@ -8,7 +8,7 @@ use Rattle.node_moves.specs.ballot_base.Protocol.Input.{Receives, Proposes, Tick
 use Rattle.packet_world.specs.broker_spec.declared.command.Command.{Command}
 use Rattle.packet_world.specs.broker_spec.declared.command.Command.TheVariants as commands
 use Rattle.packet_world.specs.broker_spec.declared.command.Output.{Output}
-use Rattle.node_moves.specs.world_base.Core.{CoreState, StepOutcome, rules, serves}
+use Rattle.node_moves.specs.node_core.Core.{CoreState, StepOutcome, rules, serves}
 use Rattle.packet_world.specs.snapshots.World.{recorded}
 use Rattle.node_moves.specs.Moves.{Moves, Runs}
 use Rattle.node_moves.specs.Moves.Runs.{rests, goes_on}

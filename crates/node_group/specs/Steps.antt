@@ -10,9 +10,9 @@ use Rattle.packet_world.specs.broker_spec.declared.command.Output.{Output}
 use Rattle.packet_world.specs.agreement.MasterState.{AssignRefusal, master_after, refusal}
 use Rattle.packet_world.specs.snapshots.Masters.{activated, assigned}
 use Rattle.packet_world.specs.agreement.World.{can_open}
-use Rattle.node_moves.specs.world_base.Core.{CoreState, StepOutcome}
-use Rattle.node_moves.specs.world_base.declared.item.Item.{Item}
-use Rattle.node_moves.specs.world_base.LossyStep.{RunsOn}
+use Rattle.node_moves.specs.node_core.Core.{CoreState, StepOutcome}
+use Rattle.node_moves.specs.node_core.declared.item.Item.{Item}
+use Rattle.node_moves.specs.node_core.LossyStep.{RunsOn}
 use Rattle.node_moves.specs.Hearing.{HearsAtFirst}
 use Rattle.node_moves.specs.ItemRuns.{IsRunOn, heard_with}
 use Rattle.node_moves.specs.Moves.{NodeCall, Runs, done}

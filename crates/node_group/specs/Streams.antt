@@ -3,9 +3,9 @@
 use Rattle.std.specs.Prelude.{ℕ, if◌then◌else◌, List, [], ◌++◌, Option, Some, None}
 use Rattle.node_moves.specs.ballot_base.declared.config.Config.{Config}
 use Rattle.packet_world.specs.broker_spec.Connection.{ConnectionName, same_connection}
-use Rattle.node_moves.specs.world_base.declared.Connection.{Connection}
-use Rattle.node_moves.specs.world_base.Core.{CoreState, StepOutcome}
-use Rattle.node_moves.specs.world_base.Handing.{listed_at}
+use Rattle.node_moves.specs.node_core.declared.Connection.{Connection}
+use Rattle.node_moves.specs.node_core.Core.{CoreState, StepOutcome}
+use Rattle.node_moves.specs.node_core.Handing.{listed_at}
 use Rattle.node_moves.specs.RunProposals.{bytes_on}
 use Rattle.node_moves.specs.ItemRuns.{came_with}
 use Rattle.node_moves.specs.Moves.{Moves, Runs}

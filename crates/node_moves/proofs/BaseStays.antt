@@ -1,17 +1,17 @@
 -- A move in which a replica receives nothing leaves its log at the base that it has, also one in
 -- which something is lost; a cut moves it to what was applied.
 use Rattle.std.proofs.Common.{◌≡◌, Bool, true, false, if◌then◌else◌, refl, ap, ◌∙◌, subst}
-use Rattle.world_base.specs.ballot_base.Cutting.{can_cut}
-use Rattle.world_base.specs.ballot_base.Protocol.Input.{Receives, Proposes, Ticks}
-use Rattle.world_base.specs.ballot_base.Replica.{CountedReplica}
+use Rattle.node_core.specs.ballot_base.Cutting.{can_cut}
+use Rattle.node_core.specs.ballot_base.Protocol.Input.{Receives, Proposes, Ticks}
+use Rattle.node_core.specs.ballot_base.Replica.{CountedReplica}
 use Rattle.exactly_once.specs.broker_base.State.{State}
 use Rattle.exactly_once.specs.broker_spec.declared.command.Command.{Command}
 use Rattle.exactly_once.specs.broker_spec.declared.command.Command.TheVariants as commands
-use Rattle.world_base.specs.node_connections.ConnectionChanges.{noted_proposed, closed_connection, failing, left_with}
-use Rattle.world_base.specs.Core.{CoreState, StepOutcome}
-use Rattle.world_base.specs.Reading.{changes}
-use Rattle.world_base.specs.Step.{node_step}
-use Rattle.world_base.specs.declared.item.Item.TheVariants.{Cut}
+use Rattle.node_core.specs.node_connections.ConnectionChanges.{noted_proposed, closed_connection, failing, left_with}
+use Rattle.node_core.specs.Core.{CoreState, StepOutcome}
+use Rattle.node_core.specs.Reading.{changes}
+use Rattle.node_core.specs.Step.{node_step}
+use Rattle.node_core.specs.declared.item.Item.TheVariants.{Cut}
 use Rattle.node_moves.specs.LossyMoves.{LossyMoves}
 use Rattle.node_moves.specs.LossyParts.{hears_in}
 use Rattle.node_moves.specs.LossyMoves.LossyMoves.{exactly, hears_losing, first_losing, later_losing, tells_losing, expels_losing, forgets, halts, fails, unheard, drops}

@@ -3,10 +3,10 @@
 use Rattle.std.proofs.Common.{ℕ, zero, suc, Bool, true, false, if◌then◌else◌, List, [], ◌∷◌, Option, Some, None, map, filter}
 use Rattle.std.specs.List.{find, fold}
 use Rattle.exactly_once.specs.packet.Spelling.{spelling}
-use Rattle.world_base.specs.ballot_base.declared.message.Effect.{Effect}
-use Rattle.world_base.specs.ballot_base.declared.message.Effect.TheVariants.{To, Out}
-use Rattle.world_base.specs.ballot_base.Sending.{Outcome}
-use Rattle.world_base.specs.ballot_base.Serving.{proposed}
+use Rattle.node_core.specs.ballot_base.declared.message.Effect.{Effect}
+use Rattle.node_core.specs.ballot_base.declared.message.Effect.TheVariants.{To, Out}
+use Rattle.node_core.specs.ballot_base.Sending.{Outcome}
+use Rattle.node_core.specs.ballot_base.Serving.{proposed}
 use Rattle.exactly_once.specs.broker_base.State.{State}
 use Rattle.exactly_once.specs.broker_spec.declared.command.Command.{Command}
 use Rattle.exactly_once.specs.broker_spec.declared.command.Command.TheVariants as commands
@@ -14,13 +14,13 @@ use Rattle.exactly_once.specs.broker_spec.declared.command.Output.{Output}
 use Rattle.exactly_once.specs.broker_spec.declared.command.Output.TheVariants as outputs
 use Rattle.exactly_once.specs.broker_spec.Connection.{ConnectionName}
 use Rattle.exactly_once.specs.lists.Lists.{Each}
-use Rattle.world_base.specs.declared.Connection.{Connection}
-use Rattle.world_base.specs.node_connections.Connections.{has_failed, is_listed, is_open_named}
-use Rattle.world_base.specs.node_connections.ConnectionChanges.{closed_connection, with_queued}
-use Rattle.world_base.specs.Core.{CoreState, StepOutcome, rules, serves}
-use Rattle.world_base.specs.Failing.{closes_failed, loses_failed, loses_if}
-use Rattle.world_base.specs.Step.{settled}
-use Rattle.world_base.specs.Effects.{without_messages, repeated, with_effect, after_replica_step, proposes, changes_named}
+use Rattle.node_core.specs.declared.Connection.{Connection}
+use Rattle.node_core.specs.node_connections.Connections.{has_failed, is_listed, is_open_named}
+use Rattle.node_core.specs.node_connections.ConnectionChanges.{closed_connection, with_queued}
+use Rattle.node_core.specs.Core.{CoreState, StepOutcome, rules, serves}
+use Rattle.node_core.specs.Failing.{closes_failed, loses_failed, loses_if}
+use Rattle.node_core.specs.Step.{settled}
+use Rattle.node_core.specs.Effects.{without_messages, repeated, with_effect, after_replica_step, proposes, changes_named}
 use Rattle.node_moves.proofs.Views.{each_kept, each_mapped, each_filtered}
 
 pub record IsKept (P : Connection → Type 0) : Type 0 where

@@ -2,20 +2,20 @@
 use Rattle.std.proofs.Common.{◌≡◌, ◌≤◌, ◌⊎◌, inl, inr, ℕ, Bool, true, false, ◌==◌, ◌&&◌, ◌||◌, nat_lt, nat_le, if◌then◌else◌, Option, Some, None, length, List, refl, arith}
 use Rattle.std.specs.List.{list_any}
 use Rattle.std.proofs.lemmas.Bool.{ltb-true, eqb-true, and_parts, or_cases}
-use Rattle.world_base.specs.machine.Machine.{Rules}
-use Rattle.world_base.specs.ballot_base.Logs.{Log, places, pushed}
-use Rattle.world_base.specs.ballot_base.Taking.{read_into, taken, with_places}
-use Rattle.world_base.specs.ballot_base.Changing.{answers_installed, installs_taken, lacks, waits_for, on_new_ballot, on_join, on_state, on_install}
-use Rattle.world_base.specs.ballot_base.Activating.{on_installed, on_activated, on_superseded}
-use Rattle.world_base.specs.ballot_base.declared.message.Body.{Body}
-use Rattle.world_base.specs.ballot_base.declared.message.Body.TheVariants.{NewBallot, Join, State, Install, Installed, Activate, Activated, Superseded, Append, Held, Commit}
-use Rattle.world_base.specs.ballot_base.declared.status.Role.{Role}
-use Rattle.world_base.specs.ballot_base.declared.status.Role.TheVariants.{Backup, Fetching, Installing, Active}
-use Rattle.world_base.specs.ballot_base.Protocol.{Input, received, ticked, replica_step}
-use Rattle.world_base.specs.ballot_base.Protocol.Input.{Receives, Proposes, Ticks}
-use Rattle.world_base.specs.ballot_base.Replica.{ReplicaState, is_active, is_installing}
-use Rattle.world_base.specs.ballot_base.Sending.{Outcome, nothing_done}
-use Rattle.world_base.specs.ballot_base.Serving.{max_places, least, follows, leads, commit_at, commit, added, proposed, on_append, on_held, on_commit, on_tick_active}
+use Rattle.node_core.specs.machine.Machine.{Rules}
+use Rattle.node_core.specs.ballot_base.Logs.{Log, places, pushed}
+use Rattle.node_core.specs.ballot_base.Taking.{read_into, taken, with_places}
+use Rattle.node_core.specs.ballot_base.Changing.{answers_installed, installs_taken, lacks, waits_for, on_new_ballot, on_join, on_state, on_install}
+use Rattle.node_core.specs.ballot_base.Activating.{on_installed, on_activated, on_superseded}
+use Rattle.node_core.specs.ballot_base.declared.message.Body.{Body}
+use Rattle.node_core.specs.ballot_base.declared.message.Body.TheVariants.{NewBallot, Join, State, Install, Installed, Activate, Activated, Superseded, Append, Held, Commit}
+use Rattle.node_core.specs.ballot_base.declared.status.Role.{Role}
+use Rattle.node_core.specs.ballot_base.declared.status.Role.TheVariants.{Backup, Fetching, Installing, Active}
+use Rattle.node_core.specs.ballot_base.Protocol.{Input, received, ticked, replica_step}
+use Rattle.node_core.specs.ballot_base.Protocol.Input.{Receives, Proposes, Ticks}
+use Rattle.node_core.specs.ballot_base.Replica.{ReplicaState, is_active, is_installing}
+use Rattle.node_core.specs.ballot_base.Sending.{Outcome, nothing_done}
+use Rattle.node_core.specs.ballot_base.Serving.{max_places, least, follows, leads, commit_at, commit, added, proposed, on_append, on_held, on_commit, on_tick_active}
 use Rattle.node_moves.proofs.NamesInOrder.{same_le}
 
 abbrev pub Up : {S C O : Type 0} → ReplicaState S C → Outcome S C O → Type 0

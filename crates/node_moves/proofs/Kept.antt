@@ -3,29 +3,29 @@
 use Rattle.std.proofs.Common.{◌≡◌, ◌⊎◌, inl, inr, ◌≤◌, ℕ, Bool, true, false, not, ◌&&◌, ◌||◌, ◌==◌, ◌+◌, nat_le, length, if◌then◌else◌, List, [], ◌∷◌, Option, Some, None, refl, sym, ap, ◌∙◌, subst, filter, map, arith}
 use Rattle.std.specs.List.{find, fold}
 use Rattle.exactly_once.specs.packet.Spelling.{spelling}
-use Rattle.world_base.specs.ballot_base.declared.message.Effect.{Effect}
-use Rattle.world_base.specs.ballot_base.declared.message.Effect.TheVariants.{To, Out}
-use Rattle.world_base.specs.ballot_base.Protocol.{Input, replica_step}
-use Rattle.world_base.specs.ballot_base.Sending.{Outcome, nothing_done}
-use Rattle.world_base.specs.ballot_base.Serving.{proposed}
+use Rattle.node_core.specs.ballot_base.declared.message.Effect.{Effect}
+use Rattle.node_core.specs.ballot_base.declared.message.Effect.TheVariants.{To, Out}
+use Rattle.node_core.specs.ballot_base.Protocol.{Input, replica_step}
+use Rattle.node_core.specs.ballot_base.Sending.{Outcome, nothing_done}
+use Rattle.node_core.specs.ballot_base.Serving.{proposed}
 use Rattle.exactly_once.specs.broker_base.State.{State}
 use Rattle.exactly_once.specs.broker_spec.declared.command.Command.{Command}
 use Rattle.exactly_once.specs.broker_spec.declared.command.Output.{Output}
 use Rattle.exactly_once.specs.broker_spec.declared.command.Output.TheVariants as outputs
 use Rattle.exactly_once.specs.broker_spec.Connection.{ConnectionName, same_connection}
 use Rattle.exactly_once.specs.lists.Lists.{Each}
-use Rattle.world_base.specs.declared.Port.{Port}
-use Rattle.world_base.specs.declared.Connection.{Connection}
-use Rattle.world_base.specs.declared.ConnectionStage.{ConnectionStage}
-use Rattle.world_base.specs.declared.ConnectionStage.TheVariants.{Awaits, Proposed, Closed, Failed}
-use Rattle.world_base.specs.node_connections.Connections.{is_closed, is_proposed, is_failed, has_failed, is_at, is_open_at, is_open_named, is_listed}
-use Rattle.world_base.specs.node_connections.ConnectionChanges.{max_pending, closed_connection, failing, with_queued, putting, nothing_pending, changed_where}
-use Rattle.world_base.specs.Core.{CoreState, StepOutcome, rules, serves}
-use Rattle.world_base.specs.Failing.{closes_failed}
-use Rattle.world_base.specs.Handing.{hands_over, left_by, listed_at}
-use Rattle.world_base.specs.Reading.{changes}
-use Rattle.world_base.specs.Step.{settled, crashed, with_cut}
-use Rattle.world_base.specs.Effects.{without_messages, after_replica_step, with_effect, proposes, drives, outcome_of_input, changes_named}
+use Rattle.node_core.specs.declared.Port.{Port}
+use Rattle.node_core.specs.declared.Connection.{Connection}
+use Rattle.node_core.specs.declared.ConnectionStage.{ConnectionStage}
+use Rattle.node_core.specs.declared.ConnectionStage.TheVariants.{Awaits, Proposed, Closed, Failed}
+use Rattle.node_core.specs.node_connections.Connections.{is_closed, is_proposed, is_failed, has_failed, is_at, is_open_at, is_open_named, is_listed}
+use Rattle.node_core.specs.node_connections.ConnectionChanges.{max_pending, closed_connection, failing, with_queued, putting, nothing_pending, changed_where}
+use Rattle.node_core.specs.Core.{CoreState, StepOutcome, rules, serves}
+use Rattle.node_core.specs.Failing.{closes_failed}
+use Rattle.node_core.specs.Handing.{hands_over, left_by, listed_at}
+use Rattle.node_core.specs.Reading.{changes}
+use Rattle.node_core.specs.Step.{settled, crashed, with_cut}
+use Rattle.node_core.specs.Effects.{without_messages, after_replica_step, with_effect, proposes, drives, outcome_of_input, changes_named}
 use Rattle.node_moves.specs.Ends.{AtMostOne, IsGiven, IsOrderly, open_named}
 use Rattle.node_moves.proofs.JoinedGrows.{Up, up_if, up_nothing, up_proposed, joined_grows}
 use Rattle.node_moves.proofs.NamesInOrder.{same_le}

@@ -35,4 +35,4 @@ pub mod BaseStays
 pub mod LossyRead
 pub mod LossyRuns
 pub mod LossesAreMoves
-pub use Rattle.world_base.proofs.of_ballot_base as of_ballot_base
+pub use Rattle.node_core.proofs.of_ballot_base as of_ballot_base

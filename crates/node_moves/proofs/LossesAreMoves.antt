@@ -1,22 +1,22 @@
 -- All that a node does with an item, when memory may run out, is a run of moves.
 use Rattle.std.proofs.Common.{◌≡◌, inl, inr, ℕ, Bool, true, false, List, [], ◌∷◌, length, refl, sym, ap, subst, append_assoc}
 use Rattle.std.proofs.lemmas.List.{append-nil}
-use Rattle.world_base.specs.ballot_base.Protocol.{Input}
-use Rattle.world_base.specs.ballot_base.Protocol.Input.{Receives, Ticks}
+use Rattle.node_core.specs.ballot_base.Protocol.{Input}
+use Rattle.node_core.specs.ballot_base.Protocol.Input.{Receives, Ticks}
 use Rattle.exactly_once.specs.broker_spec.declared.command.Command.{Command}
 use Rattle.exactly_once.specs.broker_spec.Connection.{ConnectionName}
-use Rattle.world_base.specs.declared.Port.{Port}
-use Rattle.world_base.specs.declared.item.Item.{Item}
-use Rattle.world_base.specs.declared.item.Item.TheVariants.{Peer, Tick, Opened, Bytes, Ended, Expel, Cut, Crash}
-use Rattle.world_base.specs.node_connections.ConnectionChanges.{closed_connection, with_unread}
-use Rattle.world_base.specs.Core.{CoreState, StepOutcome}
-use Rattle.world_base.specs.Lossy.{Account, both_accounts, without_effects}
-use Rattle.world_base.specs.LossyStep.{Cuts, HoldsBytes, LosesAllFailed, AcceptsConnection, DoesItem}
-use Rattle.world_base.specs.LossyReading.{EndsSilent, ReadsNext}
-use Rattle.world_base.specs.LossyStep.Cuts.{nothing_to_cut, cuts_log as cuts_log_at, forgets_cut}
-use Rattle.world_base.specs.LossyReading.EndsConnection.{none_open, unproposed, proposed}
-use Rattle.world_base.specs.Reading.{changes, open_at, unread_of}
-use Rattle.world_base.specs.Step.{crashed, with_next_connection, settled, with_cut}
+use Rattle.node_core.specs.declared.Port.{Port}
+use Rattle.node_core.specs.declared.item.Item.{Item}
+use Rattle.node_core.specs.declared.item.Item.TheVariants.{Peer, Tick, Opened, Bytes, Ended, Expel, Cut, Crash}
+use Rattle.node_core.specs.node_connections.ConnectionChanges.{closed_connection, with_unread}
+use Rattle.node_core.specs.Core.{CoreState, StepOutcome}
+use Rattle.node_core.specs.Lossy.{Account, both_accounts, without_effects}
+use Rattle.node_core.specs.LossyStep.{Cuts, HoldsBytes, LosesAllFailed, AcceptsConnection, DoesItem}
+use Rattle.node_core.specs.LossyReading.{EndsSilent, ReadsNext}
+use Rattle.node_core.specs.LossyStep.Cuts.{nothing_to_cut, cuts_log as cuts_log_at, forgets_cut}
+use Rattle.node_core.specs.LossyReading.EndsConnection.{none_open, unproposed, proposed}
+use Rattle.node_core.specs.Reading.{changes, open_at, unread_of}
+use Rattle.node_core.specs.Step.{crashed, with_next_connection, settled, with_cut}
 use Rattle.node_moves.specs.Ends.{piece_on}
 use Rattle.node_moves.specs.LossyMoves.{with_loss, outcome_in}
 use Rattle.node_moves.specs.ItemRuns.{IsRunOn, LossesAreMoves, came_with, heard_with, is_cut}

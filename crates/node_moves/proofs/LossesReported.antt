@@ -4,15 +4,15 @@ use Rattle.std.proofs.Common.{◌≡◌, ◌⊎◌, inl, inr, ◌≤◌, ◌<◌
 use Rattle.std.specs.List.{find}
 use Rattle.exactly_once.specs.broker_spec.declared.command.Command.TheVariants as commands
 use Rattle.exactly_once.specs.lists.Lists.{Each}
-use Rattle.world_base.specs.declared.Connection.{Connection}
-use Rattle.world_base.specs.declared.ConnectionStage.{ConnectionStage}
-use Rattle.world_base.specs.declared.ConnectionStage.TheVariants.{Awaits, Proposed, Closed, Failed}
-use Rattle.world_base.specs.node_connections.Connections.{is_proposed, is_failed, has_failed}
-use Rattle.world_base.specs.node_connections.ConnectionChanges.{closed_connection}
-use Rattle.world_base.specs.Core.{CoreState}
-use Rattle.world_base.specs.Failing.{closes_failed, loses_failed, loses_if}
-use Rattle.world_base.specs.Step.{acts_on, does_item}
-use Rattle.world_base.specs.Effects.{without_messages, proposes}
+use Rattle.node_core.specs.declared.Connection.{Connection}
+use Rattle.node_core.specs.declared.ConnectionStage.{ConnectionStage}
+use Rattle.node_core.specs.declared.ConnectionStage.TheVariants.{Awaits, Proposed, Closed, Failed}
+use Rattle.node_core.specs.node_connections.Connections.{is_proposed, is_failed, has_failed}
+use Rattle.node_core.specs.node_connections.ConnectionChanges.{closed_connection}
+use Rattle.node_core.specs.Core.{CoreState}
+use Rattle.node_core.specs.Failing.{closes_failed, loses_failed, loses_if}
+use Rattle.node_core.specs.Step.{acts_on, does_item}
+use Rattle.node_core.specs.Effects.{without_messages, proposes}
 use Rattle.node_moves.specs.Settled.{EachLossIsReported}
 use Rattle.node_moves.proofs.EachKept.{each_settled}
 use Rattle.node_moves.proofs.NamesInOrder.{same_le}

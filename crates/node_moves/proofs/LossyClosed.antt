@@ -3,9 +3,9 @@
 use Rattle.std.proofs.Common.{◌≡◌, true, Option, Some, None, refl, sym, ap, ◌∙◌}
 use Rattle.std.proofs.lemmas.Bool.{both_ways}
 use Rattle.exactly_once.specs.broker_spec.Connection.{ConnectionName}
-use Rattle.world_base.specs.declared.Connection.{Connection}
-use Rattle.world_base.specs.node_connections.Connections.{is_closed}
-use Rattle.world_base.specs.Core.{CoreState, StepOutcome}
+use Rattle.node_core.specs.declared.Connection.{Connection}
+use Rattle.node_core.specs.node_connections.Connections.{is_closed}
+use Rattle.node_core.specs.Core.{CoreState, StepOutcome}
 use Rattle.node_moves.specs.Closed.{listed_named}
 use Rattle.node_moves.specs.Closed.{IsExactlyClosedBy}
 use Rattle.node_moves.specs.Closed.IsExactlyClosedBy.{was_closed as exact_was, closes_now as exact_now}

@@ -1,11 +1,11 @@
 -- If memory may run out each open connection has a name of the ballot that its node leads.
 use Rattle.std.proofs.Common.{◌≡◌, inl, inr, ℕ, true, false, not, List, Some, refl, sym, ap, ◌∙◌, subst}
 use Rattle.std.proofs.lemmas.Bool.{both_ways}
-use Rattle.world_base.specs.ballot_base.declared.message.Effect.{Effect}
-use Rattle.world_base.specs.ballot_base.Losses.{StepsOrLost}
-use Rattle.world_base.specs.ballot_base.Protocol.{Input}
-use Rattle.world_base.specs.ballot_base.Replica.{CountedReplica, ReplicaState, is_active}
-use Rattle.world_base.specs.ballot_base.Sending.{Outcome}
+use Rattle.node_core.specs.ballot_base.declared.message.Effect.{Effect}
+use Rattle.node_core.specs.ballot_base.Losses.{StepsOrLost}
+use Rattle.node_core.specs.ballot_base.Protocol.{Input}
+use Rattle.node_core.specs.ballot_base.Replica.{CountedReplica, ReplicaState, is_active}
+use Rattle.node_core.specs.ballot_base.Sending.{Outcome}
 use Rattle.exactly_once.specs.broker_base.State.{State}
 use Rattle.exactly_once.specs.broker_spec.declared.command.Command.{Command}
 use Rattle.exactly_once.specs.broker_spec.declared.command.Command.TheVariants as commands
@@ -13,14 +13,14 @@ use Rattle.exactly_once.specs.broker_spec.Connection.{ConnectionName}
 use Rattle.exactly_once.specs.broker_spec.declared.command.Output.{Output}
 use Rattle.exactly_once.specs.lists.Lists.{In}
 use Rattle.exactly_once.specs.StoryCommands.{is_packet_of}
-use Rattle.world_base.specs.declared.Connection.{Connection}
-use Rattle.world_base.specs.node_connections.Connections.{is_closed}
-use Rattle.world_base.specs.node_connections.ConnectionChanges.{noted_proposed, failing, closed_connection, left_with}
-use Rattle.world_base.specs.Core.{CoreState, StepOutcome, rules, serves}
-use Rattle.world_base.specs.Lossy.{Account, Drives, TakesCommand}
-use Rattle.world_base.specs.Reading.{changes}
-use Rattle.world_base.specs.Step.{crashed}
-use Rattle.world_base.specs.Effects.{drives, outcome_of_input}
+use Rattle.node_core.specs.declared.Connection.{Connection}
+use Rattle.node_core.specs.node_connections.Connections.{is_closed}
+use Rattle.node_core.specs.node_connections.ConnectionChanges.{noted_proposed, failing, closed_connection, left_with}
+use Rattle.node_core.specs.Core.{CoreState, StepOutcome, rules, serves}
+use Rattle.node_core.specs.Lossy.{Account, Drives, TakesCommand}
+use Rattle.node_core.specs.Reading.{changes}
+use Rattle.node_core.specs.Step.{crashed}
+use Rattle.node_core.specs.Effects.{drives, outcome_of_input}
 use Rattle.node_moves.specs.Closed.{listed_named}
 use Rattle.node_moves.specs.Ends.{IsOrderly}
 use Rattle.node_moves.specs.Keeping.{AreOfTheBallot, moves_replica}

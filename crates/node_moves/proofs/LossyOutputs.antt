@@ -4,20 +4,20 @@ use Rattle.std.specs.List.{find}
 use Rattle.std.proofs.lemmas.List.{append-nil}
 use Rattle.exactly_once.specs.packet.declared.packet.Packet.{Packet}
 use Rattle.exactly_once.specs.packet.Spelling.{spelling}
-use Rattle.world_base.specs.ballot_base.declared.message.Effect.{Effect}
-use Rattle.world_base.specs.ballot_base.declared.message.Effect.TheVariants.{Out}
+use Rattle.node_core.specs.ballot_base.declared.message.Effect.{Effect}
+use Rattle.node_core.specs.ballot_base.declared.message.Effect.TheVariants.{Out}
 use Rattle.exactly_once.specs.broker_spec.declared.command.Command.{Command}
 use Rattle.exactly_once.specs.broker_spec.declared.command.Output.{Output}
 use Rattle.exactly_once.specs.broker_spec.declared.command.Output.TheVariants as outputs
 use Rattle.exactly_once.specs.broker_spec.Connection.{ConnectionName, same_connection}
 use Rattle.exactly_once.proofs.of_broker_spec.ConnectionNames.{same_itself, same_name}
-use Rattle.world_base.specs.declared.Connection.{Connection}
-use Rattle.world_base.specs.node_connections.Connections.{is_open_named}
-use Rattle.world_base.specs.node_connections.ConnectionChanges.{changed_where, closed_connection, failing, with_queued}
-use Rattle.world_base.specs.Core.{CoreState}
-use Rattle.world_base.specs.Lossy.{HandlesAll, Performs}
-use Rattle.world_base.specs.Lossy.HandlesAll.{nothing, does, sends, loses}
-use Rattle.world_base.specs.Effects.{changes_named}
+use Rattle.node_core.specs.declared.Connection.{Connection}
+use Rattle.node_core.specs.node_connections.Connections.{is_open_named}
+use Rattle.node_core.specs.node_connections.ConnectionChanges.{changed_where, closed_connection, failing, with_queued}
+use Rattle.node_core.specs.Core.{CoreState}
+use Rattle.node_core.specs.Lossy.{HandlesAll, Performs}
+use Rattle.node_core.specs.Lossy.HandlesAll.{nothing, does, sends, loses}
+use Rattle.node_core.specs.Effects.{changes_named}
 use Rattle.node_moves.specs.Closed.{listed_named}
 use Rattle.node_moves.specs.Ends.{AtMostOne, IsOrderly}
 use Rattle.node_moves.specs.Puts.{spelled}

@@ -4,16 +4,16 @@ use Rattle.std.proofs.Common.{◌≡◌, ℕ, List, [], ◌++◌, length, refl, 
 use Rattle.std.proofs.lemmas.List.{append-nil, length-append}
 use Rattle.std.proofs.lemmas.List.Elements.{filter-append}
 use Rattle.exactly_once.specs.packet.declared.packet.Packet.{Packet}
-use Rattle.world_base.specs.ballot_base.Logs.{pushed}
-use Rattle.world_base.specs.ballot_base.Replica.{CountedReplica, ReplicaState}
+use Rattle.node_core.specs.ballot_base.Logs.{pushed}
+use Rattle.node_core.specs.ballot_base.Replica.{CountedReplica, ReplicaState}
 use Rattle.exactly_once.specs.broker_base.State.{State}
 use Rattle.exactly_once.specs.broker_spec.declared.command.Command.{Command}
 use Rattle.exactly_once.specs.broker_spec.Connection.{ConnectionName}
 use Rattle.exactly_once.specs.StoryCommands.{is_packet_of}
-use Rattle.world_base.specs.node_connections.ConnectionChanges.{noted_proposed, left_with}
-use Rattle.world_base.specs.Core.{CoreState, StepOutcome, rules}
-use Rattle.world_base.specs.Lossy.{Account, TakesCommand}
-use Rattle.world_base.specs.Reading.{changes}
+use Rattle.node_core.specs.node_connections.ConnectionChanges.{noted_proposed, left_with}
+use Rattle.node_core.specs.Core.{CoreState, StepOutcome, rules}
+use Rattle.node_core.specs.Lossy.{Account, TakesCommand}
+use Rattle.node_core.specs.Reading.{changes}
 use Rattle.node_moves.specs.Ends.{IsEnd, IsOrderly, packet_commands_from}
 use Rattle.node_moves.specs.Ends.IsEnd.{not_yet}
 use Rattle.node_moves.specs.LossyLaws.{LossesAreTaken, LossesProposeInOrder, ReadsOn}
@@ -26,7 +26,7 @@ use Rattle.node_moves.proofs.LossyOutputs.{delivers_replica}
 use Rattle.node_moves.proofs.LossyReads.{losses_read_in_order}
 use Rattle.node_moves.proofs.ProposesInOrder.{commands_join, front_of, opening_orderly, still_to_come}
 use Rattle.node_moves.proofs.ShutByChanges.{at_replica}
-use Rattle.world_base.proofs.of_ballot_base.StepRows.{added-log}
+use Rattle.node_core.proofs.of_ballot_base.StepRows.{added-log}
 use Rattle.node_moves.proofs.Taken.{reads_are_taken}
 
 -- ---- all that is read

@@ -5,23 +5,23 @@ use Rattle.exactly_once.specs.packet.declared.packet.Packet.{Packet}
 use Rattle.exactly_once.specs.packet.declared.packet.Packet.TheVariants as packets
 use Rattle.exactly_once.specs.packet.declared.connect.Connect.{Connect}
 use Rattle.exactly_once.specs.packet.Verdict.{verdict}
-use Rattle.world_base.specs.ballot_base.Losses.{halted, one_more}
-use Rattle.world_base.specs.ballot_base.Protocol.{Input}
-use Rattle.world_base.specs.ballot_base.Replica.{CountedReplica, ReplicaState}
+use Rattle.node_core.specs.ballot_base.Losses.{halted, one_more}
+use Rattle.node_core.specs.ballot_base.Protocol.{Input}
+use Rattle.node_core.specs.ballot_base.Replica.{CountedReplica, ReplicaState}
 use Rattle.exactly_once.specs.broker_base.State.{State}
 use Rattle.exactly_once.specs.broker_spec.declared.command.Command.{Command}
 use Rattle.exactly_once.specs.broker_spec.declared.command.Command.TheVariants as commands
 use Rattle.exactly_once.specs.broker_spec.Connection.{ConnectionName}
 use Rattle.exactly_once.proofs.of_broker_spec.ConnectionNames.{same_name}
 use Rattle.exactly_once.specs.StoryCommands.{is_packet_of}
-use Rattle.world_base.specs.declared.Port.{Port}
-use Rattle.world_base.specs.declared.Connection.{Connection}
-use Rattle.world_base.specs.node_connections.Connections.{is_at, is_first, is_open_at}
-use Rattle.world_base.specs.node_connections.ConnectionChanges.{noted_proposed, closed_connection, failing, left_with}
-use Rattle.world_base.specs.Core.{CoreState, StepOutcome, rules}
-use Rattle.world_base.specs.Lossy.{Account, Drives, TakesCommand}
-use Rattle.world_base.specs.Reading.{changes, open_at}
-use Rattle.world_base.specs.Effects.{outcome_of_input}
+use Rattle.node_core.specs.declared.Port.{Port}
+use Rattle.node_core.specs.declared.Connection.{Connection}
+use Rattle.node_core.specs.node_connections.Connections.{is_at, is_first, is_open_at}
+use Rattle.node_core.specs.node_connections.ConnectionChanges.{noted_proposed, closed_connection, failing, left_with}
+use Rattle.node_core.specs.Core.{CoreState, StepOutcome, rules}
+use Rattle.node_core.specs.Lossy.{Account, Drives, TakesCommand}
+use Rattle.node_core.specs.Reading.{changes, open_at}
+use Rattle.node_core.specs.Effects.{outcome_of_input}
 use Rattle.node_moves.specs.Ends.{IsEnd, IsGiven, IsOrderly, packet_commands_from, is_nothing, open_named, piece_on}
 use Rattle.node_moves.specs.Ends.IsEnd.{is_over}
 use Rattle.node_moves.specs.LossyLaws.{LossesReadInOrder, ReadsOn}

@@ -5,29 +5,29 @@ use Rattle.exactly_once.specs.packet.declared.packet.Packet.{Packet}
 use Rattle.exactly_once.specs.packet.declared.packet.Packet.TheVariants as packets
 use Rattle.exactly_once.specs.packet.declared.connect.Connect.{Connect}
 use Rattle.exactly_once.specs.packet.Verdict.{verdict}
-use Rattle.world_base.specs.ballot_base.declared.message.Effect.{Effect}
-use Rattle.world_base.specs.ballot_base.Protocol.{Input}
+use Rattle.node_core.specs.ballot_base.declared.message.Effect.{Effect}
+use Rattle.node_core.specs.ballot_base.Protocol.{Input}
 use Rattle.exactly_once.specs.broker_spec.declared.command.Command.{Command}
 use Rattle.exactly_once.specs.broker_spec.declared.command.Command.TheVariants as commands
 use Rattle.exactly_once.specs.broker_spec.Connection.{ConnectionName}
 use Rattle.exactly_once.specs.broker_spec.declared.command.Output.{Output}
-use Rattle.world_base.specs.declared.Port.{Port}
-use Rattle.world_base.specs.declared.Connection.{Connection}
-use Rattle.world_base.specs.node_connections.Connections.{is_at, is_first, is_open_at, is_closed}
-use Rattle.world_base.specs.node_connections.ConnectionChanges.{noted_proposed, closed_connection, failing, left_with}
-use Rattle.world_base.specs.Core.{CoreState, StepOutcome}
-use Rattle.world_base.specs.Failing.{closes_failed}
-use Rattle.world_base.specs.Lossy.{Account, Repeated, Then, without_effects}
-use Rattle.world_base.specs.LossyProposals.{Declines, ProposesCommand}
-use Rattle.world_base.specs.LossyProposals.Declines.{no_room, forgets as forgets_it, stops}
-use Rattle.world_base.specs.LossyStep.{LosesAllFailed}
-use Rattle.world_base.specs.LossyReading.{TakesOr, TakesFirstPacket, ClosesConnection, EndsConnection, EndsSilent, LosesFailed, ReadsNext, Shuts}
-use Rattle.world_base.specs.LossyReading.EndsConnection.{none_open, unproposed, proposed}
-use Rattle.world_base.specs.LossyReading.EndsSilent.{none_silent, ends_one}
-use Rattle.world_base.specs.LossyReading.LosesFailed.{none_failed, tells_one}
-use Rattle.world_base.specs.LossyReading.ReadsNext.{waits, first, later, refuses as refuses_it, ends}
-use Rattle.world_base.specs.Reading.{changes, open_at, connect_refused}
-use Rattle.world_base.specs.Effects.{without_messages}
+use Rattle.node_core.specs.declared.Port.{Port}
+use Rattle.node_core.specs.declared.Connection.{Connection}
+use Rattle.node_core.specs.node_connections.Connections.{is_at, is_first, is_open_at, is_closed}
+use Rattle.node_core.specs.node_connections.ConnectionChanges.{noted_proposed, closed_connection, failing, left_with}
+use Rattle.node_core.specs.Core.{CoreState, StepOutcome}
+use Rattle.node_core.specs.Failing.{closes_failed}
+use Rattle.node_core.specs.Lossy.{Account, Repeated, Then, without_effects}
+use Rattle.node_core.specs.LossyProposals.{Declines, ProposesCommand}
+use Rattle.node_core.specs.LossyProposals.Declines.{no_room, forgets as forgets_it, stops}
+use Rattle.node_core.specs.LossyStep.{LosesAllFailed}
+use Rattle.node_core.specs.LossyReading.{TakesOr, TakesFirstPacket, ClosesConnection, EndsConnection, EndsSilent, LosesFailed, ReadsNext, Shuts}
+use Rattle.node_core.specs.LossyReading.EndsConnection.{none_open, unproposed, proposed}
+use Rattle.node_core.specs.LossyReading.EndsSilent.{none_silent, ends_one}
+use Rattle.node_core.specs.LossyReading.LosesFailed.{none_failed, tells_one}
+use Rattle.node_core.specs.LossyReading.ReadsNext.{waits, first, later, refuses as refuses_it, ends}
+use Rattle.node_core.specs.Reading.{changes, open_at, connect_refused}
+use Rattle.node_core.specs.Effects.{without_messages}
 use Rattle.node_moves.specs.LossyMoves.{LossyMoves, with_loss, halting, outcome_in}
 use Rattle.node_moves.specs.LossyParts.{came_on, hears_in, inputs_in, is_handing}
 use Rattle.node_moves.specs.LossyRuns.{AllFreeze, CutsNothing, CutsThaw, HandsNothing, HearsAtFirst, HearsNothing, LossyRuns, all_inputs, bytes_on, cuts_in, exactly_cuts}

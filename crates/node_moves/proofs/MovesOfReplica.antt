@@ -2,26 +2,26 @@
 use Rattle.std.proofs.Common.{◌≡◌, Bool, true, false, not, ◌&&◌, if◌then◌else◌, List, [], ◌∷◌, ◌++◌, Option, Some, None, refl, sym, ap, ◌∙◌, subst}
 use Rattle.std.specs.List.{find, fold, list_any}
 use Rattle.exactly_once.specs.packet.Spelling.{spelling}
-use Rattle.world_base.specs.ballot_base.declared.message.Effect.{Effect}
-use Rattle.world_base.specs.ballot_base.declared.message.Effect.TheVariants.{To, Out}
-use Rattle.world_base.specs.ballot_base.Replica.{CountedReplica, ReplicaState, is_active}
-use Rattle.world_base.specs.ballot_base.Sending.{Outcome}
-use Rattle.world_base.specs.ballot_base.Serving.{proposed}
+use Rattle.node_core.specs.ballot_base.declared.message.Effect.{Effect}
+use Rattle.node_core.specs.ballot_base.declared.message.Effect.TheVariants.{To, Out}
+use Rattle.node_core.specs.ballot_base.Replica.{CountedReplica, ReplicaState, is_active}
+use Rattle.node_core.specs.ballot_base.Sending.{Outcome}
+use Rattle.node_core.specs.ballot_base.Serving.{proposed}
 use Rattle.exactly_once.specs.broker_base.State.{State}
 use Rattle.exactly_once.specs.broker_spec.declared.command.Command.{Command}
 use Rattle.exactly_once.specs.broker_spec.Connection.{ConnectionName, is_connection_name}
 use Rattle.exactly_once.specs.broker_spec.declared.command.Output.{Output}
 use Rattle.exactly_once.specs.broker_spec.declared.command.Output.TheVariants as outputs
-use Rattle.world_base.specs.declared.Port.{Port}
-use Rattle.world_base.specs.declared.Connection.{Connection}
-use Rattle.world_base.specs.node_connections.Connections.{fresh, is_at}
-use Rattle.world_base.specs.node_connections.ConnectionChanges.{noted_proposed, closed_connection, left_with, with_queued}
-use Rattle.world_base.specs.Core.{CoreState, StepOutcome, rules, serves}
-use Rattle.world_base.specs.Failing.{closes_failed}
-use Rattle.world_base.specs.Handing.{hands_over, left_by}
-use Rattle.world_base.specs.Reading.{changes}
-use Rattle.world_base.specs.Step.{next_name, with_next_connection, settled}
-use Rattle.world_base.specs.Effects.{changes_named, after_replica_step, proposes, without_messages, with_effect}
+use Rattle.node_core.specs.declared.Port.{Port}
+use Rattle.node_core.specs.declared.Connection.{Connection}
+use Rattle.node_core.specs.node_connections.Connections.{fresh, is_at}
+use Rattle.node_core.specs.node_connections.ConnectionChanges.{noted_proposed, closed_connection, left_with, with_queued}
+use Rattle.node_core.specs.Core.{CoreState, StepOutcome, rules, serves}
+use Rattle.node_core.specs.Failing.{closes_failed}
+use Rattle.node_core.specs.Handing.{hands_over, left_by}
+use Rattle.node_core.specs.Reading.{changes}
+use Rattle.node_core.specs.Step.{next_name, with_next_connection, settled}
+use Rattle.node_core.specs.Effects.{changes_named, after_replica_step, proposes, without_messages, with_effect}
 use Rattle.node_moves.specs.Keeping.{moves_replica}
 use Rattle.node_moves.specs.Moves.{Moves}
 use Rattle.node_moves.specs.Moves.Moves.{hears, opens_one, holds, reads_first, reads_later, closes, refuses, loses_one, loses_next, expels_one, cuts_log, crashes, settles, hands}

@@ -2,11 +2,11 @@
 use Rattle.std.proofs.Common.{◌≡◌, ℕ, Bool, true, false, not, ◌&&◌, if◌then◌else◌, List, [], ◌∷◌, ◌++◌, Option, Some, None, refl, sym, ap, ◌∙◌}
 use Rattle.std.specs.List.{list_any}
 use Rattle.exactly_once.specs.broker_spec.Connection.{ConnectionName, is_connection_name}
-use Rattle.world_base.specs.declared.Port.{Port}
-use Rattle.world_base.specs.declared.Connection.{Connection}
-use Rattle.world_base.specs.node_connections.Connections.{fresh, is_at, is_closed}
-use Rattle.world_base.specs.Core.{CoreState, StepOutcome, serves}
-use Rattle.world_base.specs.Step.{next_name, with_next_connection, settled}
+use Rattle.node_core.specs.declared.Port.{Port}
+use Rattle.node_core.specs.declared.Connection.{Connection}
+use Rattle.node_core.specs.node_connections.Connections.{fresh, is_at, is_closed}
+use Rattle.node_core.specs.Core.{CoreState, StepOutcome, serves}
+use Rattle.node_core.specs.Step.{next_name, with_next_connection, settled}
 use Rattle.node_moves.specs.Closed.{listed_named}
 use Rattle.node_moves.specs.Ends.{IsOrderly}
 use Rattle.node_moves.specs.Keeping.{AreOfTheBallot, moves_replica}

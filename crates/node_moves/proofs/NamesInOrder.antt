@@ -3,8 +3,8 @@ use Rattle.std.proofs.Common.{◌≡◌, ◌⊎◌, inl, inr, ◌≤◌, ◌<◌
 use Rattle.std.proofs.lemmas.Bool.{cases_lt, cases_Bool, eqb-true, eqb-false}
 use Rattle.exactly_once.specs.broker_spec.Connection.{ConnectionName, same_connection}
 use Rattle.exactly_once.proofs.of_broker_spec.ConnectionNames.{same_name}
-use Rattle.world_base.specs.Core.{CoreState}
-use Rattle.world_base.specs.Step.{next_name}
+use Rattle.node_core.specs.Core.{CoreState}
+use Rattle.node_core.specs.Step.{next_name}
 use Rattle.node_moves.specs.Ends.{Precedes, IsGiven}
 
 pub same_le : (n : ℕ) → n ≤ n

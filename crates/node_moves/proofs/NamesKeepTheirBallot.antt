@@ -2,9 +2,9 @@
 -- what its replica receives.
 use Rattle.std.proofs.Common.{◌≡◌, inl, inr, Bool, true, false, not, ◌&&◌, if◌then◌else◌, [], ◌∷◌, Some, refl, sym, ap, ◌∙◌}
 use Rattle.std.proofs.lemmas.Bool.{both_ways}
-use Rattle.world_base.specs.ballot_base.Protocol.{Input, replica_step}
-use Rattle.world_base.specs.ballot_base.Replica.{ReplicaState, is_active}
-use Rattle.world_base.specs.ballot_base.Sending.{Outcome, nothing_done}
+use Rattle.node_core.specs.ballot_base.Protocol.{Input, replica_step}
+use Rattle.node_core.specs.ballot_base.Replica.{ReplicaState, is_active}
+use Rattle.node_core.specs.ballot_base.Sending.{Outcome, nothing_done}
 use Rattle.exactly_once.specs.broker_base.State.{State}
 use Rattle.exactly_once.specs.broker_spec.declared.command.Command.{Command}
 use Rattle.exactly_once.specs.broker_spec.declared.command.Command.TheVariants as commands
@@ -13,13 +13,13 @@ use Rattle.exactly_once.specs.broker_spec.declared.command.Output.{Output}
 use Rattle.exactly_once.specs.lists.Lists.{In}
 use Rattle.exactly_once.specs.lists.Lists.In.{here, there}
 use Rattle.exactly_once.specs.StoryCommands.{is_packet_of}
-use Rattle.world_base.specs.declared.Port.{Port}
-use Rattle.world_base.specs.declared.Connection.{Connection}
-use Rattle.world_base.specs.node_connections.Connections.{is_at, is_open_at, is_closed}
-use Rattle.world_base.specs.Core.{CoreState, StepOutcome, rules, serves}
-use Rattle.world_base.specs.Reading.{open_at}
-use Rattle.world_base.specs.Step.{crashed, settled, with_cut}
-use Rattle.world_base.specs.Effects.{drives, outcome_of_input}
+use Rattle.node_core.specs.declared.Port.{Port}
+use Rattle.node_core.specs.declared.Connection.{Connection}
+use Rattle.node_core.specs.node_connections.Connections.{is_at, is_open_at, is_closed}
+use Rattle.node_core.specs.Core.{CoreState, StepOutcome, rules, serves}
+use Rattle.node_core.specs.Reading.{open_at}
+use Rattle.node_core.specs.Step.{crashed, settled, with_cut}
+use Rattle.node_core.specs.Effects.{drives, outcome_of_input}
 use Rattle.node_moves.specs.Closed.{listed_named}
 use Rattle.node_moves.specs.Ends.{IsOrderly, move_proposal}
 use Rattle.node_moves.specs.Keeping.{AreOfTheBallot, NamesKeepTheirBallot}

@@ -4,41 +4,41 @@ use Rattle.std.specs.List.{find, list_any}
 use Rattle.exactly_once.specs.packet.Spelling.{spelling}
 use Rattle.exactly_once.specs.packet.declared.packet.Packet.{Packet}
 use Rattle.exactly_once.specs.packet.declared.packet.Packet.TheVariants as packets
-use Rattle.world_base.specs.ballot_base.declared.message.Effect.{Effect}
-use Rattle.world_base.specs.ballot_base.Losses.{StepsOrLost}
-use Rattle.world_base.specs.ballot_base.Protocol.{Input}
-use Rattle.world_base.specs.ballot_base.Protocol.Input.{Receives, Ticks}
-use Rattle.world_base.specs.ballot_base.Replica.{CountedReplica, ReplicaState}
-use Rattle.world_base.specs.ballot_base.Sending.{Outcome}
+use Rattle.node_core.specs.ballot_base.declared.message.Effect.{Effect}
+use Rattle.node_core.specs.ballot_base.Losses.{StepsOrLost}
+use Rattle.node_core.specs.ballot_base.Protocol.{Input}
+use Rattle.node_core.specs.ballot_base.Protocol.Input.{Receives, Ticks}
+use Rattle.node_core.specs.ballot_base.Replica.{CountedReplica, ReplicaState}
+use Rattle.node_core.specs.ballot_base.Sending.{Outcome}
 use Rattle.exactly_once.specs.broker_base.State.{State}
 use Rattle.exactly_once.specs.broker_spec.declared.command.Command.{Command}
 use Rattle.exactly_once.specs.broker_spec.declared.command.Command.TheVariants as commands
 use Rattle.exactly_once.specs.broker_spec.Connection.{ConnectionName, is_connection_name}
 use Rattle.exactly_once.specs.broker_spec.declared.command.Output.{Output}
 use Rattle.exactly_once.specs.broker_spec.declared.command.Output.TheVariants as outputs
-use Rattle.world_base.specs.declared.Port.{Port}
-use Rattle.world_base.specs.declared.item.Item.{Item}
-use Rattle.world_base.specs.declared.item.Item.TheVariants.{Peer, Tick, Opened, Bytes, Ended, Expel, Cut, Crash}
-use Rattle.world_base.specs.declared.Connection.{Connection}
-use Rattle.world_base.specs.node_connections.Connections.{fresh, has_failed, is_at, is_open_at, is_open_named}
-use Rattle.world_base.specs.node_connections.ConnectionChanges.{noted_proposed, closed_connection, failing, with_unread, left_with, with_queued, changed_where}
-use Rattle.world_base.specs.Core.{CoreState, rules, serves}
-use Rattle.world_base.specs.Failing.{closes_failed}
-use Rattle.world_base.specs.Handing.{hands_over}
-use Rattle.world_base.specs.Lossy.{Account, HandlesAll, Drives, ReplicaSteps, Repeated, Performs, TakesCommand, Then, without_effects}
-use Rattle.world_base.specs.LossyProposals.{Declines, ProposesCommand}
-use Rattle.world_base.specs.LossyProposals.Declines.{no_room, forgets, stops}
-use Rattle.world_base.specs.Lossy.HandlesAll.{nothing, does, sends, loses}
-use Rattle.world_base.specs.LossyStep.{ActsOn, HoldsBytes, RunsOn, DoesItem}
-use Rattle.world_base.specs.LossyReading.{TakesOr, TakesFirstPacket, ClosesConnection, EndsConnection, EndsSilent, LosesFailed, ReadsNext, Shuts}
-use Rattle.world_base.specs.LossyReading.EndsConnection.{none_open, unproposed, proposed}
-use Rattle.world_base.specs.LossyReading.EndsSilent.{none_silent, ends_one}
-use Rattle.world_base.specs.LossyReading.LosesFailed.{none_failed, tells_one}
-use Rattle.world_base.specs.LossyReading.ReadsNext.{waits, first, later, refuses, ends}
-use Rattle.world_base.specs.Reading.{changes, open_at, connect_refused, unread_of}
-use Rattle.world_base.specs.Step.{crashed, next_name, with_next_connection, settled, with_cut}
-use Rattle.world_base.specs.LossyStep.Cuts.{nothing_to_cut, cuts_log, forgets_cut}
-use Rattle.world_base.specs.Effects.{changes_named}
+use Rattle.node_core.specs.declared.Port.{Port}
+use Rattle.node_core.specs.declared.item.Item.{Item}
+use Rattle.node_core.specs.declared.item.Item.TheVariants.{Peer, Tick, Opened, Bytes, Ended, Expel, Cut, Crash}
+use Rattle.node_core.specs.declared.Connection.{Connection}
+use Rattle.node_core.specs.node_connections.Connections.{fresh, has_failed, is_at, is_open_at, is_open_named}
+use Rattle.node_core.specs.node_connections.ConnectionChanges.{noted_proposed, closed_connection, failing, with_unread, left_with, with_queued, changed_where}
+use Rattle.node_core.specs.Core.{CoreState, rules, serves}
+use Rattle.node_core.specs.Failing.{closes_failed}
+use Rattle.node_core.specs.Handing.{hands_over}
+use Rattle.node_core.specs.Lossy.{Account, HandlesAll, Drives, ReplicaSteps, Repeated, Performs, TakesCommand, Then, without_effects}
+use Rattle.node_core.specs.LossyProposals.{Declines, ProposesCommand}
+use Rattle.node_core.specs.LossyProposals.Declines.{no_room, forgets, stops}
+use Rattle.node_core.specs.Lossy.HandlesAll.{nothing, does, sends, loses}
+use Rattle.node_core.specs.LossyStep.{ActsOn, HoldsBytes, RunsOn, DoesItem}
+use Rattle.node_core.specs.LossyReading.{TakesOr, TakesFirstPacket, ClosesConnection, EndsConnection, EndsSilent, LosesFailed, ReadsNext, Shuts}
+use Rattle.node_core.specs.LossyReading.EndsConnection.{none_open, unproposed, proposed}
+use Rattle.node_core.specs.LossyReading.EndsSilent.{none_silent, ends_one}
+use Rattle.node_core.specs.LossyReading.LosesFailed.{none_failed, tells_one}
+use Rattle.node_core.specs.LossyReading.ReadsNext.{waits, first, later, refuses, ends}
+use Rattle.node_core.specs.Reading.{changes, open_at, connect_refused, unread_of}
+use Rattle.node_core.specs.Step.{crashed, next_name, with_next_connection, settled, with_cut}
+use Rattle.node_core.specs.LossyStep.Cuts.{nothing_to_cut, cuts_log, forgets_cut}
+use Rattle.node_core.specs.Effects.{changes_named}
 use Rattle.node_moves.specs.Apart.{KeepsNames, NamesStayApart}
 use Rattle.node_moves.specs.Closed.{listed_named}
 use Rattle.node_moves.specs.Ends.{IsGiven, IsOrderly, Precedes}

@@ -4,13 +4,13 @@ use Rattle.std.proofs.Common.{◌≡◌, ◌⊎◌, inl, inr, ℕ, Bool, true, f
 use Rattle.std.specs.List.{find, list_any}
 use Rattle.exactly_once.specs.broker_spec.Connection.{ConnectionName, is_connection_name}
 use Rattle.exactly_once.proofs.of_broker_spec.ConnectionNames.{same_name}
-use Rattle.world_base.specs.declared.Port.{Port}
-use Rattle.world_base.specs.declared.Connection.{Connection}
-use Rattle.world_base.specs.node_connections.Connections.{fresh, is_at, is_listed}
-use Rattle.world_base.specs.node_connections.ConnectionChanges.{closed_connection, nothing_pending, changed_where}
-use Rattle.world_base.specs.Core.{CoreState, serves}
-use Rattle.world_base.specs.Handing.{hands_over, left_by}
-use Rattle.world_base.specs.Step.{next_name, with_next_connection, settled}
+use Rattle.node_core.specs.declared.Port.{Port}
+use Rattle.node_core.specs.declared.Connection.{Connection}
+use Rattle.node_core.specs.node_connections.Connections.{fresh, is_at, is_listed}
+use Rattle.node_core.specs.node_connections.ConnectionChanges.{closed_connection, nothing_pending, changed_where}
+use Rattle.node_core.specs.Core.{CoreState, serves}
+use Rattle.node_core.specs.Handing.{hands_over, left_by}
+use Rattle.node_core.specs.Step.{next_name, with_next_connection, settled}
 use Rattle.node_moves.specs.Closed.{listed_named}
 use Rattle.node_moves.specs.Ends.{IsOrderly}
 use Rattle.node_moves.specs.Moves.Moves.{hears, opens_one, holds, reads_first, reads_later, closes, refuses, loses_one, loses_next, expels_one, cuts_log, crashes, settles, hands}

@@ -6,17 +6,17 @@ use Rattle.std.proofs.lemmas.List.{append-nil}
 use Rattle.std.proofs.lemmas.Bool.{both_ways}
 use Rattle.exactly_once.specs.broker_spec.Connection.{ConnectionName, is_connection_name}
 use Rattle.exactly_once.specs.Sends.{sends_to}
-use Rattle.world_base.specs.declared.Port.{Port}
-use Rattle.world_base.specs.declared.Connection.{Connection}
-use Rattle.world_base.specs.node_connections.Connections.{fresh, has_failed, is_at, is_failed, is_listed, is_closed}
-use Rattle.world_base.specs.node_connections.ConnectionChanges.{noted_proposed, closed_connection, nothing_pending, with_unread, left_with, changed_where}
-use Rattle.world_base.specs.declared.ConnectionStage.{ConnectionStage}
-use Rattle.world_base.specs.declared.ConnectionStage.TheVariants.{Awaits, Proposed, Closed, Failed}
-use Rattle.world_base.specs.Failing.{closes_failed}
-use Rattle.world_base.specs.Core.{CoreState, StepOutcome, serves}
-use Rattle.world_base.specs.Handing.{hands_over, left_by}
-use Rattle.world_base.specs.Reading.{changes}
-use Rattle.world_base.specs.Step.{next_name, with_next_connection, settled}
+use Rattle.node_core.specs.declared.Port.{Port}
+use Rattle.node_core.specs.declared.Connection.{Connection}
+use Rattle.node_core.specs.node_connections.Connections.{fresh, has_failed, is_at, is_failed, is_listed, is_closed}
+use Rattle.node_core.specs.node_connections.ConnectionChanges.{noted_proposed, closed_connection, nothing_pending, with_unread, left_with, changed_where}
+use Rattle.node_core.specs.declared.ConnectionStage.{ConnectionStage}
+use Rattle.node_core.specs.declared.ConnectionStage.TheVariants.{Awaits, Proposed, Closed, Failed}
+use Rattle.node_core.specs.Failing.{closes_failed}
+use Rattle.node_core.specs.Core.{CoreState, StepOutcome, serves}
+use Rattle.node_core.specs.Handing.{hands_over, left_by}
+use Rattle.node_core.specs.Reading.{changes}
+use Rattle.node_core.specs.Step.{next_name, with_next_connection, settled}
 use Rattle.node_moves.specs.Closed.{IsExactlyClosedBy, NothingOnClosed, listed_named, exact_refusal}
 use Rattle.node_moves.specs.Closed.IsExactlyClosedBy.{was_closed, closes_now}
 use Rattle.node_moves.specs.Ends.{IsOrderly}

@@ -3,13 +3,13 @@ use Rattle.std.proofs.Common.{◌≡◌, ℕ, Bool, true, false, not, if◌then�
 use Rattle.std.specs.List.{find}
 use Rattle.std.proofs.lemmas.Bool.{both_ways}
 use Rattle.exactly_once.specs.broker_spec.Connection.{ConnectionName}
-use Rattle.world_base.specs.declared.Port.{Port}
-use Rattle.world_base.specs.declared.Connection.{Connection}
-use Rattle.world_base.specs.node_connections.Connections.{is_at, is_listed, is_closed}
-use Rattle.world_base.specs.node_connections.ConnectionChanges.{closed_connection, nothing_pending, changed_where}
-use Rattle.world_base.specs.Core.{CoreState, serves}
-use Rattle.world_base.specs.Handing.{hands_over, left_by}
-use Rattle.world_base.specs.Step.{settled}
+use Rattle.node_core.specs.declared.Port.{Port}
+use Rattle.node_core.specs.declared.Connection.{Connection}
+use Rattle.node_core.specs.node_connections.Connections.{is_at, is_listed, is_closed}
+use Rattle.node_core.specs.node_connections.ConnectionChanges.{closed_connection, nothing_pending, changed_where}
+use Rattle.node_core.specs.Core.{CoreState, serves}
+use Rattle.node_core.specs.Handing.{hands_over, left_by}
+use Rattle.node_core.specs.Step.{settled}
 use Rattle.node_moves.specs.Closed.{listed_named}
 use Rattle.node_moves.specs.Ends.{IsOrderly}
 use Rattle.node_moves.proofs.Views.{one_changed, one_mapped, same_some, view, view_of_changed, view_of_others}

@@ -7,12 +7,12 @@ use Rattle.exactly_once.specs.broker_spec.Connection.{ConnectionName, same_conne
 use Rattle.exactly_once.proofs.of_broker_spec.ConnectionNames.{same_name, same_itself}
 use Rattle.exactly_once.specs.lists.Lists.{Each}
 use Rattle.exactly_once.proofs.of_lists.OfEach.{each_then, each_append}
-use Rattle.world_base.specs.cutter.Pipe.{IsPiped}
-use Rattle.world_base.specs.declared.Port.{Port}
-use Rattle.world_base.specs.declared.Connection.{Connection}
-use Rattle.world_base.specs.node_connections.Connections.{is_at, fresh}
-use Rattle.world_base.specs.Core.{CoreState, serves}
-use Rattle.world_base.specs.Step.{with_next_connection, next_name}
+use Rattle.node_core.specs.cutter.Pipe.{IsPiped}
+use Rattle.node_core.specs.declared.Port.{Port}
+use Rattle.node_core.specs.declared.Connection.{Connection}
+use Rattle.node_core.specs.node_connections.Connections.{is_at, fresh}
+use Rattle.node_core.specs.Core.{CoreState, serves}
+use Rattle.node_core.specs.Step.{with_next_connection, next_name}
 use Rattle.node_moves.specs.Ends.{AtMostOne, IsGiven, Precedes, IsOrderly, IsEnd, open_named, stream_of, is_nothing}
 use Rattle.node_moves.specs.Ends.IsEnd.{not_yet, is_open, is_over}
 use Rattle.node_moves.proofs.NamesInOrder.{same_le, cases_name, not_both, last_given, given_later, not_named, next_precedes}

@@ -1,13 +1,13 @@
 -- The part of a call of a node that concerns others: a message that is received, bytes that come
 -- in, bytes that are handed over. And whether its log is cut.
 use Rattle.std.proofs.Common.{◌≡◌, false, if◌then◌else◌, ℕ, List}
-use Rattle.world_base.specs.ballot_base.Cutting.{can_cut}
-use Rattle.world_base.specs.ballot_base.declared.message.Message.{Message}
-use Rattle.world_base.specs.ballot_base.Protocol.Input.{Receives}
+use Rattle.node_core.specs.ballot_base.Cutting.{can_cut}
+use Rattle.node_core.specs.ballot_base.declared.message.Message.{Message}
+use Rattle.node_core.specs.ballot_base.Protocol.Input.{Receives}
 use Rattle.exactly_once.specs.broker_spec.declared.command.Command.{Command}
-use Rattle.world_base.specs.declared.Port.{Port}
-use Rattle.world_base.specs.declared.item.Item.TheVariants.{Peer, Bytes, Cut}
-use Rattle.world_base.specs.Core.{CoreState, StepOutcome}
+use Rattle.node_core.specs.declared.Port.{Port}
+use Rattle.node_core.specs.declared.item.Item.TheVariants.{Peer, Bytes, Cut}
+use Rattle.node_core.specs.Core.{CoreState, StepOutcome}
 use Rattle.node_moves.specs.Hearing.{HearsAtFirst, IsCalm}
 use Rattle.node_moves.specs.Keeping.{moves_replica}
 use Rattle.node_moves.specs.Moves.{NodeCall, Moves, Runs}

@@ -7,10 +7,10 @@ use Rattle.std.proofs.lemmas.List.Elements.{filter-append}
 use Rattle.exactly_once.specs.packet.declared.packet.Packet.{Packet}
 use Rattle.exactly_once.specs.broker_spec.declared.command.Command.{Command}
 use Rattle.exactly_once.specs.broker_spec.Connection.{ConnectionName}
-use Rattle.world_base.specs.ballot_base.declared.config.Config.{Config}
+use Rattle.node_core.specs.ballot_base.declared.config.Config.{Config}
 use Rattle.exactly_once.specs.lists.Lists.{IsPrefixOf}
 use Rattle.exactly_once.specs.StoryCommands.{is_packet_of, command_of}
-use Rattle.world_base.specs.Core.{CoreState, StepOutcome, opening_core}
+use Rattle.node_core.specs.Core.{CoreState, StepOutcome, opening_core}
 use Rattle.node_moves.specs.Moves.{Moves, Runs}
 use Rattle.node_moves.specs.Moves.Runs.{rests, goes_on}
 use Rattle.node_moves.specs.Ends.{Precedes, IsOrderly, IsEnd, move_proposal, came_on, packet_commands_from}

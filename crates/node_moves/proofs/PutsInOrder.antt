@@ -5,10 +5,10 @@ use Rattle.std.proofs.lemmas.List.{append-nil}
 use Rattle.exactly_once.specs.packet.declared.packet.Packet.{Packet}
 use Rattle.exactly_once.specs.packet_base.declared.refusal_code.RefusalCode.{RefusalCode}
 use Rattle.exactly_once.specs.packet.Spelling.{spelling}
-use Rattle.world_base.specs.ballot_base.declared.message.Effect.{Effect}
-use Rattle.world_base.specs.ballot_base.declared.message.Effect.TheVariants.{To, Out}
-use Rattle.world_base.specs.ballot_base.Sending.{Outcome}
-use Rattle.world_base.specs.ballot_base.Serving.{proposed}
+use Rattle.node_core.specs.ballot_base.declared.message.Effect.{Effect}
+use Rattle.node_core.specs.ballot_base.declared.message.Effect.TheVariants.{To, Out}
+use Rattle.node_core.specs.ballot_base.Sending.{Outcome}
+use Rattle.node_core.specs.ballot_base.Serving.{proposed}
 use Rattle.exactly_once.specs.broker_base.State.{State}
 use Rattle.exactly_once.specs.broker_spec.declared.command.Command.{Command}
 use Rattle.exactly_once.specs.broker_spec.declared.command.Output.{Output}
@@ -16,17 +16,17 @@ use Rattle.exactly_once.specs.broker_spec.declared.command.Output.TheVariants as
 use Rattle.exactly_once.specs.broker_spec.Connection.{ConnectionName, same_connection}
 use Rattle.exactly_once.proofs.of_broker_spec.ConnectionNames.{same_name, same_itself}
 use Rattle.exactly_once.specs.Sends.{sends_to}
-use Rattle.world_base.specs.declared.Port.{Port}
-use Rattle.world_base.specs.declared.Connection.{Connection}
-use Rattle.world_base.specs.ballot_base.Protocol.{Input}
-use Rattle.world_base.specs.ballot_base.Replica.{CountedReplica, ReplicaState}
-use Rattle.world_base.specs.Step.{settled, with_next_connection}
-use Rattle.world_base.specs.node_connections.Connections.{is_listed, is_at, is_open_at, is_open_named}
-use Rattle.world_base.specs.node_connections.ConnectionChanges.{noted_proposed, with_unread, left_with, max_pending, closed_connection, failing, with_queued, putting, changed_where}
-use Rattle.world_base.specs.Core.{CoreState, StepOutcome, rules, serves}
-use Rattle.world_base.specs.Failing.{closes_failed}
-use Rattle.world_base.specs.Reading.{changes, connect_refused}
-use Rattle.world_base.specs.Effects.{without_messages, after_replica_step, with_effect, proposes, changes_named, drives, outcome_of_input, has_room}
+use Rattle.node_core.specs.declared.Port.{Port}
+use Rattle.node_core.specs.declared.Connection.{Connection}
+use Rattle.node_core.specs.ballot_base.Protocol.{Input}
+use Rattle.node_core.specs.ballot_base.Replica.{CountedReplica, ReplicaState}
+use Rattle.node_core.specs.Step.{settled, with_next_connection}
+use Rattle.node_core.specs.node_connections.Connections.{is_listed, is_at, is_open_at, is_open_named}
+use Rattle.node_core.specs.node_connections.ConnectionChanges.{noted_proposed, with_unread, left_with, max_pending, closed_connection, failing, with_queued, putting, changed_where}
+use Rattle.node_core.specs.Core.{CoreState, StepOutcome, rules, serves}
+use Rattle.node_core.specs.Failing.{closes_failed}
+use Rattle.node_core.specs.Reading.{changes, connect_refused}
+use Rattle.node_core.specs.Effects.{without_messages, after_replica_step, with_effect, proposes, changes_named, drives, outcome_of_input, has_room}
 use Rattle.node_moves.specs.Ends.{AtMostOne, IsOrderly, open_named}
 use Rattle.node_moves.specs.Moves.{Moves}
 use Rattle.node_moves.specs.Moves.Moves.{hears, opens_one, holds, reads_first, reads_later, closes, refuses, loses_one, loses_next, expels_one, cuts_log, crashes, settles, hands}

@@ -10,17 +10,17 @@ use Rattle.exactly_once.specs.broker_spec.declared.command.Command.{Command}
 use Rattle.exactly_once.specs.broker_spec.declared.command.Command.TheVariants as commands
 use Rattle.exactly_once.specs.broker_spec.Connection.{ConnectionName}
 use Rattle.exactly_once.proofs.of_broker_spec.ConnectionNames.{same_name}
-use Rattle.world_base.specs.cutter.Pipe.{Joins, IsPiped}
+use Rattle.node_core.specs.cutter.Pipe.{Joins, IsPiped}
 use Rattle.exactly_once.specs.StoryCommands.{is_packet_of}
-use Rattle.world_base.specs.declared.Port.{Port}
-use Rattle.world_base.specs.declared.Connection.{Connection}
-use Rattle.world_base.specs.node_connections.Connections.{is_first, is_at, is_open_at}
-use Rattle.world_base.specs.node_connections.ConnectionChanges.{noted_proposed, with_unread, left_with, closed_connection, changed_where}
-use Rattle.world_base.specs.Core.{CoreState, StepOutcome}
-use Rattle.world_base.specs.Reading.{changes, open_at, connect_refused}
-use Rattle.world_base.specs.Failing.{closes_failed}
-use Rattle.world_base.specs.Step.{with_next_connection}
-use Rattle.world_base.specs.Effects.{without_messages, proposes, has_room}
+use Rattle.node_core.specs.declared.Port.{Port}
+use Rattle.node_core.specs.declared.Connection.{Connection}
+use Rattle.node_core.specs.node_connections.Connections.{is_first, is_at, is_open_at}
+use Rattle.node_core.specs.node_connections.ConnectionChanges.{noted_proposed, with_unread, left_with, closed_connection, changed_where}
+use Rattle.node_core.specs.Core.{CoreState, StepOutcome}
+use Rattle.node_core.specs.Reading.{changes, open_at, connect_refused}
+use Rattle.node_core.specs.Failing.{closes_failed}
+use Rattle.node_core.specs.Step.{with_next_connection}
+use Rattle.node_core.specs.Effects.{without_messages, proposes, has_room}
 use Rattle.node_moves.specs.Moves.{Moves}
 use Rattle.node_moves.specs.Moves.Moves.{hears, opens_one, holds, reads_first, reads_later, closes, refuses, loses_one, loses_next, expels_one, cuts_log, crashes, settles, hands}
 use Rattle.node_moves.specs.Ends.{Precedes, IsGiven, IsOrderly, IsEnd, open_named, move_proposal, came_on, piece_on, stream_of, is_nothing, packet_commands_from}

@@ -4,22 +4,22 @@ use Rattle.std.proofs.Common.{◌≡◌, ◌⊎◌, inl, inr, ℕ, Bool, true, f
 use Rattle.std.specs.Prelude.{nat_lt, nat_le, ◌&&◌, ◌==◌}
 use Rattle.std.specs.List.{list_any}
 use Rattle.std.proofs.lemmas.Bool.{cases_Bool}
-use Rattle.world_base.specs.ballot_base.Applying.{applied_to}
-use Rattle.world_base.specs.ballot_base.declared.message.Body.{Body}
-use Rattle.world_base.specs.ballot_base.declared.message.Body.TheVariants.{NewBallot, Join, State, Install, Installed, Activate, Activated, Superseded, Append, Held, Commit}
-use Rattle.world_base.specs.ballot_base.Logs.{Log, places}
-use Rattle.world_base.specs.ballot_base.Taking.{taken}
-use Rattle.world_base.specs.ballot_base.Changing.{answers_installed, installs_taken, lacks, waits_for, on_new_ballot, on_join, on_install, on_state}
-use Rattle.world_base.specs.ballot_base.Activating.{on_superseded, on_installed, on_activated}
-use Rattle.world_base.specs.machine.Machine.{Rules}
-use Rattle.world_base.specs.ballot_base.Protocol.{Input, received, ticked, replica_step}
-use Rattle.world_base.specs.ballot_base.Protocol.Input.{Receives, Proposes, Ticks}
-use Rattle.world_base.specs.ballot_base.Replica.{ReplicaState, is_active, is_installing, others, progress_at}
-use Rattle.world_base.specs.ballot_base.declared.status.Role.{Role}
-use Rattle.world_base.specs.ballot_base.declared.status.Role.TheVariants.{Backup, Fetching, Installing, Active}
-use Rattle.world_base.specs.ballot_base.Sending.{Outcome, message_to, nothing_done}
-use Rattle.world_base.specs.ballot_base.Serving.{commit, follows, leads, least, max_places, on_append, on_commit, on_held, on_tick_active, raised}
-use Rattle.world_base.proofs.of_ballot_base.ChangeRows.{on_activated-adds, on_activated-stays}
+use Rattle.node_core.specs.ballot_base.Applying.{applied_to}
+use Rattle.node_core.specs.ballot_base.declared.message.Body.{Body}
+use Rattle.node_core.specs.ballot_base.declared.message.Body.TheVariants.{NewBallot, Join, State, Install, Installed, Activate, Activated, Superseded, Append, Held, Commit}
+use Rattle.node_core.specs.ballot_base.Logs.{Log, places}
+use Rattle.node_core.specs.ballot_base.Taking.{taken}
+use Rattle.node_core.specs.ballot_base.Changing.{answers_installed, installs_taken, lacks, waits_for, on_new_ballot, on_join, on_install, on_state}
+use Rattle.node_core.specs.ballot_base.Activating.{on_superseded, on_installed, on_activated}
+use Rattle.node_core.specs.machine.Machine.{Rules}
+use Rattle.node_core.specs.ballot_base.Protocol.{Input, received, ticked, replica_step}
+use Rattle.node_core.specs.ballot_base.Protocol.Input.{Receives, Proposes, Ticks}
+use Rattle.node_core.specs.ballot_base.Replica.{ReplicaState, is_active, is_installing, others, progress_at}
+use Rattle.node_core.specs.ballot_base.declared.status.Role.{Role}
+use Rattle.node_core.specs.ballot_base.declared.status.Role.TheVariants.{Backup, Fetching, Installing, Active}
+use Rattle.node_core.specs.ballot_base.Sending.{Outcome, message_to, nothing_done}
+use Rattle.node_core.specs.ballot_base.Serving.{commit, follows, leads, least, max_places, on_append, on_commit, on_held, on_tick_active, raised}
+use Rattle.node_core.proofs.of_ballot_base.ChangeRows.{on_activated-adds, on_activated-stays}
 use Rattle.node_moves.proofs.ReplicaStays.{added_same, commit_same, proposed_same}
 
 -- it stays in its ballot, or does not lead

@@ -1,12 +1,12 @@
 -- What a proposal leaves of a replica: its role, its ballot, the base of its log, and whether it stopped.
 use Rattle.std.proofs.Common.{◌≡◌, ◌⊎◌, inl, inr, ℕ, ◌<◌, ◌≤◌, true, false, refl, sym, subst}
 use Rattle.std.proofs.lemmas.Bool.{cases_Bool, cases_lt}
-use Rattle.world_base.specs.machine.Machine.{Rules}
-use Rattle.world_base.specs.ballot_base.Logs.{places, pushed}
-use Rattle.world_base.specs.ballot_base.Replica.{ReplicaState, is_active}
-use Rattle.world_base.specs.ballot_base.Sending.{Outcome}
-use Rattle.world_base.specs.ballot_base.Serving.{added, commit_at, least, max_places, proposed}
-use Rattle.world_base.proofs.of_ballot_base.StepRows.{added-is, commit_at-goes, commit_at-stays, proposed-adds, proposed-full, proposed-not_active}
+use Rattle.node_core.specs.machine.Machine.{Rules}
+use Rattle.node_core.specs.ballot_base.Logs.{places, pushed}
+use Rattle.node_core.specs.ballot_base.Replica.{ReplicaState, is_active}
+use Rattle.node_core.specs.ballot_base.Sending.{Outcome}
+use Rattle.node_core.specs.ballot_base.Serving.{added, commit_at, least, max_places, proposed}
+use Rattle.node_core.proofs.of_ballot_base.StepRows.{added-is, commit_at-goes, commit_at-stays, proposed-adds, proposed-full, proposed-not_active}
 
 -- the role, the ballot, the base of the log, and whether it stopped stay
 pub record Same {S C : Type 0} (r s : ReplicaState S C) : Type 0 where

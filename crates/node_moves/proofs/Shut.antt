@@ -7,8 +7,8 @@ use Rattle.std.proofs.lemmas.Bool.{both_ways}
 use Rattle.exactly_once.specs.broker_spec.Connection.{ConnectionName}
 use Rattle.exactly_once.specs.lists.Lists.{IsPrefixOf}
 use Rattle.exactly_once.proofs.of_lists.Prefixes.{prefix_then}
-use Rattle.world_base.specs.declared.Connection.{Connection}
-use Rattle.world_base.specs.node_connections.ConnectionChanges.{closed_connection, changed_where, failing, max_pending, with_queued, putting}
+use Rattle.node_core.specs.declared.Connection.{Connection}
+use Rattle.node_core.specs.node_connections.ConnectionChanges.{closed_connection, changed_where, failing, max_pending, with_queued, putting}
 use Rattle.node_moves.specs.Ends.{AtMostOne}
 use Rattle.node_moves.proofs.Views.{view, found_each, found_passes, same_some, some_none, none_changes, view_of_others, view_of_changed}
 use Rattle.node_moves.proofs.Kept.{failing_over, live, named, named_kept}

@@ -6,20 +6,20 @@ use Rattle.exactly_once.specs.packet.declared.packet.Packet.TheVariants as packe
 use Rattle.exactly_once.specs.packet.declared.connack.Connack.TheVariants as connacks
 use Rattle.exactly_once.specs.packet_base.declared.refusal_code.RefusalCode.{RefusalCode}
 use Rattle.exactly_once.specs.packet.Spelling.{spelling}
-use Rattle.world_base.specs.ballot_base.declared.message.Effect.{Effect}
-use Rattle.world_base.specs.ballot_base.Replica.{CountedReplica}
-use Rattle.world_base.specs.ballot_base.Serving.{proposed}
+use Rattle.node_core.specs.ballot_base.declared.message.Effect.{Effect}
+use Rattle.node_core.specs.ballot_base.Replica.{CountedReplica}
+use Rattle.node_core.specs.ballot_base.Serving.{proposed}
 use Rattle.exactly_once.specs.broker_spec.declared.command.Command.{Command}
 use Rattle.exactly_once.specs.broker_base.State.{State}
 use Rattle.exactly_once.specs.broker_spec.declared.command.Output.{Output}
 use Rattle.exactly_once.specs.broker_spec.Connection.{ConnectionName, same_connection}
-use Rattle.world_base.specs.declared.Port.{Port}
-use Rattle.world_base.specs.declared.Connection.{Connection}
-use Rattle.world_base.specs.node_connections.Connections.{is_at, is_open_at}
-use Rattle.world_base.specs.node_connections.ConnectionChanges.{noted_proposed, with_unread, left_with}
-use Rattle.world_base.specs.Core.{CoreState, rules, serves}
-use Rattle.world_base.specs.Reading.{changes, open_at, connect_refused}
-use Rattle.world_base.specs.Effects.{has_room, proposes}
+use Rattle.node_core.specs.declared.Port.{Port}
+use Rattle.node_core.specs.declared.Connection.{Connection}
+use Rattle.node_core.specs.node_connections.Connections.{is_at, is_open_at}
+use Rattle.node_core.specs.node_connections.ConnectionChanges.{noted_proposed, with_unread, left_with}
+use Rattle.node_core.specs.Core.{CoreState, rules, serves}
+use Rattle.node_core.specs.Reading.{changes, open_at, connect_refused}
+use Rattle.node_core.specs.Effects.{has_room, proposes}
 use Rattle.node_moves.specs.Closed.{listed_named}
 use Rattle.node_moves.specs.Ends.{IsOrderly}
 use Rattle.node_moves.specs.Puts.{spelled}

@@ -4,12 +4,12 @@ use Rattle.std.specs.List.{find, fold}
 use Rattle.std.proofs.lemmas.List.{append-nil}
 use Rattle.exactly_once.specs.packet.declared.packet.Packet.{Packet}
 use Rattle.exactly_once.specs.packet.Spelling.{spelling}
-use Rattle.world_base.specs.ballot_base.declared.message.Effect.{Effect}
-use Rattle.world_base.specs.ballot_base.declared.message.Effect.TheVariants.{To, Out}
-use Rattle.world_base.specs.ballot_base.Protocol.{Input}
-use Rattle.world_base.specs.ballot_base.Replica.{ReplicaState}
-use Rattle.world_base.specs.ballot_base.Sending.{Outcome}
-use Rattle.world_base.specs.ballot_base.Serving.{proposed}
+use Rattle.node_core.specs.ballot_base.declared.message.Effect.{Effect}
+use Rattle.node_core.specs.ballot_base.declared.message.Effect.TheVariants.{To, Out}
+use Rattle.node_core.specs.ballot_base.Protocol.{Input}
+use Rattle.node_core.specs.ballot_base.Replica.{ReplicaState}
+use Rattle.node_core.specs.ballot_base.Sending.{Outcome}
+use Rattle.node_core.specs.ballot_base.Serving.{proposed}
 use Rattle.exactly_once.specs.broker_base.State.{State}
 use Rattle.exactly_once.specs.broker_spec.declared.command.Command.{Command}
 use Rattle.exactly_once.specs.broker_spec.declared.command.Output.{Output}
@@ -17,11 +17,11 @@ use Rattle.exactly_once.specs.broker_spec.declared.command.Output.TheVariants as
 use Rattle.exactly_once.specs.broker_spec.Connection.{ConnectionName, same_connection}
 use Rattle.exactly_once.proofs.of_broker_spec.ConnectionNames.{same_name, same_itself}
 use Rattle.exactly_once.specs.Sends.{sends_to}
-use Rattle.world_base.specs.declared.Connection.{Connection}
-use Rattle.world_base.specs.node_connections.Connections.{is_open_named}
-use Rattle.world_base.specs.node_connections.ConnectionChanges.{closed_connection, with_queued, changed_where}
-use Rattle.world_base.specs.Core.{CoreState, StepOutcome, rules, serves}
-use Rattle.world_base.specs.Effects.{without_messages, after_replica_step, with_effect, proposes, changes_named, drives, outcome_of_input}
+use Rattle.node_core.specs.declared.Connection.{Connection}
+use Rattle.node_core.specs.node_connections.Connections.{is_open_named}
+use Rattle.node_core.specs.node_connections.ConnectionChanges.{closed_connection, with_queued, changed_where}
+use Rattle.node_core.specs.Core.{CoreState, StepOutcome, rules, serves}
+use Rattle.node_core.specs.Effects.{without_messages, after_replica_step, with_effect, proposes, changes_named, drives, outcome_of_input}
 use Rattle.node_moves.specs.Closed.{listed_named}
 use Rattle.node_moves.specs.Ends.{AtMostOne, IsOrderly}
 use Rattle.node_moves.specs.Puts.{outputs_of, spelled}

@@ -2,19 +2,19 @@
 use Rattle.std.proofs.Common.{◌≡◌, ◌⊎◌, inl, inr, ◌≤◌, ◌<◌, ◌+◌, ◌*◌, ℕ, Bool, true, false, ◌&&◌, nat_lt, if◌then◌else◌, length, List, [], ◌∷◌, Option, Some, None, refl, ap, arith}
 use Rattle.std.specs.List.{find, fold}
 use Rattle.std.proofs.lemmas.Bool.{eq-eqb, and_from, not-true}
-use Rattle.world_base.specs.ballot_base.Protocol.Input.{Ticks}
+use Rattle.node_core.specs.ballot_base.Protocol.Input.{Ticks}
 use Rattle.exactly_once.specs.broker_spec.declared.command.Command.TheVariants as commands
 use Rattle.exactly_once.specs.lists.Lists.{Each}
-use Rattle.world_base.specs.declared.Port.{Port}
-use Rattle.world_base.specs.declared.item.Item.TheVariants.{Tick}
-use Rattle.world_base.specs.declared.Connection.{Connection}
-use Rattle.world_base.specs.node_connections.Connections.{is_closed, is_proposed, is_silent, is_at, is_open_at}
-use Rattle.world_base.specs.node_connections.ConnectionChanges.{closed_connection, failing}
-use Rattle.world_base.specs.Core.{CoreState, StepOutcome}
-use Rattle.world_base.specs.KeepAlive.{lower, lower_silent, lowest_silent, ends_if, ends_silent}
-use Rattle.world_base.specs.Reading.{changes, port_closed, loses, loses_open, open_at}
-use Rattle.world_base.specs.Step.{acts_on, does_item}
-use Rattle.world_base.specs.Effects.{without_messages, drives, proposes}
+use Rattle.node_core.specs.declared.Port.{Port}
+use Rattle.node_core.specs.declared.item.Item.TheVariants.{Tick}
+use Rattle.node_core.specs.declared.Connection.{Connection}
+use Rattle.node_core.specs.node_connections.Connections.{is_closed, is_proposed, is_silent, is_at, is_open_at}
+use Rattle.node_core.specs.node_connections.ConnectionChanges.{closed_connection, failing}
+use Rattle.node_core.specs.Core.{CoreState, StepOutcome}
+use Rattle.node_core.specs.KeepAlive.{lower, lower_silent, lowest_silent, ends_if, ends_silent}
+use Rattle.node_core.specs.Reading.{changes, port_closed, loses, loses_open, open_at}
+use Rattle.node_core.specs.Step.{acts_on, does_item}
+use Rattle.node_core.specs.Effects.{without_messages, drives, proposes}
 use Rattle.node_moves.specs.Settled.{NoneIsSilent}
 use Rattle.node_moves.proofs.EachKept.{IsKept, each_repeated, each_settled}
 use Rattle.node_moves.proofs.Kept.{live, left_true, failing_over}

@@ -9,24 +9,24 @@ use Rattle.exactly_once.specs.packet.declared.packet.Packet.TheVariants as packe
 use Rattle.exactly_once.specs.packet.declared.connect.Connect.{Connect}
 use Rattle.exactly_once.specs.packet_base.declared.refusal_code.RefusalCode.{RefusalCode}
 use Rattle.exactly_once.specs.packet.Verdict.{verdict}
-use Rattle.world_base.specs.ballot_base.declared.message.Effect.{Effect}
-use Rattle.world_base.specs.ballot_base.Protocol.Input.{Receives, Ticks}
+use Rattle.node_core.specs.ballot_base.declared.message.Effect.{Effect}
+use Rattle.node_core.specs.ballot_base.Protocol.Input.{Receives, Ticks}
 use Rattle.exactly_once.specs.broker_spec.declared.command.Command.{Command}
 use Rattle.exactly_once.specs.broker_spec.declared.command.Command.TheVariants as commands
 use Rattle.exactly_once.specs.broker_spec.declared.command.Output.{Output}
-use Rattle.world_base.specs.declared.Port.{Port}
-use Rattle.world_base.specs.declared.item.Item.{Item}
-use Rattle.world_base.specs.declared.item.Item.TheVariants.{Peer, Tick, Opened, Bytes, Ended, Expel, Cut, Crash}
-use Rattle.world_base.specs.declared.Connection.{Connection}
-use Rattle.world_base.specs.node_connections.Connections.{is_closed, is_first, is_proposed, has_failed, is_at, is_open_at}
-use Rattle.world_base.specs.node_connections.ConnectionChanges.{noted_proposed, with_unread, left_with, closed_connection, changed_where}
-use Rattle.world_base.specs.Core.{CoreState, StepOutcome}
-use Rattle.world_base.specs.Reading.{changes, open_at, loses, loses_open, port_closed, connect_proposed, proposes_packet, takes_first_packet, reads, reads_of, reads_next, connect_refused, unread_of}
-use Rattle.world_base.specs.ballot_base.Cutting.{can_cut}
-use Rattle.world_base.specs.Step.{node_step, acts_on, cuts, settled, does_item, with_cut}
-use Rattle.world_base.specs.Failing.{loses_failed, loses_if}
-use Rattle.world_base.specs.KeepAlive.{ends_if, ends_silent, lowest_silent}
-use Rattle.world_base.specs.Effects.{without_messages, proposes, drives, has_room, repeated}
+use Rattle.node_core.specs.declared.Port.{Port}
+use Rattle.node_core.specs.declared.item.Item.{Item}
+use Rattle.node_core.specs.declared.item.Item.TheVariants.{Peer, Tick, Opened, Bytes, Ended, Expel, Cut, Crash}
+use Rattle.node_core.specs.declared.Connection.{Connection}
+use Rattle.node_core.specs.node_connections.Connections.{is_closed, is_first, is_proposed, has_failed, is_at, is_open_at}
+use Rattle.node_core.specs.node_connections.ConnectionChanges.{noted_proposed, with_unread, left_with, closed_connection, changed_where}
+use Rattle.node_core.specs.Core.{CoreState, StepOutcome}
+use Rattle.node_core.specs.Reading.{changes, open_at, loses, loses_open, port_closed, connect_proposed, proposes_packet, takes_first_packet, reads, reads_of, reads_next, connect_refused, unread_of}
+use Rattle.node_core.specs.ballot_base.Cutting.{can_cut}
+use Rattle.node_core.specs.Step.{node_step, acts_on, cuts, settled, does_item, with_cut}
+use Rattle.node_core.specs.Failing.{loses_failed, loses_if}
+use Rattle.node_core.specs.KeepAlive.{ends_if, ends_silent, lowest_silent}
+use Rattle.node_core.specs.Effects.{without_messages, proposes, drives, has_room, repeated}
 use Rattle.node_moves.specs.Hearing.{NodeCallsHearAtFirst}
 use Rattle.node_moves.specs.Moves.{Moves, Runs, NodeCall, and_then, done, NodeCallsAreMoves}
 use Rattle.node_moves.specs.Moves.NodeCall.{takes, gives}

@@ -2,24 +2,24 @@
 use Rattle.std.proofs.Common.{◌≡◌, Bool, true, false, ◌&&◌, nat_lt, List, [], ◌∷◌, refl, ap, ◌∙◌}
 use Rattle.std.specs.List.{fold}
 use Rattle.exactly_once.specs.packet.Spelling.{spelling}
-use Rattle.world_base.specs.ballot_base.declared.message.Effect.{Effect}
-use Rattle.world_base.specs.ballot_base.declared.message.Effect.TheVariants.{To, Out}
-use Rattle.world_base.specs.ballot_base.Logs.{places, pushed}
-use Rattle.world_base.specs.ballot_base.Replica.{CountedReplica, ReplicaState, is_active}
-use Rattle.world_base.specs.ballot_base.Sending.{Outcome}
-use Rattle.world_base.specs.ballot_base.Serving.{max_places, proposed}
-use Rattle.world_base.proofs.of_ballot_base.StepRows.{added-log}
+use Rattle.node_core.specs.ballot_base.declared.message.Effect.{Effect}
+use Rattle.node_core.specs.ballot_base.declared.message.Effect.TheVariants.{To, Out}
+use Rattle.node_core.specs.ballot_base.Logs.{places, pushed}
+use Rattle.node_core.specs.ballot_base.Replica.{CountedReplica, ReplicaState, is_active}
+use Rattle.node_core.specs.ballot_base.Sending.{Outcome}
+use Rattle.node_core.specs.ballot_base.Serving.{max_places, proposed}
+use Rattle.node_core.proofs.of_ballot_base.StepRows.{added-log}
 use Rattle.exactly_once.specs.broker_base.State.{State}
 use Rattle.exactly_once.specs.broker_spec.declared.command.Command.{Command}
 use Rattle.exactly_once.specs.broker_spec.declared.command.Output.{Output}
 use Rattle.exactly_once.specs.broker_spec.declared.command.Output.TheVariants as outputs
 use Rattle.exactly_once.specs.broker_spec.Connection.{ConnectionName}
-use Rattle.world_base.specs.declared.Port.{Port}
-use Rattle.world_base.specs.declared.Connection.{Connection}
-use Rattle.world_base.specs.node_connections.ConnectionChanges.{noted_proposed, left_with, closed_connection, with_queued}
-use Rattle.world_base.specs.Core.{CoreState, rules, serves}
-use Rattle.world_base.specs.Reading.{changes}
-use Rattle.world_base.specs.Effects.{after_replica_step, with_effect, proposes, has_room, changes_named}
+use Rattle.node_core.specs.declared.Port.{Port}
+use Rattle.node_core.specs.declared.Connection.{Connection}
+use Rattle.node_core.specs.node_connections.ConnectionChanges.{noted_proposed, left_with, closed_connection, with_queued}
+use Rattle.node_core.specs.Core.{CoreState, rules, serves}
+use Rattle.node_core.specs.Reading.{changes}
+use Rattle.node_core.specs.Effects.{after_replica_step, with_effect, proposes, has_room, changes_named}
 use Rattle.node_moves.specs.Moves.Moves.{hears, opens_one, holds, reads_first, reads_later, closes, refuses, loses_one, loses_next, expels_one, cuts_log, crashes, settles, hands}
 use Rattle.node_moves.specs.RunProposals.{ReadsAreTaken}
 use Rattle.node_moves.proofs.Kept.{left_true}

@@ -2,20 +2,20 @@
 use Rattle.std.proofs.Common.{◌≡◌, ◌⊎◌, inl, inr, ◌≤◌, ◌<◌, ◌+◌, ℕ, zero, suc, Bool, true, false, nat_le, if◌then◌else◌, length, List, [], ◌∷◌, Some, sym, subst, arith}
 use Rattle.std.specs.List.{find, fold}
 use Rattle.exactly_once.specs.packet.Spelling.{spelling}
-use Rattle.world_base.specs.ballot_base.declared.message.Effect.{Effect}
-use Rattle.world_base.specs.ballot_base.declared.message.Effect.TheVariants.{To, Out}
-use Rattle.world_base.specs.ballot_base.Sending.{Outcome}
-use Rattle.world_base.specs.ballot_base.Serving.{proposed}
+use Rattle.node_core.specs.ballot_base.declared.message.Effect.{Effect}
+use Rattle.node_core.specs.ballot_base.declared.message.Effect.TheVariants.{To, Out}
+use Rattle.node_core.specs.ballot_base.Sending.{Outcome}
+use Rattle.node_core.specs.ballot_base.Serving.{proposed}
 use Rattle.exactly_once.specs.broker_base.State.{State}
 use Rattle.exactly_once.specs.broker_spec.declared.command.Command.{Command}
 use Rattle.exactly_once.specs.broker_spec.declared.command.Output.{Output}
 use Rattle.exactly_once.specs.broker_spec.declared.command.Output.TheVariants as outputs
 use Rattle.exactly_once.specs.broker_spec.Connection.{ConnectionName}
-use Rattle.world_base.specs.declared.Connection.{Connection}
-use Rattle.world_base.specs.node_connections.Connections.{is_open_named}
-use Rattle.world_base.specs.node_connections.ConnectionChanges.{max_pending, closed_connection, failing, putting, with_queued, changed_where}
-use Rattle.world_base.specs.Core.{CoreState, StepOutcome, rules, serves}
-use Rattle.world_base.specs.Effects.{without_messages, repeated, with_effect, after_replica_step, proposes, changes_named}
+use Rattle.node_core.specs.declared.Connection.{Connection}
+use Rattle.node_core.specs.node_connections.Connections.{is_open_named}
+use Rattle.node_core.specs.node_connections.ConnectionChanges.{max_pending, closed_connection, failing, putting, with_queued, changed_where}
+use Rattle.node_core.specs.Core.{CoreState, StepOutcome, rules, serves}
+use Rattle.node_core.specs.Effects.{without_messages, repeated, with_effect, after_replica_step, proposes, changes_named}
 use Rattle.node_moves.proofs.NamesInOrder.{same_le}
 use Rattle.node_moves.proofs.Views.{same_some}
 

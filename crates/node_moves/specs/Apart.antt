@@ -1,16 +1,16 @@
 -- Names when memory may run out: no two connections of a node have the same name, and no name comes
 -- twice.
 use Rattle.std.specs.Prelude.{◌≡◌, ℕ, List, None}
-use Rattle.world_base.specs.ballot_base.declared.config.Config.{Config}
-use Rattle.world_base.specs.ballot_base.declared.message.Effect.{Effect}
+use Rattle.node_core.specs.ballot_base.declared.config.Config.{Config}
+use Rattle.node_core.specs.ballot_base.declared.message.Effect.{Effect}
 use Rattle.exactly_once.specs.broker_spec.declared.command.Command.{Command}
 use Rattle.exactly_once.specs.broker_spec.Connection.{ConnectionName}
 use Rattle.exactly_once.specs.broker_spec.declared.command.Output.{Output}
-use Rattle.world_base.specs.declared.item.Item.{Item}
-use Rattle.world_base.specs.declared.Port.{Port}
-use Rattle.world_base.specs.Core.{CoreState, opening_core}
-use Rattle.world_base.specs.Handing.{hands_over}
-use Rattle.world_base.specs.LossyStep.{RunsOn}
+use Rattle.node_core.specs.declared.item.Item.{Item}
+use Rattle.node_core.specs.declared.Port.{Port}
+use Rattle.node_core.specs.Core.{CoreState, opening_core}
+use Rattle.node_core.specs.Handing.{hands_over}
+use Rattle.node_core.specs.LossyStep.{RunsOn}
 use Rattle.node_moves.specs.Closed.{listed_named}
 use Rattle.node_moves.specs.Ends.{IsGiven, IsOrderly}
 

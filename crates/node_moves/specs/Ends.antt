@@ -6,13 +6,13 @@ use Rattle.exactly_once.specs.broker_spec.Connection.{ConnectionName, same_conne
 use Rattle.exactly_once.specs.broker_spec.declared.command.Command.{Command}
 use Rattle.exactly_once.specs.broker_spec.declared.command.Command.TheVariants as commands
 use Rattle.exactly_once.specs.lists.Lists.{Each, IsPrefixOf}
-use Rattle.world_base.specs.cutter.Stream.{Stream}
-use Rattle.world_base.specs.cutter.Pipe.{IsPiped}
+use Rattle.node_core.specs.cutter.Stream.{Stream}
+use Rattle.node_core.specs.cutter.Pipe.{IsPiped}
 use Rattle.exactly_once.specs.StoryCommands.{command_of}
-use Rattle.world_base.specs.declared.Connection.{Connection}
-use Rattle.world_base.specs.node_connections.Connections.{is_first, is_open_named}
-use Rattle.world_base.specs.Core.{CoreState, StepOutcome}
-use Rattle.world_base.specs.Reading.{open_at}
+use Rattle.node_core.specs.declared.Connection.{Connection}
+use Rattle.node_core.specs.node_connections.Connections.{is_first, is_open_named}
+use Rattle.node_core.specs.Core.{CoreState, StepOutcome}
+use Rattle.node_core.specs.Reading.{open_at}
 use Rattle.node_moves.specs.Moves.Moves.{hears, opens_one, holds, reads_first, reads_later, closes, refuses, loses_one, loses_next, expels_one, cuts_log, crashes, settles, hands}
 use Rattle.node_moves.specs.Moves.{Moves}
 

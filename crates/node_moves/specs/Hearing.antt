@@ -1,6 +1,6 @@
 -- What a replica receives in a call of its node comes before everything else.
 use Rattle.std.specs.Prelude.{◌≡◌, false}
-use Rattle.world_base.specs.Core.{CoreState, StepOutcome}
+use Rattle.node_core.specs.Core.{CoreState, StepOutcome}
 use Rattle.node_moves.specs.Keeping.{moves_replica}
 use Rattle.node_moves.specs.Moves.{NodeCall, Runs, done}
 use Rattle.node_moves.specs.Moves.Runs.{rests, goes_on}

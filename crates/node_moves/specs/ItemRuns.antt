@@ -1,16 +1,16 @@
 -- The moves of a node on one item.
 use Rattle.std.specs.Prelude.{◌≡◌, ℕ, Bool, true, false, List, [], ◌∷◌}
-use Rattle.world_base.specs.ballot_base.declared.message.Effect.{Effect}
-use Rattle.world_base.specs.ballot_base.Protocol.{Input}
-use Rattle.world_base.specs.ballot_base.Protocol.Input.{Receives, Ticks}
+use Rattle.node_core.specs.ballot_base.declared.message.Effect.{Effect}
+use Rattle.node_core.specs.ballot_base.Protocol.{Input}
+use Rattle.node_core.specs.ballot_base.Protocol.Input.{Receives, Ticks}
 use Rattle.exactly_once.specs.broker_spec.declared.command.Command.{Command}
 use Rattle.exactly_once.specs.broker_spec.Connection.{ConnectionName}
 use Rattle.exactly_once.specs.broker_spec.declared.command.Output.{Output}
-use Rattle.world_base.specs.declared.item.Item.{Item}
-use Rattle.world_base.specs.declared.item.Item.TheVariants.{Peer, Tick, Bytes, Cut}
-use Rattle.world_base.specs.Core.{CoreState, StepOutcome}
-use Rattle.world_base.specs.LossyStep.{RunsOn}
-use Rattle.world_base.specs.Reading.{open_at}
+use Rattle.node_core.specs.declared.item.Item.{Item}
+use Rattle.node_core.specs.declared.item.Item.TheVariants.{Peer, Tick, Bytes, Cut}
+use Rattle.node_core.specs.Core.{CoreState, StepOutcome}
+use Rattle.node_core.specs.LossyStep.{RunsOn}
+use Rattle.node_core.specs.Reading.{open_at}
 use Rattle.node_moves.specs.Ends.{piece_on}
 use Rattle.node_moves.specs.LossyRuns.{LossyRuns, HearsAtFirst, bytes_on, all_inputs, HandsNothing, CutsNothing, AllFreeze}
 

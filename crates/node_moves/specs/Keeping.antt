@@ -1,16 +1,16 @@
 -- Which ballot the names of a node's open connections have.
 use Rattle.std.specs.Prelude.{◌≡◌, ℕ, Bool, true, false, Some}
-use Rattle.world_base.specs.ballot_base.declared.config.Config.{Config}
-use Rattle.world_base.specs.ballot_base.Protocol.{Input}
+use Rattle.node_core.specs.ballot_base.declared.config.Config.{Config}
+use Rattle.node_core.specs.ballot_base.Protocol.{Input}
 use Rattle.exactly_once.specs.broker_spec.declared.command.Command.{Command}
 use Rattle.exactly_once.specs.broker_spec.Connection.{ConnectionName}
 use Rattle.exactly_once.specs.lists.Lists.{In}
 use Rattle.exactly_once.specs.StoryCommands.{is_packet_of}
-use Rattle.world_base.specs.declared.Connection.{Connection}
-use Rattle.world_base.specs.node_connections.Connections.{is_closed}
-use Rattle.world_base.specs.Core.{CoreState, StepOutcome, opening_core, serves}
-use Rattle.world_base.specs.Step.{crashed, settled, with_cut}
-use Rattle.world_base.specs.Effects.{drives}
+use Rattle.node_core.specs.declared.Connection.{Connection}
+use Rattle.node_core.specs.node_connections.Connections.{is_closed}
+use Rattle.node_core.specs.Core.{CoreState, StepOutcome, opening_core, serves}
+use Rattle.node_core.specs.Step.{crashed, settled, with_cut}
+use Rattle.node_core.specs.Effects.{drives}
 use Rattle.node_moves.specs.Closed.{listed_named}
 use Rattle.node_moves.specs.Ends.{IsOrderly, move_proposal}
 use Rattle.node_moves.specs.Moves.{Moves}

@@ -15,8 +15,8 @@ pub mod LossyRuns
 pub mod ItemRuns
 pub mod LossyLaws
 pub mod LossyNames
-pub use Rattle.world_base.specs.cutter as cutter
-pub use Rattle.world_base.specs as world_base
-pub use Rattle.world_base.specs.node_connections as node_connections
-pub use Rattle.world_base.specs.ballot_base as ballot_base
-pub use Rattle.world_base.specs.machine as machine
+pub use Rattle.node_core.specs.cutter as cutter
+pub use Rattle.node_core.specs as node_core
+pub use Rattle.node_core.specs.node_connections as node_connections
+pub use Rattle.node_core.specs.ballot_base as ballot_base
+pub use Rattle.node_core.specs.machine as machine

@@ -2,15 +2,15 @@
 -- that it may be closed.
 use Rattle.std.specs.Prelude.{◌≡◌, ◌<◌, ℕ, true, false, List, ◌++◌, length, filter, Some}
 use Rattle.exactly_once.specs.packet.declared.packet.Packet.{Packet}
-use Rattle.world_base.specs.ballot_base.declared.config.Config.{Config}
+use Rattle.node_core.specs.ballot_base.declared.config.Config.{Config}
 use Rattle.exactly_once.specs.broker_spec.Connection.{ConnectionName}
 use Rattle.exactly_once.specs.lists.Lists.{IsPrefixOf}
-use Rattle.world_base.specs.cutter.Pipe.{Joins}
+use Rattle.node_core.specs.cutter.Pipe.{Joins}
 use Rattle.exactly_once.specs.Sends.{sends_to}
 use Rattle.exactly_once.specs.StoryCommands.{is_packet_of}
-use Rattle.world_base.specs.declared.Connection.{Connection}
-use Rattle.world_base.specs.node_connections.Connections.{is_closed}
-use Rattle.world_base.specs.Core.{CoreState, StepOutcome, opening_core}
+use Rattle.node_core.specs.declared.Connection.{Connection}
+use Rattle.node_core.specs.node_connections.Connections.{is_closed}
+use Rattle.node_core.specs.Core.{CoreState, StepOutcome, opening_core}
 use Rattle.node_moves.specs.Closed.{listed_named}
 use Rattle.node_moves.specs.Ends.{IsEnd, IsOrderly, packet_commands_from, open_named}
 use Rattle.node_moves.specs.RunProposals.{Proposes}

@@ -5,20 +5,20 @@ use Rattle.exactly_once.specs.packet.declared.packet.Packet.{Packet}
 use Rattle.exactly_once.specs.packet.declared.packet.Packet.TheVariants as packets
 use Rattle.exactly_once.specs.packet.declared.connect.Connect.{Connect}
 use Rattle.exactly_once.specs.packet.Verdict.{verdict}
-use Rattle.world_base.specs.ballot_base.Losses.{halted, one_more}
-use Rattle.world_base.specs.ballot_base.Protocol.{Input}
+use Rattle.node_core.specs.ballot_base.Losses.{halted, one_more}
+use Rattle.node_core.specs.ballot_base.Protocol.{Input}
 use Rattle.exactly_once.specs.broker_spec.declared.command.Command.{Command}
 use Rattle.exactly_once.specs.broker_spec.declared.command.Command.TheVariants as commands
 use Rattle.exactly_once.specs.broker_spec.Connection.{ConnectionName}
-use Rattle.world_base.specs.declared.Port.{Port}
-use Rattle.world_base.specs.declared.Connection.{Connection}
-use Rattle.world_base.specs.node_connections.Connections.{is_first}
-use Rattle.world_base.specs.node_connections.ConnectionChanges.{noted_proposed, closed_connection, failing, left_with}
-use Rattle.world_base.specs.Core.{CoreState, StepOutcome, rules}
-use Rattle.world_base.specs.Failing.{closes_failed}
-use Rattle.world_base.specs.Lossy.{Account, Drives, TakesCommand}
-use Rattle.world_base.specs.Reading.{changes, open_at}
-use Rattle.world_base.specs.Effects.{without_messages}
+use Rattle.node_core.specs.declared.Port.{Port}
+use Rattle.node_core.specs.declared.Connection.{Connection}
+use Rattle.node_core.specs.node_connections.Connections.{is_first}
+use Rattle.node_core.specs.node_connections.ConnectionChanges.{noted_proposed, closed_connection, failing, left_with}
+use Rattle.node_core.specs.Core.{CoreState, StepOutcome, rules}
+use Rattle.node_core.specs.Failing.{closes_failed}
+use Rattle.node_core.specs.Lossy.{Account, Drives, TakesCommand}
+use Rattle.node_core.specs.Reading.{changes, open_at}
+use Rattle.node_core.specs.Effects.{without_messages}
 use Rattle.node_moves.specs.Moves.{Moves, is_proposal}
 
 -- ---- one move

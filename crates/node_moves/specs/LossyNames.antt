@@ -4,8 +4,8 @@ use Rattle.exactly_once.specs.broker_spec.declared.command.Command.{Command}
 use Rattle.exactly_once.specs.broker_spec.Connection.{ConnectionName}
 use Rattle.exactly_once.specs.lists.Lists.{In}
 use Rattle.exactly_once.specs.StoryCommands.{is_packet_of}
-use Rattle.world_base.specs.declared.Connection.{Connection}
-use Rattle.world_base.specs.Core.{CoreState, StepOutcome, serves}
+use Rattle.node_core.specs.declared.Connection.{Connection}
+use Rattle.node_core.specs.Core.{CoreState, StepOutcome, serves}
 use Rattle.node_moves.specs.Closed.{listed_named}
 use Rattle.node_moves.specs.Ends.{IsOrderly}
 use Rattle.node_moves.specs.Keeping.{AreOfTheBallot}

@@ -1,10 +1,10 @@
 -- What a node may do in a step when memory may run out: a run of moves, one after another.
 use Rattle.std.specs.Prelude.{◌≡◌, ℕ, Bool, true, false, List, [], ◌++◌, Some}
-use Rattle.world_base.specs.ballot_base.Protocol.{Input}
+use Rattle.node_core.specs.ballot_base.Protocol.{Input}
 use Rattle.exactly_once.specs.broker_spec.declared.command.Command.{Command}
 use Rattle.exactly_once.specs.broker_spec.Connection.{ConnectionName}
-use Rattle.world_base.specs.Core.{CoreState, StepOutcome, rules}
-use Rattle.world_base.specs.Effects.{without_messages}
+use Rattle.node_core.specs.Core.{CoreState, StepOutcome, rules}
+use Rattle.node_core.specs.Effects.{without_messages}
 use Rattle.node_moves.specs.LossyMoves.{LossyMoves}
 use Rattle.node_moves.specs.LossyParts.{came_on, hears_in, inputs_in, is_handing, move_proposal}
 use Rattle.node_moves.specs.LossyMoves.LossyMoves.{exactly}

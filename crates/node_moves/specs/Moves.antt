@@ -7,22 +7,22 @@ use Rattle.exactly_once.specs.packet.declared.packet.Packet.{Packet}
 use Rattle.exactly_once.specs.packet.declared.packet.Packet.TheVariants as packets
 use Rattle.exactly_once.specs.packet.declared.connect.Connect.{Connect}
 use Rattle.exactly_once.specs.packet.Verdict.{verdict}
-use Rattle.world_base.specs.ballot_base.Cutting.{can_cut}
-use Rattle.world_base.specs.ballot_base.Protocol.{Input}
-use Rattle.world_base.specs.ballot_base.Protocol.Input.{Receives, Proposes, Ticks}
+use Rattle.node_core.specs.ballot_base.Cutting.{can_cut}
+use Rattle.node_core.specs.ballot_base.Protocol.{Input}
+use Rattle.node_core.specs.ballot_base.Protocol.Input.{Receives, Proposes, Ticks}
 use Rattle.exactly_once.specs.broker_spec.declared.command.Command.{Command}
 use Rattle.exactly_once.specs.broker_spec.declared.command.Command.TheVariants as commands
-use Rattle.world_base.specs.declared.Port.{Port}
-use Rattle.world_base.specs.declared.item.Item.{Item}
-use Rattle.world_base.specs.declared.Connection.{Connection}
-use Rattle.world_base.specs.node_connections.Connections.{has_failed, is_first, is_proposed}
-use Rattle.world_base.specs.node_connections.ConnectionChanges.{noted_proposed, with_unread, left_with, closed_connection}
-use Rattle.world_base.specs.Core.{CoreState, StepOutcome}
-use Rattle.world_base.specs.Failing.{closes_failed}
-use Rattle.world_base.specs.Handing.{hands_over}
-use Rattle.world_base.specs.Reading.{changes, open_at, connect_refused}
-use Rattle.world_base.specs.Step.{node_step, with_next_connection, settled, crashed, with_cut}
-use Rattle.world_base.specs.Effects.{without_messages, proposes, drives, has_room}
+use Rattle.node_core.specs.declared.Port.{Port}
+use Rattle.node_core.specs.declared.item.Item.{Item}
+use Rattle.node_core.specs.declared.Connection.{Connection}
+use Rattle.node_core.specs.node_connections.Connections.{has_failed, is_first, is_proposed}
+use Rattle.node_core.specs.node_connections.ConnectionChanges.{noted_proposed, with_unread, left_with, closed_connection}
+use Rattle.node_core.specs.Core.{CoreState, StepOutcome}
+use Rattle.node_core.specs.Failing.{closes_failed}
+use Rattle.node_core.specs.Handing.{hands_over}
+use Rattle.node_core.specs.Reading.{changes, open_at, connect_refused}
+use Rattle.node_core.specs.Step.{node_step, with_next_connection, settled, crashed, with_cut}
+use Rattle.node_core.specs.Effects.{without_messages, proposes, drives, has_room}
 
 -- whether an input of a replica is a proposal
 abbrev pub is_proposal : Input Command → Bool

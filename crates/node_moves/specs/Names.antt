@@ -1,9 +1,9 @@
 -- Which name a connection gets that a node opens.
 use Rattle.std.specs.Prelude.{◌≡◌, ◌+◌, true, Some, None}
 use Rattle.exactly_once.specs.broker_spec.Connection.{ConnectionName}
-use Rattle.world_base.specs.declared.Connection.{Connection}
-use Rattle.world_base.specs.Core.{CoreState, StepOutcome, serves}
-use Rattle.world_base.specs.Step.{accepted}
+use Rattle.node_core.specs.declared.Connection.{Connection}
+use Rattle.node_core.specs.Core.{CoreState, StepOutcome, serves}
+use Rattle.node_core.specs.Step.{accepted}
 use Rattle.node_moves.specs.Closed.{listed_named}
 use Rattle.node_moves.specs.Ends.{IsOrderly}
 use Rattle.node_moves.specs.Moves.{Moves}

@@ -4,11 +4,11 @@ use Rattle.std.specs.Prelude.{◌≡◌, ◌<◌, ℕ, Bool, true, false, List, 
 use Rattle.exactly_once.specs.packet.declared.packet.Packet.{Packet}
 use Rattle.exactly_once.specs.broker_spec.Connection.{ConnectionName}
 use Rattle.exactly_once.specs.broker_spec.declared.command.Command.{Command}
-use Rattle.world_base.specs.ballot_base.declared.config.Config.{Config}
+use Rattle.node_core.specs.ballot_base.declared.config.Config.{Config}
 use Rattle.exactly_once.specs.lists.Lists.{IsPrefixOf}
-use Rattle.world_base.specs.cutter.Pipe.{Joins}
+use Rattle.node_core.specs.cutter.Pipe.{Joins}
 use Rattle.exactly_once.specs.StoryCommands.{is_packet_of}
-use Rattle.world_base.specs.Core.{CoreState, StepOutcome, opening_core}
+use Rattle.node_core.specs.Core.{CoreState, StepOutcome, opening_core}
 use Rattle.node_moves.specs.Moves.Moves.{reads_first, reads_later}
 use Rattle.node_moves.specs.Moves.{Moves, Runs}
 use Rattle.node_moves.specs.Moves.Runs.{rests, goes_on}

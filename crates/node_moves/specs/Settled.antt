@@ -1,12 +1,12 @@
 -- What does not remain after a step of a node.
 use Rattle.std.specs.Prelude.{◌≡◌, ℕ, false}
 use Rattle.exactly_once.specs.lists.Lists.{Each}
-use Rattle.world_base.specs.declared.item.Item.{Item}
-use Rattle.world_base.specs.declared.item.Item.TheVariants.{Tick}
-use Rattle.world_base.specs.declared.Connection.{Connection}
-use Rattle.world_base.specs.node_connections.Connections.{is_silent, has_failed}
-use Rattle.world_base.specs.Core.{CoreState}
-use Rattle.world_base.specs.Step.{node_step}
+use Rattle.node_core.specs.declared.item.Item.{Item}
+use Rattle.node_core.specs.declared.item.Item.TheVariants.{Tick}
+use Rattle.node_core.specs.declared.Connection.{Connection}
+use Rattle.node_core.specs.node_connections.Connections.{is_silent, has_failed}
+use Rattle.node_core.specs.Core.{CoreState}
+use Rattle.node_core.specs.Step.{node_step}
 
 -- after a tick no connection is silent
 abbrev pub NoneIsSilent : Type 0

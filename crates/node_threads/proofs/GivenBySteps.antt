@@ -3,7 +3,7 @@ use Rattle.std.proofs.Common.{ℕ, List, [], ◌∷◌, sym, subst}
 use Rattle.post.specs.broker_spec.declared.command.Command.{Command}
 use Rattle.post.specs.broker_spec.declared.command.Output.{Output}
 use Rattle.post.specs.ballot_base.declared.message.Effect.{Effect}
-use Rattle.post.specs.world_base.Core.{CountedCore}
+use Rattle.post.specs.node_core.Core.{CountedCore}
 use Rattle.node.specs.declared.Config.{Config}
 use Rattle.post.specs.lists.Lists.{Each, In}
 use Rattle.post.specs.lists.Lists.In.{here, there}

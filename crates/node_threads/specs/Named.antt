@@ -1,7 +1,7 @@
 -- Nodes that are about to serve have the inboxes and first states for which their numbers stand.
 use Rattle.std.specs.Prelude.{◌≡◌, ℕ, List}
 use Rattle.atomic_table.specs.Seated.{TableId}
-use Rattle.post.specs.world_base.Core.{CountedCore}
+use Rattle.post.specs.node_core.Core.{CountedCore}
 use Rattle.post.specs.lists.Lists.{Each}
 use Rattle.node_threads.specs.declared.opened.Opened.{Opened}
 

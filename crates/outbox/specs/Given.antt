@@ -8,8 +8,8 @@ use Rattle.node.specs.ballot_base.declared.message.Effect.TheVariants.{To}
 use Rattle.node.specs.ballot_base.declared.message.Message.{Message}
 use Rattle.node.specs.declared.Config.{Config}
 use Rattle.node.specs.declared.Item.{Item}
-use Rattle.node.specs.world_base.Core.{CountedCore, opening_core}
-use Rattle.node.specs.world_base.Losses.{NodeStepped}
+use Rattle.node.specs.node_core.Core.{CountedCore, opening_core}
+use Rattle.node.specs.node_core.Losses.{NodeStepped}
 use Rattle.node.specs.lists.Lists.{In}
 use Rattle.node.specs.State.{Replays}
 

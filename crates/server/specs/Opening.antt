@@ -2,7 +2,7 @@
 use Rattle.std.specs.Prelude.{◌==◌, ℕ, List, [], ◌∷◌, if◌then◌else◌}
 use Rattle.atomic_table.specs.Seated.{TableId}
 use Rattle.mailbox.specs.Naming.{no_inbox}
-use Rattle.node_threads.specs.post.world_base.Core.{CountedCore, opening_core}
+use Rattle.node_threads.specs.post.node_core.Core.{CountedCore, opening_core}
 use Rattle.node.specs.declared.Config.{Config}
 use Rattle.node_threads.specs.declared.opened.Opened.{Opened}
 

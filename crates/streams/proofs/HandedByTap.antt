@@ -3,9 +3,9 @@ use Rattle.std.proofs.Common.{◌≡◌, List, ◌++◌, length, refl, ◌∙◌
 use Rattle.std.specs.Prelude.{ℕ, ◌+◌, ◌-◌, ◌^◌, ◌⊎◌, min, Result, Ok, Err, OnOk, OnErr}
 use Rattle.node.specs.declared.Handed.{Handed}
 use Rattle.node.specs.declared.Port.{Port}
-use Rattle.node.specs.world_base.Core.{CountedCore}
+use Rattle.node.specs.node_core.Core.{CountedCore}
 use Rattle.node.specs.Growth.{saturated}
-use Rattle.node.specs.world_base.Handing.{handed_after, pending_bytes, listed_at}
+use Rattle.node.specs.node_core.Handing.{handed_after, pending_bytes, listed_at}
 use Rattle.node.specs.State.{Replays, Seen}
 use Rattle.connection.specs.Writing.{HandsOver}
 use Rattle.streams.specs.Tapping.{NodesBegan, HandsOut}

@@ -3,9 +3,9 @@ use Rattle.std.specs.Prelude.{◌≡◌, ℕ, ◌+◌, List, length}
 use Rattle.node.specs.declared.Config.{Config}
 use Rattle.node.specs.declared.Handed.{Handed}
 use Rattle.node.specs.declared.Port.{Port}
-use Rattle.node.specs.world_base.Core.{CountedCore, opening_core}
+use Rattle.node.specs.node_core.Core.{CountedCore, opening_core}
 use Rattle.node.specs.Growth.{saturated}
-use Rattle.node.specs.world_base.Handing.{handed_after, pending_bytes, listed_at}
+use Rattle.node.specs.node_core.Handing.{handed_after, pending_bytes, listed_at}
 use Rattle.node.specs.State.{Replays, Seen}
 use Rattle.streams.specs.declared.port_tap.PortTap.{PortTap}
 

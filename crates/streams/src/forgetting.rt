@@ -1,7 +1,7 @@
 // What a node holds for connections that it has closed is forgotten.
 
 ghost use Rattle.std.specs.Prelude.{◌≡◌, ◌≢◌, ◌⊎◌};
-ghost use Rattle.node.specs.world_base.Handing.{hands_over, listed_at};
+ghost use Rattle.node.specs.node_core.Handing.{hands_over, listed_at};
 ghost use Rattle.node.specs.node_connections.Stands.{standing_of};
 
 use node::{NodeNaming, NodeState, Port, Standing};

@@ -2,7 +2,7 @@
 
 ghost use Rattle.std.specs.Prelude.{◌≡◌, ◌++◌, IfOk, OnErr, OnOk};
 ghost use Rattle.connection.specs.Writing.{HandsOver};
-ghost use Rattle.node.specs.world_base.Handing.{pending_bytes, hands_over, listed_at};
+ghost use Rattle.node.specs.node_core.Handing.{pending_bytes, hands_over, listed_at};
 ghost use Rattle.streams.specs.Tapping.{NodesBegan, HandsOut};
 
 use connection::Tap;

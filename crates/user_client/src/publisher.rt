@@ -18,7 +18,7 @@ use crate::servers::Servers;
 use crate::user_client_error::UserClientError;
 use crate::visiting::{disconnect, exchange, next_stream, send};
 use client::ClientError;
-use node_base::{Counted, PIECE_BYTES};
+use devices::{Counted, PIECE_BYTES};
 use packet::{ClientId, Delivery, Packet, Payload, Publish, QoS};
 use std::alloc::Global;
 use std::io::{Read, Write};

@@ -16,7 +16,7 @@ use crate::servers::Servers;
 use crate::user_client_error::UserClientError;
 use crate::visiting::{disconnect, exchange, next_stream};
 use client::Accepted;
-use node_base::{Counted, PIECE_BYTES};
+use devices::{Counted, PIECE_BYTES};
 use packet::QoS;
 use std::alloc::Global;
 use std::io::{Read, Write};

@@ -9,7 +9,7 @@ ghost use Rattle.user_client.specs.Tracing.{Trace};
 use crate::caller::{Caller, News};
 use crate::servers::Servers;
 use crate::user_client_error::UserClientError;
-use node_base::{Counted, OneRead, WholeWrite};
+use devices::{Counted, OneRead, WholeWrite};
 use std::alloc::Global;
 use std::io::{Read, Write};
 

@@ -9,7 +9,7 @@ use Rattle.headline.proofs.of_snapshots.PastsAgree.{has_agreed, nodes_agree}
 use Rattle.headline.specs.broker_spec.declared.command.Command.{Command}
 use Rattle.headline.specs.broker_spec.declared.command.Output.{Output}
 use Rattle.headline.specs.broker_base.State.{State}
-use Rattle.world_base.specs.Core.{rules}
+use Rattle.node_core.specs.Core.{rules}
 use Rattle.headline.specs.node_group.Group.{Group, moment_of_nodes}
 use Rattle.headline.specs.node_group.Steps.{GroupTrace, all_proposed, groups_on_trace, put_in_step}
 use Rattle.headline.specs.node_group.Steps.GroupTrace.{then_went}

@@ -19,10 +19,10 @@ use Rattle.headline.specs.node_moves.Moves.NodeCall.{takes}
 use Rattle.escaping_client.specs.lists.Lists.{In}
 use Rattle.escaping_client.proofs.of_lists.Places.{get_set}
 use Rattle.packet.specs.declared.connect.Connect.{Connect}
-use Rattle.world_base.specs.Core.{CountedCore, rules}
-use Rattle.world_base.specs.declared.item.Item.{Item}
-use Rattle.world_base.specs.declared.item.Item.TheVariants.{Bytes}
-use Rattle.world_base.specs.Step.{node_step}
+use Rattle.node_core.specs.Core.{CountedCore, rules}
+use Rattle.node_core.specs.declared.item.Item.{Item}
+use Rattle.node_core.specs.declared.item.Item.TheVariants.{Bytes}
+use Rattle.node_core.specs.Step.{node_step}
 use Rattle.world_nodes.specs.ExactSteps.{after_node_call}
 use Rattle.world_nodes.specs.Nodes.{NodesState}
 use Rattle.world_nodes.proofs.Acts.{acts}

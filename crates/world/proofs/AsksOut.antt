@@ -23,8 +23,8 @@ use Rattle.escaping_client.specs.lists.Lists.{In}
 use Rattle.packet.specs.declared.connect.Connect.{Connect}
 use Rattle.packet.specs.declared.packet.Packet.TheVariants as packets
 use Rattle.packet.specs.Verdict.{verdict}
-use Rattle.world_base.specs.Core.{rules}
-use Rattle.world_base.specs.declared.item.Item.TheVariants.{Bytes}
+use Rattle.node_core.specs.Core.{rules}
+use Rattle.node_core.specs.declared.item.Item.TheVariants.{Bytes}
 use Rattle.world_nodes.specs.ExactSteps.{after_node_call}
 use Rattle.world_nodes.specs.Nodes.{NodesState}
 use Rattle.world_events.specs.declared.event.Event.{Event}

@@ -25,7 +25,7 @@ use Rattle.headline.proofs.of_snapshots.PastsKept.{past_stands}
 use Rattle.headline.proofs.of_snapshots.Views.{get_whole}
 use Rattle.escaping_client.specs.lists.Lists.{In}
 use Rattle.escaping_client.specs.lists.Lists.In.{here, there}
-use Rattle.world_base.specs.Core.{CountedCore, rules}
+use Rattle.node_core.specs.Core.{CountedCore, rules}
 use Rattle.world_nodes.specs.Asking.{whole_log_in, whole_log_of}
 use Rattle.world_nodes.specs.Running.{is_running, is_up, numbered_node}
 use Rattle.world_nodes.specs.Nodes.{NodesState, NodesStandFor}

@@ -2,8 +2,8 @@
 use Rattle.std.proofs.Common.{◌≡◌, ◌-◌, ◌≤◌, ℕ, suc, List, [], ◌++◌, take, drop, length, slice_get, Some, refl, sym, ap, ◌∙◌, subst, arith}
 use Rattle.std.proofs.lemmas.List.{take-append-drop, take-append-le, drop-append-le}
 use Rattle.std.proofs.lemmas.Option.{same_Some}
-use Rattle.world_base.specs.declared.item.Item.TheVariants.{Bytes}
-use Rattle.world_base.specs.declared.Port.{Port}
+use Rattle.node_core.specs.declared.item.Item.TheVariants.{Bytes}
+use Rattle.node_core.specs.declared.Port.{Port}
 use Rattle.headline.specs.node_moves.Moves.NodeCall.{takes}
 use Rattle.headline.specs.byte_world.World.{HasPipe, Pipe, World, with_client, with_pipe}
 use Rattle.headline.specs.byte_world.Steps.WorldStep.{comes_up}

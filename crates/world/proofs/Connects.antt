@@ -6,10 +6,10 @@ use Rattle.std.proofs.lemmas.Bool.{both_ways, ne_eqb}
 use Rattle.std.proofs.lemmas.List.{reverse-reverse}
 use Rattle.std.proofs.lemmas.Option.{none-some}
 use Rattle.escaping_client.proofs.of_lists.Tests.{none_or}
-use Rattle.world_base.specs.declared.item.Item.TheVariants.{Opened}
-use Rattle.world_base.specs.declared.Port.{Port}
-use Rattle.world_base.specs.Core.{CoreState, CountedCore}
-use Rattle.world_base.specs.Handing.{listed_at}
+use Rattle.node_core.specs.declared.item.Item.TheVariants.{Opened}
+use Rattle.node_core.specs.declared.Port.{Port}
+use Rattle.node_core.specs.Core.{CoreState, CountedCore}
+use Rattle.node_core.specs.Handing.{listed_at}
 use Rattle.headline.specs.node_moves.Moves.NodeCall.{takes}
 use Rattle.headline.proofs.of_node_group.Placed.{get_mapped}
 use Rattle.headline.specs.byte_world.World.{ClientPipes, Pipe, World, is_used, leads_to, with_client}

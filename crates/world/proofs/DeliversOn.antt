@@ -19,8 +19,8 @@ use Rattle.headline.specs.snapshots.Moments.{Moment}
 use Rattle.headline.specs.node_moves.Moves.NodeCall.{takes}
 use Rattle.escaping_client.specs.lists.Lists.{In}
 use Rattle.escaping_client.proofs.of_lists.Members.{in_at}
-use Rattle.world_base.specs.Core.{CoreState, CountedCore, rules}
-use Rattle.world_base.specs.declared.item.Item.TheVariants.{Peer}
+use Rattle.node_core.specs.Core.{CoreState, CountedCore, rules}
+use Rattle.node_core.specs.declared.item.Item.TheVariants.{Peer}
 use Rattle.world_nodes.specs.ExactSteps.{MessageArrives, ComesToNobody, TakesExactly, after_answer, after_node_call}
 use Rattle.world_nodes.specs.Running.{running, unless_stopped}
 use Rattle.world_nodes.specs.Nodes.{NodesState, cores_of}

@@ -7,11 +7,11 @@ use Rattle.headline.specs.broker_spec.Place.{Client}
 use Rattle.escaping_client.specs.lists.Lists.{In}
 use Rattle.escaping_client.proofs.of_lists.Tests.{eq_is}
 use Rattle.headline.proofs.of_exactly_once.Takes.{same_name_self}
-use Rattle.world_base.specs.declared.Connection.{Connection as NodesEnd}
-use Rattle.world_base.specs.declared.Port.{Port}
+use Rattle.node_core.specs.declared.Connection.{Connection as NodesEnd}
+use Rattle.node_core.specs.declared.Port.{Port}
 use Rattle.headline.specs.node_connections.Connections.{is_at}
-use Rattle.world_base.specs.Core.{CoreState, CountedCore}
-use Rattle.world_base.specs.Handing.{pending_bytes, listed_at}
+use Rattle.node_core.specs.Core.{CoreState, CountedCore}
+use Rattle.node_core.specs.Handing.{pending_bytes, listed_at}
 use Rattle.headline.specs.node_moves.Moves.NodeCall.{gives}
 use Rattle.headline.proofs.of_node_moves.Views.{found_passes}
 use Rattle.headline.specs.node_group.Streams.{bytes_named}

@@ -8,7 +8,7 @@ use Rattle.headline.specs.ballot_base.declared.message.Message.{Message}
 use Rattle.headline.specs.broker_spec.declared.command.Command.{Command}
 use Rattle.headline.specs.broker_spec.Place.{Client}
 use Rattle.escaping_nodes.specs.master.declared.event.Idle.{Idle}
-use Rattle.world_base.specs.declared.item.Item.TheVariants.{Cut, Expel, Peer}
+use Rattle.node_core.specs.declared.item.Item.TheVariants.{Cut, Expel, Peer}
 use Rattle.headline.specs.node_moves.Moves.{NodeCall}
 use Rattle.headline.specs.node_moves.Moves.NodeCall.{takes}
 use Rattle.headline.specs.node_group.Group.{Group}

@@ -3,7 +3,7 @@ use Rattle.std.proofs.Common.{◌≡◌, ℕ, suc, List, [], ◌∷◌, ◌++◌
 use Rattle.std.proofs.lemmas.List.{length-map, map-append, map-set}
 use Rattle.escaping_client.specs.client.Core.{Core}
 use Rattle.headline.proofs.of_node_group.Placed.{get_mapped}
-use Rattle.world_base.specs.declared.Port.{Port}
+use Rattle.node_core.specs.declared.Port.{Port}
 use Rattle.world_pipes.specs.declared.way.Way.{Way}
 use Rattle.world_pipes.specs.Piped.{Piped, new_way, piped_up}
 use Rattle.world_clients.specs.declared.connection_slot.ConnectionSlot.{ConnectionSlot}

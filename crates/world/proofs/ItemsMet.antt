@@ -9,8 +9,8 @@ use Rattle.headline.specs.agreement.MasterState.{refusal}
 use Rattle.headline.specs.ballot_base.declared.config.Config.{Config}
 use Rattle.headline.specs.ballot_base.Losses.{one_more}
 use Rattle.escaping_nodes.specs.master.declared.event.Idle.{Idle}
-use Rattle.world_base.specs.declared.item.Item.{Item}
-use Rattle.world_base.specs.declared.item.Item.TheVariants.{Bytes, Crash, Ended, Expel, Tick}
+use Rattle.node_core.specs.declared.item.Item.{Item}
+use Rattle.node_core.specs.declared.item.Item.TheVariants.{Bytes, Crash, Ended, Expel, Tick}
 use Rattle.world_nodes.specs.ExactSteps.{MessageArrives, ComesToNobody, CutsExactly, TakesExactly}
 use Rattle.world_nodes.specs.Running.{cutting, proposing, running}
 use Rattle.world_nodes.specs.Nodes.{NodesState}

@@ -19,7 +19,7 @@ use Rattle.headline.specs.snapshots.Moments.{Moment, Moments}
 use Rattle.headline.specs.byte_world.Carried.{trace_of}
 use Rattle.escaping_client.specs.lists.Lists.{IsPrefixOf}
 use Rattle.packet.specs.declared.packet.Packet.TheVariants as packets
-use Rattle.world_base.specs.Core.{rules}
+use Rattle.node_core.specs.Core.{rules}
 use Rattle.world_nodes.specs.Agreed.{AgreeOn}
 use Rattle.world_nodes.specs.Asking.{whole_log_of}
 use Rattle.world_nodes.specs.Nodes.{NodesState}

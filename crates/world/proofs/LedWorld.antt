@@ -19,7 +19,7 @@ use Rattle.escaping_nodes.proofs.LedOut.{assigned_seen, low_before, way_of}
 use Rattle.escaping_nodes.proofs.NodesFollow.{deliveries_are_followed}
 use Rattle.headline.specs.node_group.Group.{Group, moment_of_nodes}
 use Rattle.headline.specs.snapshots.Moments.{Moment, Moments}
-use Rattle.world_base.specs.Core.{rules}
+use Rattle.node_core.specs.Core.{rules}
 use Rattle.world_nodes.specs.Asking.{whole_log_of}
 use Rattle.world_nodes.specs.ExactSteps.{after_giving}
 use Rattle.world_nodes.specs.Nodes.{NodesState, NodesStandFor}

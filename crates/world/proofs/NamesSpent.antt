@@ -3,8 +3,8 @@ use Rattle.std.proofs.Common.{◌≡◌, inl, inr, ◌<◌, ◌≤◌, ◌^◌, 
 use Rattle.std.specs.Prelude.{Ok}
 use Rattle.std.proofs.lemmas.Bool.{eq-eqb, lt-ltb, le-leb, ne_eqb}
 use Rattle.headline.specs.broker_spec.Connection.{ConnectionName, is_connection_name}
-use Rattle.world_base.specs.Core.{CountedCore}
-use Rattle.world_base.specs.Step.{accepted}
+use Rattle.node_core.specs.Core.{CountedCore}
+use Rattle.node_core.specs.Step.{accepted}
 use Rattle.world_nodes.specs.Running.{numbered_node}
 use Rattle.world_events.specs.declared.event.Event.TheVariants as events
 use Rattle.world.specs.Opening.{OpensUnless, has_no_name_left}

@@ -29,7 +29,7 @@ use Rattle.headline.proofs.of_node_group.Placed.{get_mapped}
 use Rattle.headline.proofs.of_byte_world.NodesHoused.{nodes_are_orderly}
 use Rattle.escaping_client.specs.lists.Lists.{In}
 use Rattle.escaping_client.specs.lists.Lists.In.{here}
-use Rattle.world_base.specs.Core.{CoreState, CountedCore, rules}
+use Rattle.node_core.specs.Core.{CoreState, CountedCore, rules}
 use Rattle.world_nodes.specs.Asking.{whole_log_of}
 use Rattle.world_nodes.specs.Nodes.{cores_of}
 use Rattle.world_nodes.specs.Running.{is_running}

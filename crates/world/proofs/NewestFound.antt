@@ -7,9 +7,9 @@ use Rattle.std.proofs.lemmas.Option.{none-some, same_Some}
 use Rattle.escaping_client.specs.client.Core.{Core}
 use Rattle.escaping_client.specs.client_base.State.{is_open}
 use Rattle.escaping_client.proofs.of_lists.Places.{get_set}
-use Rattle.world_base.specs.Core.{CountedCore}
-use Rattle.world_base.specs.declared.item.Item.{Item}
-use Rattle.world_base.specs.declared.item.Item.TheVariants.{Bytes}
+use Rattle.node_core.specs.Core.{CountedCore}
+use Rattle.node_core.specs.declared.item.Item.{Item}
+use Rattle.node_core.specs.declared.item.Item.TheVariants.{Bytes}
 use Rattle.headline.specs.node_moves.Moves.NodeCall.{takes}
 use Rattle.world_nodes.specs.ExactSteps.{TakesExactly, after_node_call}
 use Rattle.world_nodes.specs.Running.{running, unless_stopped}

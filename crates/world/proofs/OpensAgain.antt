@@ -16,10 +16,10 @@ use Rattle.headline.proofs.of_byte_world.NodesHoused.{nodes_are_orderly, ports_h
 use Rattle.escaping_client.proofs.of_lists.Tests.{eq_is}
 use Rattle.escaping_client.specs.lists.Lists.{Each, In}
 use Rattle.escaping_client.specs.lists.Lists.In.{here, there}
-use Rattle.world_base.specs.declared.Connection.{Connection}
-use Rattle.world_base.specs.declared.Port.{Port}
+use Rattle.node_core.specs.declared.Connection.{Connection}
+use Rattle.node_core.specs.declared.Port.{Port}
 use Rattle.headline.specs.node_connections.Connections.{is_at, is_open_named, is_closed}
-use Rattle.world_base.specs.Core.{CoreState, CountedCore}
+use Rattle.node_core.specs.Core.{CoreState, CountedCore}
 use Rattle.world.specs.Found.{port_at_node}
 use Rattle.world.specs.StandsFor.{WorldStandsFor}
 use Rattle.world.specs.World.{WorldState}

@@ -8,9 +8,9 @@ use Rattle.escaping_nodes.specs.Coming.{Come}
 use Rattle.escaping_nodes.specs.Coming.Come.{all_came as none_comes, hands, to_node as comes_to_node, to_master as comes_to_master}
 use Rattle.headline.specs.node_moves.Moves.NodeCall.{gives}
 use Rattle.headline.proofs.of_node_group.Placed.{get_mapped}
-use Rattle.world_base.specs.Core.{CountedCore}
-use Rattle.world_base.specs.Handing.{pending_bytes, listed_at}
-use Rattle.world_base.specs.declared.Port.{Port}
+use Rattle.node_core.specs.Core.{CountedCore}
+use Rattle.node_core.specs.Handing.{pending_bytes, listed_at}
+use Rattle.node_core.specs.declared.Port.{Port}
 use Rattle.world_nodes.specs.Running.{numbered_node}
 use Rattle.world_nodes.specs.Nodes.{NodesState}
 use Rattle.world_nodes.proofs.Exactly.{at_place, gives_acts}

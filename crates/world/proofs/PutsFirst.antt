@@ -15,10 +15,10 @@ use Rattle.headline.specs.node_moves.Moves.NodeCall.{takes}
 use Rattle.escaping_client.specs.lists.Lists.{IsPrefixOf}
 use Rattle.escaping_client.proofs.of_lists.Places.{get_set}
 use Rattle.packet.specs.Spelling.{spelling}
-use Rattle.world_base.specs.Core.{CountedCore}
-use Rattle.world_base.specs.declared.item.Item.TheVariants.{Peer}
-use Rattle.world_base.specs.Handing.{pending_bytes}
-use Rattle.world_base.specs.Step.{node_step}
+use Rattle.node_core.specs.Core.{CountedCore}
+use Rattle.node_core.specs.declared.item.Item.TheVariants.{Peer}
+use Rattle.node_core.specs.Handing.{pending_bytes}
+use Rattle.node_core.specs.Step.{node_step}
 use Rattle.world_nodes.specs.ExactSteps.{ComesToNobody, after_node_call}
 use Rattle.world_nodes.specs.Running.{numbered_node, running}
 use Rattle.world_nodes.specs.Nodes.{NodesState}

@@ -7,12 +7,12 @@ use Rattle.headline.specs.ballot_base.declared.message.Body.TheVariants.{NewBall
 use Rattle.headline.specs.ballot_base.declared.message.Message.{Message}
 use Rattle.headline.specs.broker_spec.declared.command.Command.{Command}
 use Rattle.escaping_nodes.specs.master.declared.event.Idle.{Idle}
-use Rattle.world_base.specs.Core.{CountedCore}
-use Rattle.world_base.specs.Losses.{WaitsNothing}
-use Rattle.world_base.specs.Step.{node_step}
-use Rattle.world_base.specs.declared.item.Item.{Item}
-use Rattle.world_base.specs.declared.item.Item.TheVariants.{Peer}
-use Rattle.world_base.proofs.Calmly.{step_waits}
+use Rattle.node_core.specs.Core.{CountedCore}
+use Rattle.node_core.specs.Losses.{WaitsNothing}
+use Rattle.node_core.specs.Step.{node_step}
+use Rattle.node_core.specs.declared.item.Item.{Item}
+use Rattle.node_core.specs.declared.item.Item.TheVariants.{Peer}
+use Rattle.node_core.proofs.Calmly.{step_waits}
 use Rattle.world_nodes.specs.ExactSteps.{MessageArrives, HeardByMaster, TakesExactly}
 use Rattle.world_nodes.specs.Running.{numbered_node, running, unless_stopped}
 use Rattle.world_nodes.specs.Nodes.{NodesState}

@@ -7,8 +7,8 @@ use Rattle.std.proofs.lemmas.Option.{same_Some}
 use Rattle.escaping_client.proofs.of_lists.Places.{get_set, get_set_other}
 use Rattle.escaping_client.specs.client.Core.{Core}
 use Rattle.headline.proofs.of_packet_world.Lists.{same_or_other}
-use Rattle.world_base.specs.Core.{CountedCore}
-use Rattle.world_base.specs.declared.Port.{Port}
+use Rattle.node_core.specs.Core.{CountedCore}
+use Rattle.node_core.specs.declared.Port.{Port}
 use Rattle.world_nodes.specs.Running.{numbered_node}
 use Rattle.world_pipes.specs.declared.way.Way.{Way}
 use Rattle.world_clients.specs.declared.connection_slot.ConnectionSlot.{ConnectionSlot}

@@ -20,14 +20,14 @@ use Rattle.escaping_nodes.proofs.NodesFollow.{deliveries_are_followed}
 use Rattle.headline.specs.snapshots.Moments.{Moment}
 use Rattle.headline.specs.node_moves.Moves.NodeCall.{takes}
 use Rattle.headline.proofs.of_node_moves.Views.{found_passes}
-use Rattle.world_base.specs.declared.Connection.{Connection}
-use Rattle.world_base.specs.declared.Handed.{Handed}
-use Rattle.world_base.specs.declared.Handed.TheVariants as answers
-use Rattle.world_base.specs.declared.Port.{Port}
-use Rattle.world_base.specs.declared.item.Item.TheVariants.{Peer}
+use Rattle.node_core.specs.declared.Connection.{Connection}
+use Rattle.node_core.specs.declared.Handed.{Handed}
+use Rattle.node_core.specs.declared.Handed.TheVariants as answers
+use Rattle.node_core.specs.declared.Port.{Port}
+use Rattle.node_core.specs.declared.item.Item.TheVariants.{Peer}
 use Rattle.headline.specs.node_connections.Connections.{is_open_named, is_closed}
-use Rattle.world_base.specs.Core.{CountedCore, rules}
-use Rattle.world_base.specs.Handing.{handed_after, pending_bytes}
+use Rattle.node_core.specs.Core.{CountedCore, rules}
+use Rattle.node_core.specs.Handing.{handed_after, pending_bytes}
 use Rattle.world_nodes.specs.ExactSteps.{after_answer, after_node_call}
 use Rattle.world_nodes.specs.Running.{numbered_node}
 use Rattle.world_nodes.specs.Nodes.{NodesState}

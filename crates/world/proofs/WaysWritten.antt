@@ -16,7 +16,7 @@ use Rattle.headline.specs.broker_spec.Place.{Client}
 use Rattle.ways_out.specs.Deliveries.{asked_and_answered, way_out}
 use Rattle.escaping_nodes.proofs.WelcomedKept.{welcomed_are_kept}
 use Rattle.ways_out.specs.Lengths.{WaysAreShort}
-use Rattle.world_base.specs.Core.{CountedCore}
+use Rattle.node_core.specs.Core.{CountedCore}
 use Rattle.world_nodes.specs.Asking.{whole_log_in, whole_log_of, welcomes_back}
 use Rattle.world_nodes.specs.Running.{is_running, numbered_node}
 use Rattle.world_nodes.specs.Nodes.{NodesState}

@@ -5,7 +5,7 @@ use Rattle.headline.specs.agreement.MasterState.{refusal}
 use Rattle.escaping_client.specs.client.Core.{Core}
 use Rattle.escaping_client.specs.client_base.State.{is_open}
 use Rattle.escaping_client.specs.client_base.Steps.{Call, keeper_step}
-use Rattle.world_base.specs.Core.{CountedCore, serves}
+use Rattle.node_core.specs.Core.{CountedCore, serves}
 use Rattle.world_nodes.specs.ExactSteps.{ComesToNobody}
 use Rattle.world_nodes.specs.Running.{cutting, numbered_node, proposing, running}
 use Rattle.world_pipes.specs.declared.way.Way.{Way}

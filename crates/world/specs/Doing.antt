@@ -5,7 +5,7 @@ use Rattle.headline.specs.ballot_base.declared.message.Message.{Message}
 use Rattle.headline.specs.broker_spec.declared.command.Command.{Command}
 use Rattle.escaping_client.specs.client_base.Steps.{Call}
 use Rattle.escaping_client.specs.client_base.declared.error.ClientError.TheVariants as errors
-use Rattle.world_base.specs.declared.item.Item.TheVariants as items
+use Rattle.node_core.specs.declared.item.Item.TheVariants as items
 use Rattle.world_nodes.specs.ExactSteps.{MessageArrives, CutsExactly, TakesExactly, after_giving}
 use Rattle.world_nodes.specs.Nodes.{NodesState}
 use Rattle.world_nodes.specs.Steps.{ComesIn, CutsIn, ExpelsIn, GivesIn}

@@ -12,7 +12,7 @@ use Rattle.headline.specs.broker_spec.Past.{session_of}
 use Rattle.headline.specs.broker_spec.Place.{Client}
 use Rattle.escaping_client.specs.client.Core.{Core}
 use Rattle.escaping_client.specs.client_base.State.{is_online}
-use Rattle.world_base.specs.Core.{CountedCore}
+use Rattle.node_core.specs.Core.{CountedCore}
 use Rattle.world_nodes.specs.Agreed.{AgreeOn}
 use Rattle.world_nodes.specs.Asking.{whole_log_of}
 use Rattle.world_nodes.specs.Running.{is_running, numbered_node}

@@ -2,7 +2,7 @@
 use Rattle.std.specs.Prelude.{◌≡◌, ℕ, ◌-◌, ◌==◌, if◌then◌else◌, List, Option, Some, None, set, slice_get}
 use Rattle.std.specs.List.{position}
 use Rattle.escaping_client.specs.client.Core.{Core}
-use Rattle.world_base.specs.declared.Port.{Port}
+use Rattle.node_core.specs.declared.Port.{Port}
 use Rattle.world_pipes.specs.declared.way.Way.{Way}
 use Rattle.world_pipes.specs.Piped.{Piped}
 use Rattle.world_clients.specs.declared.connection_slot.ConnectionSlot.{ConnectionSlot}

@@ -2,8 +2,8 @@
 -- false), perhaps with losses.
 use Rattle.std.specs.Prelude.{◌≡◌, ◌⊎◌, ℕ, zero, suc, ◌-◌, ◌==◌, ◌&&◌, Bool, true, false, ◌++◌, Option, Some, None, length, set}
 use Rattle.headline.specs.node_moves.Moves.NodeCall.{gives}
-use Rattle.world_base.specs.Core.{CountedCore}
-use Rattle.world_base.specs.declared.item.Item.{Item}
+use Rattle.node_core.specs.Core.{CountedCore}
+use Rattle.node_core.specs.declared.item.Item.{Item}
 use Rattle.world_nodes.specs.ExactSteps.{TakesExactly}
 use Rattle.world_nodes.specs.Running.{numbered_node}
 use Rattle.world_nodes.specs.Nodes.{NodesState}

@@ -2,7 +2,7 @@
 use Rattle.std.specs.Prelude.{◌≡◌, ◌<◌, ◌≤◌, ℕ, false, List, Some, Ok}
 use Rattle.headline.specs.ballot_base.Losses.{greatest_count}
 use Rattle.headline.specs.broker_spec.Connection.{max_ballot, max_count}
-use Rattle.world_base.specs.Core.{CountedCore}
+use Rattle.node_core.specs.Core.{CountedCore}
 use Rattle.world_nodes.specs.Running.{numbered_node}
 use Rattle.world_events.specs.declared.event.Event.{Event}
 use Rattle.world_events.specs.declared.event.Event.TheVariants as events

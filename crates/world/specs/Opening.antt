@@ -2,9 +2,9 @@
 use Rattle.std.specs.Prelude.{◌≡◌, ◌⊎◌, ℕ, suc, ◌-◌, Bool, true, false, not, List, [], ◌∷◌, ◌++◌, Option, Some, None, Ok, length}
 use Rattle.headline.specs.broker_spec.Connection.{is_connection_name}
 use Rattle.escaping_client.specs.client_base.Steps.{Call, keeper_step}
-use Rattle.world_base.specs.Core.{CountedCore}
-use Rattle.world_base.specs.Step.{next_name}
-use Rattle.world_base.specs.declared.item.Item.TheVariants as items
+use Rattle.node_core.specs.Core.{CountedCore}
+use Rattle.node_core.specs.Step.{next_name}
+use Rattle.node_core.specs.declared.item.Item.TheVariants as items
 use Rattle.world_nodes.specs.Running.{numbered_node}
 use Rattle.world_nodes.specs.Nodes.{NodesState}
 use Rattle.world_pipes.specs.Piped.{SendsConnect, Piped}

@@ -6,7 +6,7 @@ use Rattle.headline.specs.ballot_base.declared.config.Config.{Config}
 use Rattle.headline.specs.snapshots.Agreeing.{Agrees, Holds, LeftInOrder}
 use Rattle.headline.specs.snapshots.Moments.{IsAgreed}
 use Rattle.headline.specs.broker_spec.declared.command.Command.{Command}
-use Rattle.world_base.specs.Core.{rules}
+use Rattle.node_core.specs.Core.{rules}
 use Rattle.headline.specs.node_group.Group.{Group, moment_of_nodes}
 use Rattle.headline.specs.node_group.Steps.{GroupTrace, all_proposed, groups_on_trace}
 use Rattle.headline.specs.node_group.Order.{KeepsOrder}

@@ -12,10 +12,10 @@ ghost use Rattle.world.specs.Inside.Calling.{CountsRefusal};
 ghost use Rattle.world.specs.Inside.Steps.{PublishesAsked, IsTrace, MeetsOrLost};
 
 use crate::world::World;
+use node_core::Port;
 use packet::{ClientId, QoS};
 use session_base::Publication;
 use topics::Filter;
-use world_base::Port;
 use world_clients::{
     ConnectionSlot, leave, lose_connection, open_pipe, publish_copy, subscribe_copy,
     unsubscribe_copy,

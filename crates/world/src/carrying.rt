@@ -7,7 +7,7 @@ ghost use Rattle.world.specs.Inside.Steps.{IsTrace, MeetsOrLost};
 ghost use Rattle.world.specs.Inside.Calling.{with_one_loss};
 
 use crate::world::World;
-use world_base::Port;
+use node_core::Port;
 use world_clients::{ConnectionSlot, carry_down_on, carry_to_node};
 use world_events::Event;
 use world_nodes::Idle;

@@ -8,7 +8,7 @@ ghost use Rattle.world_clients.specs.Handing.{StaysQuiet};
 ghost use Rattle.world.specs.Inside.Steps.{IsTrace};
 
 use crate::world::World;
-use world_base::Port;
+use node_core::Port;
 use world_clients::{ConnectionSlot, hand_down};
 
 impl World {

@@ -15,10 +15,10 @@ ghost use Rattle.world.specs.Inside.Escaping.{IsFetchedFrom, escaping_events};
 
 use crate::world::World;
 use ballot::{MAX_MEMBERS, MAX_PLACES};
+use node_core::{Config, Members, Memory};
 use packet::ClientId;
 use std::alloc::Global;
 use ways_out::ways_are_short;
-use world_base::{Config, Members, Memory};
 use world_events::{EscapeError, Event, push_answers, push_client, push_group};
 
 /// More messages than any memory holds.

@@ -7,8 +7,8 @@ ghost use Rattle.world.specs.Inside.Steps.{IsTrace, MeetsOrLost};
 ghost use Rattle.world.specs.Quiet.{IsQuietAt, EventTakesNoMemory};
 
 use crate::world::World;
+use node_core::{Config, Item, Port};
 use packet::ClientId;
-use world_base::{Config, Item, Port};
 use world_clients::ConnectionSlot;
 use world_events::Event;
 use world_nodes::Idle;

@@ -13,8 +13,8 @@ ghost use Rattle.headline.specs.byte_world.Published.{published_of, published_on
 ghost use Rattle.world.specs.StandsFor.{IsReached, connections_at};
 
 use crate::world::World;
+use node_core::Command;
 use packet::ClientId;
-use world_base::Command;
 use world_clients::ConnectionSlot;
 use world_pipes::{ClientCore, PipedClient};
 

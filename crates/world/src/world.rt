@@ -14,10 +14,10 @@ ghost use Rattle.world.specs.Quiet.{EventTakesNoMemory};
 ghost use Rattle.world_clients.specs.Clients.{identifiers};
 ghost use Rattle.world.specs.StandsFor.{IsReached, KeepsReached, FollowsModelAsking, asked_on};
 
+use node_core::{Config, OpeningError};
 use packet::ClientId;
 use std::alloc::Global;
 use std::marker::Model;
-use world_base::{Config, OpeningError};
 use world_clients::{ConnectionSlot, WorldClient, new_clients};
 use world_events::Event;
 use world_nodes::{Idle, Nodes};

@@ -1,22 +1,8 @@
-//! One replica of the broker with its connections: the state of a node between two items. Its input
-//! are bytes of clients, messages of other nodes and times, its output bytes and messages.
+//! The types of `node_core`, for programs that import them from `world_base`.
 #![tactic(auto)]
 
-mod driving;
-mod handing;
-mod ignoring;
-mod item;
-mod laws;
-mod node_core;
-mod stepping_node;
-mod taking;
-
-pub use ballot::{
-    Body, Config, Effect, MAX_NODE, Members, Memory, Message, OpeningError, ProposeError, Status,
+pub use node_core::{
+    Body, BrokerMachine, Command, Config, Connection, ConnectionName, ConnectionStage, Effect,
+    Handed, Item, MAX_NODE, Members, Memory, Message, NodeCore, OpeningError, Output, Piece, Port,
+    ProposeError, Standing, Status,
 };
-pub use broker::BrokerMachine;
-pub use broker_spec::{Command, ConnectionName, Output};
-pub use item::Item;
-pub use laws::{a_gap_is_closed, proposals_are_steps};
-pub use node_connections::{Connection, ConnectionStage, Handed, Piece, Port, Standing};
-pub use node_core::NodeCore;

@@ -2,12 +2,12 @@
 use Rattle.std.proofs.Common.{◌≡◌, ◌-◌, ℕ, zero, suc, List, [], ◌∷◌, Some, Result, Ok, Err, OnErr, OnOk, slice_get, slice_set, refl, sym, ap, subst, arith}
 use Rattle.std.proofs.lemmas.Option.{none-some, same_Some}
 use Rattle.world_nodes.specs.master.declared.event.Idle.{Idle}
-use Rattle.world_base.specs.Core.{CountedCore}
-use Rattle.world_base.specs.Handing.{hands_over}
-use Rattle.world_base.specs.Losses.{WaitsNothing}
-use Rattle.world_base.specs.declared.Handed.{Handed}
-use Rattle.world_base.specs.declared.Port.{Port}
-use Rattle.world_base.proofs.Calmly.{hands_over_waits, nothing_handed}
+use Rattle.node_core.specs.Core.{CountedCore}
+use Rattle.node_core.specs.Handing.{hands_over}
+use Rattle.node_core.specs.Losses.{WaitsNothing}
+use Rattle.node_core.specs.declared.Handed.{Handed}
+use Rattle.node_core.specs.declared.Port.{Port}
+use Rattle.node_core.proofs.Calmly.{hands_over_waits, nothing_handed}
 use Rattle.world_nodes.specs.ExactSteps.{GivesExactly}
 use Rattle.world_nodes.specs.Running.{numbered_node}
 use Rattle.world_nodes.specs.Nodes.{NodesState}

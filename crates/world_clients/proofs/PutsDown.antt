@@ -4,9 +4,9 @@ use Rattle.std.specs.Prelude.{IfSome, IfOk, IsErr}
 use Rattle.std.proofs.lemmas.List.{append-nil, set-set}
 use Rattle.client.proofs.of_lists.Places.{get_set}
 use Rattle.world_nodes.specs.master.declared.event.Idle.{Idle}
-use Rattle.world_base.specs.declared.Handed.{Handed}
-use Rattle.world_base.specs.declared.Port.{Port}
-use Rattle.world_base.specs.Core.{CountedCore}
+use Rattle.node_core.specs.declared.Handed.{Handed}
+use Rattle.node_core.specs.declared.Port.{Port}
+use Rattle.node_core.specs.Core.{CountedCore}
 use Rattle.byte_world.specs.node_moves.Moves.NodeCall.{gives}
 use Rattle.world_nodes.specs.Running.{numbered_node}
 use Rattle.world_nodes.specs.Nodes.{NodesState}

@@ -1,8 +1,8 @@
 -- TakesPart.antt: bytes that come to a node were in transit, and the connection leads on to it.
 use Rattle.std.proofs.Common.{◌≡◌, ◌<◌, ◌≤◌, ◌-◌, ℕ, List, Some, None, length, slice_get, refl, ap, ◌∙◌, subst, arith}
 use Rattle.std.specs.Prelude.{IfSome, drop, take}
-use Rattle.world_base.specs.declared.item.Item.TheVariants.{Bytes}
-use Rattle.world_base.specs.declared.Port.{Port}
+use Rattle.node_core.specs.declared.item.Item.TheVariants.{Bytes}
+use Rattle.node_core.specs.declared.Port.{Port}
 use Rattle.byte_world.specs.node_moves.Moves.NodeCall.{takes}
 use Rattle.world_nodes.specs.ExactSteps.{NodeDoesCall}
 use Rattle.world_nodes.specs.Running.{running}

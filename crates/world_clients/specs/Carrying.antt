@@ -4,8 +4,8 @@ use Rattle.world_nodes.specs.Running.{running}
 use Rattle.world_pipes.specs.declared.way.Way.{Way}
 use Rattle.world_pipes.specs.Piped.{is_holding, Piped, CarriesDown}
 use Rattle.world_clients.specs.declared.connection_slot.ConnectionSlot.{ConnectionSlot}
-use Rattle.world_base.specs.declared.Port.{Port}
-use Rattle.world_base.specs.declared.item.Item.TheVariants.{Bytes}
+use Rattle.node_core.specs.declared.Port.{Port}
+use Rattle.node_core.specs.declared.item.Item.TheVariants.{Bytes}
 use Rattle.byte_world.specs.node_moves.Moves.NodeCall.{takes}
 use Rattle.world_nodes.specs.ExactSteps.{NodeDoesCall}
 use Rattle.world_nodes.specs.Nodes.{NodesState}

@@ -1,16 +1,16 @@
 -- What a node queued for a connection goes down on it.
 use Rattle.std.specs.Prelude.{◌≡◌, ◌⊎◌, ℕ, ◌-◌, Bool, true, false, List, [], ◌++◌, Option, Some, None, set, slice_get, Result, Ok, Err}
 use Rattle.byte_world.specs.node_moves.Moves.NodeCall.{gives}
-use Rattle.world_base.specs.Core.{CountedCore}
-use Rattle.world_base.specs.Handing.{handed_after, pending_bytes, listed_at}
-use Rattle.world_base.specs.declared.Handed.{Handed}
-use Rattle.world_base.specs.declared.Handed.TheVariants as answers
-use Rattle.world_base.specs.declared.Port.{Port}
+use Rattle.node_core.specs.Core.{CountedCore}
+use Rattle.node_core.specs.Handing.{handed_after, pending_bytes, listed_at}
+use Rattle.node_core.specs.declared.Handed.{Handed}
+use Rattle.node_core.specs.declared.Handed.TheVariants as answers
+use Rattle.node_core.specs.declared.Port.{Port}
 use Rattle.world_nodes.specs.ExactSteps.{after_node_call, NodeDoesCall, HandsOver}
 use Rattle.world_nodes.specs.Running.{numbered_node}
 use Rattle.world_nodes.specs.Nodes.{NodesState}
 use Rattle.world_nodes.specs.Steps.{nodes_with_loss}
-use Rattle.world_base.specs.Losses.{WaitsNothing}
+use Rattle.node_core.specs.Losses.{WaitsNothing}
 use Rattle.world_pipes.specs.declared.way.Way.{Way}
 use Rattle.world_pipes.specs.Piped.{Piped}
 use Rattle.world_nodes.specs.master.declared.event.Idle.{Idle}

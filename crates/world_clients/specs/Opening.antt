@@ -2,16 +2,16 @@
 use Rattle.std.specs.Prelude.{◌≡◌, ◌⊎◌, ℕ, ◌-◌, Bool, true, false, Some, Ok, Err}
 use Rattle.client.specs.client_base.Steps.{Call, keeper_step}
 use Rattle.client.specs.client_base.declared.error.ClientError.{ClientError}
-use Rattle.world_base.specs.Core.{CountedCore}
-use Rattle.world_base.specs.declared.item.Item.TheVariants as items
-use Rattle.world_base.specs.declared.Port.{Port}
+use Rattle.node_core.specs.Core.{CountedCore}
+use Rattle.node_core.specs.declared.item.Item.TheVariants as items
+use Rattle.node_core.specs.declared.Port.{Port}
 use Rattle.world_nodes.specs.Running.{numbered_node}
 use Rattle.world_nodes.specs.Nodes.{NodesState}
 use Rattle.world_nodes.specs.Steps.{TakesIn}
 use Rattle.world_pipes.specs.Piped.{SendsConnect, Piped, taken_back}
 use Rattle.std.specs.Option.{is_some}
-use Rattle.world_base.specs.Handing.{listed_at}
-use Rattle.world_base.specs.declared.item.Item.TheVariants.{Opened}
+use Rattle.node_core.specs.Handing.{listed_at}
+use Rattle.node_core.specs.declared.item.Item.TheVariants.{Opened}
 use Rattle.byte_world.specs.node_moves.Moves.NodeCall.{takes}
 use Rattle.world_nodes.specs.ExactSteps.{NodeDoesCall}
 use Rattle.world_pipes.specs.Following.{ConnectingFollows, FollowsAll}

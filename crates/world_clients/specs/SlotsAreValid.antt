@@ -1,6 +1,6 @@
 -- What holds for every `World`, by its fields.
 use Rattle.std.specs.Prelude.{◌≡◌, ◌≤◌, ℕ, suc, List, [], ◌∷◌, Some, if◌then◌else◌, length, map, slice_get}
-use Rattle.world_base.specs.declared.Port.{Port}
+use Rattle.node_core.specs.declared.Port.{Port}
 use Rattle.world_pipes.specs.declared.way.Way.{Way}
 use Rattle.world_clients.specs.declared.connection_slot.ConnectionSlot.{ConnectionSlot}
 use Rattle.world_clients.specs.declared.world_client.WorldClient.{WorldClient}

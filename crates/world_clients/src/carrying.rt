@@ -7,8 +7,8 @@ ghost use Rattle.world_clients.specs.SlotsAreValid.{connection_targets};
 ghost use Rattle.world_clients.specs.Carrying.{CannotCarryDown, CannotCarryUp, CarriesDownOn, CarriesUpWhere};
 
 use crate::connection_slot::ConnectionSlot;
+use node_core::{Piece, Port};
 use std::alloc::Global;
-use world_base::{Piece, Port};
 use world_nodes::{Idle, Nodes};
 use world_pipes::{ClientError, PipedClient};
 

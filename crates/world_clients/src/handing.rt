@@ -5,8 +5,8 @@ ghost use Rattle.world_clients.specs.NodesGoOn.{NodesGoOn};
 ghost use Rattle.world_clients.specs.SlotsAreValid.{connection_targets};
 ghost use Rattle.world_clients.specs.Handing.{HandsDown, MayHandDown, MayPutDown, PutsDown, StaysQuiet, tells_open};
 
+use node_core::{Handed, Port};
 use std::alloc::Global;
-use world_base::{Handed, Port};
 use world_nodes::{Idle, Nodes};
 use world_pipes::PipedClient;
 

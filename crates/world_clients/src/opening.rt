@@ -6,7 +6,7 @@ ghost use Rattle.world_clients.specs.NodesGoOn.{NodesGoOn};
 ghost use Rattle.world_clients.specs.SlotsAreValid.{connection_targets};
 ghost use Rattle.world_clients.specs.Opening.{HearsOfOne, Reaches};
 
-use world_base::Port;
+use node_core::Port;
 use world_nodes::Nodes;
 use world_pipes::PipedClient;
 

@@ -5,9 +5,9 @@ ghost use Rattle.byte_world.specs.World.{new_client};
 ghost use Rattle.world_pipes.specs.StandsFor.{ClientStandsFor};
 ghost use Rattle.world_clients.specs.Clients.{ClientsStand, identifiers, is_named, new_world_client};
 
+use node_core::Memory;
 use packet::ClientId;
 use std::alloc::Global;
-use world_base::Memory;
 use world_pipes::PipedClient;
 
 /// A client of a world, with its identifier.

@@ -3,10 +3,10 @@
 ghost use Rattle.std.specs.Prelude.{◌≡◌};
 ghost use Rattle.world_events.specs.Refusals.{escape_number};
 
+use node_core::Memory;
 use std::alloc::{AllocError, AllocFailed};
 use std::error::Error;
 use std::fmt;
-use world_base::Memory;
 
 /// Why no way out of a world is returned.
 #[derive(Clone, Copy, Debug, PartialEq, Eq)]

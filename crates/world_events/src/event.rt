@@ -1,9 +1,9 @@
 // What may happen in a world.
 
+use node_core::Config;
 use packet::{ClientId, QoS};
 use session_base::Publication;
 use topics::Filter;
-use world_base::Config;
 
 /// An event of a world. Nodes are numbered from 1, messages from 0 in the order of their sending,
 /// connections from 1 in the order of [`Event::Open`].

@@ -7,10 +7,10 @@ ghost use Rattle.world_events.specs.declared.event.Event.TheVariants as events;
 ghost use Rattle.world_events.specs.EscapeEvents.{answer_events, client_events, connect_bytes, leaving};
 
 use crate::event::Event;
+use node_core::{Config, Memory};
 use packet::ClientId;
 use std::alloc::Global;
 use ways_out::{answers, way_out};
-use world_base::{Config, Memory};
 use world_pipes::PipedClient;
 
 /// How many bytes a client's CONNECT has besides its identifier.

@@ -10,10 +10,10 @@ use Rattle.master.specs.lists.Lists.{In}
 use Rattle.master.specs.snapshots.World.{messages}
 use Rattle.byte_world.specs.broker_spec.declared.command.Command.{Command}
 use Rattle.byte_world.specs.broker_spec.declared.command.Output.{Output}
-use Rattle.world_base.specs.declared.item.Item.{Item}
-use Rattle.world_base.specs.declared.item.Item.TheVariants.{Peer, Tick, Opened, Bytes, Ended, Expel, Cut, Crash}
-use Rattle.world_base.specs.Core.{CoreState, CountedCore}
-use Rattle.world_base.specs.Step.{node_step}
+use Rattle.node_core.specs.declared.item.Item.{Item}
+use Rattle.node_core.specs.declared.item.Item.TheVariants.{Peer, Tick, Opened, Bytes, Ended, Expel, Cut, Crash}
+use Rattle.node_core.specs.Core.{CoreState, CountedCore}
+use Rattle.node_core.specs.Step.{node_step}
 use Rattle.byte_world.specs.node_moves.Moves.{NodeCall, done}
 use Rattle.byte_world.specs.node_moves.Moves.NodeCall.{takes}
 use Rattle.byte_world.specs.node_group.Group.{Group, group_after_outcome, with_record}

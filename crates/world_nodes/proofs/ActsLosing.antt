@@ -5,9 +5,9 @@ use Rattle.std.specs.Prelude.{slice_get, slice_set}
 use Rattle.master.specs.ballot_base.declared.message.Message.{Message}
 use Rattle.master.specs.snapshots.World.{messages}
 use Rattle.byte_world.specs.broker_spec.declared.command.Command.{Command}
-use Rattle.world_base.specs.declared.item.Item.{Item}
-use Rattle.world_base.specs.declared.item.Item.TheVariants.{Peer, Tick, Opened, Bytes, Ended, Expel, Cut, Crash}
-use Rattle.world_base.specs.Core.{CoreState, CountedCore, StepOutcome}
+use Rattle.node_core.specs.declared.item.Item.{Item}
+use Rattle.node_core.specs.declared.item.Item.TheVariants.{Peer, Tick, Opened, Bytes, Ended, Expel, Cut, Crash}
+use Rattle.node_core.specs.Core.{CoreState, CountedCore, StepOutcome}
 use Rattle.byte_world.specs.node_moves.ItemRuns.{IsRunOn, heard_with, is_cut}
 use Rattle.byte_world.specs.node_moves.Moves.NodeCall.{takes}
 use Rattle.byte_world.proofs.of_node_moves.LossesAreMoves.{losses_are_moves}

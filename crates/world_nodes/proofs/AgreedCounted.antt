@@ -9,7 +9,7 @@ use Rattle.master.specs.ballot_base.declared.status.Status.{Status}
 use Rattle.master.specs.agreement.MasterState.{MasterState}
 use Rattle.byte_world.specs.broker_spec.declared.command.Command.{Command}
 use Rattle.byte_world.specs.broker_base.State.{State}
-use Rattle.world_base.specs.Core.{CoreState, CountedCore, rules}
+use Rattle.node_core.specs.Core.{CoreState, CountedCore, rules}
 use Rattle.byte_world.specs.node_group.Group.{Group, moment_of_nodes, replica_of}
 use Rattle.byte_world.proofs.of_node_group.Placed.{get_mapped}
 use Rattle.master.specs.Inside.{HasCounted, HoldsAt, IsShort, ToldIn, held_by, least_but_one}

@@ -11,8 +11,8 @@ use Rattle.byte_world.specs.broker_spec.declared.command.Command.{Command}
 use Rattle.master.specs.Inside.{ToldIn}
 use Rattle.master.specs.snapshots.World.{messages, recorded}
 use Rattle.master.proofs.Archived.{begins_by, recorded_by, taken_back}
-use Rattle.world_base.specs.declared.item.Item.TheVariants.{Cut}
-use Rattle.world_base.specs.Core.{CountedCore}
+use Rattle.node_core.specs.declared.item.Item.TheVariants.{Cut}
+use Rattle.node_core.specs.Core.{CountedCore}
 use Rattle.byte_world.specs.node_moves.Moves.NodeCall.{takes}
 use Rattle.byte_world.specs.node_group.Group.{replica_of}
 use Rattle.byte_world.proofs.of_node_group.Placed.{get_mapped}

@@ -3,7 +3,7 @@ use Rattle.std.proofs.Common.{◌≡◌, inl, inr, ◌-◌, ℕ, refl, subst}
 use Rattle.std.specs.Prelude.{OnOk, Result, Ok, Err}
 use Rattle.byte_world.specs.broker_spec.Place.{Client}
 use Rattle.master.specs.declared.event.Idle.{Idle}
-use Rattle.world_base.specs.declared.item.Item.TheVariants.{Expel}
+use Rattle.node_core.specs.declared.item.Item.TheVariants.{Expel}
 use Rattle.byte_world.specs.node_moves.Moves.NodeCall.{takes}
 use Rattle.world_nodes.specs.Nodes.{NodesState}
 use Rattle.world_nodes.specs.ExactSteps.{NodeDoesCall, TakesExactly}

@@ -4,10 +4,10 @@ use Rattle.std.specs.Prelude.{get_or, slice_get, slice_set}
 use Rattle.std.proofs.lemmas.List.{append-nil}
 use Rattle.master.specs.ballot_base.declared.message.Message.{Message}
 use Rattle.byte_world.specs.broker_spec.declared.command.Command.{Command}
-use Rattle.world_base.specs.declared.Handed.{Handed}
-use Rattle.world_base.specs.declared.Port.{Port}
-use Rattle.world_base.specs.Core.{CountedCore}
-use Rattle.world_base.specs.Handing.{handed_after, pending_bytes, hands_over, listed_at}
+use Rattle.node_core.specs.declared.Handed.{Handed}
+use Rattle.node_core.specs.declared.Port.{Port}
+use Rattle.node_core.specs.Core.{CountedCore}
+use Rattle.node_core.specs.Handing.{handed_after, pending_bytes, hands_over, listed_at}
 use Rattle.byte_world.proofs.of_node_group.Placed.{set_same}
 use Rattle.world_nodes.specs.Nodes.{NodesState}
 use Rattle.world_nodes.specs.ExactSteps.{AnswersFor, GivesExactly, HandsOver}

@@ -13,7 +13,7 @@ use Rattle.master.specs.ballot_base.declared.message.Message.{Message}
 use Rattle.master.specs.agreement.MasterState.{AssignRefusal, MasterState, activating, assigning, is_granted, master_after, refusal}
 use Rattle.master.specs.snapshots.Masters.{activated, assigned}
 use Rattle.byte_world.specs.broker_spec.declared.command.Command.{Command}
-use Rattle.world_base.specs.declared.item.Item.TheVariants.{Peer}
+use Rattle.node_core.specs.declared.item.Item.TheVariants.{Peer}
 use Rattle.byte_world.specs.node_moves.Moves.NodeCall.{takes}
 use Rattle.byte_world.specs.node_group.Group.{Group, told_by_master, with_master}
 use Rattle.byte_world.specs.node_group.Steps.{GroupStep, after_assign}

@@ -10,7 +10,7 @@ use Rattle.master.specs.ballot_base.declared.config.Config.{Config}
 use Rattle.master.specs.agreement.MasterState.AssignRefusal.{bad_members, ballots_spent}
 use Rattle.master.specs.agreement.MasterState.{AssignRefusal, MasterState, activating, assigning, is_granted, refusal}
 use Rattle.byte_world.specs.broker_spec.declared.command.Command.{Command}
-use Rattle.world_base.specs.Core.{rules}
+use Rattle.node_core.specs.Core.{rules}
 use Rattle.byte_world.specs.node_group.Group.{Group, moment_of_nodes, with_master}
 use Rattle.master.specs.declared.error.AssignError.{AssignError}
 use Rattle.master.specs.declared.error.AssignError.TheVariants.{BadMembers, BallotsSpent}

@@ -5,7 +5,7 @@ use Rattle.master.specs.agreement.MasterState.{MasterState, opening_master}
 use Rattle.master.specs.ballot_base.declared.config.Config.{Config}
 use Rattle.master.specs.ballot_base.declared.message.Message.{Message}
 use Rattle.byte_world.specs.broker_spec.declared.command.Command.{Command}
-use Rattle.world_base.specs.Core.{CoreState, CountedCore, opening_core}
+use Rattle.node_core.specs.Core.{CoreState, CountedCore, opening_core}
 use Rattle.byte_world.specs.node_group.Group.{opening_cores, opening_group}
 use Rattle.world_nodes.specs.Nodes.{NodesStandFor, cores_of}
 

@@ -21,13 +21,13 @@ use Rattle.byte_world.specs.broker_spec.declared.command.Command.{Command}
 use Rattle.byte_world.specs.broker_spec.declared.command.Output.{Output}
 use Rattle.byte_world.specs.broker_base.State.{State as BrokerState}
 use Rattle.byte_world.specs.node_connections.Connections.{has_failed}
-use Rattle.world_base.specs.declared.item.Item.{Item}
-use Rattle.world_base.specs.declared.item.Item.TheVariants.{Peer}
-use Rattle.world_base.specs.Core.{CoreState, CountedCore, rules}
-use Rattle.world_base.specs.Losses.{DoesNothing, IsExactly, IsHeardQuietly, IsIgnored, NodeStepped, ItemTakesNoMemory}
-use Rattle.world_base.specs.LossyStep.{RunsOn}
-use Rattle.world_base.specs.Step.{node_step}
-use Rattle.world_base.proofs.Calmly.{says_nothing}
+use Rattle.node_core.specs.declared.item.Item.{Item}
+use Rattle.node_core.specs.declared.item.Item.TheVariants.{Peer}
+use Rattle.node_core.specs.Core.{CoreState, CountedCore, rules}
+use Rattle.node_core.specs.Losses.{DoesNothing, IsExactly, IsHeardQuietly, IsIgnored, NodeStepped, ItemTakesNoMemory}
+use Rattle.node_core.specs.LossyStep.{RunsOn}
+use Rattle.node_core.specs.Step.{node_step}
+use Rattle.node_core.proofs.Calmly.{says_nothing}
 use Rattle.byte_world.specs.node_group.Group.{moment_of_nodes}
 use Rattle.byte_world.specs.node_moves.Moves.NodeCall.{takes}
 use Rattle.world_nodes.specs.Nodes.{NodesState}

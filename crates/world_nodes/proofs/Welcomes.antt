@@ -13,7 +13,7 @@ use Rattle.byte_world.specs.broker_base.State.{State}
 use Rattle.master.specs.Inside.{ToldIn}
 use Rattle.master.specs.snapshots.Laws.{IsCutRight}
 use Rattle.master.proofs.of_snapshots.PastsAgree.{logs_are_cut_right}
-use Rattle.world_base.specs.Core.{CoreState, CountedCore, rules}
+use Rattle.node_core.specs.Core.{CoreState, CountedCore, rules}
 use Rattle.byte_world.specs.node_group.Group.{moment_of_nodes, replica_of}
 use Rattle.byte_world.proofs.of_node_group.Placed.{get_mapped}
 use Rattle.world_nodes.specs.Asking.{first_connection, is_welcome, whole_log_in, whole_log_of, welcomes_back}

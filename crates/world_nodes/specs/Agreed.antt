@@ -5,7 +5,7 @@ use Rattle.master.specs.snapshots.Moments.{IsAgreed, Moment, Moments}
 use Rattle.byte_world.specs.broker_spec.declared.command.Command.{Command}
 use Rattle.byte_world.specs.broker_spec.declared.command.Output.{Output}
 use Rattle.byte_world.specs.broker_base.State.{State}
-use Rattle.world_base.specs.Core.{rules}
+use Rattle.node_core.specs.Core.{rules}
 use Rattle.byte_world.specs.node_group.Group.{Group, moment_of_nodes}
 use Rattle.world_nodes.specs.Nodes.{NodesState, NodesStandFor}
 

@@ -11,7 +11,7 @@ use Rattle.byte_world.specs.broker_spec.Connection.{ConnectionName}
 use Rattle.byte_world.specs.broker_spec.declared.command.Output.{Output}
 use Rattle.byte_world.specs.broker_spec.declared.command.Output.TheVariants.{Send}
 use Rattle.byte_world.specs.broker_spec.Place.{Client}
-use Rattle.world_base.specs.Core.{CountedCore, rules}
+use Rattle.node_core.specs.Core.{CountedCore, rules}
 use Rattle.world_nodes.specs.Running.{numbered_node}
 use Rattle.world_nodes.specs.Nodes.{NodesState}
 

@@ -8,12 +8,12 @@ use Rattle.master.specs.ballot_base.Sending.{master}
 use Rattle.master.specs.snapshots.Masters.{MasterOutcome, activated, assigned}
 use Rattle.master.specs.snapshots.World.{messages, recorded}
 use Rattle.byte_world.specs.broker_spec.declared.command.Command.{Command}
-use Rattle.world_base.specs.Core.{CountedCore}
-use Rattle.world_base.specs.declared.Handed.{Handed}
-use Rattle.world_base.specs.declared.item.Item.{Item}
-use Rattle.world_base.specs.declared.item.Item.TheVariants.{Cut, Peer}
-use Rattle.world_base.specs.declared.Port.{Port}
-use Rattle.world_base.specs.Handing.{handed_after, pending_bytes, listed_at}
+use Rattle.node_core.specs.Core.{CountedCore}
+use Rattle.node_core.specs.declared.Handed.{Handed}
+use Rattle.node_core.specs.declared.item.Item.{Item}
+use Rattle.node_core.specs.declared.item.Item.TheVariants.{Cut, Peer}
+use Rattle.node_core.specs.declared.Port.{Port}
+use Rattle.node_core.specs.Handing.{handed_after, pending_bytes, listed_at}
 use Rattle.byte_world.specs.node_moves.Moves.{NodeCall, done}
 use Rattle.byte_world.specs.node_moves.Moves.NodeCall.{takes, gives}
 use Rattle.byte_world.specs.node_group.Group.{Group}

@@ -5,7 +5,7 @@ use Rattle.master.specs.ballot_base.declared.message.Body.{Body}
 use Rattle.master.specs.ballot_base.declared.message.Body.TheVariants.{Activate}
 use Rattle.master.specs.ballot_base.declared.message.Message.{Message}
 use Rattle.byte_world.specs.broker_spec.declared.command.Command.{Command}
-use Rattle.world_base.specs.declared.item.Item.TheVariants.{Peer}
+use Rattle.node_core.specs.declared.item.Item.TheVariants.{Peer}
 use Rattle.byte_world.specs.node_moves.Moves.{NodeCall}
 use Rattle.byte_world.specs.node_moves.Moves.NodeCall.{takes}
 use Rattle.byte_world.specs.node_group.Group.{Group}

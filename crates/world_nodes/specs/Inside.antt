@@ -10,13 +10,13 @@ use Rattle.master.specs.ballot_base.Losses.{Thinned, greatest_count}
 use Rattle.master.specs.ballot_base.declared.message.Message.{Message}
 use Rattle.byte_world.specs.broker_spec.declared.command.Command.{Command}
 use Rattle.byte_world.specs.broker_spec.declared.command.Output.{Output}
-use Rattle.world_base.specs.declared.item.Item.{Item}
-use Rattle.world_base.specs.declared.item.Item.TheVariants.{Cut, Peer}
-use Rattle.world_base.specs.Core.{CountedCore, rules}
+use Rattle.node_core.specs.declared.item.Item.{Item}
+use Rattle.node_core.specs.declared.item.Item.TheVariants.{Cut, Peer}
+use Rattle.node_core.specs.Core.{CountedCore, rules}
 use Rattle.byte_world.specs.node_connections.Connections.{has_failed}
-use Rattle.world_base.specs.Losses.{DoesNothing, ItemTakesNoMemory}
-use Rattle.world_base.specs.LossyStep.{RunsOn}
-use Rattle.world_base.specs.Step.{node_step}
+use Rattle.node_core.specs.Losses.{DoesNothing, ItemTakesNoMemory}
+use Rattle.node_core.specs.LossyStep.{RunsOn}
+use Rattle.node_core.specs.Step.{node_step}
 use Rattle.master.specs.Inside.{IsGroup, ToldIn, held_by}
 use Rattle.byte_world.specs.node_group.Group.{Group, moment_of_nodes, replica_of}
 use Rattle.world_nodes.specs.Running.{running}

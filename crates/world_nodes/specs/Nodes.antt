@@ -3,7 +3,7 @@ use Rattle.std.specs.Prelude.{◌≡◌, ℕ, List, map}
 use Rattle.master.specs.ballot_base.declared.message.Message.{Message}
 use Rattle.master.specs.agreement.MasterState.{MasterState}
 use Rattle.byte_world.specs.broker_spec.declared.command.Command.{Command}
-use Rattle.world_base.specs.Core.{CoreState, CountedCore}
+use Rattle.node_core.specs.Core.{CoreState, CountedCore}
 use Rattle.byte_world.specs.node_group.Group.{Group}
 
 -- Node n + 1 is at index n; all messages that were ever sent stay, each with its receiver. The

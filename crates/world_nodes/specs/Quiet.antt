@@ -7,12 +7,12 @@ use Rattle.master.specs.ballot_base.declared.message.Body.TheVariants.{Activate}
 use Rattle.master.specs.ballot_base.declared.message.Message.{Message}
 use Rattle.byte_world.specs.broker_spec.declared.command.Command.{Command}
 use Rattle.byte_world.specs.node_connections.Connections.{has_failed}
-use Rattle.world_base.specs.declared.item.Item.{Item}
-use Rattle.world_base.specs.declared.item.Item.TheVariants.{Peer}
-use Rattle.world_base.specs.declared.Port.{Port}
-use Rattle.world_base.specs.Core.{CountedCore}
-use Rattle.world_base.specs.Handing.{pending_bytes, listed_at}
-use Rattle.world_base.specs.Losses.{ItemTakesNoMemory}
+use Rattle.node_core.specs.declared.item.Item.{Item}
+use Rattle.node_core.specs.declared.item.Item.TheVariants.{Peer}
+use Rattle.node_core.specs.declared.Port.{Port}
+use Rattle.node_core.specs.Core.{CountedCore}
+use Rattle.node_core.specs.Handing.{pending_bytes, listed_at}
+use Rattle.node_core.specs.Losses.{ItemTakesNoMemory}
 use Rattle.world_nodes.specs.Running.{numbered_node, running}
 use Rattle.world_nodes.specs.Nodes.{NodesState}
 

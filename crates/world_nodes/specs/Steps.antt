@@ -9,10 +9,10 @@ use Rattle.master.specs.ballot_base.Losses.{Thinned, greatest_count, one_more}
 use Rattle.master.specs.ballot_base.declared.message.Message.{Message}
 use Rattle.byte_world.specs.broker_spec.declared.command.Command.{Command}
 use Rattle.byte_world.specs.broker_spec.declared.command.Output.{Output}
-use Rattle.world_base.specs.declared.item.Item.{Item}
-use Rattle.world_base.specs.declared.item.Item.TheVariants.{Cut, Expel, Peer}
-use Rattle.world_base.specs.Core.{CountedCore}
-use Rattle.world_base.specs.LossyStep.{RunsOn}
+use Rattle.node_core.specs.declared.item.Item.{Item}
+use Rattle.node_core.specs.declared.item.Item.TheVariants.{Cut, Expel, Peer}
+use Rattle.node_core.specs.Core.{CountedCore}
+use Rattle.node_core.specs.LossyStep.{RunsOn}
 use Rattle.byte_world.specs.node_moves.Moves.NodeCall.{takes}
 use Rattle.world_nodes.specs.ExactSteps.{after_answer, after_node_call, after_giving}
 use Rattle.world_nodes.specs.Running.{cutting, running}

@@ -12,13 +12,13 @@ ghost use Rattle.world_nodes.specs.Running.{running};
 ghost use Rattle.world_nodes.specs.Quiet.{ComesUnheeded, RestsAt};
 ghost use Rattle.world_nodes.specs.Steps.{ComesIn, CutsIn, GivesIn, HearsIn, NodesLoseNothing, TakesIn, nodes_with_loss};
 ghost use Rattle.world_nodes.specs.GroupSteps.{ActsOrRests, ComesOrRests, MasterGoes};
-ghost use Rattle.world_base.specs.Core.{CountedCore};
+ghost use Rattle.node_core.specs.Core.{CountedCore};
 ghost use Rattle.world_nodes.specs.Inside.{IsPassedOver, RunsAt, ItemWasSent};
 
 use crate::nodes::Nodes;
 use crate::stepping::{cut_back, pass_over, step_node};
 use master::{Idle, activation_answer, config_of, counted, record, send};
-use world_base::{Body, BrokerMachine, Command, Config, Item, Members, Memory, Message};
+use node_core::{Body, BrokerMachine, Command, Config, Item, Members, Memory, Message};
 
 impl Nodes {
     /// Lets a node that runs take an item. `Idle` comes if it is unknown or has stopped.

@@ -7,7 +7,7 @@ ghost use Rattle.world_nodes.specs.Agreed.{AgreeOn, AgreeOnSoMany};
 ghost use Rattle.world_nodes.specs.Inside.{held_at, replicas_of};
 
 use crate::nodes::Nodes;
-use world_base::Command;
+use node_core::Command;
 
 impl Nodes {
     /// Returns the agreed list, the longest that is chosen in a ballot that was active, in two

@@ -3,15 +3,15 @@
 ghost use Rattle.std.specs.Prelude.{◌≡◌, ◌<◌, ◌++◌, ◌↔◌, [], ◌∷◌, None, Some, true, false, IfOk, OnOk};
 ghost use Rattle.master.specs.agreement.MasterState.{refusal};
 ghost use Rattle.master.specs.machine.Machine.{replay_from};
-ghost use Rattle.world_base.specs.Core.{CountedCore, rules};
+ghost use Rattle.node_core.specs.Core.{CountedCore, rules};
 ghost use Rattle.world_nodes.specs.Asking.{first_connection, is_present, is_welcome, whole_log_of, welcomes_back};
 ghost use Rattle.world_nodes.specs.Running.{numbered_node};
 
 use crate::nodes::Nodes;
 use ballot::Machine;
+use node_core::{BrokerMachine, Command, Config, ConnectionName, Memory, Output};
 use packet::{ClientId, Connack, Packet};
 use std::alloc::Global;
-use world_base::{BrokerMachine, Command, Config, ConnectionName, Memory, Output};
 
 impl Nodes {
     /// Says whether the master gives the next ballot to a configuration when [`Nodes::assign`] asks

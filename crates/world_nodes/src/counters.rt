@@ -6,8 +6,8 @@ ghost use Rattle.master.specs.lists.Lists.{In};
 ghost use Rattle.master.specs.Inside.{HasCounted, least_but_one};
 
 use master::{Told, follow_ballot};
+use node_core::{Command, Memory, Message};
 use std::alloc::Global;
-use world_base::{Command, Memory, Message};
 
 /// What was acknowledged in the active ballot, and in the one that waits. Its calls take no memory,
 /// except `new`.

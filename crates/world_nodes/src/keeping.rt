@@ -6,7 +6,7 @@ ghost use Rattle.master.specs.snapshots.World.{messages};
 ghost use Rattle.master.specs.ballot_base.Losses.{Thinned};
 ghost use Rattle.world_nodes.specs.Inside.{KeepsMessages};
 
-use world_base::{Command, Effect, Message, Output};
+use node_core::{Command, Effect, Message, Output};
 
 /// Puts the messages among effects after those that were sent. A message for which there is no
 /// memory is lost. Returns whether none was lost.

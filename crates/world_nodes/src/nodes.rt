@@ -16,12 +16,12 @@ ghost use Rattle.world_nodes.specs.GroupSteps.{ActsOrRests, ComesOrRests, Master
 
 use crate::counters::Counters;
 use master::{Idle, Master, asks_for, can_open, copy_of};
+use node_core::{
+    BrokerMachine, Command, Config, Handed, Item, Message, NodeCore, OpeningError, Piece, Port,
+};
 use packet::ClientId;
 use std::alloc::Global;
 use std::marker::Model;
-use world_base::{
-    BrokerMachine, Command, Config, Handed, Item, Message, NodeCore, OpeningError, Piece, Port,
-};
 
 /// Nodes with the connections of their clients, their master, and all messages that they ever sent:
 /// any may come late, again or never. Nodes are numbered from 1, messages from 0 in the order of

@@ -2,12 +2,12 @@
 
 ghost use Rattle.std.specs.Prelude.{◌≡◌, ◌<◌, true, take, length, slice_get, if◌then◌else◌, IfSome};
 ghost use Rattle.master.specs.ballot_base.Losses.{greatest_count};
-ghost use Rattle.world_base.specs.Losses.{DoesNothing};
+ghost use Rattle.node_core.specs.Losses.{DoesNothing};
 ghost use Rattle.world_nodes.specs.Inside.{TookItem};
 
 use crate::keeping::keep_all;
+use node_core::{Command, Item, Message, NodeCore};
 use std::alloc::Global;
-use world_base::{Command, Item, Message, NodeCore};
 
 /// Lets a node take an item; its messages are put after those that were sent. Returns whether
 /// memory sufficed.

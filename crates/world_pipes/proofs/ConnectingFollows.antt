@@ -16,7 +16,7 @@ use Rattle.client.specs.client_base.Keeper.{Keeper}
 use Rattle.client.specs.client_base.Steps.{Call, keeper_step}
 use Rattle.client.specs.Core.{AppendsAll, Core, OpensConnection}
 use Rattle.byte_world.specs.node_moves.Puts.{spelled}
-use Rattle.world_base.specs.declared.Port.{Port}
+use Rattle.node_core.specs.declared.Port.{Port}
 use Rattle.byte_world.specs.World.{ClientPipes, new_client}
 use Rattle.byte_world.specs.ClientSteps.{after_connecting}
 use Rattle.world_pipes.specs.declared.way.Way.{Way}

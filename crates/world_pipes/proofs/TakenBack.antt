@@ -9,7 +9,7 @@ use Rattle.client.specs.client_base.State.{ClientState}
 use Rattle.client.specs.client_base.Steps.{Call, keeper_step}
 use Rattle.client.proofs.of_client_base.FollowsHandled.{lost_stands}
 use Rattle.client.specs.Core.{Core, gone}
-use Rattle.world_base.specs.declared.Port.{Port}
+use Rattle.node_core.specs.declared.Port.{Port}
 use Rattle.world_pipes.specs.declared.way.Way.{Way}
 use Rattle.world_pipes.specs.Following.{FollowsAll, after_losing}
 use Rattle.world_pipes.specs.Piped.{SendsConnect, Piped, new_way, piped, taken_back}

@@ -9,7 +9,7 @@ use Rattle.client.specs.client_base.Handled.{lost}
 use Rattle.byte_world.specs.packet_world.Steps.{is_call}
 use Rattle.client.specs.session_base.declared.publication.Publication.{Publication}
 use Rattle.byte_world.specs.exactly_once.Story.{StoryStep, Story}
-use Rattle.world_base.specs.declared.Port.{Port}
+use Rattle.node_core.specs.declared.Port.{Port}
 use Rattle.byte_world.specs.World.{ClientPipes, after_writing}
 use Rattle.byte_world.specs.ClientSteps.{WritesCanBeSpelled, after_connecting, story_alone}
 use Rattle.byte_world.specs.Published.{published_by_call}

@@ -9,7 +9,7 @@ use crate::piped_client::PipedClient;
 use crate::sending::{Sending, send_up};
 use crate::way::Way;
 use client::ClientError;
-use world_base::Port;
+use node_core::Port;
 
 impl PipedClient {
     /// Opens a connection to the node at this index, which is to know it by this port: CONNECT is

@@ -13,6 +13,6 @@ mod way;
 
 pub use client::{Accepted, ClientCore, ClientError};
 pub use laws::clients_step_in_worlds;
+pub use node_core::Port;
 pub use piped_client::PipedClient;
 pub use sending::Sending;
-pub use world_base::Port;

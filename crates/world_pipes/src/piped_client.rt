@@ -10,10 +10,10 @@ ghost use Rattle.world_pipes.specs.StandsFor.{ClientStandsFor};
 
 use crate::way::Way;
 use client::ClientCore;
+use node_core::Port;
 use packet::ClientId;
 use std::alloc::Global;
 use std::marker::Model;
-use world_base::Port;
 
 /// A client with all its connections, the oldest first, and the bytes in transit on each. It holds
 /// at most the newest one; what is in transit to nodes on the others still comes up, and the client

@@ -1,7 +1,7 @@
 // What writes to the connections of a node, and which of them it writes to.
 
 ghost use Rattle.std.specs.Prelude.{ℕ, ◌≡◌, []};
-ghost use Rattle.node.specs.world_base.Core.{opening_core};
+ghost use Rattle.node.specs.node_core.Core.{opening_core};
 
 use crate::blocked_links::BlockedLinks;
 use node::{Config, Gate, Node, NodeNaming, Stated};

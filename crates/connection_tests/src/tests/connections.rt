@@ -7,9 +7,9 @@ use super::fakes::{Sink, Source};
 use connection::{
     Ending, Flow, Hearer, Outflow, Outlet, Tap, Unwritten, report_connection, write_out,
 };
+use devices::Counted;
 use mailbox::{Inbox, Lane, Naming, Receiver};
 use node::{Config, Handed, Item, Members, Memory, NodeCore, Piece, Port};
-use node_base::Counted;
 use std::alloc::Global;
 use std::io::ErrorKind;
 use std::marker::Brand;

@@ -1,5 +1,5 @@
 use Rattle.std.proofs.Common.{[], refl, subst, inl, inr}
-use Rattle.world_base.specs.declared.Handed.{Handed}
+use Rattle.node_core.specs.declared.Handed.{Handed}
 use Rattle.connection.proofs.WritesJoin.{writes_alone, writes_behind}
 use Rattle.connection.proofs.flow.write_out.Goals as goal
 

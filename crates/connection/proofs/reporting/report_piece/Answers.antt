@@ -1,7 +1,7 @@
 use Rattle.std.specs.Prelude.{take, refl}
 use Rattle.std.proofs.Common.{◌≡◌, ◌∷◌, ◌++◌, [], ◌∙◌, ap, arith}
 use Rattle.std.proofs.lemmas.List.{append-nil, length-take-le}
-use Rattle.world_base.specs.declared.item.Item.TheVariants.{Bytes}
+use Rattle.node_core.specs.declared.item.Item.TheVariants.{Bytes}
 use Rattle.connection.proofs.reporting.report_piece.Goals as goal
 
 pub returns-clause-hears : goal.returns-clause-hears

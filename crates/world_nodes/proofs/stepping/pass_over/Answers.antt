@@ -3,7 +3,7 @@ use Rattle.std.specs.Prelude.{IfSome}
 use Rattle.master.specs.ballot_base.declared.message.Message.{Message}
 use Rattle.byte_world.specs.broker_spec.declared.command.Command.{Command}
 use Rattle.master.proofs.Counting.{get_there}
-use Rattle.world_base.specs.declared.item.Item.TheVariants.{Peer}
+use Rattle.node_core.specs.declared.item.Item.TheVariants.{Peer}
 use Rattle.world_nodes.specs.Inside.{TookItem}
 use Rattle.world_nodes.proofs.Resting.{took_in}
 use Rattle.world_nodes.proofs.stepping.pass_over.Goals as goal

@@ -1,0 +1,30 @@
+-- Connections that were closed because there was no room for what was to be sent: their loss is
+-- reported to the broker.
+use Rattle.std.specs.Prelude.{length, Option, Some, None}
+use Rattle.std.specs.List.{find}
+use Rattle.broker_spec.specs.declared.command.Command.TheVariants as commands
+use Rattle.node_connections.specs.declared.connection.Connection.{Connection}
+use Rattle.node_connections.specs.Connections.{has_failed}
+use Rattle.node_connections.specs.ConnectionChanges.{closed_connection, changed_where}
+use Rattle.node_core.specs.Core.{CoreState, StepOutcome}
+use Rattle.node_core.specs.Effects.{without_messages, proposes, repeated}
+
+-- the first failed connection is closed for good
+abbrev pub closes_failed : CoreState → CoreState
+closes_failed core = record core {
+  connections =
+      changed_where has_failed closed_connection core.connections;
+}
+
+-- a failed connection, if there is one, is closed for good, and its loss is proposed
+abbrev pub loses_if : Option Connection → CoreState → StepOutcome
+loses_if None core = without_messages core
+loses_if (Some c) core = proposes (commands.Lost c.name) (closes_failed core)
+
+-- the loss of the first failed connection is reported to the broker
+unfoldable pub loses_failed : CoreState → StepOutcome
+loses_failed core = loses_if (find has_failed core.connections) core
+
+-- the loss of all failed connections is reported; what is then sent may close others, reported too
+abbrev pub loses_all_failed : CoreState → StepOutcome
+loses_all_failed core = repeated (length core.connections) loses_failed core

@@ -1,0 +1,84 @@
+-- How each connection changes in a step of a node in which memory may run out: one with a gap is
+-- closed.
+use Rattle.std.specs.Prelude.{◌≡◌, ◌⊎◌, ℕ, true, false, if◌then◌else◌, List, [], ◌∷◌, ◌++◌}
+use Rattle.broker_spec.specs.Connection.{ConnectionName, same_connection}
+use Rattle.broker_spec.specs.declared.command.Command.{Command}
+use Rattle.broker_spec.specs.declared.command.Output.{Output}
+use Rattle.broker_spec.specs.declared.command.Output.TheVariants as outputs
+use Rattle.node_connections.specs.packet_base.declared.refusal_code.RefusalCode.{RefusalCode}
+use Rattle.packet.specs.declared.packet.Packet.TheVariants as packets
+use Rattle.packet.specs.declared.connack.Connack.TheVariants as connacks
+use Rattle.packet.specs.Spelling.{spelling}
+use Rattle.ballot.specs.lists.Lists.{Each, IsPrefixOf}
+use Rattle.ballot.specs.ballot_base.declared.message.Effect.{Effect}
+use Rattle.ballot.specs.ballot_base.declared.message.Effect.TheVariants.{To, Out}
+use Rattle.node_core.specs.declared.item.Item.{Item}
+use Rattle.node_core.specs.declared.item.Item.TheVariants.{Opened}
+use Rattle.node_connections.specs.declared.connection.Connection.{Connection}
+use Rattle.node_connections.specs.Connections.{fresh, is_closed}
+use Rattle.node_core.specs.Core.{CoreState}
+use Rattle.node_core.specs.Lossy.{Account}
+use Rattle.node_core.specs.LossyStep.{ActsOn}
+use Rattle.node_core.specs.Step.{next_name}
+
+-- the bytes of one output for a connection: none if it is for another
+abbrev pub bytes_by : Output → ConnectionName → List ℕ
+bytes_by (outputs.Send to packet) name = if same_connection name to then spelling packet else []
+bytes_by (outputs.Close to) name = []
+
+-- the bytes of all that the replica output for a connection, in order
+abbrev pub bytes_for : List (Effect Command Output) → ConnectionName → List ℕ
+bytes_for [] name = []
+bytes_for (Out place output ∷ given) name = bytes_by output name ++ bytes_for given name
+bytes_for (To receiver message ∷ given) name = bytes_for given name
+
+-- the answer of the node itself to a CONNECT that is refused with a code (MQTT 3.2.2.3)
+abbrev pub IsRefusalOfConnect : List ℕ → Type 0
+IsRefusalOfConnect bytes =
+    (code : RefusalCode) × (bytes ≡ spelling (packets.Connack (connacks.Refused code)))
+
+-- A connection after a step has the port and the name from before. If it was closed, it still is,
+-- with the same bytes to hand over. If it is open, it was open, and all these bytes were appended
+-- to what was to be handed over. If it was closed meanwhile, a prefix of these bytes was, and
+-- perhaps the node's refusal.
+pub record ConnectionGoesOn (bytes : List ℕ) (c d : Connection) : Type 0 where
+  pub port : d.port ≡ c.port
+  pub name : d.name ≡ c.name
+  pub closed : is_closed c.stage ≡ true → (is_closed d.stage ≡ true) × (d.pending ≡ c.pending)
+  pub whole : is_closed d.stage ≡ false → d.pending ≡ c.pending ++ bytes
+  pub prefix : List ℕ
+  pub answer : List ℕ
+  pub begins : IsPrefixOf prefix bytes
+  pub refusal : (answer ≡ []) ⊎ IsRefusalOfConnect answer
+  pub put : d.pending ≡ c.pending ++ (prefix ++ answer)
+
+-- each connection of a list goes on (`ConnectionGoesOn`), in order, and none is added or removed
+abbrev pub EachGoesOn : List (Effect Command Output) → List Connection → List Connection → Type 0
+EachGoesOn given [] [] = Unit {0}
+EachGoesOn given [] (d ∷ ds) = ⊥
+EachGoesOn given (c ∷ cs) [] = ⊥
+EachGoesOn given (c ∷ cs) (d ∷ ds) =
+    ConnectionGoesOn (bytes_for given c.name) c d × EachGoesOn given cs ds
+
+-- no two have the same name
+abbrev pub AreNamedApart : List Connection → Type 0
+AreNamedApart [] = Unit {0}
+AreNamedApart (c ∷ cs) =
+    Each (λ (d : Connection). same_connection d.name c.name ≡ false) cs × AreNamedApart cs
+
+-- an item opens at most one connection, at its port, with the next name
+abbrev pub OpensAtMostOne : Item → CoreState → List Connection → Type 0
+OpensAtMostOne (Opened port now) core new = (new ≡ []) ⊎ (new ≡ fresh port (next_name core) ∷ [])
+OpensAtMostOne _ core new = new ≡ []
+
+-- what a step does before connections are settled, if no two have the same name, or will get one
+pub record GoOn (item : Item) (core : CoreState) (did : Account) : Type 0 where
+  pub new : List Connection
+  pub is_new : OpensAtMostOne item core new
+  pub each : AreNamedApart (core.connections ++ new) →
+      EachGoesOn did.given (core.connections ++ new) did.core.connections
+
+-- connections go on (`GoOn`) in each step that is allowed on an item, even if memory runs out
+abbrev pub AGapIsClosed : Type 0
+AGapIsClosed =
+    (item : Item) (core : CoreState) (did : Account) → ActsOn item core did → GoOn item core did

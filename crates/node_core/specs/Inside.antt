@@ -1,0 +1,106 @@
+-- What the helpers of a step ensure about it.
+use Rattle.std.specs.Prelude.{◌≡◌, Bool, true, false, List, [], ◌++◌, None}
+use Rattle.std.specs.List.{find}
+use Rattle.broker.specs.broker_base.State.{State}
+use Rattle.broker_spec.specs.Connection.{ConnectionName}
+use Rattle.broker_spec.specs.declared.command.Command.{Command}
+use Rattle.broker_spec.specs.declared.command.Command.TheVariants as commands
+use Rattle.broker_spec.specs.declared.command.Output.{Output}
+use Rattle.ballot.specs.ballot_base.declared.message.Effect.{Effect}
+use Rattle.ballot.specs.ballot_base.Losses.{DoneOrLost, StepsOrLost}
+use Rattle.ballot.specs.ballot_base.Replica.{CountedReplica}
+use Rattle.ballot.specs.ballot_base.Sending.{Outcome}
+use Rattle.ballot.specs.ballot_base.Serving.{added}
+use Rattle.packet.specs.declared.packet.Packet.{Packet}
+use Rattle.node_core.specs.Core.{CoreState, StepOutcome, rules}
+use Rattle.node_connections.specs.declared.port.Port.{Port}
+use Rattle.node_connections.specs.Connections.{has_failed}
+use Rattle.node_core.specs.LossyReading.{TakesFirstPacket, ProposesPacket}
+use Rattle.node_core.specs.Lossy.{Account, HandlesAll, TakesCommand, without_effects}
+use Rattle.node_core.specs.LossyProposals.{Declines, ProposesCommand}
+use Rattle.node_core.specs.Effects.{has_room}
+
+-- a node during a step, and whether memory ran out in it
+pub record RunningStep : Type 0 where
+  pub core : CoreState
+  pub out_of_memory : Bool
+
+-- memory did not run out, and no connection failed
+pub record WithoutFailure (old new : RunningStep) : Type 0 where
+  pub out_of_memory : new.out_of_memory ≡ old.out_of_memory
+  pub failed : find has_failed old.core.connections ≡ None →
+      find has_failed new.core.connections ≡ None
+
+-- this is what was done, unless memory ran out
+abbrev pub DoesExactly : RunningStep → RunningStep → CoreState → Type 0
+DoesExactly old new core = new.out_of_memory ≡ false → new ≡ record old { core = core }
+
+-- this is what was done, unless memory ran out; its messages were appended to what was there
+pub record DoesOutcome (old new : RunningStep) (before after : List (Effect Command Output))
+    (done : StepOutcome) : Type 0 where
+  pub given : List (Effect Command Output)
+  pub appended : after ≡ before ++ given
+  pub exact : new.out_of_memory ≡ false →
+      (new ≡ record old { core = done.core }) × (given ≡ done.messages)
+
+-- a step of the replica only
+abbrev pub StepsReplica : RunningStep → RunningStep →
+    Outcome State Command Output → List (Effect Command Output) → Type 0
+StepsReplica old new outcome given = new.out_of_memory ≡ false →
+    (new ≡ record old {
+      core = record old.core {
+        replica = record old.core.replica { state = outcome.state };
+      };
+    })
+    × (given ≡ outcome.effects)
+
+-- what was done, when memory may have run out; the messages that were sent were appended to what
+-- was there
+pub record RanOrLost (Did : CoreState → Account → Type 0) (old new : CoreState)
+    (before after : List (Effect Command Output)) : Type 0 where
+  pub did : Account
+  pub runs : Did old did
+  pub core : new ≡ did.core
+  pub appended : after ≡ before ++ did.messages
+
+-- what the replica output was done; the messages among it were appended to what was there
+pub record HandledAll (given : List (Effect Command Output)) (old new : CoreState)
+    (before after : List (Effect Command Output)) : Type 0 where
+  pub messages : List (Effect Command Output)
+  pub handles : HandlesAll given old new messages
+  pub appended : after ≡ before ++ messages
+
+-- a step of the replica only, or one with losses
+pub record StepsReplicaOrLoses (outcome : Outcome State Command Output) (old new : CoreState)
+    (given : List (Effect Command Output)) : Type 0 where
+  pub replica : CountedReplica State Command
+  pub core : new ≡ record old { replica = replica }
+  pub steps : StepsOrLost rules old.replica outcome replica given
+
+-- a command that was proposed to the replica only, with its answer
+pub record Took (command : Command) (old new : CoreState)
+    (given : List (Effect Command Output)) : Type 0 where
+  pub room : has_room old ≡ true
+  pub replica : CountedReplica State Command
+  pub core : new ≡ record old { replica = replica }
+  pub done : DoneOrLost old.replica (added rules old.replica.state command) replica [] given
+
+-- the replica took the command, or declined it and gave nothing
+abbrev pub Answered : Bool → Command → CoreState → CoreState → List (Effect Command Output) → Type 0
+Answered true command old new given = Took command old new given
+Answered false command old new given = Declines old (without_effects new) × (given ≡ [])
+
+-- a command was taken with its effects, or declined
+abbrev pub ProposedBy : Bool → Command → CoreState → Account → Type 0
+ProposedBy true command core did = TakesCommand command core did
+ProposedBy false command core did = Declines core did
+
+-- a packet that was read is the first of its connection, or a later one
+abbrev pub TakesPacket : Bool → Port → ConnectionName → Packet → CoreState → Account → Type 0
+TakesPacket true port name packet core did = TakesFirstPacket port name packet core did
+TakesPacket false port name packet core did = ProposesPacket port name packet core did
+
+-- a connection that was closed; it is reported to the broker if its CONNECT was proposed
+abbrev pub ReportsLost : Bool → ConnectionName → CoreState → Account → Type 0
+ReportsLost true name core did = ProposesCommand (commands.Lost name) core did
+ReportsLost false name core did = did ≡ without_effects core

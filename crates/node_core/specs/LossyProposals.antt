@@ -1,0 +1,40 @@
+-- What is done with a proposal if memory may run out: it is taken, or the replica declines it.
+use Rattle.std.specs.Prelude.{◌≡◌, ◌⊎◌, true, false}
+use Rattle.broker_spec.specs.declared.command.Command.{Command}
+use Rattle.ballot.specs.ballot_base.Losses.{halted, one_more}
+use Rattle.ballot.specs.ballot_base.Serving.{proposed}
+use Rattle.node_core.specs.Core.{CoreState, rules, serves}
+use Rattle.node_core.specs.Effects.{has_room}
+use Rattle.node_core.specs.Lossy.{Account, without_effects, ReplicaSteps, TakesCommand}
+
+-- a command that it does not take, because it does not serve clients or its log is full, or because
+-- memory ran out: then it counts a loss, and may stop
+pub data Declines (core : CoreState) (did : Account) : Type 0 where
+  -- it serves no clients, or its log is full: nothing changes
+  no_room : has_room core ≡ false → did ≡ without_effects core → Declines core did
+  -- memory ran out: it counts a loss
+  forgets : has_room core ≡ true →
+      did ≡ without_effects
+      (record core { replica = record core.replica { losses = one_more core.replica.losses } }) →
+      Declines core did
+  -- memory ran out: it counts a loss, and it stops
+  stops : has_room core ≡ true →
+      did ≡ without_effects (record core {
+        replica = record {
+          state = halted rules core.replica.state;
+          losses = one_more core.replica.losses;
+        };
+      }) →
+      Declines core did
+
+-- a command is proposed to the replica
+abbrev pub ProposesCommand : Command → CoreState → Account → Type 0
+ProposesCommand command core did = TakesCommand command core did ⊎ Declines core did
+
+-- a proposal is a step of the replica, exact or with losses; if the node does not serve clients, it
+-- is no step
+abbrev pub ProposalsAreSteps : Type 0
+ProposalsAreSteps =
+    (command : Command) (core : CoreState) (did : Account) → ProposesCommand command core did →
+    (serves core ≡ true → ReplicaSteps (proposed rules core.replica.state command) core did)
+    × (serves core ≡ false → did ≡ without_effects core)

@@ -1,0 +1,113 @@
+-- How a connection ends, and how its next packet is read, if memory may run out.
+use Rattle.std.specs.Prelude.{◌≡◌, ◌⊎◌, ℕ, true, false, List, Option, Some, None, Ok, Err}
+use Rattle.std.specs.List.{find}
+use Rattle.node_connections.specs.packet_base.declared.stop.Stop.TheVariants as stops
+use Rattle.node_connections.specs.packet_base.declared.refusal_code.RefusalCode.{RefusalCode}
+use Rattle.packet.specs.declared.packet.Packet.{Packet}
+use Rattle.packet.specs.declared.packet.Packet.TheVariants as packets
+use Rattle.packet.specs.declared.connect.Connect.{Connect}
+use Rattle.packet.specs.Verdict.{verdict}
+use Rattle.broker_spec.specs.Connection.{ConnectionName}
+use Rattle.broker_spec.specs.declared.command.Command.{Command}
+use Rattle.broker_spec.specs.declared.command.Command.TheVariants as commands
+use Rattle.node_connections.specs.declared.port.Port.{Port}
+use Rattle.node_connections.specs.declared.connection.Connection.{Connection}
+use Rattle.node_connections.specs.Connections.{has_failed, is_first, is_proposed}
+use Rattle.node_connections.specs.ConnectionChanges.{noted_proposed, closed_connection, failing, left_with}
+use Rattle.node_connections.specs.Fronts.{FrontNeedsMemory, HasNoPacket}
+use Rattle.node_core.specs.Core.{CoreState}
+use Rattle.node_core.specs.Failing.{closes_failed}
+use Rattle.node_core.specs.KeepAlive.{lowest_silent}
+use Rattle.node_core.specs.Lossy.{Account, TakesCommand, Then, without_effects}
+use Rattle.node_core.specs.LossyProposals.{Declines, ProposesCommand}
+use Rattle.node_core.specs.Reading.{changes, open_at, connect_refused}
+
+-- the connection of a port is closed as lost, and reported to the broker if its Connect was
+-- proposed
+pub data EndsConnection (port : Port) (core : CoreState) (did : Account) : Type 0 where
+  -- no connection is open at the port
+  none_open : open_at port core ≡ None → did ≡ without_effects core → EndsConnection port core did
+  -- its Connect was not proposed
+  unproposed : (c : Connection) → open_at port core ≡ Some c → is_proposed c.stage ≡ false →
+      did ≡ without_effects (changes port closed_connection core) → EndsConnection port core did
+  -- its Connect was proposed, so its loss is proposed too
+  proposed : (c : Connection) → open_at port core ≡ Some c → is_proposed c.stage ≡ true →
+      ProposesCommand (commands.Lost c.name) (changes port closed_connection core) did →
+      EndsConnection port core did
+
+-- the silent connection with the lowest port ends
+pub data EndsSilent (now : ℕ) (core : CoreState) (did : Account) : Type 0 where
+  -- no connection is silent
+  none_silent : lowest_silent now core.connections ≡ None → did ≡ without_effects core →
+      EndsSilent now core did
+  -- the one at this port ends
+  ends_one : (port : Port) → lowest_silent now core.connections ≡ Some port →
+      EndsConnection port core did → EndsSilent now core did
+
+-- the first connection that failed is reported to the broker
+pub data LosesFailed (core : CoreState) (did : Account) : Type 0 where
+  -- no connection failed
+  none_failed : find has_failed core.connections ≡ None → did ≡ without_effects core →
+      LosesFailed core did
+  -- the loss of this one is proposed
+  tells_one : (c : Connection) → find has_failed core.connections ≡ Some c →
+      ProposesCommand (commands.Lost c.name) (closes_failed core) did → LosesFailed core did
+
+-- a command is taken, or otherwise this is done
+abbrev pub TakesOr : Command → (CoreState → Account → Type 0) → CoreState → Account → Type 0
+TakesOr command Otherwise core did =
+    TakesCommand command core did ⊎ Then Declines Otherwise core did
+
+-- a connection is closed
+abbrev pub ClosesConnection : Port → CoreState → Account → Type 0
+ClosesConnection port core did = did ≡ without_effects (changes port closed_connection core)
+
+-- a connection is closed, or closed as lost, and the loss is still to be reported to the broker
+abbrev pub Shuts : Port → CoreState → Account → Type 0
+Shuts port core did =
+    ClosesConnection port core did ⊎ (did ≡ without_effects (changes port failing core))
+
+-- a CONNECT is proposed; if it is not taken, the connection is closed
+abbrev pub ProposesConnect : Port → ConnectionName → Connect → CoreState → Account → Type 0
+ProposesConnect port name connect core did =
+    TakesOr (commands.Connect name connect.client connect.clean) (ClosesConnection port) core did
+
+-- the first packet of a connection must be a CONNECT
+abbrev pub TakesFirstPacket : Port → ConnectionName → Packet → CoreState → Account → Type 0
+TakesFirstPacket port name (packets.Connect connect) core did =
+    ProposesConnect port name connect (changes port (noted_proposed connect.keep_alive) core) did
+TakesFirstPacket port name _ core did = ClosesConnection port core did
+
+-- a later packet is proposed; if it is not taken, the connection ends
+abbrev pub ProposesPacket : Port → ConnectionName → Packet → CoreState → Account → Type 0
+ProposesPacket port name packet core did =
+    TakesOr (commands.Packet name packet) (Shuts port) core did
+
+-- what is at the front of its bytes may end a connection: it is no packet, or may need memory
+abbrev pub MayEnd : Option Connection → Type 0
+MayEnd None = Unit {0}
+MayEnd (Some c) = HasNoPacket c ⊎ FrontNeedsMemory c
+
+-- The packet at the front of a port's bytes is removed and proposed, or there is less than a
+-- packet. Or the connection ends, because there is no packet, or because there is no memory to read
+-- or to refuse it.
+pub data ReadsNext (now : ℕ) (port : Port) (core : CoreState) (did : Account) : Type 0 where
+  -- less than a packet is there
+  waits : (c : Connection) → open_at port core ≡ Some c →
+      verdict c.unread ≡ Err stops.More → did ≡ without_effects core → ReadsNext now port core did
+  -- the first packet of the connection is there
+  first : (c : Connection) (packet : Packet) (rest : List ℕ) → open_at port core ≡ Some c →
+      is_first c.stage ≡ true → verdict c.unread ≡ Ok (packet, rest) →
+      TakesFirstPacket port c.name packet (changes port (left_with now rest) core) did →
+      ReadsNext now port core did
+  -- a later packet is there
+  later : (c : Connection) (packet : Packet) (rest : List ℕ) → open_at port core ≡ Some c →
+      is_first c.stage ≡ false → verdict c.unread ≡ Ok (packet, rest) →
+      ProposesPacket port c.name packet (changes port (left_with now rest) core) did →
+      ReadsNext now port core did
+  -- its CONNECT is refused with a code
+  refuses : (c : Connection) (code : RefusalCode) → open_at port core ≡ Some c →
+      is_first c.stage ≡ true → verdict c.unread ≡ Err (stops.Refused code) →
+      did ≡ without_effects (changes port (connect_refused code) core) → ReadsNext now port core did
+  -- the connection ends, if one is open
+  ends : MayEnd (open_at port core) → EndsConnection port core did → ReadsNext now port core did

@@ -1,0 +1,84 @@
+-- What one item may do to a node if memory may run out: the step, except the parts for which memory
+-- ran out.
+use Rattle.std.specs.Prelude.{◌≡◌, ◌⊎◌, ℕ, true, false, List, length, Some}
+use Rattle.broker_spec.specs.declared.command.Command.{Command}
+use Rattle.broker_spec.specs.declared.command.Command.TheVariants as commands
+use Rattle.broker_spec.specs.declared.command.Output.{Output}
+use Rattle.ballot.specs.ballot_base.declared.message.Effect.{Effect}
+use Rattle.ballot.specs.ballot_base.Protocol.Input.{Receives, Ticks}
+use Rattle.node_connections.specs.declared.port.Port.{Port}
+use Rattle.node_core.specs.declared.item.Item.{Item}
+use Rattle.node_core.specs.declared.item.Item.TheVariants.{Peer, Tick, Opened, Bytes, Ended, Expel, Cut, Crash}
+use Rattle.node_connections.specs.ConnectionChanges.{with_unread}
+use Rattle.ballot.specs.ballot_base.Cutting.{can_cut}
+use Rattle.ballot.specs.ballot_base.Losses.{one_more}
+use Rattle.node_core.specs.Core.{CoreState, rules}
+use Rattle.node_core.specs.Lossy.{Account, Drives, Repeated, Then, without_effects}
+use Rattle.node_core.specs.LossyProposals.{ProposesCommand}
+use Rattle.node_core.specs.Reading.{changes, open_at, unread_of}
+use Rattle.node_core.specs.Step.{crashed, with_next_connection, settled, with_cut}
+use Rattle.node_core.specs.LossyReading.{EndsConnection, EndsSilent, LosesFailed, ReadsNext}
+
+-- ---- an item
+
+-- received bytes are held, or the connection ends, because there is no memory for them
+abbrev pub HoldsBytes : Port → List ℕ → CoreState → Account → Type 0
+HoldsBytes port piece core did =
+    (did ≡ without_effects (changes port (with_unread piece) core)) ⊎ EndsConnection port core did
+
+-- a connection is accepted, or, if there is no memory for it, not
+abbrev pub AcceptsConnection : Port → CoreState → Account → Type 0
+AcceptsConnection port core did =
+    (did ≡ without_effects (with_next_connection port core)) ⊎ (did ≡ without_effects core)
+
+-- the replica cuts its log, and its frozen bytes thaw to its machine; or, if there is no memory for
+-- that, it counts a loss
+pub data Cuts (core : CoreState) (did : Account) : Type 0 where
+  -- nothing is to be cut
+  nothing_to_cut : can_cut core.replica.state ≡ false → did ≡ without_effects core → Cuts core did
+  -- the log is cut
+  cuts_log : can_cut core.replica.state ≡ true →
+      rules.thawed (rules.frozen core.replica.state.machine) ≡ Some core.replica.state.machine →
+      did ≡ without_effects (with_cut core) → Cuts core did
+  -- memory ran out: a loss is counted
+  forgets_cut : can_cut core.replica.state ≡ true →
+      did ≡ without_effects
+      (record core { replica = record core.replica { losses = one_more core.replica.losses } }) →
+      Cuts core did
+
+-- all silent connections are closed, one after another
+abbrev pub EndsAllSilent : ℕ → CoreState → Account → Type 0
+EndsAllSilent now core did = Repeated (length core.connections) (EndsSilent now) core did
+
+-- the loss of each connection that failed is reported, or memory ran out for that
+abbrev pub LosesAllFailed : CoreState → Account → Type 0
+LosesAllFailed core did = Repeated (length core.connections) LosesFailed core did
+
+-- the packets of a port are read, one after another, at most as many as it has bytes
+abbrev pub ReadsPackets : ℕ → Port → CoreState → Account → Type 0
+ReadsPackets now port core did =
+    Repeated (unread_of (open_at port core)) (ReadsNext now port) core did
+
+-- what an item asks for, without the reports of connections that failed in the step
+abbrev pub DoesItem : Item → CoreState → Account → Type 0
+DoesItem (Peer message) core did = Drives (Receives message) core did
+DoesItem (Tick now) core did = Then (Drives Ticks) (EndsAllSilent now) core did
+DoesItem (Opened port now) core did = AcceptsConnection port core did
+DoesItem (Bytes port piece now) core did =
+    Then (HoldsBytes port piece) (ReadsPackets now port) core did
+DoesItem (Ended port) core did = EndsConnection port core did
+DoesItem (Expel client) core did = ProposesCommand (commands.Expel client) core did
+DoesItem Cut core did = Cuts core did
+DoesItem Crash core did = did ≡ without_effects (crashed core)
+
+-- what an item asks for, and then the reports of connections that failed in the step
+abbrev pub ActsOn : Item → CoreState → Account → Type 0
+ActsOn item core did = Then (DoesItem item) LosesAllFailed core did
+
+-- a step on an item: what was done, and how connections were settled after it
+pub record RunsOn (item : Item) (old new : CoreState)
+    (messages : List (Effect Command Output)) : Type 0 where
+  pub did : Account
+  pub acts : ActsOn item old did
+  pub settles : new ≡ settled did.core
+  pub handed : messages ≡ did.messages

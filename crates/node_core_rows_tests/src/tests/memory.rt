@@ -1,0 +1,89 @@
+// Memory that is refused, in the conversations of `clients`. Run with each allocation failing in
+// turn: all results are as usual, or one step that ran out of memory is counted.
+
+use super::clients::TABLES;
+use super::row::{Act, Row, bring, primary, take};
+use node_core::{Handed, Item, NodeCore, Port};
+use std::alloc::Global;
+
+// Lets a row's act come. A piece that found no memory comes again: one allocation fails.
+fn comes_at_last(alloc: Global, node: &mut NodeCore, row: &Row<'_>) {
+    let (time, port, act, _, _) = *row;
+    let item = match act {
+        Act::Bytes(bytes) => {
+            if bring(alloc, node, port, bytes, time).is_none() {
+                let _ = bring(alloc, node, port, bytes, time);
+            }
+            return;
+        }
+        Act::Look => return,
+        Act::Open => Item::Opened(Port(port), time),
+        Act::End => Item::Ended(Port(port)),
+        Act::Tick => Item::Tick(time),
+    };
+    take(alloc, node, item);
+}
+
+// What a node answered, and how many bytes it handed over; no answer if memory ran out.
+type Came = (Option<Handed>, usize);
+
+// What was not as it was to be.
+#[derive(Clone, Copy, Debug, PartialEq, Eq)]
+enum Missed {
+    // At this row this came, although nothing was lost.
+    Row(usize, Came),
+    // So many steps ran out of memory.
+    Losses(u64),
+}
+
+// Returns what came, if not a row's bytes are handed over, or its port is not open or closed as the
+// row says. What found no memory is asked again.
+fn other_at_last(alloc: Global, node: &mut NodeCore, row: &Row<'_>) -> Option<Came> {
+    let (_, port, _, bytes, open) = *row;
+    let answer = if open { Handed::Open } else { Handed::Closed };
+    for _ in 0..2 {
+        let mut out = Vec::new(alloc);
+        if let Ok(handed) = node.outgoing(Port(port), &mut out) {
+            if handed == answer && out.as_slice() == bytes {
+                return None;
+            }
+            return Some((Some(handed), out.len()));
+        }
+    }
+    Some((None, 0))
+}
+
+// Finds the first row that comes out otherwise although nothing was lost, or how many steps are
+// counted if there are more than one.
+fn first_missed(alloc: Global, node: &mut NodeCore, rows: &[Row<'_>]) -> Option<Missed> {
+    let mut missed: Option<Missed> = None;
+    for (at, row) in rows.iter().enumerate() {
+        comes_at_last(alloc, node, row);
+        if let Some(came) = other_at_last(alloc, node, row) {
+            if missed.is_none() {
+                missed = Some(Missed::Row(at, came));
+            }
+        }
+    }
+    match node.losses() {
+        0 => missed,
+        1 => None,
+        losses => Some(Missed::Losses(losses)),
+    }
+}
+
+// If memory runs out for a node nothing is asked of it.
+fn first_missed_if_opened(alloc: Global, rows: &[Row<'_>]) -> Option<Missed> {
+    match primary(alloc, &[1]) {
+        Some(mut node) => first_missed(alloc, &mut node, rows),
+        None => None,
+    }
+}
+
+#[test]
+fn rows_are_whole_or_one_step_is_counted(rt: HostRuntime) {
+    for (table, rows) in TABLES.iter().enumerate() {
+        let missed = first_missed_if_opened(rt.alloc(), rows);
+        assert_eq!(rt; missed, None, "table {table}");
+    }
+}

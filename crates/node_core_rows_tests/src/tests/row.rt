@@ -1,0 +1,274 @@
+// Rows: what comes to a node by a port, and which bytes it gives for that port then.
+
+use node_core::{
+    Body, Command, Config, ConnectionName, Effect, Handed, Item, Members, NodeCore, Output, Piece,
+    Port,
+};
+use std::alloc::Global;
+
+/// What comes.
+#[derive(Clone, Copy)]
+pub enum Act<'a> {
+    /// A stream is opened.
+    Open,
+    /// Bytes come on it.
+    Bytes(&'a [u8]),
+    /// It ends.
+    End,
+    /// It is the row's time.
+    Tick,
+    /// Nothing comes.
+    Look,
+}
+
+/// A time, a port, what comes then by that port, what is handed over for it, and whether it is
+/// open.
+pub type Row<'a> = (u64, u64, Act<'a>, &'a [u8], bool);
+
+/// How a piece comes: whole, cut in two after this many bytes, or byte by byte.
+#[derive(Clone, Copy, Debug, PartialEq, Eq)]
+pub enum Coming {
+    Whole,
+    Cut(usize),
+    Bytes,
+}
+
+/// What came at a row: whether no message to another node followed, what the node answered for the
+/// port (none if memory ran out), how many bytes it handed over and the first eight of them (zeros
+/// after the last), and how many steps ran out of memory.
+#[derive(Clone, Copy, Debug, PartialEq, Eq)]
+pub struct Came {
+    is_silent: bool,
+    handed: Option<Handed>,
+    count: usize,
+    front: [u8; 8],
+    losses: u64,
+}
+
+/// What was not as it was to be.
+#[derive(Clone, Copy, Debug, PartialEq, Eq)]
+pub enum Fault {
+    /// There was no memory for a node, or for the bytes that come.
+    NoMemory,
+    /// At this row, with pieces that come so, this came.
+    Row(usize, Coming, Came),
+}
+
+/// What a node hands out to others.
+pub type Effects = Vec<Effect<Command, Output>>;
+
+/// CONNECT of client `a` with keep alive 60 and CleanSession 0 (MQTT 3.1).
+pub const CONNECT_A: &[u8] = &[
+    0x10, 0x0D, 0x00, 0x04, 0x4D, 0x51, 0x54, 0x54, 0x04, 0x00, 0x00, 0x3C, 0x00, 0x01, 0x61,
+];
+
+/// CONNECT of client `b` with keep alive 60 and CleanSession 0.
+pub const CONNECT_B: &[u8] = &[
+    0x10, 0x0D, 0x00, 0x04, 0x4D, 0x51, 0x54, 0x54, 0x04, 0x00, 0x00, 0x3C, 0x00, 0x01, 0x62,
+];
+
+/// CONNACK 0 without a session present (MQTT 3.2).
+pub const ACCEPTED: &[u8] = &[0x20, 0x02, 0x00, 0x00];
+
+/// CONNACK 0 with a session present.
+pub const PRESENT: &[u8] = &[0x20, 0x02, 0x01, 0x00];
+
+/// No bytes.
+pub const NOTHING: &[u8] = &[];
+
+/// Returns node 1, the primary of ballot 1 with these members.
+pub fn primary(alloc: Global, members: &[u8]) -> Option<NodeCore> {
+    let config = Config {
+        members: Members::from_slice(alloc, members).ok()?,
+        primary: 1,
+    };
+    NodeCore::new(alloc, 1, &config).ok()
+}
+
+/// Takes an item: what is handed out to other nodes.
+pub fn take(alloc: Global, node: &mut NodeCore, item: Item) -> Effects {
+    let mut effects = Vec::new(alloc);
+    node.step(item, &mut effects);
+    effects
+}
+
+/// Takes bytes that come on a port: what is handed out to other nodes, if there is memory for them.
+pub fn bring(
+    alloc: Global,
+    node: &mut NodeCore,
+    port: u64,
+    bytes: &[u8],
+    time: u64,
+) -> Option<Effects> {
+    let piece = Piece::from_slice(alloc, bytes).ok()?;
+    Some(take(alloc, node, Item::Bytes(Port(port), piece, time)))
+}
+
+/// Returns the connection whose loss is sent to another node.
+pub fn lost(effect: &Effect<Command, Output>) -> Option<ConnectionName> {
+    match effect {
+        Effect::To(_, message) => match &message.body {
+            Body::Append(_, _, Command::Lost(name)) => Some(*name),
+            _ => None,
+        },
+        Effect::Out(_, _) => None,
+    }
+}
+
+/// Says whether these bytes are handed over for a port, which is open then or not.
+pub fn hands_over(alloc: Global, node: &mut NodeCore, port: u64, bytes: &[u8], open: bool) -> bool {
+    let mut out = Vec::new(alloc);
+    let answer = if open { Handed::Open } else { Handed::Closed };
+    node.outgoing(Port(port), &mut out) == Ok(answer) && out.as_slice() == bytes
+}
+
+// Takes a piece: whether no message follows.
+fn comes_whole(alloc: Global, node: &mut NodeCore, port: u64, bytes: &[u8], time: u64) -> bool {
+    bring(alloc, node, port, bytes, time).is_some_and(|effects| effects.is_empty())
+}
+
+// Takes bytes one by one: whether no message follows.
+fn comes_by_bytes(alloc: Global, node: &mut NodeCore, port: u64, bytes: &[u8], time: u64) -> bool {
+    bytes
+        .iter()
+        .all(|byte| comes_whole(alloc, node, port, &[*byte], time))
+}
+
+// Gives bytes in two pieces, of which the first has `cut` bytes, or all. Says whether no message
+// follows.
+fn comes_cut(
+    alloc: Global,
+    node: &mut NodeCore,
+    port: u64,
+    bytes: &[u8],
+    time: u64,
+    cut: usize,
+) -> bool {
+    match bytes.split_at_checked(cut.min(bytes.len())) {
+        Some((front, rest)) => {
+            comes_whole(alloc, node, port, front, time)
+                && comes_whole(alloc, node, port, rest, time)
+        }
+        None => false,
+    }
+}
+
+/// Takes bytes that come on a port of a sole member: whether no message follows.
+pub fn comes(
+    alloc: Global,
+    node: &mut NodeCore,
+    port: u64,
+    bytes: &[u8],
+    time: u64,
+    coming: Coming,
+) -> bool {
+    match coming {
+        Coming::Whole => comes_whole(alloc, node, port, bytes, time),
+        Coming::Cut(cut) => comes_cut(alloc, node, port, bytes, time, cut),
+        Coming::Bytes => comes_by_bytes(alloc, node, port, bytes, time),
+    }
+}
+
+// Lets a row's act come: whether no message follows.
+fn bring_row(alloc: Global, node: &mut NodeCore, row: &Row<'_>, coming: Coming) -> bool {
+    let (time, port, act, _, _) = *row;
+    let item = match act {
+        Act::Bytes(bytes) => return comes(alloc, node, port, bytes, time, coming),
+        Act::Look => return true,
+        Act::Open => Item::Opened(Port(port), time),
+        Act::End => Item::Ended(Port(port)),
+        Act::Tick => Item::Tick(time),
+    };
+    take(alloc, node, item).is_empty()
+}
+
+// Returns the byte at an index, or zero after the last.
+fn byte_at(bytes: &[u8], index: usize) -> u8 {
+    match bytes.get(index) {
+        Some(byte) => *byte,
+        None => 0,
+    }
+}
+
+// Returns the first eight of these bytes, and zeros after the last.
+fn front_of(bytes: &[u8]) -> [u8; 8] {
+    [
+        byte_at(bytes, 0),
+        byte_at(bytes, 1),
+        byte_at(bytes, 2),
+        byte_at(bytes, 3),
+        byte_at(bytes, 4),
+        byte_at(bytes, 5),
+        byte_at(bytes, 6),
+        byte_at(bytes, 7),
+    ]
+}
+
+// Lets a row come. Returns what came, if it is not what the row says, or something was lost.
+fn other_of(alloc: Global, node: &mut NodeCore, row: &Row<'_>, coming: Coming) -> Option<Came> {
+    let (_, port, _, bytes, open) = *row;
+    let answer = if open { Handed::Open } else { Handed::Closed };
+    let is_silent = bring_row(alloc, node, row, coming);
+    let mut out = Vec::new(alloc);
+    let handed = node.outgoing(Port(port), &mut out).ok();
+    let losses = node.losses();
+    if is_silent && handed == Some(answer) && out.as_slice() == bytes && losses == 0 {
+        None
+    } else {
+        Some(Came {
+            is_silent,
+            handed,
+            count: out.len(),
+            front: front_of(out.as_slice()),
+            losses,
+        })
+    }
+}
+
+// Goes through the rows with a node, to which pieces come so: the first row that comes out
+// otherwise, and what came.
+fn fault_with(
+    alloc: Global,
+    node: &mut NodeCore,
+    rows: &[Row<'_>],
+    coming: Coming,
+) -> Option<Fault> {
+    for (at, row) in rows.iter().enumerate() {
+        if let Some(came) = other_of(alloc, node, row, coming) {
+            return Some(Fault::Row(at, coming, came));
+        }
+    }
+    None
+}
+
+/// Goes through the rows with a fresh node, the sole member of ballot 1, to which pieces come so:
+/// the first row that comes out otherwise, and what came.
+pub fn first_fault_so(alloc: Global, rows: &[Row<'_>], coming: Coming) -> Option<Fault> {
+    match primary(alloc, &[1]) {
+        Some(mut node) => fault_with(alloc, &mut node, rows, coming),
+        None => Some(Fault::NoMemory),
+    }
+}
+
+// Returns how many bytes the longest piece of the rows has.
+fn longest(rows: &[Row<'_>]) -> usize {
+    let mut longest: usize = 0;
+    for (_, _, act, _, _) in rows {
+        if let Act::Bytes(bytes) = act {
+            longest = longest.max(bytes.len());
+        }
+    }
+    longest
+}
+
+/// Goes through the rows with the pieces whole, cut in two at every byte, and byte by byte: the
+/// first row that comes out otherwise, with which cut, and what came.
+pub fn first_fault(alloc: Global, rows: &[Row<'_>]) -> Option<Fault> {
+    for cut in 0..=longest(rows) {
+        let fault = first_fault_so(alloc, rows, Coming::Cut(cut));
+        if fault.is_some() {
+            return fault;
+        }
+    }
+    first_fault_so(alloc, rows, Coming::Bytes)
+}

@@ -1,0 +1,363 @@
+// Nodes that cut their logs, and a snapshot that goes over to another node, byte by byte.
+
+use super::handling::{ACCEPTED, Effects, PRESENT, bring, give, hands_over, node_of, take, tell};
+use ballot::Log;
+use node_core::{Body, Command, Effect, Item, Members, NodeCore, Port};
+use std::alloc::Global;
+
+// CONNECT of client `a` with keep alive 0 and CleanSession 0 (MQTT 3.1).
+const CONNECT: &[u8] = &[
+    0x10, 0x0D, 0x00, 0x04, 0x4D, 0x51, 0x54, 0x54, 0x04, 0x00, 0x00, 0x00, 0x00, 0x01, 0x61,
+];
+
+// The broker with client `a` on the first connection of ballot 1, frozen to form 2.
+const CONNECTED: &[u8] = &[
+    0x02, 0x40, 0x00, 0x01, 0x00, 0x01, 0x61, 0x00, 0x01, 0x00, 0x00, 0x00, 0x00, 0x00, 0x00, 0x00,
+    0x01, 0x00, 0x00, 0x00, 0x00, 0x00, 0x00, 0x00, 0x01, 0x00, 0x00, 0x00, 0x00, 0x00, 0x00, 0x00,
+    0x00, 0x00,
+];
+
+// That broker in form 1.
+const CONNECTED_BEFORE: &[u8] = &[
+    0x01, 0x00, 0x01, 0x00, 0x01, 0x61, 0x00, 0x01, 0x00, 0x00, 0x00, 0x00, 0x00, 0x00, 0x00, 0x01,
+    0x00, 0x00, 0x00, 0x00, 0x00, 0x00, 0x00, 0x01, 0x00, 0x00, 0x00, 0x00, 0x00, 0x00, 0x00, 0x00,
+    0x00,
+];
+
+// That broker once the next ballot has begun: its session has no connection, its window is 64.
+const BEGUN: &[u8] = &[
+    0x02, 0x40, 0x00, 0x01, 0x00, 0x01, 0x61, 0x00, 0x00, 0x00, 0x00, 0x00, 0x00, 0x00, 0x00, 0x00,
+    0x00, 0x00,
+];
+
+// Bytes that are no frozen broker, and what a row shows with them.
+const UNREADABLE: &[(&str, &[u8])] = &[
+    ("no bytes count as lost", &[]),
+    ("a form alone counts as lost", &[0x02]),
+    (
+        "a window that is neither of the two counts as lost",
+        &[0x02, 0x20, 0x00, 0x00, 0x00, 0x00],
+    ),
+    (
+        "a broker with a byte left over counts as lost",
+        &[0x02, 0x40, 0x00, 0x00, 0x00, 0x00, 0x00],
+    ),
+];
+
+// Says whether this is the base of a node's log, and these are the bytes there.
+fn stands_at(node: &NodeCore, base: u64, bytes: &[u8]) -> bool {
+    let (at, snapshot) = node.snapshot();
+    at == base && snapshot == bytes
+}
+
+// Says whether a node has something to cut, cuts it and keeps no command; once more it does
+// nothing.
+fn cuts(alloc: Global, node: &mut NodeCore, base: u64, bytes: &[u8]) -> bool {
+    let can = node.can_cut();
+    let first = take(alloc, node, Item::Cut);
+    let cannot = !node.can_cut() && node.rest().is_empty() && stands_at(node, base, bytes);
+    let second = take(alloc, node, Item::Cut);
+    can && cannot && first.is_empty() && second.is_empty() && stands_at(node, base, bytes)
+}
+
+// Returns the master's word on ballot 2 with these members, after ballot 1 of node 1.
+fn ballot_2(alloc: Global, members: &[u8]) -> Option<Body<Command>> {
+    let members = Members::from_slice(alloc, members).ok()?;
+    let before = Members::from_slice(alloc, &[1]).ok()?;
+    Some(Body::NewBallot(2, members, 1, before))
+}
+
+// Says whether the one message is State of ballot 2 for node 2, with the broker of one connection
+// at base 1 and no command.
+fn sends_snapshot(effects: &Effects) -> bool {
+    let [Effect::To(2, message)] = effects.as_slice() else {
+        return false;
+    };
+    match &message.body {
+        Body::State(2, log) => {
+            log.base() == 1 && log.snapshot() == CONNECTED && log.rest().is_empty()
+        }
+        _ => false,
+    }
+}
+
+// Says whether the one message asks the master to activate ballot 2.
+fn asks_for_2(effects: &Effects) -> bool {
+    let [Effect::To(0, message)] = effects.as_slice() else {
+        return false;
+    };
+    matches!(&message.body, Body::Activate(2))
+}
+
+// Says whether node 1, the sole member, takes client `a` and cuts its log.
+fn serves_and_cuts(alloc: Global, one: &mut NodeCore) -> bool {
+    take(alloc, one, Item::Opened(Port(1), 0));
+    bring(alloc, one, 1, CONNECT, 0).is_some()
+        && hands_over(alloc, one, 1, ACCEPTED, true)
+        && cuts(alloc, one, 1, CONNECTED)
+}
+
+// Says whether node 2 takes over with node 1 as its backup: State brings the snapshot, and each
+// message goes to its receiver.
+fn takes_over(alloc: Global, one: &mut NodeCore, two: &mut NodeCore) -> Option<bool> {
+    let joins = tell(alloc, two, 0, ballot_2(alloc, &[1, 2])?);
+    let state = give(alloc, one, 1, joins);
+    let is_sent = sends_snapshot(&state);
+    let installs = give(alloc, two, 2, state);
+    let installed = give(alloc, one, 1, installs);
+    let asked = give(alloc, two, 2, installed);
+    let appended = tell(alloc, two, 0, Body::Activated(2));
+    commits(alloc, one, two, appended);
+    Some(is_sent && asks_for_2(&asked) && stands_at(two, 1, CONNECTED))
+}
+
+// Node 1 holds what node 2 appends, and node 2 commits it.
+fn commits(alloc: Global, one: &mut NodeCore, two: &mut NodeCore, appended: Effects) {
+    let held = give(alloc, one, 1, appended);
+    let committed = give(alloc, two, 2, held);
+    give(alloc, one, 1, committed);
+}
+
+// Says whether client `a` comes back at node 2, and finds its session.
+fn comes_back(alloc: Global, one: &mut NodeCore, two: &mut NodeCore) -> bool {
+    take(alloc, two, Item::Opened(Port(1), 0));
+    match bring(alloc, two, 1, CONNECT, 0) {
+        Some(appended) => commits(alloc, one, two, appended),
+        None => return false,
+    }
+    hands_over(alloc, two, 1, PRESENT, true)
+}
+
+// Returns the first step that is not so: a session goes over by a snapshot, and both nodes lose
+// nothing.
+fn fault_of_going_over(
+    alloc: Global,
+    one: &mut NodeCore,
+    two: &mut NodeCore,
+) -> Option<&'static str> {
+    if !serves_and_cuts(alloc, one) {
+        Some("node 1 accepts client a, and cuts its log once")
+    } else if takes_over(alloc, one, two) != Some(true) {
+        Some("State brings the snapshot, and node 2 asks for ballot 2")
+    } else if !comes_back(alloc, one, two) {
+        Some("client a finds its session at node 2")
+    } else if one.losses() != 0 {
+        Some("no step of node 1 ran out of memory")
+    } else if two.losses() != 0 {
+        Some("no step of node 2 ran out of memory")
+    } else {
+        None
+    }
+}
+
+// Returns the first step that is not so with a fresh second node. Each node has an owner of its
+// own, which has one way on which it drops it.
+fn fault_with_fresh(alloc: Global, one: &mut NodeCore) -> Option<&'static str> {
+    match node_of(alloc, 2, &[1]) {
+        Some(mut two) => fault_of_going_over(alloc, one, &mut two),
+        None => Some("there is memory for node 2"),
+    }
+}
+
+// Returns the first step that is not so of two fresh nodes.
+fn fault_of_fresh(alloc: Global) -> Option<&'static str> {
+    match node_of(alloc, 1, &[1]) {
+        Some(mut one) => fault_with_fresh(alloc, &mut one),
+        None => Some("there is memory for node 1"),
+    }
+}
+
+#[test]
+fn a_session_goes_over_by_a_snapshot(rt: HostRuntime) {
+    assert_eq!(rt; fault_of_fresh(rt.alloc()), None);
+}
+
+// Node 1 sends node 2 a log of one place with this snapshot in ballot 2: what node 2 hands out.
+fn sends(alloc: Global, two: &mut NodeCore, bytes: &[u8]) -> Option<Effects> {
+    let snapshot = Vec::from_slice(alloc, bytes).ok()?;
+    let log = Log::from_parts(1, snapshot, Vec::new(alloc));
+    Some(tell(alloc, two, 1, Body::State(2, log)))
+}
+
+// Says whether node 2, the sole member of ballot 2, continues from the snapshot of form 1, and its
+// own snapshot is of form 2.
+fn goes_on(alloc: Global, two: &mut NodeCore) -> Option<bool> {
+    let asked = sends(alloc, two, CONNECTED_BEFORE)?;
+    let is_asked = asks_for_2(&asked) && stands_at(two, 1, CONNECTED_BEFORE);
+    tell(alloc, two, 0, Body::Activated(2));
+    Some(is_asked && cuts(alloc, two, 2, BEGUN))
+}
+
+// Says whether a snapshot of form 1 is read, and frozen to form 2.
+fn form_1_is_read(alloc: Global, two: &mut NodeCore) -> Option<bool> {
+    tell(alloc, two, 0, ballot_2(alloc, &[2])?);
+    Some(goes_on(alloc, two)? && two.losses() == 0)
+}
+
+// Says it of a fresh node; none if there is no memory for it.
+fn fresh_reads_form_1(alloc: Global) -> Option<bool> {
+    match node_of(alloc, 2, &[1]) {
+        Some(mut two) => form_1_is_read(alloc, &mut two),
+        None => None,
+    }
+}
+
+#[test]
+fn a_snapshot_of_form_1_is_frozen_to_form_2(rt: HostRuntime) {
+    assert_eq!(rt; fresh_reads_form_1(rt.alloc()), Some(true));
+}
+
+// Says whether bytes that are no frozen broker count as one lost message more, and have no other
+// effect.
+fn is_lost(alloc: Global, two: &mut NodeCore, bytes: &[u8]) -> bool {
+    let (before, losses) = (two.status(), two.losses());
+    let Some(effects) = sends(alloc, two, bytes) else {
+        return false;
+    };
+    let status = two.status();
+    let same = status.ballot == before.ballot && status.role == before.role;
+    let same_places = status.held == before.held && status.committed == before.committed;
+    let kept = stands_at(two, 0, &[]) && two.rest().is_empty() && !status.stopped;
+    effects.is_empty() && same && same_places && kept && two.losses() == losses.saturating_add(1)
+}
+
+// Returns the first row that is not so, or what is not so after them: the node continues from bytes
+// that it can read, and four messages are lost.
+fn first_not_lost(alloc: Global, two: &mut NodeCore) -> Option<&'static str> {
+    for (words, bytes) in UNREADABLE {
+        if !is_lost(alloc, two, bytes) {
+            return Some(*words);
+        }
+    }
+    if goes_on(alloc, two) != Some(true) {
+        Some("the node continues from bytes that it can read")
+    } else if two.losses() != 4 {
+        Some("four messages are lost")
+    } else {
+        None
+    }
+}
+
+// Returns the same once the node is given ballot 2.
+fn first_not_lost_in_2(alloc: Global, two: &mut NodeCore) -> Option<&'static str> {
+    match ballot_2(alloc, &[2]) {
+        Some(ballot) => {
+            tell(alloc, two, 0, ballot);
+            first_not_lost(alloc, two)
+        }
+        None => Some("there is memory for ballot 2"),
+    }
+}
+
+// Returns the same of a fresh node.
+fn first_not_lost_of_fresh(alloc: Global) -> Option<&'static str> {
+    match node_of(alloc, 2, &[1]) {
+        Some(mut two) => first_not_lost_in_2(alloc, &mut two),
+        None => Some("there is memory for a node"),
+    }
+}
+
+#[test]
+fn bytes_that_are_no_snapshot_count_as_lost(rt: HostRuntime) {
+    assert_eq!(rt; first_not_lost_of_fresh(rt.alloc()), None);
+}
+
+// Ballot 2 of nodes 1 and 2 continues until nothing is said any more. What found no memory is said
+// again when time passes.
+fn settles(alloc: Global, one: &mut NodeCore, two: &mut NodeCore) {
+    for round in 0..16 {
+        let said = take(alloc, two, Item::Tick(round));
+        let asked = asks_for_2(&said);
+        let answers = give(alloc, one, 1, said);
+        let said = give(alloc, two, 2, answers);
+        let answers = give(alloc, one, 1, said);
+        give(alloc, two, 2, answers);
+        if asked {
+            tell(alloc, two, 0, Body::Activated(2));
+        }
+    }
+}
+
+// Client `a` connects by port 1. What finds no memory before it comes is done again.
+fn connects(alloc: Global, node: &mut NodeCore) -> Effects {
+    take(alloc, node, Item::Opened(Port(1), 0));
+    for _ in 0..2 {
+        if let Some(appended) = bring(alloc, node, 1, CONNECT, 0) {
+            return appended;
+        }
+    }
+    Vec::new(alloc)
+}
+
+// Returns what is handed over for port 1.
+fn handed(alloc: Global, node: &mut NodeCore) -> Vec<u8> {
+    let mut out = Vec::new(alloc);
+    for _ in 0..2 {
+        if node.outgoing(Port(1), &mut out).is_ok() {
+            return out;
+        }
+    }
+    out
+}
+
+// How many steps of both nodes ran out of memory, and how many bytes were handed over.
+type Came = (u64, usize);
+
+// Returns what came, if client `a` does not find its session at node 2; or, if a loss was counted,
+// finds another than a session, no session, or no node that serves.
+fn other_than_session(alloc: Global, one: &mut NodeCore, two: &mut NodeCore) -> Option<Came> {
+    let appended = connects(alloc, two);
+    commits(alloc, one, two, appended);
+    settles(alloc, one, two);
+    let out = handed(alloc, two);
+    let losses = one.losses().saturating_add(two.losses());
+    let is_well = match losses {
+        0 => out.as_slice() == PRESENT,
+        1 => out.is_empty() || out.as_slice() == ACCEPTED || out.as_slice() == PRESENT,
+        _ => false,
+    };
+    if is_well {
+        None
+    } else {
+        Some((losses, out.len()))
+    }
+}
+
+// Returns what came, if a session does not move by a snapshot although no allocation is refused, or
+// more than one step is counted.
+fn other_than_moved(alloc: Global, one: &mut NodeCore, two: &mut NodeCore) -> Option<Came> {
+    connects(alloc, one);
+    for _ in 0..2 {
+        take(alloc, one, Item::Cut);
+    }
+    let Some(ballot) = ballot_2(alloc, &[1, 2]) else {
+        return None;
+    };
+    tell(alloc, two, 0, ballot);
+    settles(alloc, one, two);
+    other_than_session(alloc, one, two)
+}
+
+// Returns what came, if it does not give its snapshot to a fresh second node, and no refusal is
+// counted. If memory runs out for a node nothing is asked of the other.
+fn other_with(alloc: Global, one: &mut NodeCore) -> Option<Came> {
+    match node_of(alloc, 2, &[1]) {
+        Some(mut two) => other_than_moved(alloc, one, &mut two),
+        None => None,
+    }
+}
+
+// Returns what came, if a fresh first node does not give its snapshot to a second one, and does not
+// count the refusal.
+fn other_of_fresh(alloc: Global) -> Option<Came> {
+    match node_of(alloc, 1, &[1]) {
+        Some(mut one) => other_with(alloc, &mut one),
+        None => None,
+    }
+}
+
+// Run with each allocation failing in turn.
+#[test]
+fn a_refused_snapshot_is_counted(rt: HostRuntime) {
+    assert_eq!(rt; other_of_fresh(rt.alloc()), None);
+}

@@ -1,5 +1,0 @@
-use Rattle.world_base.proofs.EndsRun.{ran_proposes}
-use Rattle.world_base.proofs.stepping_node.SteppingNode.expel.Goals as goal
-
-pub returns-clause-lossy : goal.returns-clause-lossy
-returns-clause-lossy c = ran_proposes _ c.propose.result _ _ _ _ c.propose.ensures.lossy
