@@ -70,7 +70,7 @@ module _ {nodes : ℕ} {config : Config} (v : World) (went : GroupTrace nodes co
   old_led : (m : ℕ) (old : CoreState) (e : NodesEnd) → slice_get v.group.nodes m ≡ Some old → IsOfOld old.connections e → LeadsToPort v m e.port
   old_led m old e at o =
       let l = h.used m old o.was at o.among in
-      record { i = l.i; c = l.c; j = l.j; κ = l.κ; p = l.p; has = l.has; node = l.node; at = l.at ∙ sym (ap (λ (z : Port). z.0) o.later.port) }
+      record { i = l.i; c = l.c; j = l.j; connection = l.connection; p = l.p; has = l.has; node = l.node; at = l.at ∙ sym (ap (λ (z : Port). z.0) o.later.port) }
 
   opened_there : (m : ℕ) (old : CoreState) (e : NodesEnd) → IsOpened (node_call_of d.step) m old e → (m ≡ n) × (e.port.0 ≡ port.0)
   opened_there m old e o = (ap opened_place (sym o.is ∙ d.is), ap (λ (z : Port). z.0) o.new.port_is ∙ ap opened_port (sym o.is ∙ d.is))
@@ -86,7 +86,7 @@ module _ {nodes : ℕ} {config : Config} (v : World) (went : GroupTrace nodes co
   old_holds i c j κ p has =
       apart_on went d.step κ p
       (λ old e at o same. let z = opened_there p.node old e o in
-      no_lead (record { i = i; c = c; j = j; κ = κ; p = p; has = has; node = z.0; at = sym same ∙ z.1 }))
+      no_lead (record { i = i; c = c; j = j; connection = κ; p = p; has = has; node = z.0; at = sym same ∙ z.1 }))
       (quiet κ.name).0 (quiet κ.name).1 (h.each i c j κ p has)
 
   pub opens_unused : OpensUnused v went n port now d

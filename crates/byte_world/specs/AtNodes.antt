@@ -17,9 +17,9 @@ pub record LeadsToPort (w : World) (n : ℕ) (port : Port) : Type 0 where
   pub i : ℕ
   pub c : ClientPipes
   pub j : ℕ
-  pub κ : ClientConnection
+  pub connection : ClientConnection
   pub p : Pipe
-  pub has : HasPipe w i c j κ p
+  pub has : HasPipe w i c j connection p
   pub node : p.node ≡ n
   pub at : p.port.0 ≡ port.0
 

@@ -18,10 +18,11 @@ went_on went (calls i c t h at call spelled) = went
 went_on went (connects i n c port now d core end at unused after there spelled) =
     then_went went d.step
 went_on went (is_taken_back n port now d core unused after none) = then_went went d.step
-went_on went (comes_up i j c κ p piece rest now d pipe is) = then_went went d.step
-went_on went (goes_down i j c κ p d pipe) = then_went went d.step
-went_on went (arrives i j c κ p piece rest pipe is) = went
-went_on went (handles i c κ others p pipes packet left at first piped is_open takes spelled) = went
+went_on went (comes_up i j c connection p piece rest now d pipe is) = then_went went d.step
+went_on went (goes_down i j c connection p d pipe) = then_went went d.step
+went_on went (arrives i j c connection p piece rest pipe is) = went
+went_on went
+    (handles i c connection others p pipes packet left at first piped is_open takes spelled) = went
 
 -- the steps of the group of a world on this way to it
 abbrev pub trace_of : {nodes : ℕ} {config : Config} {cs : List Client} {w : World} →

@@ -23,13 +23,15 @@ use Rattle.byte_world.specs.Steps.{Reached}
 -- A connection's commands in the list are a prefix of the packets that its client wrote, in order.
 -- The packets that its client handled, spelled, with the bytes that came to it after them and those
 -- in transit to it, are a prefix of the spelled answers to it, and no fault was found in them.
-pub record IsInOrder (agreed : List Command) (κ : ClientConnection) (p : Pipe) : Type 0 where
-  pub up : IsPrefixOf (packets_in_list κ.name agreed)
-      (packet_commands_from κ.name 0 (packets_of κ.written))
+pub record IsInOrder (agreed : List Command) (connection : ClientConnection)
+    (p : Pipe) : Type 0 where
+  pub up : IsPrefixOf (packets_in_list connection.name agreed)
+      (packet_commands_from connection.name 0 (packets_of connection.written))
   pub handled : List Packet
-  pub counted : length handled ≡ κ.handled
+  pub counted : length handled ≡ connection.handled
   pub whole : Each IsPacket handled
-  pub down : IsPrefixOf (spelled handled ++ (p.came.bytes ++ p.down)) (answers_to κ.name agreed)
+  pub down : IsPrefixOf (spelled handled ++ (p.came.bytes ++ p.down))
+      (answers_to connection.name agreed)
   pub sound : p.came.failed ≡ false
 
 -- each connection of each client is in order, by the list on which the nodes agree at the end of
@@ -39,8 +41,8 @@ pub record PipesAreInOrder {nodes : ℕ} {config : Config} {cs : List Client} {w
   pub of : HasPast config w.group (groups_on_trace (trace_of trail)) (all_proposed (trace_of trail))
   pub each : (agreed : List Command) →
       IsAgreed config (moment_of_nodes w.group ∷ of.earlier) agreed →
-      (i : ℕ) (c : ClientPipes) (j : ℕ) (κ : ClientConnection) (p : Pipe) →
-      HasPipe w i c j κ p → IsInOrder agreed κ p
+      (i : ℕ) (c : ClientPipes) (j : ℕ) (connection : ClientConnection) (p : Pipe) →
+      HasPipe w i c j connection p → IsInOrder agreed connection p
 
 -- in each world that can be reached the connections of each client are in order
 abbrev pub PipesCarryInOrder : Type 0

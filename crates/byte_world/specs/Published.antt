@@ -13,9 +13,9 @@ use Rattle.byte_world.specs.Steps.WorldStep.{group_goes, calls, connects, is_tak
 -- what a client publishes with a call
 abbrev pub published_by_call : {limits : Limits} {s t : Story} → StoryStep limits s t →
     List Publication
-published_by_call (takes i κ w stands next) = []
+published_by_call (takes i connection w stands next) = []
 published_by_call (others_take command other none) = []
-published_by_call (receives κ others packet are opened next) = []
+published_by_call (receives connection others packet are opened next) = []
 published_by_call (opens_anew x fresh none uncounted) = []
 published_by_call loses = []
 published_by_call disconnects = []
@@ -33,10 +33,11 @@ published_in_step (group_goes node_call d apart) = []
 published_in_step (calls i c t h at call spelled) = from_client i (published_by_call h)
 published_in_step (connects i n c port now d core end at unused after there spelled) = []
 published_in_step (is_taken_back n port now d core unused after none) = []
-published_in_step (comes_up i j c κ p piece rest now d pipe is) = []
-published_in_step (goes_down i j c κ p d pipe) = []
-published_in_step (arrives i j c κ p piece rest pipe is) = []
-published_in_step (handles i c κ others p pipes packet left at first piped is_open cut spelled) = []
+published_in_step (comes_up i j c connection p piece rest now d pipe is) = []
+published_in_step (goes_down i j c connection p d pipe) = []
+published_in_step (arrives i j c connection p piece rest pipe is) = []
+published_in_step
+    (handles i c connection others p pipes packet left at first piped is_open cut spelled) = []
 
 -- all that clients published on this way to a world, the oldest first
 abbrev pub published_on_way : {nodes : ℕ} {config : Config} {cs : List Client} {w : World} →

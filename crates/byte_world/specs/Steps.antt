@@ -56,33 +56,37 @@ pub data WorldStep (w : World) : World → Type 0 where
       slice_get d.after.nodes n ≡ Some core → listed_at port core ≡ None →
       WorldStep w (record w { group = d.after })
   -- a prefix of the bytes in transit reaches the node
-  comes_up : (i j : ℕ) (c : ClientPipes) (κ : ClientConnection) (p : Pipe) (piece rest : List ℕ)
+  comes_up : (i j : ℕ) (c : ClientPipes) (connection : ClientConnection) (p : Pipe)
+      (piece rest : List ℕ)
       (now : ℕ) (d : DoesCall w.group (Some (p.node, takes (Bytes p.port piece now)))) →
-      HasPipe w i c j κ p → p.up ≡ piece ++ rest →
+      HasPipe w i c j connection p → p.up ≡ piece ++ rest →
       WorldStep w
       (with_client i (with_pipe j (record p { up = rest }) c) (record w { group = d.after }))
   -- a node hands over what it queued
-  goes_down : (i j : ℕ) (c : ClientPipes) (κ : ClientConnection) (p : Pipe)
-      (d : DoesCall w.group (Some (p.node, gives p.port))) → HasPipe w i c j κ p →
+  goes_down : (i j : ℕ) (c : ClientPipes) (connection : ClientConnection) (p : Pipe)
+      (d : DoesCall w.group (Some (p.node, gives p.port))) → HasPipe w i c j connection p →
       WorldStep w (with_client i
-      (with_pipe j (record p { down = p.down ++ goes_down_in κ.name d.step }) c)
+      (with_pipe j (record p { down = p.down ++ goes_down_in connection.name d.step }) c)
       (record w { group = d.after }))
   -- a prefix of the bytes in transit reaches the client
-  arrives : (i j : ℕ) (c : ClientPipes) (κ : ClientConnection) (p : Pipe) (piece rest : List ℕ) →
-      HasPipe w i c j κ p → p.down ≡ piece ++ rest →
+  arrives : (i j : ℕ) (c : ClientPipes) (connection : ClientConnection) (p : Pipe)
+      (piece rest : List ℕ) →
+      HasPipe w i c j connection p → p.down ≡ piece ++ rest →
       WorldStep w (with_client i
       (with_pipe j
       (record p { down = rest; came = record p.came { bytes = p.came.bytes ++ piece } }) c) w)
   -- a client handles the next packet that came whole on the connection that it holds
-  handles : (i : ℕ) (c : ClientPipes) (κ : ClientConnection) (others : List ClientConnection)
+  handles : (i : ℕ) (c : ClientPipes) (connection : ClientConnection)
+      (others : List ClientConnection)
       (p : Pipe) (pipes : List Pipe) (packet : Packet) (left : Stream) →
-      slice_get w.clients i ≡ Some c → c.connections ≡ κ ∷ others → c.pipes ≡ p ∷ pipes →
+      slice_get w.clients i ≡ Some c → c.connections ≡ connection ∷ others → c.pipes ≡ p ∷ pipes →
       c.keeper.is_open ≡ true → Takes p.came (Ok (Some packet)) left →
       WritesCanBeSpelled c.connections
-      ((packet_handled packet (record { keeper = c.keeper; connection = κ })).connection ∷ others) →
+      ((packet_handled packet (record { keeper = c.keeper; connection = connection })).connection
+      ∷ others) →
       WorldStep w (with_client i
       (after_packet others pipes p left
-      (packet_handled packet (record { keeper = c.keeper; connection = κ })) c) w)
+      (packet_handled packet (record { keeper = c.keeper; connection = connection })) c) w)
 
 -- the worlds that are reached with this many nodes, a configuration at first, and these clients
 pub data Reached (nodes : ℕ) (config : Config) (cs : List Client) : World → Type 0 where

@@ -44,10 +44,10 @@ opening nodes config cs = record { group = opening_group nodes config; clients =
 -- ---- places
 
 -- the j-th connection of the i-th client, and its pipe
-pub record HasPipe (w : World) (i : ℕ) (c : ClientPipes) (j : ℕ) (κ : ClientConnection)
-    (p : Pipe) : Type 0 where
+pub record HasPipe (w : World) (i : ℕ) (c : ClientPipes) (j : ℕ)
+    (client_connection : ClientConnection) (p : Pipe) : Type 0 where
   pub client : slice_get w.clients i ≡ Some c
-  pub connection : slice_get c.connections j ≡ Some κ
+  pub connection : slice_get c.connections j ≡ Some client_connection
   pub pipe : slice_get c.pipes j ≡ Some p
 
 -- whether a pipe leads to this port of node n
@@ -74,7 +74,8 @@ packets_of written = map (λ (w : Written). w.packet) written
 
 -- the packets that were written on the newest connection between these connections and those
 abbrev pub newly_written : List ClientConnection → List ClientConnection → List Packet
-newly_written (κ ∷ connections) (later ∷ more) = packets_of (drop (length κ.written) later.written)
+newly_written (connection ∷ connections) (later ∷ more) =
+    packets_of (drop (length connection.written) later.written)
 newly_written _ _ = []
 
 -- the bytes of these packets go into the pipe of the newest connection

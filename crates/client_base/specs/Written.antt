@@ -52,5 +52,5 @@ writing more side = record side { connection = writes more side.connection }
 -- on the connection that was opened last
 abbrev pub writes_first : {Name : Type 0} → List Written → List (ClientConnection Name)
     → List (ClientConnection Name)
-writes_first more (κ ∷ connections) = writes more κ ∷ connections
+writes_first more (connection ∷ connections) = writes more connection ∷ connections
 writes_first more [] = []

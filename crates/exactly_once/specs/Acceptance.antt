@@ -20,7 +20,7 @@ two_entries = filter is_two_entry
 
 -- what the client accepted, connection by connection, the oldest first
 abbrev pub accepted_on : List ClientConnection → List Publication
-accepted_on (κ ∷ connections) = accepted_on connections ++ κ.accepted
+accepted_on (connection ∷ connections) = accepted_on connections ++ connection.accepted
 accepted_on [] = []
 
 -- whether a PUBREC of the client has released an entry (MQTT 4.3.3)

@@ -16,8 +16,8 @@ use Rattle.exactly_once.specs.StoryCommands.{packet_count}
 
 -- the client's connection of this name, if it has one
 abbrev pub connection_named : ConnectionName → List ClientConnection → Option ClientConnection
-connection_named x (κ ∷ connections) =
-    if same_connection x κ.name then Some κ else connection_named x connections
+connection_named x (connection ∷ connections) =
+    if same_connection x connection.name then Some connection else connection_named x connections
 connection_named x [] = None
 
 -- whether it is this number
@@ -32,7 +32,7 @@ written_number None = None
 
 -- the number of the j-th packet that was written on a connection
 abbrev pub written_number_at : ℕ → Option ClientConnection → Option ℕ
-written_number_at j (Some κ) = written_number (slice_get κ.written j)
+written_number_at j (Some connection) = written_number (slice_get connection.written j)
 written_number_at j None = None
 
 -- the publication, if the command is a PUBLISH that the client wrote on one of its connections

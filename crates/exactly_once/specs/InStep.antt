@@ -65,20 +65,21 @@ entries_in limits [] c start = []
 
 -- what the client accepted at QoS 2 on connections of that session, the oldest first
 abbrev pub accepted_in : Past → Client → ℕ → List ClientConnection → List Publication
-accepted_in past c start (κ ∷ connections) =
+accepted_in past c start (connection ∷ connections) =
     accepted_in past c start connections
-    ++ (if is_this start (opened_in past c κ.name) then κ.accepted else [])
+    ++ (if is_this start (opened_in past c connection.name) then connection.accepted else [])
 accepted_in past c start [] = []
 
 -- ---- in step
 
 -- if a connection's Connect began a session that is not the first, its CONNACK was received
 abbrev pub WasWelcome : Past → Client → ClientConnection → Type 0
-WasWelcome past c κ = began_again past c κ.name ≡ true → κ.confirmed ≡ true
+WasWelcome past c connection =
+    began_again past c connection.name ≡ true → connection.confirmed ≡ true
 
 -- on each connection except the newest, the CONNACK of a session that is not the first was received
 abbrev pub AreWelcome : Past → Client → List ClientConnection → Type 0
-AreWelcome past c (κ ∷ connections) = Each (WasWelcome past c) connections
+AreWelcome past c (connection ∷ connections) = Each (WasWelcome past c) connections
 AreWelcome past c [] = Unit {0}
 
 -- For each of its sessions except the first, the client opened no further connection before it

@@ -46,10 +46,12 @@ with_side s others side =
 -- come next in the list, and any client may be lost at any time.
 pub data StoryStep (limits : Limits) (s : Story) : Story → Type 0 where
   -- the next packet that the client wrote on one of its connections comes next in the list
-  takes : (i : ℕ) (κ : ClientConnection) (w : Written) → slice_get s.connections i ≡ Some κ →
-      slice_get κ.written κ.taken ≡ Some w →
+  takes : (i : ℕ) (connection : ClientConnection) (w : Written) →
+      slice_get s.connections i ≡ Some connection →
+      slice_get connection.written connection.taken ≡ Some w →
       StoryStep limits s (record {
-        past = place_of limits s.past (command_of κ.name κ.taken w.packet) ∷ s.past;
+        past = place_of limits s.past (command_of connection.name connection.taken w.packet)
+            ∷ s.past;
         connections = with_one_counted i s.connections;
         keeper = s.keeper;
       })
@@ -58,11 +60,12 @@ pub data StoryStep (limits : Limits) (s : Story) : Story → Type 0 where
       any_named (is_packet_of command) s.connections ≡ false →
       StoryStep limits s (record s { past = place_of limits s.past command ∷ s.past })
   -- the client handles the next packet that was sent on the connection that it holds
-  receives : (κ : ClientConnection) (others : List ClientConnection) (packet : Packet) →
-      s.connections ≡ κ ∷ others → s.keeper.is_open ≡ true →
-      slice_get (put_to limits s.past κ.name) κ.handled ≡ Some packet →
+  receives : (connection : ClientConnection) (others : List ClientConnection) (packet : Packet) →
+      s.connections ≡ connection ∷ others → s.keeper.is_open ≡ true →
+      slice_get (put_to limits s.past connection.name) connection.handled ≡ Some packet →
       StoryStep limits s
-      (with_side s others (packet_handled packet (record { keeper = s.keeper; connection = κ })))
+      (with_side s others
+      (packet_handled packet (record { keeper = s.keeper; connection = connection })))
   -- it opens a connection with a name of which nothing is in the list or was sent
   opens_anew : (x : ConnectionName) → any_named (same_connection x) s.connections ≡ false →
       put_to limits s.past x ≡ [] → packet_count x s.past ≡ 0 →

@@ -18,8 +18,9 @@ command_of x taken packet = commands.Packet x packet
 -- the connection at this index of the list, one more packet of it taken
 abbrev pub with_one_counted : ℕ → List ClientConnection → List ClientConnection
 with_one_counted i [] = []
-with_one_counted zero (κ ∷ connections) = record κ { taken = suc κ.taken } ∷ connections
-with_one_counted (suc i) (κ ∷ connections) = κ ∷ with_one_counted i connections
+with_one_counted zero (connection ∷ connections) =
+    record connection { taken = suc connection.taken } ∷ connections
+with_one_counted (suc i) (connection ∷ connections) = connection ∷ with_one_counted i connections
 
 -- a Connect of the client, and an Expel of it if it has a session
 abbrev pub names_client : Past → Client → Command → Type 0
@@ -41,5 +42,5 @@ packet_count x [] = 0
 
 -- whether the name of any of these connections passes a test
 abbrev pub any_named : (ConnectionName → Bool) → List ClientConnection → Bool
-any_named test (κ ∷ connections) = test κ.name || any_named test connections
+any_named test (connection ∷ connections) = test connection.name || any_named test connections
 any_named test [] = false

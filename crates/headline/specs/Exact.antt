@@ -58,8 +58,8 @@ pub record IsExactBy (agreed : List Command) (w : World) : Type 0 where
   pub names : (x : ConnectionName) → connects_of x (past_of usual_limits agreed) ≤ 1
   pub sessions : EndsWithTheSession usual_limits (past_of usual_limits agreed)
   -- connections carry their packets in order, both ways
-  pub pipes : (i : ℕ) (c : ClientPipes) (j : ℕ) (κ : ClientConnection) (p : Pipe) →
-      HasPipe w i c j κ p → IsInOrder agreed κ p
+  pub pipes : (i : ℕ) (c : ClientPipes) (j : ℕ) (connection : ClientConnection) (p : Pipe) →
+      HasPipe w i c j connection p → IsInOrder agreed connection p
 
 -- A world that is reached by these steps: the steps of its group are a past, there is a list on
 -- which the nodes agree at its end, and the world is exact by that list.

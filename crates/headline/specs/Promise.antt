@@ -27,9 +27,9 @@ pub record PromiseInStep (client : Client) (published : List Publication) (past 
     (state : ClientState) : Type 0 where
   -- its QoS 2 publications are new in the order in which it was asked for them, each once
   pub rises : AreNewInOrder published (new_of client past)
-  -- none is left out while it has had one session; and while that lasts, those that are not new yet
-  -- are unacknowledged
+  -- none is left out while it has had one session
   pub in_order : sessions_begun past client ≤ 1 → IsPrefixOf (new_of client past) (at_two published)
+  -- while its first session lasts, those that are not new yet are unacknowledged
   pub unacknowledged : IsFirstSession past client →
       AreUnacknowledged (at_two published) (new_of client past) (at_two (unacknowledged_of state))
   -- one that is answered with PUBREC is new at that place or at an earlier one

@@ -22,16 +22,17 @@ commands_from x n [] = []
 
 -- A connection's commands in the agreed list are a prefix of what its client wrote, in order. What
 -- its node sent is a prefix of the answers to it, and its client handled a prefix of that.
-pub record PipeInOrder (agreed : List Command) (κ : ClientConnection) (e : End) : Type 0 where
-  pub up : IsPrefixOf (filter (λ command. is_packet_of command κ.name) agreed)
-      (commands_from κ.name 0 κ.written)
-  pub down : IsPrefixOf e.put (put_to usual_limits (past_of usual_limits agreed) κ.name)
-  pub handled : κ.handled ≤ length e.put
+pub record PipeInOrder (agreed : List Command) (connection : ClientConnection)
+    (e : End) : Type 0 where
+  pub up : IsPrefixOf (filter (λ command. is_packet_of command connection.name) agreed)
+      (commands_from connection.name 0 connection.written)
+  pub down : IsPrefixOf e.put (put_to usual_limits (past_of usual_limits agreed) connection.name)
+  pub handled : connection.handled ≤ length e.put
 
 -- `PipeInOrder` of each connection of a client and the node's end of it
 abbrev pub PipesInOrder : List Command → List ClientConnection → List End → Type 0
-PipesInOrder agreed (κ ∷ connections) (e ∷ ends) =
-    PipeInOrder agreed κ e × PipesInOrder agreed connections ends
+PipesInOrder agreed (connection ∷ connections) (e ∷ ends) =
+    PipeInOrder agreed connection e × PipesInOrder agreed connections ends
 PipesInOrder agreed [] [] = Unit {0}
 PipesInOrder agreed _ _ = ⊥
 

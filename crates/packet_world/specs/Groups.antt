@@ -23,13 +23,14 @@ use Rattle.packet_world.specs.Served.{IsOfPipe, ServesWorld}
 -- its end has read.
 pub record ReadsAt {rules : Rules State Command Output} {config : Config}
     {past : List (Moment State Command Output)} (came : Moments rules config past)
-    (κ : ClientConnection) (e : End) : Type 0 where
+    (connection : ClientConnection) (e : End) : Type 0 where
   pub node : ℕ
   pub moment : Moment State Command Output
   pub among : In moment past
-  pub primary : IsPrimary moment.world node κ.name.ballot
-  pub taken : filter (λ command. is_packet_of command κ.name) (commands_of (taken_at node came))
-      ≡ commands_from κ.name 0 (take e.read κ.written)
+  pub primary : IsPrimary moment.world node connection.name.ballot
+  pub taken : filter (λ command. is_packet_of command connection.name)
+      (commands_of (taken_at node came))
+      ≡ commands_from connection.name 0 (take e.read connection.written)
 
 -- The premise about the nodes: they take commands of a connection only in the ballot of its name,
 -- for each connection the packets that its end has read, in order, and nothing of others.
@@ -38,8 +39,9 @@ pub record TakesAsRead {rules : Rules State Command Output} {config : Config}
     (w : World) : Type 0 where
   pub ballots : (row : ℕ × Command) → In row (taken_of came) → (x : ConnectionName) →
       is_packet_of row.1 x ≡ true → row.0 ≡ x.ballot
-  pub ends : (i j : ℕ) (c : ClientEnds) (κ : ClientConnection) (e : End) → HasPipe w i c j κ e →
-      ReadsAt came κ e
+  pub ends : (i j : ℕ) (c : ClientEnds) (connection : ClientConnection) (e : End) →
+      HasPipe w i c j connection e →
+      ReadsAt came connection e
   pub known : (row : ℕ × Command) → In row (taken_of came) → is_of_connection row.1 ≡ true →
       IsOfPipe w row.1
 

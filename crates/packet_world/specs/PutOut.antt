@@ -49,13 +49,15 @@ end_given x past given e = record e { seen = past; put = e.put ++ sends_to x (ou
 -- an open end: the world reaches a state that has them.
 abbrev pub GivenIsPutOut : Type 0
 GivenIsPutOut =
-    (cs : List Client) (w : World) (i j : ℕ) (c : ClientEnds) (κ : ClientConnection) (e : End)
-    (past : ℕ) → Reached cs w → HasPipe w i c j κ e →
+    (cs : List Client) (w : World) (i j : ℕ) (c : ClientEnds) (connection : ClientConnection)
+    (e : End)
+    (past : ℕ) → Reached cs w → HasPipe w i c j connection e →
     e.is_open ≡ true → e.seen ≤ past → past ≤ length w.agreed →
     Reached cs (with_client i
     (record c {
       ends = set c.ends j
-          (end_given κ.name past (outputs (outputs_between broker_rules w.agreed e.seen past)) e);
+          (end_given connection.name past
+          (outputs (outputs_between broker_rules w.agreed e.seen past)) e);
     }) w)
 
 -- All outputs of a node of a group between two moments of a ballot that it leads may be sent on an
@@ -70,7 +72,8 @@ GroupsPutOut =
     slice_get b.world.nodes n ≡ Some new →
     (given : List (ℕ × Output)) → given_of n more ≡ given_of n came ++ given →
     (cs : List Client) (w : World) → Reached cs w → IsAgreed config (b ∷ later) w.agreed →
-    (i j : ℕ) (c : ClientEnds) (κ : ClientConnection) (e : End) → HasPipe w i c j κ e →
+    (i j : ℕ) (c : ClientEnds) (connection : ClientConnection) (e : End) →
+    HasPipe w i c j connection e →
     e.is_open ≡ true → e.seen ≡ old.committed →
     Reached cs (with_client i
-    (record c { ends = set c.ends j (end_given κ.name new.committed given e) }) w)
+    (record c { ends = set c.ends j (end_given connection.name new.committed given e) }) w)

@@ -24,16 +24,20 @@ pub record IsOfPipe (w : World) (command : Command) : Type 0 where
 -- proposed, in order; and it has packets only of connections of the world.
 pub record ServesWorld (w : World) (later : List Command) : Type 0 where
   pub grows : IsPrefixOf w.agreed later
-  pub order : (i j : ℕ) (c : ClientEnds) (κ : ClientConnection) (e : End) → HasPipe w i c j κ e →
-      IsPrefixOf (filter (λ command. is_packet_of command κ.name) later)
-      (commands_from κ.name 0 (take e.read κ.written))
+  pub order : (i j : ℕ) (c : ClientEnds) (connection : ClientConnection) (e : End) →
+      HasPipe w i c j connection e →
+      IsPrefixOf (filter (λ command. is_packet_of command connection.name) later)
+      (commands_from connection.name 0 (take e.read connection.written))
   pub known : (command : Command) → In command later → is_of_connection command ≡ true →
       IsOfPipe w command
 
 -- a client, except how much of what it wrote is in the list
 abbrev pub untaken : ClientEnds → ClientEnds
 untaken c =
-    record c { connections = map (λ (κ : ClientConnection). record κ { taken = 0 }) c.connections }
+    record c {
+      connections = map (λ (connection : ClientConnection). record connection { taken = 0 })
+          c.connections;
+    }
 
 -- The world comes to this list, command by command, and all else stays as it is.
 pub record CommandsLeadTo (cs : List Client) (w : World) (later : List Command) : Type 0 where

@@ -19,9 +19,9 @@ use Rattle.packet_world.specs.World.{End, ClientEnds, World, new_end, story_of, 
 
 -- what a client does: it publishes, subscribes, unsubscribes, disconnects, or loses its connection
 abbrev pub is_call : {limits : Limits} {s t : Story} → StoryStep limits s t → Bool
-is_call (takes i κ w stands next) = false
+is_call (takes i connection w stands next) = false
 is_call (others_take command other none) = false
-is_call (receives κ others packet are opened next) = false
+is_call (receives connection others packet are opened next) = false
 is_call (opens_anew x fresh none uncounted) = false
 is_call loses = true
 is_call disconnects = true
@@ -60,10 +60,10 @@ shown agreed x command e =
     }
 
 -- the j-th connection of a client, and the node's end of it
-pub record HasPipe (w : World) (i : ℕ) (c : ClientEnds) (j : ℕ) (κ : ClientConnection)
-    (e : End) : Type 0 where
+pub record HasPipe (w : World) (i : ℕ) (c : ClientEnds) (j : ℕ)
+    (client_connection : ClientConnection) (e : End) : Type 0 where
   pub client : slice_get w.clients i ≡ Some c
-  pub connection : slice_get c.connections j ≡ Some κ
+  pub connection : slice_get c.connections j ≡ Some client_connection
   pub end : slice_get c.ends j ≡ Some e
 
 -- one step of a world
@@ -78,33 +78,34 @@ pub data Goes (w : World) : World → Type 0 where
       slice_get w.clients i ≡ Some c → IsFresh x w.clients → seen ≤ length w.agreed →
       Goes w (with_client i (after_opening x seen c) w)
   -- a client handles the next packet that was sent on the connection that it holds
-  handles : (i : ℕ) (c : ClientEnds) (κ : ClientConnection) (e : End)
+  handles : (i : ℕ) (c : ClientEnds) (connection : ClientConnection) (e : End)
       (others : List ClientConnection) (ends : List End) (packet : Packet) →
-      slice_get w.clients i ≡ Some c → c.connections ≡ κ ∷ others → c.ends ≡ e ∷ ends →
-      c.keeper.is_open ≡ true →
-      slice_get e.put κ.handled ≡ Some packet →
+      slice_get w.clients i ≡ Some c → c.connections ≡ connection ∷ others → c.ends ≡ e ∷ ends →
+      c.keeper.is_open ≡ true → slice_get e.put connection.handled ≡ Some packet →
       Goes w (with_client i
       (after_packet others (e ∷ ends)
-      (packet_handled packet (record { keeper = c.keeper; connection = κ }))) w)
+      (packet_handled packet (record { keeper = c.keeper; connection = connection }))) w)
   -- a node reads the next packet of an open connection, and proposes it
-  reads : (i j : ℕ) (c : ClientEnds) (κ : ClientConnection) (e : End) → HasPipe w i c j κ e →
-      e.is_open ≡ true → e.read < length κ.written →
+  reads : (i j : ℕ) (c : ClientEnds) (connection : ClientConnection) (e : End) →
+      HasPipe w i c j connection e → e.is_open ≡ true → e.read < length connection.written →
       Goes w (with_client i (record c { ends = set c.ends j (record e { read = suc e.read }) }) w)
   -- a node applies its next place of the agreed list, and sends what the broker answers on an open
   -- connection
-  answers : (i j : ℕ) (c : ClientEnds) (κ : ClientConnection) (e : End) (command : Command) →
-      HasPipe w i c j κ e → e.is_open ≡ true →
-      slice_get w.agreed e.seen ≡ Some command →
-      Goes w (with_client i (record c { ends = set c.ends j (shown w.agreed κ.name command e) }) w)
+  answers : (i j : ℕ) (c : ClientEnds) (connection : ClientConnection) (e : End)
+      (command : Command) →
+      HasPipe w i c j connection e → e.is_open ≡ true → slice_get w.agreed e.seen ≡ Some command →
+      Goes w (with_client i
+      (record c { ends = set c.ends j (shown w.agreed connection.name command e) }) w)
   -- a node's end is closed, alone or with its node
-  closes : (i j : ℕ) (c : ClientEnds) (κ : ClientConnection) (e : End) → HasPipe w i c j κ e →
+  closes : (i j : ℕ) (c : ClientEnds) (connection : ClientConnection) (e : End) →
+      HasPipe w i c j connection e →
       Goes w (with_client i (record c { ends = set c.ends j (record e { is_open = false }) }) w)
   -- of what was proposed for a connection, the next comes next in the agreed list
-  agrees : (i j : ℕ) (c : ClientEnds) (κ : ClientConnection) (e : End) (v : Written) →
-      HasPipe w i c j κ e → κ.taken < e.read →
-      slice_get κ.written κ.taken ≡ Some v →
+  agrees : (i j : ℕ) (c : ClientEnds) (connection : ClientConnection) (e : End) (v : Written) →
+      HasPipe w i c j connection e → connection.taken < e.read →
+      slice_get connection.written connection.taken ≡ Some v →
       Goes w (record {
-        agreed = w.agreed ++ command_of κ.name κ.taken v.packet ∷ [];
+        agreed = w.agreed ++ command_of connection.name connection.taken v.packet ∷ [];
         clients = set w.clients i (record c { connections = with_one_counted j c.connections });
       })
   -- the loss of a connection, the start of a ballot, or an Expel comes next in the agreed list

@@ -151,8 +151,8 @@ impl Links {
         requires { first ≤ MAX_CONNECTIONS }
         ensures all { result ≡ true →
             map arc_value busy.new.items ≡ map arc_value busy.old.items
-                ++ busy_between arc_value idle self.now.slots first MAX_CONNECTIONS
-                ++ busy_between arc_value idle self.now.slots 0 first }
+            ++ busy_between arc_value idle self.now.slots first MAX_CONNECTIONS
+            ++ busy_between arc_value idle self.now.slots 0 first }
 
         // What was added is listed and busy, also if some are left out.
         ensures adds { AddsBusy idle MAX_CONNECTIONS
@@ -175,7 +175,7 @@ impl Links {
         requires { first ≤ end }
         ensures all { result ≡ true →
             map arc_value busy.new.items ≡ map arc_value busy.old.items
-                ++ busy_between arc_value idle self.now.slots first end }
+            ++ busy_between arc_value idle self.now.slots first end }
         ensures adds { AddsBusy idle (end - first)
             (map arc_value busy.old.items) (map arc_value busy.new.items) }
     {
@@ -191,7 +191,7 @@ impl Links {
     fn add_at(&self, idle: IdleLanes, index: usize, busy: &mut Vec<Arc<Link, Global>>) -> bool
         ensures added { result ≡ true →
             map arc_value busy.new.items ≡ map arc_value busy.old.items
-                ++ busy_at arc_value idle (connection_listed_at (get self.now.slots index)) }
+            ++ busy_at arc_value idle (connection_listed_at (get self.now.slots index)) }
         ensures left { result ≡ false → busy.new.items ≡ busy.old.items }
     {
         let Some(link) = self.at(index) else {

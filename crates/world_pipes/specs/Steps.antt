@@ -20,21 +20,23 @@ pub data ClientStep (c : ClientPipes) : ClientPipes → Type 0 where
       WritesCanBeSpelled c.connections t.connections →
       ClientStep c (after_writing t.keeper t.connections c)
   -- a prefix of the bytes in transit reaches it
-  arrives : (j : ℕ) (κ : ClientConnection) (p : Pipe) (piece rest : List ℕ) →
-      slice_get c.connections j ≡ Some κ → slice_get c.pipes j ≡ Some p →
+  arrives : (j : ℕ) (connection : ClientConnection) (p : Pipe) (piece rest : List ℕ) →
+      slice_get c.connections j ≡ Some connection → slice_get c.pipes j ≡ Some p →
       p.down ≡ piece ++ rest →
       ClientStep c
       (with_pipe j
       (record p { down = rest; came = record p.came { bytes = p.came.bytes ++ piece } }) c)
   -- it handles the next packet that came whole on the connection that it holds
-  handles : (κ : ClientConnection) (others : List ClientConnection) (p : Pipe) (pipes : List Pipe)
-      (packet : Packet) (left : Stream) → c.connections ≡ κ ∷ others →
+  handles : (connection : ClientConnection) (others : List ClientConnection) (p : Pipe)
+      (pipes : List Pipe)
+      (packet : Packet) (left : Stream) → c.connections ≡ connection ∷ others →
       c.pipes ≡ p ∷ pipes → c.keeper.is_open ≡ true → Takes p.came (Ok (Some packet)) left →
       WritesCanBeSpelled c.connections
-      ((packet_handled packet (record { keeper = c.keeper; connection = κ })).connection ∷ others) →
+      ((packet_handled packet (record { keeper = c.keeper; connection = connection })).connection
+      ∷ others) →
       ClientStep c
       (after_packet others pipes p left
-      (packet_handled packet (record { keeper = c.keeper; connection = κ })) c)
+      (packet_handled packet (record { keeper = c.keeper; connection = connection })) c)
 
 -- steps of a client, one after another
 pub data ClientGoes (c : ClientPipes) : ClientPipes → Type 0 where
@@ -48,8 +50,9 @@ pub data ClientGoes (c : ClientPipes) : ClientPipes → Type 0 where
 -- what a client publishes in a step
 abbrev pub published_with : {c d : ClientPipes} → ClientStep c d → List Publication
 published_with (ClientStep.calls t h is spelled) = published_by_call h
-published_with (ClientStep.arrives j κ p piece rest connection pipe down) = []
-published_with (ClientStep.handles κ others p pipes packet left connections are up cut spelled) = []
+published_with (ClientStep.arrives j client_connection p piece rest connection pipe down) = []
+published_with
+    (ClientStep.handles connection others p pipes packet left connections are up cut spelled) = []
 
 -- what a client publishes in steps, one after another, the oldest first
 abbrev pub published_in_steps : {c d : ClientPipes} → ClientGoes c d → List Publication

@@ -64,28 +64,30 @@ backward_of [] = []
 
 -- the connection, if the list has its Connect
 abbrev pub if_taken : ℕ → ClientConnection → Option ClientConnection
-if_taken zero κ = None
-if_taken (suc n) κ = Some κ
+if_taken zero connection = None
+if_taken (suc n) connection = Some connection
 
 -- the connection that the client holds, if the list has its Connect
 abbrev pub held : Keeper → List ClientConnection → Option ClientConnection
-held keeper (κ ∷ connections) = if keeper.is_open then if_taken κ.taken κ else None
+held keeper (connection ∷ connections) =
+    if keeper.is_open then if_taken connection.taken connection else None
 held keeper [] = None
 
 -- what may still come to the broker on its connection
 abbrev pub left_behind : Option ConnectionName → List ClientConnection → List Backward
-left_behind (Some x) (κ ∷ connections) =
-    if same_connection x κ.name then backward_of (to_be_taken κ)
+left_behind (Some x) (connection ∷ connections) =
+    if same_connection x connection.name then backward_of (to_be_taken connection)
     else left_behind (Some x) connections
 left_behind _ _ = []
 
 -- what is in transit: both ways if the client's connection is current, otherwise one way
 abbrev pub transit_to : Limits → Past → Option ConnectionName → List ClientConnection →
     Option ClientConnection → Transit Publication
-transit_to limits past current connections (Some κ) =
-    if is_current current κ.name
-    then Transit.Joined (forward_of (to_come limits past κ)) (backward_of (to_be_taken κ))
-    else Transit.Ahead (forward_of (to_come limits past κ))
+transit_to limits past current connections (Some connection) =
+    if is_current current connection.name
+    then Transit.Joined (forward_of (to_come limits past connection))
+    (backward_of (to_be_taken connection))
+    else Transit.Ahead (forward_of (to_come limits past connection))
 transit_to limits past current connections None = Transit.Behind (left_behind current connections)
 
 -- the broker sends, the client accepts

@@ -42,15 +42,15 @@ is_two_unnumbered _ _ = false
 
 -- the counts, the order and the first packets of one connection are as they have to be
 pub record ConnectionInShape (limits : Limits) (past : Past) (c : Client)
-    (κ : ClientConnection) : Type 0 where
+    (connection : ClientConnection) : Type 0 where
   pub more : List Written
-  pub written : κ.written ≡ opening_connect c ∷ more
+  pub written : connection.written ≡ opening_connect c ∷ more
   pub one_connect : Each (λ w. is_connect w ≡ false) more
-  pub silent : κ.confirmed ≡ false → more ≡ []
-  pub counted : packet_count κ.name past ≡ κ.taken
-  pub within : κ.taken ≤ length κ.written
-  pub handled_within : κ.handled ≤ length (put_to limits past κ.name)
-  pub numbers_known : Each (λ w. is_two_unnumbered w.packet w.number ≡ false) κ.written
-  pub connack_first : ConnackFirst κ.taken (put_to limits past κ.name)
-  pub asks_first : κ.taken ≤ 1 → backward_of_own (put_to limits past κ.name) ≡ []
-  pub handled_some : κ.confirmed ≡ true → 1 ≤ κ.handled
+  pub silent : connection.confirmed ≡ false → more ≡ []
+  pub counted : packet_count connection.name past ≡ connection.taken
+  pub within : connection.taken ≤ length connection.written
+  pub handled_within : connection.handled ≤ length (put_to limits past connection.name)
+  pub numbers_known : Each (λ w. is_two_unnumbered w.packet w.number ≡ false) connection.written
+  pub connack_first : ConnackFirst connection.taken (put_to limits past connection.name)
+  pub asks_first : connection.taken ≤ 1 → backward_of_own (put_to limits past connection.name) ≡ []
+  pub handled_some : connection.confirmed ≡ true → 1 ≤ connection.handled

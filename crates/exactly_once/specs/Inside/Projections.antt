@@ -23,11 +23,11 @@ use Rattle.exactly_once.specs.Carried.{is_two, new_numbers}
 
 -- on a connection: what the client did not handle yet, and what is not taken yet
 abbrev pub to_come : Limits → Past → ClientConnection → List Packet
-to_come limits past κ = drop κ.handled (put_to limits past κ.name)
+to_come limits past connection = drop connection.handled (put_to limits past connection.name)
 
 -- what the client wrote on a connection and the list does not have yet
 abbrev pub to_be_taken : ClientConnection → List Written
-to_be_taken κ = drop κ.taken κ.written
+to_be_taken connection = drop connection.taken connection.written
 
 -- whether this connection is the current one of its client
 abbrev pub is_current : Option ConnectionName → ConnectionName → Bool
@@ -75,19 +75,20 @@ backward_of_own [] = []
 
 -- the last connection on which a CONNACK 0 came
 abbrev pub last_confirmed : List ClientConnection → Option ClientConnection
-last_confirmed (κ ∷ connections) = if κ.confirmed then Some κ else last_confirmed connections
+last_confirmed (connection ∷ connections) =
+    if connection.confirmed then Some connection else last_confirmed connections
 last_confirmed [] = None
 
 -- what is in transit, by the last connection on which a CONNACK 0 came
 abbrev pub transit_of_own : Limits → Past → Option ConnectionName → Bool → Option ClientConnection →
     Transit ℕ
-transit_of_own limits past current online (Some κ) =
-    if is_current current κ.name
+transit_of_own limits past current online (Some connection) =
+    if is_current current connection.name
     then (if online
-    then Transit.Joined (forward_of_own (to_be_taken κ)) (backward_of_own (to_come limits past κ))
-    else Transit.Ahead (forward_of_own (to_be_taken κ)))
-    else (if online
-    then Transit.Behind (backward_of_own (to_come limits past κ))
+    then Transit.Joined (forward_of_own (to_be_taken connection))
+    (backward_of_own (to_come limits past connection))
+    else Transit.Ahead (forward_of_own (to_be_taken connection)))
+    else (if online then Transit.Behind (backward_of_own (to_come limits past connection))
     else Transit.Behind [])
 transit_of_own limits past current online None = Transit.Behind []
 

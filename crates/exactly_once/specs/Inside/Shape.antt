@@ -49,8 +49,8 @@ pub record OwnInShape (keeper : Keeper) : Type 0 where
 
 -- no two connections have the same name
 abbrev pub NamesApart : List ClientConnection → Type 0
-NamesApart (κ ∷ connections) =
-    (any_named (same_connection κ.name) connections ≡ false) × NamesApart connections
+NamesApart (connection ∷ connections) =
+    (any_named (same_connection connection.name) connections ≡ false) × NamesApart connections
 NamesApart [] = Unit {0}
 
 -- a connection that was confirmed, and is not the last one, is not current
@@ -58,13 +58,14 @@ abbrev pub LastIsCurrent : Option ConnectionName → List ClientConnection → T
 LastIsCurrent None connections = Unit {0}
 LastIsCurrent (Some x) connections =
     (any_named (same_connection x) connections ≡ true)
-    × Each (λ (κ : ClientConnection). same_connection x κ.name ≡ true → κ.confirmed ≡ true →
-    last_confirmed connections ≡ Some κ) connections
+    × Each (λ (connection : ClientConnection). same_connection x connection.name ≡ true →
+    connection.confirmed ≡ true →
+    last_confirmed connections ≡ Some connection) connections
 
 -- if the newest one's Connect is taken, no other confirmed one is current
 abbrev pub NewestIsServed : Option ConnectionName → List ClientConnection → Type 0
-NewestIsServed (Some x) (κ ∷ connections) =
-    1 ≤ κ.taken → same_connection x κ.name ≡ false →
+NewestIsServed (Some x) (connection ∷ connections) =
+    1 ≤ connection.taken → same_connection x connection.name ≡ false →
     Each (λ (other : ClientConnection). same_connection x other.name ≡ true →
     other.confirmed ≡ false) connections
 NewestIsServed _ _ = Unit {0}
@@ -72,12 +73,12 @@ NewestIsServed _ _ = Unit {0}
 -- the first one is open if the client holds one
 abbrev pub HeldInShape : Limits → Past → Keeper → List ClientConnection → Type 0
 HeldInShape limits past keeper [] = keeper.is_open ≡ false
-HeldInShape limits past keeper (κ ∷ connections) =
-    (keeper.is_open ≡ true → κ.confirmed ≡ keeper.is_online)
+HeldInShape limits past keeper (connection ∷ connections) =
+    (keeper.is_open ≡ true → connection.confirmed ≡ keeper.is_online)
     × (keeper.is_online ≡ true → keeper.is_open ≡ true)
     × (keeper.is_open ≡ true → keeper.is_online ≡ false → keeper.was_served ≡ true →
     Each (λ packet. (packet ≡ packets.Connack (connacks.Accepted false)) → ⊥)
-    (put_to limits past κ.name))
+    (put_to limits past connection.name))
 
 -- a CONNACK 0 among the answers means that the client's session exists, and is not clean
 abbrev pub IsMeant : Client → Past → Packet → Type 0
@@ -91,7 +92,7 @@ IsWelcomed limits past c x = Each (IsMeant c past) (put_to limits past x)
 -- each packet that is sent to one of these connections is meant for the client
 abbrev pub AreWelcomed : Limits → Past → Client → List ClientConnection → Type 0
 AreWelcomed limits past c connections =
-    Each (λ (κ : ClientConnection). IsWelcomed limits past c κ.name) connections
+    Each (λ (connection : ClientConnection). IsWelcomed limits past c connection.name) connections
 
 -- all that a story keeps besides the two handshakes
 pub record HasShape (limits : Limits) (s : Story) : Type 0 where
