@@ -37,7 +37,7 @@ module _ {T : Type 0} where
 
   pub deals : (port : ℕ) (v : View T)
       → v.gets ≡ true
-      → 2 ^ 55 ≤ v.may
+      → 2 ^ 55 ≤ v.may_send
       → Forks FitsRule port v (dealing v) (dealt v)
   deals port v gets has items views h at =
       let known = (h.fits port v at).1 gets in
@@ -125,15 +125,15 @@ module _ {T : Type 0} where
   pub seals : (port : ℕ) (v : View T) → Forks FitsRule port v (sealed v) nobody
   seals port v items views h at =
       let mine = h.fits port v at in
-      let less : h.most - v.may ≤ h.most = omega arith in
-      let F : ℕ → View T → Type 0 = λ j u. FitsLane h.pass_of h.sent h.taken h.made j u × FitsReceiver h.reader h.taken h.made j u × FitsBounds h.sent h.taken (h.most - v.may) u in
+      let less : h.most - v.may_send ≤ h.most = omega arith in
+      let F : ℕ → View T → Type 0 = λ j u. FitsLane h.pass_of h.sent h.taken h.made j u × FitsReceiver h.reader h.taken h.made j u × FitsBounds h.sent h.taken (h.most - v.may_send) u in
       record {
         reader = h.reader;
         made = h.made;
         pass_of = h.pass_of;
         sent = h.sent;
         taken = h.taken;
-        most = h.most - v.may;
+        most = h.most - v.may_send;
         whole = h.whole;
         few = h.few;
         unmade = h.unmade;

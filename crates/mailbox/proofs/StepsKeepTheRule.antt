@@ -61,10 +61,10 @@ module _ {T : Type 0} where
       → v.sends ≡ true
       → x.0 ≡ v.lane
       → length v.sent < 2 ^ 55
-      → 0 < v.may
+      → 0 < v.may_send
       → Pushes FitsRule n port v x (Sent v x)
   sends n port v x lane mine short has items views room h at =
-      let w : View T = record v { sent = v.sent ++ x.1 ∷ []; may = v.may - 1 } in
+      let w : View T = record v { sent = v.sent ++ x.1 ∷ []; may_send = v.may_send - 1 } in
       let known = (h.fits port v at).0 lane in
       let sent = λ (k : ℕ). h.sent k ++ items_of_lane k (x ∷ []) in
       let sent_here : h.sent v.lane ≡ h.sent x.0 = ap h.sent (sym mine) in

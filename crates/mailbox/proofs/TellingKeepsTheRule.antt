@@ -62,14 +62,14 @@ module _ {T : Type 0} where
   ends port v sends items views h at =
       let mine = (h.fits port v at).2 in
       let same = ap length ((h.fits port v at).0 sends).1 in
-      let F : ℕ → View T → Type 0 = λ j u. FitsLane h.pass_of h.sent h.taken h.made j u × FitsReceiver h.reader h.taken h.made j u × FitsBounds h.sent h.taken (h.most - v.may) u in
+      let F : ℕ → View T → Type 0 = λ j u. FitsLane h.pass_of h.sent h.taken h.made j u × FitsReceiver h.reader h.taken h.made j u × FitsBounds h.sent h.taken (h.most - v.may_send) u in
       record {
         reader = h.reader;
         made = h.made;
         pass_of = h.pass_of;
         sent = h.sent;
         taken = h.taken;
-        most = h.most - v.may;
+        most = h.most - v.may_send;
         whole = h.whole;
         few = h.few;
         unmade = h.unmade;
@@ -149,7 +149,7 @@ module _ {T : Type 0} where
       (subst (λ (u : View T). u.bounds.sent ≤ length (items_of_lane u.bounds.lane u.taken)) is here)
 
   -- if the inbox is full, the lane knows that at least this many items will ever be sent
-  pub full : (v : View T) (size : ℕ) → Held size (Knew v) → v.bounds.taken + size + v.may ≤ v.bounds.most
+  pub full : (v : View T) (size : ℕ) → Held size (Knew v) → v.bounds.taken + size + v.may_send ≤ v.bounds.most
   full v size (items, is, moment) =
       let h = moment.holds in
       let bounds = (h.fits moment.port v moment.knows).2 in
@@ -160,17 +160,17 @@ module _ {T : Type 0} where
       (v w heard' : View T) (size : ℕ) (lane : Sender T) (receipt : Receipted)
       → heard' ≡ heard v w
       → size ≡ MAX_ITEMS
-      → v.may ≡ 2 ^ 55 - length v.sent
+      → v.may_send ≡ 2 ^ 55 - length v.sent
       → v.sent ≡ lane.sent
       → w.bounds ≡ receipt.bounds
       → Held size (Knew heard')
       → IsFullByReceipt lane receipt
-  is_full v w heard' size lane receipt is room may sent bounds held =
+  is_full v w heard' size lane receipt is room may_send sent bounds held =
       let here = full heard' size held in
       let taken = ap (λ (u : View T). u.bounds.taken) is in
       let most = ap (λ (u : View T). u.bounds.most) is in
-      let rights' = ap (λ (u : View T). u.may) is in
+      let rights' = ap (λ (u : View T). u.may_send) is in
       let taken' = ap (λ (t : Bounds). t.taken) bounds in
       let most' = ap (λ (t : Bounds). t.most) bounds in
       let size' = ap (λ (l : List T). length l) sent in
-      omega (arith, here, taken, most, rights', taken', most', room, may, size')
+      omega (arith, here, taken, most, rights', taken', most', room, may_send, size')

@@ -20,7 +20,7 @@ no_bounds = record { lane = 0; sent = 0; taken = 0; most = 2 ^ 64 }
 -- what a lane knows: its number, what it sent, how many of these it knows to be taken, how many
 -- more it may send, and what receipts say
 abbrev pub lane_view : {T : Type 0} → ℕ → List T → ℕ → ℕ → Bounds → View T
-lane_view lane sent met may bounds = record {
+lane_view lane sent met may_send bounds = record {
   sends = true;
   lane = lane;
   sent = sent;
@@ -28,7 +28,7 @@ lane_view lane sent met may bounds = record {
   gets = false;
   lanes = 0;
   taken = [];
-  may = may;
+  may_send = may_send;
   all = 2 ^ 64;
   bounds = bounds;
 }
@@ -36,7 +36,7 @@ lane_view lane sent met may bounds = record {
 -- what the receiver knows: how many lanes there are, what it took, how many items the lanes that it
 -- has not made yet may send, how many all lanes may send, and what receipts say
 abbrev pub receiver_view : {T : Type 0} → ℕ → List (ℕ × T) → ℕ → ℕ → Bounds → View T
-receiver_view lanes taken may all bounds = record {
+receiver_view lanes taken may_send all bounds = record {
   sends = false;
   lane = 0;
   sent = [];
@@ -44,7 +44,7 @@ receiver_view lanes taken may all bounds = record {
   gets = true;
   lanes = lanes;
   taken = taken;
-  may = may;
+  may_send = may_send;
   all = all;
   bounds = bounds;
 }
@@ -56,7 +56,7 @@ taker_view lanes taken bounds = receiver_view lanes taken 0 (lanes * MAX_SENT) b
 -- how many items may still be sent
 abbrev pub rights : {T : Type 0} → List (View T) → ℕ
 rights [] = 0
-rights (v ∷ views) = v.may + rights views
+rights (v ∷ views) = v.may_send + rights views
 
 module _ {T : Type 0} where
   -- what a lane's pass knows is true, and no other pass is this lane's

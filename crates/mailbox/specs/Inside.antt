@@ -15,14 +15,14 @@ module _ {T : Type 0} where
     gets = false;
     lanes = 0;
     taken = [];
-    may = 0;
+    may_send = 0;
     all = 2 ^ 64;
     bounds = no_bounds;
   }
 
   -- a push: the lane sent one item more
   abbrev pub Sent : View T → (ℕ × T) → View T → Type 0
-  Sent v x w = w ≡ record v { sent = v.sent ++ x.1 ∷ []; may = v.may - 1 }
+  Sent v x w = w ≡ record v { sent = v.sent ++ x.1 ∷ []; may_send = v.may_send - 1 }
 
   -- a pop: the receiver took one item more, of a lane that was made and is not spent
   abbrev pub Took : View T → (ℕ × T) → View T → Type 0
@@ -33,7 +33,7 @@ module _ {T : Type 0} where
 
   -- the receiver makes a lane
   abbrev pub dealing : View T → View T
-  dealing v = record v { lanes = v.lanes + 1; may = v.may - MAX_SENT }
+  dealing v = record v { lanes = v.lanes + 1; may_send = v.may_send - MAX_SENT }
 
   -- the lane that it makes
   abbrev pub dealt : View T → View T
@@ -41,7 +41,7 @@ module _ {T : Type 0} where
 
   -- the receiver makes no more lanes
   abbrev pub sealed : View T → View T
-  sealed v = record v { may = 0; all = v.all - v.may }
+  sealed v = record v { may_send = 0; all = v.all - v.may_send }
 
   -- a lane says what it has sent
   abbrev pub lane_knows : View T → View T
@@ -56,7 +56,11 @@ module _ {T : Type 0} where
   -- a lane that sends no more says that, in addition to what receipts say
   abbrev pub ended : View T → View T
   ended v = record nobody {
-    bounds = record v.bounds { lane = v.lane; sent = length v.sent; most = v.bounds.most - v.may };
+    bounds = record v.bounds {
+      lane = v.lane;
+      sent = length v.sent;
+      most = v.bounds.most - v.may_send;
+    };
   }
 
   -- what a receipt says is added
@@ -70,7 +74,7 @@ module _ {T : Type 0} where
     lane = w.lane;
     sent = w.sent;
     met = w.met;
-    may = v.may + w.may;
+    may_send = v.may_send + w.may_send;
   }
 
   -- what was taken of the lane is a prefix of what it sent, and no less than it knew
@@ -86,4 +90,4 @@ module _ {T : Type 0} where
 
   -- the lane's part, which knows now how much of it was taken
   abbrev pub lane_part : View T → View T
-  lane_part v = lane_view v.lane v.sent (length (items_of_lane v.lane v.taken)) v.may v.bounds
+  lane_part v = lane_view v.lane v.sent (length (items_of_lane v.lane v.taken)) v.may_send v.bounds

@@ -33,7 +33,7 @@ pub struct View<T> {
     /// What the receiver took, oldest first, each item with its lane.
     pub taken: LinkedList<(u8, T)>,
     /// How many more items it may send, or let those lanes send that are not made yet.
-    pub may: u64,
+    pub may_send: u64,
     /// How many items all lanes together will ever have sent, at most, as the receiver knows.
     pub all: u64,
     /// What the last receipt says.

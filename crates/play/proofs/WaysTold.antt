@@ -67,9 +67,9 @@ ends_in text old new script first last clients script_lines is opens named all o
 
 pub tells_way : {E : Type 0} (result : Result (Unit {0}) E) (text members client old new : List ℕ) (last : WorldState) (events written : List Event) → EndsIn text last → CanEscape members client last →
     LeadsClientOut client last events → written ≡ events → OnOk result (new ≡ old ++ event_lines written) → OnOk result (TellsWay text members client old new)
-tells_way (Ok done) text members client old new last events written ends can leads same is =
-    record { last = last; ends = ends; can = can; events = events; leads = leads; is = is ∙ ap (λ (l : List Event). old ++ event_lines l) same }
-tells_way (Err error) text members client old new last events written ends can leads same is = is
+tells_way (Ok done) text members client old new last events written ends possible leads same is =
+    record { last = last; ends = ends; possible = possible; events = events; leads = leads; is = is ∙ ap (λ (l : List Event). old ++ event_lines l) same }
+tells_way (Err error) text members client old new last events written ends possible leads same is = is
 
 -- ---- there is none
 

@@ -66,7 +66,7 @@ pub record EndsIn (text : List ℕ) (last : WorldState) : Type 0 where
 pub record TellsWay (text members : List ℕ) (client : List ℕ) (old new : List ℕ) : Type 0 where
   pub last : WorldState
   pub ends : EndsIn text last
-  pub can : CanEscape members client last
+  pub possible : CanEscape members client last
   pub events : List Event
   pub leads : LeadsClientOut client last events
   pub is : new ≡ old ++ event_lines events

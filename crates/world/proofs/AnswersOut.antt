@@ -72,14 +72,14 @@ module _ (name : List ℕ) (i at number place : ℕ) (core : Core) (up : List �
 
   -- a sole member answers at once
   pub answers_alone : CanAsk a w.nodes ballot place node [] (port_at_node number) x list start piece connect → IsAnswered name i at number place core w.nodes after.nodes after
-  answers_alone can =
+  answers_alone possible =
       put_first name i at number place core up (with_nodes taken w) after turned positive (get_set w.nodes.nodes place node turned stands)
-      (sole_member_answers_the_client config a past came w.nodes ballot place node (port_at_node number) x list start 0 piece connect can)
+      (sole_member_answers_the_client config a past came w.nodes ballot place node (port_at_node number) x list start 0 piece connect possible)
       gathers housed s first w.nodes (nodes_go_join w.nodes taken after.nodes goes passes.nodes) refl
 
   -- ---- with others
 
-  module _ (front : List ℕ) (last : ℕ) (can : CanAsk a w.nodes ballot place node (front ++ last ∷ []) (port_at_node number) x list start piece connect)
+  module _ (front : List ℕ) (last : ℕ) (possible : CanAsk a w.nodes ballot place node (front ++ last ∷ []) (port_at_node number) x list start piece connect)
       (apart : NumbersAreApart (front ++ last ∷ [])) (out : In (place + 1) (front ++ last ∷ []) → ⊥)
       (each : (m : ℕ) → In m (front ++ last ∷ []) → NodeIs (Follows ballot (begun_log list start)) (whole_moment a).world.nodes m)
       (more : List Event) (new : WorldState) where
@@ -90,7 +90,7 @@ module _ (name : List ℕ) (i at number place : ℕ) (core : Core) (up : List �
     index = length w.nodes.sent + 2 * length front + 1
 
     awaits : AwaitsOthers ballot place (port_at_node number) x ks taken
-    awaits = others_are_awaited config a past came w.nodes ballot place node front last (port_at_node number) x list start 0 piece connect can apart out each
+    awaits = others_are_awaited config a past came w.nodes ballot place node front last (port_at_node number) x list start 0 piece connect possible apart out each
 
     newest : IsNewest i at number (suc place) core up [] true after
     newest = own_waits i at number place core up x (with_nodes taken w) after awaits.waits.node positive awaits.waits.stands awaits.waits.waits gathers housed s
@@ -116,5 +116,5 @@ module _ (name : List ℕ) (i at number place : ℕ) (core : Core) (up : List �
         let b = others_answer run none in
         let f = deliveries_are_followed ballot awaits.moment awaits.before ks awaits.delivered taken b.mid.nodes b.passes.come awaits.seen awaits.calm in
         answers_last name ks i at number place core up index last ballot (begun_log list start) more (with_nodes taken w) new positive b
-        (others_let_the_client_be_answered config a past came w.nodes b.mid.nodes ballot place node front last (port_at_node number) x list start 0 piece connect can apart out each b.passes.come)
+        (others_let_the_client_be_answered config a past came w.nodes b.mid.nodes ballot place node front last (port_at_node number) x list start 0 piece connect possible apart out each b.passes.come)
         first w.nodes (nodes_go_join w.nodes taken b.mid.nodes goes b.passes.nodes) (sym f.seen.master ∙ awaits.master)

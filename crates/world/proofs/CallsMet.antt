@@ -36,14 +36,14 @@ use Rattle.world.proofs.StandsThere.{core_found}
 
 -- it is done exactly
 pub record IsCalled (name : List ℕ) (cannot : Option Core → Type 0) (does : Bool → Piped → Piped → Type 0) (old new : WorldState) : Type 0 where
-  pub can : cannot (core_named name old.clients) → ⊥
+  pub possible : cannot (core_named name old.clients) → ⊥
   pub less : ClientDoes name (does false) old new
   pub exact : ClientDoes name (does true) old new
   pub uncounted : new.losses ≡ old.losses
 
 -- it is not done, or done with losses, and that is counted
 pub record LosesCall (name : List ℕ) (cannot : Option Core → Type 0) (does : Bool → Piped → Piped → Type 0) (loses : Piped → Piped → Type 0) (old new : WorldState) : Type 0 where
-  pub can : cannot (core_named name old.clients) → ⊥
+  pub possible : cannot (core_named name old.clients) → ⊥
   pub done : WorldState
   pub less : (done ≡ old) ⊎ ClientDoes name (does false) old done
   pub lost : (done ≡ old) ⊎ ClientDoes name loses old done
@@ -66,10 +66,10 @@ Outcome cannot does loses old (Err cause) new = cannot (Some old.core) × (new �
 done_well : (name : List ℕ) (cannot : Option Core → Type 0) (does : Bool → Piped → Piped → Type 0) (loses : Piped → Piped → Type 0) (old : WorldState) (at : ℕ) (client : WorldClient) (piped : Piped) (result : Result (Unit {0}) Idle) (new : WorldState)
     → position (is_named name) old.clients ≡ Some at → slice_get old.clients at ≡ Some client → (cannot (Some client.piped.core) → ⊥) → does true client.piped piped → does false client.piped piped
     → IsOk result → new ≡ with_piped at client piped old → ClientMeets name cannot does loses old result new
-done_well name cannot does loses old at client piped (Err idle) new first stands can exact less ok is = absurd (both_ways false refl ok)
-done_well name cannot does loses old at client piped (Ok x) new first stands can exact less ok is =
+done_well name cannot does loses old at client piped (Err idle) new first stands possible exact less ok is = absurd (both_ways false refl ok)
+done_well name cannot does loses old at client piped (Ok x) new first stands possible exact less ok is =
     inl (record {
-      can = λ cause. can (subst cannot (core_found name old.clients at client first stands) cause);
+      possible = λ cause. possible (subst cannot (core_found name old.clients at client first stands) cause);
       less = (record { at = at; first = first; client = client; stands = stands }, piped, less, is);
       exact = (record { at = at; first = first; client = client; stands = stands }, piped, exact, is);
       uncounted = ap (λ (w : WorldState). w.losses) is;
@@ -79,9 +79,9 @@ done_well name cannot does loses old at client piped (Ok x) new first stands can
 lost_call : (name : List ℕ) (cannot : Option Core → Type 0) (does : Bool → Piped → Piped → Type 0) (loses : Piped → Piped → Type 0) (old done : WorldState) (result : Result (Unit {0}) Idle) (new : WorldState)
     → (cannot (core_named name old.clients) → ⊥) → (done ≡ old) ⊎ ClientDoes name (does false) old done → (done ≡ old) ⊎ ClientDoes name loses old done → done.losses ≡ old.losses → IsOk result → new ≡ with_one_loss done
     → ClientMeets name cannot does loses old result new
-lost_call name cannot does loses old done (Err idle) new can less lost still ok is = absurd (both_ways false refl ok)
-lost_call name cannot does loses old done (Ok x) new can less lost still ok is =
-    inr (record { can = can; done = done; less = less; lost = lost; counted = is ∙ ap (λ (k : ℕ). let w : WorldState = record done { losses = one_more k } in w) still })
+lost_call name cannot does loses old done (Err idle) new possible less lost still ok is = absurd (both_ways false refl ok)
+lost_call name cannot does loses old done (Ok x) new possible less lost still ok is =
+    inr (record { possible = possible; done = done; less = less; lost = lost; counted = is ∙ ap (λ (k : ℕ). let w : WorldState = record done { losses = one_more k } in w) still })
 
 idle_then : (name : List ℕ) (cannot : Option Core → Type 0) (does : Bool → Piped → Piped → Type 0) (loses : Piped → Piped → Type 0) (old : WorldState) (at : ℕ) (client : WorldClient) (piped : Piped) (result : Result (Unit {0}) Idle) (new : WorldState)
     → position (is_named name) old.clients ≡ Some at → slice_get old.clients at ≡ Some client → cannot (Some client.piped.core) × (piped ≡ client.piped) → IsErr result × (new ≡ with_piped at client piped old)
@@ -117,15 +117,15 @@ some_cause : (refusal : Option ClientError) (cause : ClientError) → refusal �
 some_cause refusal cause some none = none-some cause (sym none ∙ some)
 
 pub call_outcome : (published : List Publication) (call : Call) (old : Piped) (done : Result Sending ClientError) (new : Piped) → (RefusesCall call (Some old.core) → ⊥) → IsCall call old done new → CallingFollows published old done new → Outcome (RefusesCall call) (SendsCall call) (LosesAsking call) old done new
-call_outcome published call old (Ok sendings.Sent) new can calls follows = (λ no. no calls.1.0, calls, (sendings.Sent, calls))
-call_outcome published call old (Ok sendings.Lost) new can calls follows = (can, (sendings.Lost, calls), calls)
-call_outcome published call old (Err errors.Memory) new can calls follows = (can, follows)
-call_outcome published call old (Err errors.NotActive) new can calls follows = (some_cause _ errors.NotActive calls.0.0, follows)
-call_outcome published call old (Err errors.WindowFull) new can calls follows = (some_cause _ errors.WindowFull calls.0.0, follows)
-call_outcome published call old (Err errors.TooLarge) new can calls follows = (some_cause _ errors.TooLarge calls.0.0, follows)
-call_outcome published call old (Err errors.SessionLost) new can calls follows = (some_cause _ errors.SessionLost calls.0.0, follows)
-call_outcome published call old (Err errors.Protocol) new can calls follows = (some_cause _ errors.Protocol calls.0.0, follows)
-call_outcome published call old (Err (errors.Malformed kind)) new can calls follows = (some_cause _ (errors.Malformed kind) calls.0.0, follows)
+call_outcome published call old (Ok sendings.Sent) new possible calls follows = (λ no. no calls.1.0, calls, (sendings.Sent, calls))
+call_outcome published call old (Ok sendings.Lost) new possible calls follows = (possible, (sendings.Lost, calls), calls)
+call_outcome published call old (Err errors.Memory) new possible calls follows = (possible, follows)
+call_outcome published call old (Err errors.NotActive) new possible calls follows = (some_cause _ errors.NotActive calls.0.0, follows)
+call_outcome published call old (Err errors.WindowFull) new possible calls follows = (some_cause _ errors.WindowFull calls.0.0, follows)
+call_outcome published call old (Err errors.TooLarge) new possible calls follows = (some_cause _ errors.TooLarge calls.0.0, follows)
+call_outcome published call old (Err errors.SessionLost) new possible calls follows = (some_cause _ errors.SessionLost calls.0.0, follows)
+call_outcome published call old (Err errors.Protocol) new possible calls follows = (some_cause _ errors.Protocol calls.0.0, follows)
+call_outcome published call old (Err (errors.Malformed kind)) new possible calls follows = (some_cause _ (errors.Malformed kind) calls.0.0, follows)
 
 -- a client that is asked says what it refuses
 refused_by : (refusal : Option ClientError) (outcome : ClientOutcome) (state : ClientState) → is_some refusal ≡ true → (unless_refused refusal outcome state).refusal ≡ None → ⊥
@@ -180,15 +180,15 @@ may_not_leave stages.Online state cause some = absurd (none-some cause some)
 
 pub leave_outcome : (old : Piped) (done : Result Sending ClientError) (new : Piped) → (HoldsNone (Some old.core) → ⊥) → TakesLeave (keeper_step Call.Disconnects old.core.state) old done new → CallingFollows [] old done new
     → Outcome HoldsNone SendsDisconnect LosesLeaving old done new
-leave_outcome old (Ok sendings.Sent) new can leaves follows = (may_leave old.core.state.stage old.core.state leaves.1.0, leaves, (sendings.Sent, leaves))
-leave_outcome old (Ok sendings.Lost) new can leaves follows = (can, (sendings.Lost, leaves), leaves)
-leave_outcome old (Err errors.Memory) new can leaves follows = (can, follows)
-leave_outcome old (Err errors.NotActive) new can leaves follows = (may_not_leave old.core.state.stage old.core.state errors.NotActive leaves.0.0, follows)
-leave_outcome old (Err errors.WindowFull) new can leaves follows = (may_not_leave old.core.state.stage old.core.state errors.WindowFull leaves.0.0, follows)
-leave_outcome old (Err errors.TooLarge) new can leaves follows = (may_not_leave old.core.state.stage old.core.state errors.TooLarge leaves.0.0, follows)
-leave_outcome old (Err errors.SessionLost) new can leaves follows = (may_not_leave old.core.state.stage old.core.state errors.SessionLost leaves.0.0, follows)
-leave_outcome old (Err errors.Protocol) new can leaves follows = (may_not_leave old.core.state.stage old.core.state errors.Protocol leaves.0.0, follows)
-leave_outcome old (Err (errors.Malformed kind)) new can leaves follows = (may_not_leave old.core.state.stage old.core.state (errors.Malformed kind) leaves.0.0, follows)
+leave_outcome old (Ok sendings.Sent) new possible leaves follows = (may_leave old.core.state.stage old.core.state leaves.1.0, leaves, (sendings.Sent, leaves))
+leave_outcome old (Ok sendings.Lost) new possible leaves follows = (possible, (sendings.Lost, leaves), leaves)
+leave_outcome old (Err errors.Memory) new possible leaves follows = (possible, follows)
+leave_outcome old (Err errors.NotActive) new possible leaves follows = (may_not_leave old.core.state.stage old.core.state errors.NotActive leaves.0.0, follows)
+leave_outcome old (Err errors.WindowFull) new possible leaves follows = (may_not_leave old.core.state.stage old.core.state errors.WindowFull leaves.0.0, follows)
+leave_outcome old (Err errors.TooLarge) new possible leaves follows = (may_not_leave old.core.state.stage old.core.state errors.TooLarge leaves.0.0, follows)
+leave_outcome old (Err errors.SessionLost) new possible leaves follows = (may_not_leave old.core.state.stage old.core.state errors.SessionLost leaves.0.0, follows)
+leave_outcome old (Err errors.Protocol) new possible leaves follows = (may_not_leave old.core.state.stage old.core.state errors.Protocol leaves.0.0, follows)
+leave_outcome old (Err (errors.Malformed kind)) new possible leaves follows = (may_not_leave old.core.state.stage old.core.state (errors.Malformed kind) leaves.0.0, follows)
 
 -- ---- as events
 
@@ -199,26 +199,26 @@ or_nodes (inr b) = inr (inl b)
 
 pub publish_meets : (name : List ℕ) (p : Publication) (old : WorldState) (result : Result (Unit {0}) Idle) (new : WorldState)
     → ClientMeets name (RefusesCall (Call.Publishes p)) (SendsCall (Call.Publishes p)) (LosesAsking (Call.Publishes p)) old result new → MeetsOrLost (events.Publish name p) old result new
-publish_meets name p old (Ok x) new (inl d) = inl (record { can = d.can; does = inr d.less; exact = λ none. d.exact; uncounted = d.uncounted })
-publish_meets name p old (Ok x) new (inr l) = inr (record { can = l.can; needs = λ none low. none; done = l.done; does = l.less; lost = or_nodes l.lost; counted = l.counted })
+publish_meets name p old (Ok x) new (inl d) = inl (record { possible = d.possible; does = inr d.less; exact = λ none. d.exact; uncounted = d.uncounted })
+publish_meets name p old (Ok x) new (inr l) = inr (record { possible = l.possible; takes_memory = λ none low. none; done = l.done; does = l.less; lost = or_nodes l.lost; counted = l.counted })
 publish_meets name p old (Err x) new m = m
 
 pub subscribe_meets : (name filter : List ℕ) (qos : QoS) (old : WorldState) (result : Result (Unit {0}) Idle) (new : WorldState)
     → ClientMeets name (RefusesCall (Call.Subscribes filter qos)) (SendsCall (Call.Subscribes filter qos)) (LosesAsking (Call.Subscribes filter qos)) old result new → MeetsOrLost (events.Subscribe name filter qos) old result new
-subscribe_meets name filter qos old (Ok x) new (inl d) = inl (record { can = d.can; does = inr d.less; exact = λ none. d.exact; uncounted = d.uncounted })
-subscribe_meets name filter qos old (Ok x) new (inr l) = inr (record { can = l.can; needs = λ none low. none; done = l.done; does = l.less; lost = or_nodes l.lost; counted = l.counted })
+subscribe_meets name filter qos old (Ok x) new (inl d) = inl (record { possible = d.possible; does = inr d.less; exact = λ none. d.exact; uncounted = d.uncounted })
+subscribe_meets name filter qos old (Ok x) new (inr l) = inr (record { possible = l.possible; takes_memory = λ none low. none; done = l.done; does = l.less; lost = or_nodes l.lost; counted = l.counted })
 subscribe_meets name filter qos old (Err x) new m = m
 
 pub unsubscribe_meets : (name filter : List ℕ) (old : WorldState) (result : Result (Unit {0}) Idle) (new : WorldState)
     → ClientMeets name (RefusesCall (Call.Unsubscribes filter)) (SendsCall (Call.Unsubscribes filter)) (LosesAsking (Call.Unsubscribes filter)) old result new → MeetsOrLost (events.Unsubscribe name filter) old result new
-unsubscribe_meets name filter old (Ok x) new (inl d) = inl (record { can = d.can; does = inr d.less; exact = λ none. d.exact; uncounted = d.uncounted })
-unsubscribe_meets name filter old (Ok x) new (inr l) = inr (record { can = l.can; needs = λ none low. none; done = l.done; does = l.less; lost = or_nodes l.lost; counted = l.counted })
+unsubscribe_meets name filter old (Ok x) new (inl d) = inl (record { possible = d.possible; does = inr d.less; exact = λ none. d.exact; uncounted = d.uncounted })
+unsubscribe_meets name filter old (Ok x) new (inr l) = inr (record { possible = l.possible; takes_memory = λ none low. none; done = l.done; does = l.less; lost = or_nodes l.lost; counted = l.counted })
 unsubscribe_meets name filter old (Err x) new m = m
 
 pub disconnect_meets : (name : List ℕ) (old : WorldState) (result : Result (Unit {0}) Idle) (new : WorldState) → ClientMeets name HoldsNone SendsDisconnect LosesLeaving old result new
     → MeetsOrLost (events.Disconnect name) old result new
-disconnect_meets name old (Ok x) new (inl d) = inl (record { can = d.can; does = inr d.less; exact = λ none. d.exact; uncounted = d.uncounted })
-disconnect_meets name old (Ok x) new (inr l) = inr (record { can = l.can; needs = λ none low. none; done = l.done; does = l.less; lost = or_nodes l.lost; counted = l.counted })
+disconnect_meets name old (Ok x) new (inl d) = inl (record { possible = d.possible; does = inr d.less; exact = λ none. d.exact; uncounted = d.uncounted })
+disconnect_meets name old (Ok x) new (inr l) = inr (record { possible = l.possible; takes_memory = λ none low. none; done = l.done; does = l.less; lost = or_nodes l.lost; counted = l.counted })
 disconnect_meets name old (Err x) new m = m
 
 -- one that holds a connection loses it
@@ -227,7 +227,7 @@ pub abandon_meets : (name : List ℕ) (old : WorldState) (at : ℕ) (client : Wo
 abandon_meets name old at client piped first stands holds loses =
     let does : ClientDoes name LosesConnection old (with_piped at client piped old) = (record { at = at; first = first; client = client; stands = stands }, piped, loses, refl) in
     record {
-      can = λ no. both_ways _ (subst HoldsNone (core_found name old.clients at client first stands) no) holds;
+      possible = λ no. both_ways _ (subst HoldsNone (core_found name old.clients at client first stands) no) holds;
       does = inr does;
       exact = λ none. does;
       uncounted = refl;

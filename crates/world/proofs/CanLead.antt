@@ -71,7 +71,7 @@ runs_here nodes (suc at) e = by (slice_get nodes at) refl e
 -- ---- what a way out asks for
 
 module _ (config : Config) (g : Group) (past : List (Moment State Command Output)) (came : Moments rules config (moment_of_nodes g ∷ past)) (w : WorldState) (s : NodesStandFor g w.nodes)
-    (members : List ℕ) (name : Client) (can : CanEscape members name w) where
+    (members : List ℕ) (name : Client) (possible : CanEscape members name w) where
   abbrev a : Moment State Command Output
   a = moment_of_nodes g
 
@@ -81,31 +81,31 @@ module _ (config : Config) (g : Group) (past : List (Moment State Command Output
   whole_at : (at : ℕ) (node : CountedCore) → slice_get w.nodes.nodes at ≡ Some node → slice_get (whole_moment a).world.nodes at ≡ Some (whole g.archive (replica_of node.core))
   whole_at at node stands = get_whole (whole g.archive) a.world.nodes at (replica_of node.core) (replica_at a w.nodes seen at node stands)
 
-  source : RunsHere w.nodes.nodes can.source
-  source = runs_here w.nodes.nodes can.source (first_passes (is_running w.nodes.nodes) w.nodes.master.members can.index can.source can.first can.asked)
+  source : RunsHere w.nodes.nodes possible.source
+  source = runs_here w.nodes.nodes possible.source (first_passes (is_running w.nodes.nodes) w.nodes.master.members possible.index possible.source possible.first possible.asked)
 
-  node_is : numbered_node w.nodes.nodes can.source ≡ Some source.node
+  node_is : numbered_node w.nodes.nodes possible.source ≡ Some source.node
   node_is = ap (numbered_node w.nodes.nodes) (source.number ∙ (let e : source.at + 1 ≡ suc source.at = omega arith in e)) ∙ source.stands
 
-  log_is : whole_log g.archive source.node.core.replica.state.log ≡ whole_log_of w.nodes can.source
+  log_is : whole_log g.archive source.node.core.replica.state.log ≡ whole_log_of w.nodes possible.source
   log_is = ap (λ (l : List Command). whole_log l source.node.core.replica.state.log) s.archive ∙ sym (ap (whole_log_in w.nodes.archive) node_is)
 
-  pub long : length (whole_log_of w.nodes can.source) + 2 ≤ max_places
+  pub long : length (whole_log_of w.nodes possible.source) + 2 ≤ max_places
   long =
       let q = past_stands rules config a past came in
       let within = (q.kept.nodes source.at (replica_of source.node.core) (replica_at a w.nodes seen source.at source.node source.stands)).0.within in
       let whole_is = whole_long g.archive source.node.core.replica.state.log within in
       let same = ap (λ (l : List Command). length l) log_is in
       let held = ap log_length_of node_is in
-      let room = can.room in
+      let room = possible.room in
       omega (arith, whole_is, same, held, room)
 
-  pub can_be_led : CanBeLed (whole_moment a) (configuration_of members) can.index can.source (whole_log_of w.nodes can.source)
+  pub can_be_led : CanBeLed (whole_moment a) (configuration_of members) possible.index possible.source (whole_log_of w.nodes possible.source)
   can_be_led =
       record {
-        granted = ap (λ (m : MasterState). refusal m (configuration_of members)) s.master ∙ can.granted;
-        live = λ m i. live m (each_passes (is_running w.nodes.nodes) members m can.live (in_members members m i));
-        asked = ap (λ (m : MasterState). slice_get m.members can.index) s.master ∙ can.asked;
+        granted = ap (λ (m : MasterState). refusal m (configuration_of members)) s.master ∙ possible.granted;
+        live = λ m i. live m (each_passes (is_running w.nodes.nodes) members m possible.live (in_members members m i));
+        asked = ap (λ (m : MasterState). slice_get m.members possible.index) s.master ∙ possible.asked;
         gives = record {
           index = source.at;
           number = source.number;

@@ -40,7 +40,7 @@ pub record First (event : Event) (events : List Event) (old new : WorldState) : 
 
 pub first_done : (event : Event) (events : List Event) (old new : WorldState) → EventsHappen (event ∷ events) old new → WorldLosesNothing old new → (CannotHappen event old → ⊥) →
     First event events old new
-first_done event events old new r none can = by r.1 r.2
+first_done event events old new r none possible = by r.1 r.2
   where
     split : WorldLosesNothing old r.0 × WorldLosesNothing r.0 new
     split =
@@ -48,7 +48,7 @@ first_done event events old new r none can = by r.1 r.2
         worlds_split old r.0 new one.0 (run_rises events r.0 new one.1 r.3).0 none
 
     by : (result : Result (Unit {0}) Idle) → EventHappens event old result r.0 → First event events old new
-    by (Err idle) h = absurd (can h.0)
+    by (Err idle) h = absurd (possible h.0)
     by (Ok done) h = record { after = r.0; does = (uncounted_is_exact event old r.0 h split.0).does; rest = r.3; whole = split.1 }
 
 -- a list in two parts

@@ -47,7 +47,7 @@ pub assign_meets : (r : Result (Unit {0}) Idle) (config : Config) (old : WorldSt
     → IsErr r ↔ (refusal old.nodes.master config ≡ None → ⊥) → OnErr r (new ≡ old.nodes) → MeetsOrLost (events.Assign config) old r (with_nodes new old)
 assign_meets (Ok x) config old new gives idle same =
     inl (record {
-      can = λ refused. both_ways false refl (idle.1 refused);
+      possible = λ refused. both_ways false refl (idle.1 refused);
       does = inr (new, gives, refl);
       exact = λ none. (new, assigns_exactly config old.nodes new gives none, refl);
       uncounted = refl;
@@ -61,10 +61,10 @@ pub delivered : (number receiver : ℕ) (old : WorldState) (between : NodesState
     → (ComesToNobody (slice_get old.nodes.sent number) old.nodes → ⊥) → ComesIn (slice_get old.nodes.sent number) old.nodes between
     → (NodesLoseNothing old.nodes between → MessageArrives (slice_get old.nodes.sent number) old.nodes between) → Gathers false receiver (with_nodes between old) new → new.losses ≡ old.losses
     → EventIsDone (events.Deliver number) old new
-delivered number receiver old between new is can comes exact gathers still =
+delivered number receiver old between new is possible comes exact gathers still =
     let all = subst (λ (k : ℕ). Gathers false k (with_nodes between old) new) is gathers in
     record {
-      can = can;
+      possible = possible;
       does = inr (between, comes, all);
       exact = λ none.
           let to = receiver_of (slice_get old.nodes.sent number) in
@@ -76,22 +76,22 @@ delivered number receiver old between new is can comes exact gathers still =
 -- time passes at it, or it crashes
 pub ticked : (node : ℕ) (old : WorldState) (between : NodesState) (new : WorldState) → (running old.nodes.nodes node ≡ None → ⊥) → TakesIn node (Tick 0) old.nodes between
     → Gathers false node (with_nodes between old) new → new.losses ≡ old.losses → EventIsDone (events.Tick node) old new
-ticked node old between new can takes gathers still =
+ticked node old between new possible takes gathers still =
     let item : TakesItem false node (Tick 0) old new = (between, takes, gathers) in
-    record { can = can; does = inr item; exact = λ none. takes_exactly node (Tick 0) old new item none; uncounted = still }
+    record { possible = possible; does = inr item; exact = λ none. takes_exactly node (Tick 0) old new item none; uncounted = still }
 
 pub crashed : (node : ℕ) (old : WorldState) (between : NodesState) (new : WorldState) → (running old.nodes.nodes node ≡ None → ⊥) → TakesIn node Crash old.nodes between
     → Gathers false node (with_nodes between old) new → new.losses ≡ old.losses → EventIsDone (events.Crash node) old new
-crashed node old between new can takes gathers still =
+crashed node old between new possible takes gathers still =
     let item : TakesItem false node Crash old new = (between, takes, gathers) in
-    record { can = can; does = inr item; exact = λ none. takes_exactly node Crash old new item none; uncounted = still }
+    record { possible = possible; does = inr item; exact = λ none. takes_exactly node Crash old new item none; uncounted = still }
 
 -- it cuts its log
 pub cut_done : (node : ℕ) (old : WorldState) (between : NodesState) (new : WorldState) → (cutting old.nodes.nodes node ≡ None → ⊥) → CutsIn node old.nodes between
     → (NodesLoseNothing old.nodes between → CutsExactly node old.nodes between) → Gathers false node (with_nodes between old) new → new.losses ≡ old.losses → EventIsDone (events.Cut node) old new
-cut_done node old between new can cuts exact gathers still =
+cut_done node old between new possible cuts exact gathers still =
     record {
-      can = can;
+      possible = possible;
       does = inr (between, cuts, gathers);
       exact = λ none.
           let s = rises_split old.nodes between new.nodes (cuts_rises node old.nodes between cuts) (gathers_rises node (with_nodes between old) new gathers) none in
@@ -103,9 +103,9 @@ cut_done node old between new can cuts exact gathers still =
 pub expelled : (name : List ℕ) (node : ℕ) (old : WorldState) (between : NodesState) (new : WorldState) → (CannotHappen (events.Expel name node) old → ⊥) → ExpelsIn name node old.nodes between
     → (NodesLoseNothing old.nodes between → TakesExactly node (Expel name) old.nodes between) → Gathers false node (with_nodes between old) new → new.losses ≡ old.losses
     → EventIsDone (events.Expel name node) old new
-expelled name node old between new can expels exact gathers still =
+expelled name node old between new possible expels exact gathers still =
     record {
-      can = can;
+      possible = possible;
       does = inr (between, expels, gathers);
       exact = λ none.
           let s = rises_split old.nodes between new.nodes (expels_rises name node old.nodes between expels) (gathers_rises node (with_nodes between old) new gathers) none in
@@ -133,9 +133,9 @@ may_expel name node w (Some i) none at is e proposes (inr full) = proposes full
 -- it sees the end of a connection
 pub noticed : (number : ℕ) (old : WorldState) (c : Connected number old) (between : NodesState) (new : WorldState) → (CannotHappen (events.Notice number) old → ⊥)
     → TakesIn c.slot.node (Ended (port_at_node number)) old.nodes between → Gathers false c.slot.node (with_nodes between old) new → new.losses ≡ old.losses → EventIsDone (events.Notice number) old new
-noticed number old c between new can takes gathers still =
+noticed number old c between new possible takes gathers still =
     let item : TakesItem false c.slot.node (Ended (port_at_node number)) old new = (between, takes, gathers) in
-    record { can = can; does = inr (c, item); exact = λ none. (c, takes_exactly c.slot.node (Ended (port_at_node number)) old new item none); uncounted = still }
+    record { possible = possible; does = inr (c, item); exact = λ none. (c, takes_exactly c.slot.node (Ended (port_at_node number)) old new item none); uncounted = still }
 
 pub closed_none : (number : ℕ) (w : WorldState) → slot_numbered number w.connections ≡ None → IsClosed (slot_numbered number w.connections) w.nodes.nodes
 closed_none number w none = subst (λ (o : Option ConnectionSlot). IsClosed o w.nodes.nodes) (sym none) tt
@@ -162,7 +162,7 @@ no_part count waiting some part (inr more) = omega (arith, part, more)
 pub carries_up : (number : ℕ) (place : ConnectionSlot) (count : ℕ) (old mid new : WorldState) → slice_get old.connections (number - 1) ≡ Some place → 0 < number → place.is_open ≡ true
     → CarriesUpOn number place count old mid → Gathers false place.node mid new → new.losses ≡ old.losses → EventIsDone (events.CarryUp number count) old new
 carries_up number place count old mid new at positive up t gathers still =
-    record { can = can; does = inr (c, item); exact = λ none. (c, takes_exactly place.node piece less new item none); uncounted = still }
+    record { possible = possible; does = inr (c, item); exact = λ none. (c, takes_exactly place.node piece less new item none); uncounted = still }
   where
     c : Connected number old
     c = record {
@@ -174,9 +174,9 @@ carries_up number place count old mid new at positive up t gathers still =
       stands = t.carries.found;
     }
 
-    can : CannotHappen (events.CarryUp number count) old → ⊥
-    can (inl closed) = not_closed number old place at positive up t.carries.runs closed
-    can (inr few) = no_part count t.carries.way.up t.carries.some t.carries.part (subst (λ (o : Option Way). IsNoPart count (up_of o)) (way_found number old c) few)
+    possible : CannotHappen (events.CarryUp number count) old → ⊥
+    possible (inl closed) = not_closed number old place at positive up t.carries.runs closed
+    possible (inr few) = no_part count t.carries.way.up t.carries.some t.carries.part (subst (λ (o : Option Way). IsNoPart count (up_of o)) (way_found number old c) few)
 
     piece : Item
     piece = Bytes (port_at_node number) (take count t.carries.way.up) 0
@@ -197,7 +197,7 @@ pub lost_up : (number : ℕ) (place : ConnectionSlot) (count : ℕ) (old mid new
     → (mid ≡ old) × (client : WorldClient) × (slice_get old.clients place.client ≡ Some client) × CanCarryUp place count old.nodes client.piped → new ≡ with_one_loss mid
     → HappensLosing (events.CarryUp number count) old new
 lost_up number place count old mid new at positive up (same, client, owned, t) forgot =
-    record { can = can; needs = λ none low. none; done = old; does = inl refl; lost = inl refl; counted = forgot ∙ ap with_one_loss same }
+    record { possible = possible; takes_memory = λ none low. none; done = old; does = inl refl; lost = inl refl; counted = forgot ∙ ap with_one_loss same }
   where
     c : Connected number old
     c = record {
@@ -209,9 +209,9 @@ lost_up number place count old mid new at positive up (same, client, owned, t) f
       stands = t.found;
     }
 
-    can : CannotHappen (events.CarryUp number count) old → ⊥
-    can (inl closed) = not_closed number old place at positive up t.runs closed
-    can (inr few) = no_part count t.way.up t.some t.part (subst (λ (o : Option Way). IsNoPart count (up_of o)) (way_found number old c) few)
+    possible : CannotHappen (events.CarryUp number count) old → ⊥
+    possible (inl closed) = not_closed number old place at positive up t.runs closed
+    possible (inr few) = no_part count t.way.up t.some t.part (subst (λ (o : Option Way). IsNoPart count (up_of o)) (way_found number old c) few)
 
 pub carries_nothing : (number : ℕ) (place : ConnectionSlot) (count : ℕ) (old : WorldState) → SlotsAreValid (targets_of_clients old.clients) old.connections → slice_get old.connections (number - 1) ≡ Some place → 0 < number
     → CannotCarryUpOn place count old → CannotHappen (events.CarryUp number count) old
@@ -233,7 +233,7 @@ pub carries_down : (number : ℕ) (place : ConnectionSlot) (count : ℕ) (had : 
     → slice_get old.connections (number - 1) ≡ Some place → 0 < number → slice_get old.clients place.client ≡ Some client → CarriesDownOn had place.at count client.piped piped
     → (CannotHappen (events.CarryDown number count) old → ⊥) × DoesEvent had (events.CarryDown number count) old (with_piped place.client client piped old)
     × (had ≡ false → LosesAtClient (events.CarryDown number count) old (with_piped place.client client piped old))
-carries_down number place count had old client piped housed at positive owned carries = (can, (c, piped, carries.carries, refl), (λ lost. (c, piped, carries.lost lost, refl)))
+carries_down number place count had old client piped housed at positive owned carries = (possible, (c, piped, carries.carries, refl), (λ lost. (c, piped, carries.lost lost, refl)))
   where
     found : Connected number old
     found = connected old number place housed at positive
@@ -253,9 +253,9 @@ carries_down number place count had old client piped housed at positive owned ca
               stands = ap (λ (z : WorldClient). slice_get z.piped.ways place.at) (sym same) ∙ found.stands;
             }
 
-    can : CannotHappen (events.CarryDown number count) old → ⊥
-    can (inl other) = both_ways _ (sym (held_there number old c) ∙ other) carries.held
-    can (inr few) = carries.some c.way c.stands (subst (λ (o : Option Way). IsNoPart count (down_of o)) (way_found number old c) few)
+    possible : CannotHappen (events.CarryDown number count) old → ⊥
+    possible (inl other) = both_ways _ (sym (held_there number old c) ∙ other) carries.held
+    possible (inr few) = carries.some c.way c.stands (subst (λ (o : Option Way). IsNoPart count (down_of o)) (way_found number old c) few)
 
 pub carries_none_down : (number : ℕ) (place : ConnectionSlot) (count : ℕ) (old : WorldState) (client : WorldClient) → SlotsAreValid (targets_of_clients old.clients) old.connections → slice_get old.connections (number - 1) ≡ Some place
     → 0 < number → slice_get old.clients place.client ≡ Some client → CannotCarryDown place.at count client.piped → CannotHappen (events.CarryDown number count) old
@@ -285,10 +285,10 @@ carried_down_meets number place count true old client piped new housed at positi
     let carried = with_piped place.client client piped old in
     let d = carries_down number place count true old client piped housed at positive owned carries in
     inl (subst (λ (w : WorldState). EventIsDone (events.CarryDown number count) old w) (sym is)
-    (record { can = d.0; does = inr (does_less number count old carried d.1); exact = λ none. d.1; uncounted = refl }))
+    (record { possible = d.0; does = inr (does_less number count old carried d.1); exact = λ none. d.1; uncounted = refl }))
 carried_down_meets number place count false old client piped new housed at positive owned carries is =
     let d = carries_down number place count false old client piped housed at positive owned carries in
-    inr (record { can = d.0; needs = λ none low. none; done = with_piped place.client client piped old; does = inr d.1; lost = inr (inl (d.2 refl)); counted = is })
+    inr (record { possible = d.0; takes_memory = λ none low. none; done = with_piped place.client client piped old; does = inr d.1; lost = inr (inl (d.2 refl)); counted = is })
 
 pub never_opened : (number count : ℕ) (w : WorldState) → slot_numbered number w.connections ≡ None → CannotHappen (events.CarryDown number count) w
 never_opened number count w none = inl (ap (λ (o : Option ConnectionSlot). is_held o w.clients) none)
@@ -303,11 +303,11 @@ step_happens event old mid new before counted is so_many (inl d) quiet (inl none
     let w = none.1 (d.uncounted ∙ sym so_many) in let kept = w.0 in let below = w.1 in
     let nodes : NodesLoseNothing old.nodes mid.nodes =
     ((let e : mid.nodes.losses ≡ old.nodes.losses = omega (arith, kept, is) in e), (let l : old.nodes.losses < 2 ^ 64 - 1 = omega (arith, is, below) in l)) in
-    inl (subst (λ (w : WorldState). HappensExactly event old w) (sym none.0) (record { can = d.can; does = d.exact nodes; uncounted = d.uncounted }))
+    inl (subst (λ (w : WorldState). HappensExactly event old w) (sym none.0) (record { possible = d.possible; does = d.exact nodes; uncounted = d.uncounted }))
 step_happens event old mid new before counted is so_many (inl d) quiet (inr one) =
     inr (record {
-      can = d.can;
-      needs = λ none low. one.2 (quiet none ∙ sym is, subst (λ (k : ℕ). k < 2 ^ 64 - 1) (sym is) low);
+      possible = d.possible;
+      takes_memory = λ none low. one.2 (quiet none ∙ sym is, subst (λ (k : ℕ). k < 2 ^ 64 - 1) (sym is) low);
       done = mid;
       does = d.does;
       lost = inr (inr (λ whole. one.2 (whole.0 ∙ sym is, subst (λ (k : ℕ). k < 2 ^ 64 - 1) (sym is) whole.1)));
@@ -316,8 +316,8 @@ step_happens event old mid new before counted is so_many (inl d) quiet (inr one)
 step_happens event old mid new before counted is so_many (inr l) quiet (inl none) = inr (subst (λ (w : WorldState). HappensLosing event old w) (sym none.0) l)
 step_happens event old mid new before counted is so_many (inr l) quiet (inr one) =
     inr (record {
-      can = l.can;
-      needs = l.needs;
+      possible = l.possible;
+      takes_memory = l.takes_memory;
       done = l.done;
       does = l.does;
       lost = l.lost;

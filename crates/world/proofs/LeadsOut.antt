@@ -54,8 +54,8 @@ use Rattle.world.proofs.OneAgreed.{reached_agree}
 use Rattle.world.proofs.OpensOut.{HasOpened, opens_out}
 use Rattle.world.proofs.PutsFirst.{AnsweredTo}
 
-module _ (name : Client) (w : WorldState) (housed : SlotsAreValid (targets_of_clients w.clients) w.connections) (first : ℕ) (os : List ℕ) (can : CanEscape (first ∷ os) name w) (holds : Bool)
-    (held : holds ≡ is_open can.core.state.stage) (nodes : ℕ) (config : Config) (cs : List Client) (r : IsReached nodes config cs w) (new : WorldState) where
+module _ (name : Client) (w : WorldState) (housed : SlotsAreValid (targets_of_clients w.clients) w.connections) (first : ℕ) (os : List ℕ) (possible : CanEscape (first ∷ os) name w) (holds : Bool)
+    (held : holds ≡ is_open possible.core.state.stage) (nodes : ℕ) (config : Config) (cs : List Client) (r : IsReached nodes config cs w) (new : WorldState) where
   abbrev g : Group
   g = r.world.group
 
@@ -69,7 +69,7 @@ module _ (name : Client) (w : WorldState) (housed : SlotsAreValid (targets_of_cl
   ballot = g.master.given + 1
 
   abbrev list : List Command
-  list = whole_log_of w.nodes can.source
+  list = whole_log_of w.nodes possible.source
 
   abbrev log : List Command
   log = begun_log list ballot
@@ -78,7 +78,7 @@ module _ (name : Client) (w : WorldState) (housed : SlotsAreValid (targets_of_cl
   number = suc (length w.connections)
 
   abbrev bytes : ℕ
-  bytes = 14 + length can.core.state.client
+  bytes = 14 + length possible.core.state.client
 
   -- ---- the events after those of the group
 
@@ -105,13 +105,13 @@ module _ (name : Client) (w : WorldState) (housed : SlotsAreValid (targets_of_cl
 
   -- ---- what the client keeps can be spelled
 
-  fits : CanGoOut can.core.state
+  fits : CanGoOut possible.core.state
   fits =
-      let t = named_there name can.core w.clients can.client in
+      let t = named_there name possible.core w.clients possible.client in
       subst (λ (k : Core). CanGoOut k.state) t.is (client_at w.clients r.world.clients t.at t.client r.stands.clients t.found).stands.fits
 
-  module _ (l : LedTo config g past (first ∷ os) can.index list more w new) (p : IsNewPrimary l.way.last ballot log first os l.mid)
-      (left : HasLeft name can.core (opening (suc p.index)) l.mid new) where
+  module _ (l : LedTo config g past (first ∷ os) possible.index list more w new) (p : IsNewPrimary l.way.last ballot log first os l.mid)
+      (left : HasLeft name possible.core (opening (suc p.index)) l.mid new) where
     abbrev b : Moment State Command Output
     b = l.way.last
 
@@ -121,7 +121,7 @@ module _ (name : Client) (w : WorldState) (housed : SlotsAreValid (targets_of_cl
     can_open : CanOpen b left.after.nodes ballot p.index p.node os log (port_at_node (next_connection_number left.after))
     can_open =
         subst (λ (n : NodesState). CanOpen b n ballot p.index p.node os log (port_at_node (next_connection_number left.after))) (sym left.nodes)
-        (subst (λ (c : List ConnectionSlot). CanOpen b l.mid.nodes ballot p.index p.node os log (port_at_node (suc (length c)))) (sym left.connections) p.can)
+        (subst (λ (c : List ConnectionSlot). CanOpen b l.mid.nodes ballot p.index p.node os log (port_at_node (suc (length c)))) (sym left.connections) p.possible)
 
     -- from the world in which the connection was opened
     module _ (v : WorldState) (h : HasOpened name left.before.state b ballot p.index os log number left.after v)
@@ -134,14 +134,14 @@ module _ (name : Client) (w : WorldState) (housed : SlotsAreValid (targets_of_cl
           let members = ap (λ (x : MasterState). length x.members) r.stands.nodes.master in
           omega (arith, all, now, before, members)
 
-      written : AppendsAll [] h.up (packets.Connect (keeps can.core.state.client left.before.state.keep_alive) ∷ [])
+      written : AppendsAll [] h.up (packets.Connect (keeps possible.core.state.client left.before.state.keep_alive) ∷ [])
       written = subst (λ (c : List ℕ). AppendsAll [] h.up (packets.Connect (keeps c left.before.state.keep_alive) ∷ [])) left.client h.written
 
       answered : AnsweredTo name h.i h.at number p.index h.core v.nodes last_event new
       answered =
-          let c = connect_spelled can.core.state.client fits.client left.before.state.keep_alive h.up (left.keep_alive ∙ fits.keep_alive) written in
+          let c = connect_spelled possible.core.state.client fits.client left.before.state.keep_alive h.up (left.keep_alive ∙ fits.keep_alive) written in
           answers_out name v h.i h.at number p.index h.core h.up (omega arith) h.newest h.housed h.first config b (l.way.goes.between ++ moment_of_nodes g ∷ past) l.way.goes.came ballot os
-          list h.awaits (long config g past came w r.stands.nodes (first ∷ os) name can) (keeps can.core.state.client left.before.state.keep_alive) can.session c.0 refl
+          list h.awaits (long config g past came w r.stands.nodes (first ∷ os) name possible) (keeps possible.core.state.client left.before.state.keep_alive) possible.session c.0 refl
           bytes c.1 (omega arith) p.apart p.out p.each last_event new (subst (λ (k : ℕ). EventsHappen (asking k) v new) sent_is run) none
 
       served : (a : AnsweredTo name h.i h.at number p.index h.core v.nodes last_event new) → IsOnline name a.after new
@@ -180,17 +180,17 @@ module _ (name : Client) (w : WorldState) (housed : SlotsAreValid (targets_of_cl
         let o = opens_out name left.before b ballot p.index p.node os log left.after left.there can_open left.housed (asking (sent_then w (length os))) new left.closed left.rest left.whole in
         escaped o.after (subst (λ (k : ℕ). HasOpened name left.before.state b ballot p.index os log k left.after o.after) same_number o.has) o.rest o.whole
 
-  leads : EventsHappen (escaping_events w (first ∷ os) can.index holds name bytes) w new → WorldLosesNothing w new → HasEscaped name w new
+  leads : EventsHappen (escaping_events w (first ∷ os) possible.index holds name bytes) w new → WorldLosesNothing w new → HasEscaped name w new
   leads run none =
-      let l = led_to config g past came w r.stands.nodes housed (first ∷ os) name can more new run none in
-      let lawful_is = lawful config g past came w r.stands.nodes housed (first ∷ os) name can more new in
-      let p = new_primary config r.world r.trail w r.stands past came first os name can more new l lawful_is.0 lawful_is.1 in
+      let l = led_to config g past came w r.stands.nodes housed (first ∷ os) name possible more new run none in
+      let lawful_is = lawful config g past came w r.stands.nodes housed (first ∷ os) name possible more new in
+      let p = new_primary config r.world r.trail w r.stands past came first os name possible more new l lawful_is.0 lawful_is.1 in
       opened l p
-      (leaves name can.core (opening (suc p.index)) l.mid new (core_seen name can.core l.mid.clients w.clients l.clients can.client) l.housed holds held
+      (leaves name possible.core (opening (suc p.index)) l.mid new (core_seen name possible.core l.mid.clients w.clients l.clients possible.client) l.housed holds held
       (subst (λ (es : List Event). EventsHappen es l.mid new) (more_is (suc p.index) p.number) l.rest) l.whole)
 
 -- whichever members they are
-pub escaping_leads_out : (members : List ℕ) (name : Client) (w : WorldState) (can : CanEscape members name w) (holds : Bool) → holds ≡ is_open can.core.state.stage →
-    SlotsAreValid (targets_of_clients w.clients) w.connections → LeadsClientOut name w (escaping_events w members can.index holds name (14 + length can.core.state.client))
-escaping_leads_out [] name w can holds held housed nodes config cs new r run none = absurd (none-some bad_members (sym can.granted))
-escaping_leads_out (first ∷ os) name w can holds held housed nodes config cs new r run none = leads name w housed first os can holds held nodes config cs r new run none
+pub escaping_leads_out : (members : List ℕ) (name : Client) (w : WorldState) (possible : CanEscape members name w) (holds : Bool) → holds ≡ is_open possible.core.state.stage →
+    SlotsAreValid (targets_of_clients w.clients) w.connections → LeadsClientOut name w (escaping_events w members possible.index holds name (14 + length possible.core.state.client))
+escaping_leads_out [] name w possible holds held housed nodes config cs new r run none = absurd (none-some bad_members (sym possible.granted))
+escaping_leads_out (first ∷ os) name w possible holds held housed nodes config cs new r run none = leads name w housed first os possible holds held nodes config cs r new run none

@@ -63,31 +63,31 @@ group_events w members index =
     ∷ map events.Deliver (way_out (length w.nodes.sent) (length w.nodes.master.members) index (length (configuration_of members).members - 1))
 
 module _ (config : Config) (g : Group) (past : List (Moment State Command Output)) (came : Moments rules config (moment_of_nodes g ∷ past)) (w : WorldState) (s : NodesStandFor g w.nodes)
-    (housed : SlotsAreValid (targets_of_clients w.clients) w.connections) (members : List ℕ) (name : Client) (can : CanEscape members name w) (more : List Event) (new : WorldState) where
+    (housed : SlotsAreValid (targets_of_clients w.clients) w.connections) (members : List ℕ) (name : Client) (possible : CanEscape members name w) (more : List Event) (new : WorldState) where
   abbrev conf : Config
   conf = configuration_of members
 
   abbrev numbers : List ℕ
-  numbers = way_out (length w.nodes.sent) (length w.nodes.master.members) can.index (length conf.members - 1)
+  numbers = way_out (length w.nodes.sent) (length w.nodes.master.members) possible.index (length conf.members - 1)
 
-  way : LeadsOut rules config (moment_of_nodes g ∷ past) (moment_of_nodes g) conf can.index (whole_log_of w.nodes can.source)
-  way = way_of config (moment_of_nodes g) past came conf can.index can.source (whole_log_of w.nodes can.source) (can_be_led config g past came w s members name can)
+  way : LeadsOut rules config (moment_of_nodes g ∷ past) (moment_of_nodes g) conf possible.index (whole_log_of w.nodes possible.source)
+  way = way_of config (moment_of_nodes g) past came conf possible.index possible.source (whole_log_of w.nodes possible.source) (can_be_led config g past came w s members name possible)
 
   seen : IsSeen (moment_of_nodes g) w.nodes
   seen = seen_as g w.nodes s
 
-  same : way_out (length g.sent) (length g.master.members) can.index (length conf.members - 1) ≡ numbers
-  same = ap (λ (l : List (ℕ × Message Command)). way_out (length l) (length g.master.members) can.index (length conf.members - 1)) s.sent
-      ∙ ap (λ (m : MasterState). way_out (length w.nodes.sent) (length m.members) can.index (length conf.members - 1)) s.master
+  same : way_out (length g.sent) (length g.master.members) possible.index (length conf.members - 1) ≡ numbers
+  same = ap (λ (l : List (ℕ × Message Command)). way_out (length l) (length g.master.members) possible.index (length conf.members - 1)) s.sent
+      ∙ ap (λ (m : MasterState). way_out (length w.nodes.sent) (length m.members) possible.index (length conf.members - 1)) s.master
 
-  pub led_to : EventsHappen (group_events w members can.index ++ more) w new → WorldLosesNothing w new → LedTo config g past members can.index (whole_log_of w.nodes can.source) more w new
+  pub led_to : EventsHappen (group_events w members possible.index ++ more) w new → WorldLosesNothing w new → LedTo config g past members possible.index (whole_log_of w.nodes possible.source) more w new
   led_to run none =
-      let f = first_done (events.Assign conf) (map events.Deliver numbers ++ more) w new run none (λ cannot. cannot can.granted) in
+      let f = first_done (events.Assign conf) (map events.Deliver numbers ++ more) w new run none (λ cannot. cannot possible.granted) in
       let given : WorldState = with_nodes (after_giving conf w.nodes) w in
       let is : f.after ≡ given = f.does.2 ∙ ap (λ (n : NodesState). with_nodes n w) f.does.1 in
       let rest : EventsHappen (map events.Deliver numbers ++ more) given new = subst (λ (v : WorldState). EventsHappen (map events.Deliver numbers ++ more) v new) is f.rest in
       let whole : WorldLosesNothing given new = subst (λ (v : WorldState). WorldLosesNothing v new) is f.whole in
-      let on = goes_apart w (after_giving conf w.nodes) (omega arith) (goes_by None refl (λ h t. (gives_exactly w.nodes conf can.granted h t).0)) in
+      let on = goes_apart w (after_giving conf w.nodes) (omega arith) (goes_by None refl (λ h t. (gives_exactly w.nodes conf possible.granted h t).0)) in
       let t = in_two (map events.Deliver numbers) more given new rest whole in
       let calm : AreCalm (g.master.given + 1) given.nodes = λ at node there. inr (low_before config (moment_of_nodes g) past came w.nodes seen at node there) in
       let first_seen : IsSeen (assigned_moment conf (moment_of_nodes g)) given.nodes = assigned_seen (moment_of_nodes g) w.nodes conf seen in
@@ -109,7 +109,7 @@ module _ (config : Config) (g : Group) (past : List (Moment State Command Output
   -- ---- the ballot that it gives is one that there is
 
   pub lawful : (is_lawful conf.members conf.primary ≡ true) × (w.nodes.master.given < max_ballot)
-  lawful = by (is_lawful conf.members conf.primary) (nat_le max_ballot w.nodes.master.given) refl refl can.granted
+  lawful = by (is_lawful conf.members conf.primary) (nat_le max_ballot w.nodes.master.given) refl refl possible.granted
     where
       by : (l t : Bool) → is_lawful conf.members conf.primary ≡ l → nat_le max_ballot w.nodes.master.given ≡ t →
           (if l then (if t then Some ballots_spent else None) else Some bad_members) ≡ None → (is_lawful conf.members conf.primary ≡ true) × (w.nodes.master.given < max_ballot)

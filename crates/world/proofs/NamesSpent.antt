@@ -28,7 +28,7 @@ pub opens_past : (name : List ℕ) (node : ℕ) (core : CountedCore) (old new : 
     → EventHappens (events.Open name node) old (Ok tt) new → new ≡ old
 opens_past name node core old new there last low (inl exactly) =
     subst (λ (full : Bool). OpensUnless full true name node old new) (ap has_no_name_left there ∙ spent core last) exactly.does
-opens_past name node core old new there last low (inr loses) = absurd (loses.needs (ap has_no_name_left there ∙ spent core last) low)
+opens_past name node core old new there last low (inr loses) = absurd (loses.takes_memory (ap has_no_name_left there ∙ spent core last) low)
 
 -- all four hold
 all_hold : (a b c d : Bool) → a ≡ true → b ≡ true → c ≡ true → d ≡ true → not ((a && b) && (c && d)) ≡ false

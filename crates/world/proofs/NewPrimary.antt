@@ -50,7 +50,7 @@ pub record IsNewPrimary (b : Moment State Command Output) (ballot : ℕ) (log : 
   pub index : ℕ
   pub number : first ≡ suc index
   pub node : CountedCore
-  pub can : CanOpen b w.nodes ballot index node os log (port_at_node (suc (length w.connections)))
+  pub possible : CanOpen b w.nodes ballot index node os log (port_at_node (suc (length w.connections)))
   pub apart : NumbersAreApart os
   pub out : In (index + 1) os → ⊥
   pub each : (k : ℕ) → In k os → NodeIs (Follows ballot log) (whole_moment b).world.nodes k
@@ -73,14 +73,14 @@ module _ (first : ℕ) (os : List ℕ) (lawful : is_lawful (first ∷ os) first 
 
 module _ (config : Config) {nodes : ℕ} {cs : List Client} (m : World) (trail : Reached nodes config cs m) (w : WorldState) (s : WorldStandsFor m w)
     (past : List (Moment State Command Output)) (came : Moments rules config (moment_of_nodes m.group ∷ past)) (first : ℕ) (os : List ℕ) (name : Client)
-    (can : CanEscape (first ∷ os) name w) (more : List Event) (new : WorldState)
-    (l : LedTo config m.group past (first ∷ os) can.index (whole_log_of w.nodes can.source) more w new)
+    (possible : CanEscape (first ∷ os) name w) (more : List Event) (new : WorldState)
+    (l : LedTo config m.group past (first ∷ os) possible.index (whole_log_of w.nodes possible.source) more w new)
     (lawful : is_lawful (first ∷ os) first ≡ true) (given : w.nodes.master.given < max_ballot) where
   abbrev ballot : ℕ
   ballot = m.group.master.given + 1
 
   abbrev log : List Command
-  log = begun_log (whole_log_of w.nodes can.source) ballot
+  log = begun_log (whole_log_of w.nodes possible.source) ballot
 
   abbrev b : Moment State Command Output
   b = l.way.last
@@ -126,7 +126,7 @@ module _ (config : Config) {nodes : ℕ} {cs : List Client} (m : World) (trail :
   -- it gave no name in the ballot
   low : node.core.last_name.ballot < ballot
   low =
-      let r = runs_here w.nodes.nodes first (each_passes (is_running w.nodes.nodes) (first ∷ os) first can.live here) in
+      let r = runs_here w.nodes.nodes first (each_passes (is_running w.nodes.nodes) (first ∷ os) first possible.live here) in
       let here_too : slice_get l.mid.nodes.nodes r.at ≡ Some node =
       ap (slice_get l.mid.nodes.nodes) (let e : r.at ≡ index = (let x = r.number in let y = primary.number in omega (arith, x, y)) in e) ∙ standing.stands in
       let kept = ap (λ (x : ConnectionName). x.ballot) (l.followed.names r.at r.node node r.stands here_too) in
@@ -161,7 +161,7 @@ module _ (config : Config) {nodes : ℕ} {cs : List Client} (m : World) (trail :
         index = index;
         number = number;
         node = node;
-        can = can_open;
+        possible = can_open;
         apart = rest_apart first os lawful;
         out = subst (λ (k : ℕ). In k os → ⊥) primary.number (not_among first os lawful);
         each = each;

@@ -158,9 +158,9 @@ pub open_meets : (name : List ℕ) (at node : ℕ) (old new : WorldState) (clien
     → EventIsDone (events.Open name node) old new ⊎ HappensLosing (events.Open name node) old new
 open_meets name at node old new client first stands free serving left begins = by begins
   where
-    can : (CannotOpen (core_named name old.clients) ⊎ (is_serving (numbered_node old.nodes.nodes node) ≡ false)) → ⊥
-    can (inl taken) = both_ways _ free (subst CannotOpen (core_found name old.clients at client first stands) taken)
-    can (inr idle) = both_ways _ idle serving
+    possible : (CannotOpen (core_named name old.clients) ⊎ (is_serving (numbered_node old.nodes.nodes node) ≡ false)) → ⊥
+    possible (inl taken) = both_ways _ free (subst CannotOpen (core_found name old.clients at client first stands) taken)
+    possible (inr idle) = both_ways _ idle serving
 
     none : (mid : WorldState) → MayOpenNone at node old mid → (mid ≡ old) ⊎ HappenDoes false (events.Open name node) old mid
     none mid (inl same) = inl same
@@ -178,25 +178,25 @@ open_meets name at node old new client first stands free serving left begins = b
     by (inl o) =
         let one = opens_one name at node old new first o in
         inl (record {
-          can = can;
+          possible = possible;
           does = inr (inl (roomy false name node old new left one.less));
           exact = λ none. roomy true name node old new left (one.exact none);
           uncounted = o.uncounted;
         })
     by (inr (inl (o, counted))) =
-        inl (record { can = can; does = none new o; exact = λ lost. absurd (counted lost); uncounted = losses_none new o })
-    by (inr (inr (mid, o, is))) = inr (record { can = can; needs = λ full low. both_ways _ left full; done = mid; does = none mid o; lost = or_nodes (has_none mid o); counted = is })
+        inl (record { possible = possible; does = none new o; exact = λ lost. absurd (counted lost); uncounted = losses_none new o })
+    by (inr (inr (mid, o, is))) = inr (record { possible = possible; takes_memory = λ full low. both_ways _ left full; done = mid; does = none mid o; lost = or_nodes (has_none mid o); counted = is })
 
 -- a node that has no name left closes the connection at once
 pub full_meets : (name : List ℕ) (at node : ℕ) (old : WorldState) (client : WorldClient) → position (is_named name) old.clients ≡ Some at → slice_get old.clients at ≡ Some client
     → is_holding client.piped ≡ false → is_serving (numbered_node old.nodes.nodes node) ≡ true → has_no_name_left (numbered_node old.nodes.nodes node) ≡ true
     → EventIsDone (events.Open name node) old old
 full_meets name at node old client first stands free serving none =
-    record { can = can; does = inl refl; exact = λ whole. spent true name node old old none refl; uncounted = refl }
+    record { possible = possible; does = inl refl; exact = λ whole. spent true name node old old none refl; uncounted = refl }
   where
-    can : (CannotOpen (core_named name old.clients) ⊎ (is_serving (numbered_node old.nodes.nodes node) ≡ false)) → ⊥
-    can (inl taken) = both_ways _ free (subst CannotOpen (core_found name old.clients at client first stands) taken)
-    can (inr idle) = both_ways _ idle serving
+    possible : (CannotOpen (core_named name old.clients) ⊎ (is_serving (numbered_node old.nodes.nodes node) ≡ false)) → ⊥
+    possible (inl taken) = both_ways _ free (subst CannotOpen (core_found name old.clients at client first stands) taken)
+    possible (inr idle) = both_ways _ idle serving
 
 -- a client that holds a connection opens none
 pub is_taken : (name : List ℕ) (w : WorldState) (at : ℕ) (client : WorldClient) → position (is_named name) w.clients ≡ Some at → slice_get w.clients at ≡ Some client

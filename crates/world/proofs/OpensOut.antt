@@ -73,13 +73,13 @@ pub record HasOpened (name : List ℕ) (state : ClientState) (a : Moment State C
   pub nodes : NodesGo old.nodes after.nodes
 
 module _ (name : List ℕ) (before : Core) (a : Moment State Command Output) (ballot place : ℕ) (node : CountedCore) (os : List ℕ) (log : List Command) (old : WorldState)
-    (there : core_named name old.clients ≡ Some before) (can : CanOpen a old.nodes ballot place node os log (port_at_node (next_connection_number old)))
+    (there : core_named name old.clients ≡ Some before) (possible : CanOpen a old.nodes ballot place node os log (port_at_node (next_connection_number old)))
     (housed : SlotsAreValid (targets_of_clients old.clients) old.connections) where
   serving : is_serving (numbered_node old.nodes.nodes (suc place)) ≡ true
   serving =
-      ap is_serving can.stands
-      ∙ ap (λ (b : Bool). b && not node.core.replica.state.stopped) (ap is_active can.serves.leads.role)
-      ∙ ap not can.serves.leads.runs
+      ap is_serving possible.stands
+      ∙ ap (λ (b : Bool). b && not node.core.replica.state.stopped) (ap is_active possible.serves.leads.role)
+      ∙ ap not possible.serves.leads.runs
 
   pub can_open_there : is_open before.state.stage ≡ false → CannotOpen (core_named name old.clients) ⊎ (is_serving (numbered_node old.nodes.nodes (suc place)) ≡ false) → ⊥
   can_open_there closed (inl taken) = both_ways (is_open before.state.stage) closed (subst CannotOpen there taken)
@@ -87,8 +87,8 @@ module _ (name : List ℕ) (before : Core) (a : Moment State Command Output) (ba
 
   has_name : has_no_name_left (numbered_node old.nodes.nodes (suc place)) ≡ false
   has_name =
-      let joined = can.serves.leads.joined in let high = can.most in let low = can.low in
-      ap has_no_name_left can.stands ∙ first_is_left node (omega (arith, joined, high)) (omega (arith, joined, low))
+      let joined = possible.serves.leads.joined in let high = possible.most in let low = possible.low in
+      ap has_no_name_left possible.stands ∙ first_is_left node (omega (arith, joined, high)) (omega (arith, joined, low))
 
   module _ (after : WorldState) (does : OpensOne true name (suc place) old after) where
     abbrev number : ℕ
@@ -160,13 +160,13 @@ module _ (name : List ℕ) (before : Core) (a : Moment State Command Output) (ba
         (let e : suc (suc place - 1) ≡ suc place = omega arith in e) housed
 
     gathers : Gathers true (suc place) (with_nodes taken mid) after
-    gathers = subst (λ (n : NodesState). Gathers true (suc place) (with_nodes n mid) after) (takes_at place item old.nodes does.3.0 node can.stands does.3.1) does.3.2
+    gathers = subst (λ (n : NodesState). Gathers true (suc place) (with_nodes n mid) after) (takes_at place item old.nodes does.3.0 node possible.stands does.3.1) does.3.2
 
     passes : Passes [] (with_nodes taken mid) after
     passes = gathers_passes (suc place) (with_nodes taken mid) after gathers mid_housed
 
     opened_by : (n : NodesState) → Come taken [] n → IsOpened a n ballot place os log (port_at_node number)
-    opened_by n comes = connections_open_first a old.nodes n ballot place node os log (port_at_node number) 0 can comes
+    opened_by n comes = connections_open_first a old.nodes n ballot place node os log (port_at_node number) 0 possible comes
 
     pub has_opened : HasOpened name before.state a ballot place os log number old after
     has_opened =
@@ -186,7 +186,7 @@ module _ (name : List ℕ) (before : Core) (a : Moment State Command Output) (ba
               (names_seen after.clients mid.clients passes.clients ∙ names_set old.clients c.at c.client later c.stands refl) ∙ c.first;
           housed = passes.housed;
           nodes = nodes_go_join old.nodes taken after.nodes
-              (acts_go (let node_call : Option (ℕ × NodeCall) = Some (place, takes item) in node_call) old.nodes taken (acts old.nodes place node (takes item) can.stands (λ g s. tt)))
+              (acts_go (let node_call : Option (ℕ × NodeCall) = Some (place, takes item) in node_call) old.nodes taken (acts old.nodes place node (takes item) possible.stands (λ g s. tt)))
               passes.nodes;
         }
 

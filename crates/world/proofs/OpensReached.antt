@@ -47,6 +47,6 @@ housed_none clients ids all =
 
 pub opens_reached : (nodes : ℕ) (config : Config) (ids : List Client) (w : WorldState) → can_open nodes config ≡ true → NodesStandFor (opening_group nodes config) w.nodes
     → ClientsStand w.clients (map new_client ids) → ClientsAreApart ids → (reached : IsReached nodes config ids w) × (asked_on reached ≡ [])
-opens_reached nodes config ids w can stands clients apart =
+opens_reached nodes config ids w possible stands clients apart =
     let so : WorldStandsFor (opening nodes config ids) w = record { nodes = stands; clients = clients } in
-    (is_reached nodes config ids (opening nodes config ids) w apart (begins can) so, is_reached_asked nodes config ids (opening nodes config ids) w apart (begins can) so)
+    (is_reached nodes config ids (opening nodes config ids) w apart (begins possible) so, is_reached_asked nodes config ids (opening nodes config ids) w apart (begins possible) so)

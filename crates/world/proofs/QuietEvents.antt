@@ -105,9 +105,9 @@ pub quiet_by : (event : Event) (old : WorldState) (result : Result (Unit {0}) Id
     → new.losses ≡ old.losses
 quiet_by event old (Err idle) new happens none low = ap (λ (w : WorldState). w.losses) happens.1
 quiet_by event old (Ok done) new (inl exactly) none low = exactly.uncounted
-quiet_by event old (Ok done) new (inr loses) none low = absurd (loses.needs none low)
+quiet_by event old (Ok done) new (inr loses) none low = absurd (loses.takes_memory none low)
 
 pub idle_exactly : (event : Event) (old : WorldState) (result : Result (Unit {0}) Idle) (new : WorldState) → EventHappens event old result new → IsErr result ↔ CannotHappen event old
 idle_exactly event old (Err idle) new happens = ((λ err. happens.0), (λ cannot. refl))
-idle_exactly event old (Ok done) new (inl exactly) = ((λ err. absurd (both_ways false refl err)), (λ cannot. absurd (exactly.can cannot)))
-idle_exactly event old (Ok done) new (inr loses) = ((λ err. absurd (both_ways false refl err)), (λ cannot. absurd (loses.can cannot)))
+idle_exactly event old (Ok done) new (inl exactly) = ((λ err. absurd (both_ways false refl err)), (λ cannot. absurd (exactly.possible cannot)))
+idle_exactly event old (Ok done) new (inr loses) = ((λ err. absurd (both_ways false refl err)), (λ cannot. absurd (loses.possible cannot)))

@@ -18,7 +18,7 @@ use Rattle.world_clients.specs.Clients.{new_world_client}
 
 -- the event can happen, what it asks was done, and no loss is counted
 pub record HappensExactly (event : Event) (old new : WorldState) : Type 0 where
-  pub can : CannotHappen event old → ⊥
+  pub possible : CannotHappen event old → ⊥
   pub does : DoesEvent true event old new
   pub uncounted : new.losses ≡ old.losses
 
@@ -26,8 +26,8 @@ pub record HappensExactly (event : Event) (old new : WorldState) : Type 0 where
 -- losses; and one loss is counted. If something was done, memory ran out at a client, or the nodes
 -- counted a loss. Their count saturates at 2^64 - 1, and shows nothing there.
 pub record HappensLosing (event : Event) (old new : WorldState) : Type 0 where
-  pub can : CannotHappen event old → ⊥
-  pub needs : EventTakesNoMemory event old → old.nodes.losses < greatest_count → ⊥
+  pub possible : CannotHappen event old → ⊥
+  pub takes_memory : EventTakesNoMemory event old → old.nodes.losses < greatest_count → ⊥
   pub done : WorldState
   pub does : (done ≡ old) ⊎ DoesEvent false event old done
   pub lost : (done ≡ old) ⊎ LosesAtClient event old done

@@ -33,7 +33,7 @@ pub record PublishesAsked (event : Event) (old : WorldState) (result : Result (U
 
 -- an event was done, or nothing happened: it was done exactly, unless the nodes counted a loss
 pub record EventIsDone (event : Event) (old new : WorldState) : Type 0 where
-  pub can : CannotHappen event old → ⊥
+  pub possible : CannotHappen event old → ⊥
   pub does : (new ≡ old) ⊎ DoesEvent false event old new
   pub exact : NodesLoseNothing old.nodes new.nodes → DoesEvent true event old new
   pub uncounted : new.losses ≡ old.losses

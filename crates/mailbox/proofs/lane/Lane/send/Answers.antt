@@ -13,13 +13,13 @@ push_as-requires-clause-rule g c =
     let kept = c.self.invariant in
     let heard = c.absorb.ensures.rule in
     let sent = ap (λ v. length v.sent) heard in
-    let may = ap (λ v. v.may) heard in
-    let role = ap (λ v. v.may) kept.role in (
+    let may_send = ap (λ v. v.may_send) heard in
+    let role = ap (λ v. v.may_send) kept.role in (
       sends _ _ _ _
           (ap (λ v. v.sends) heard ∙ ap (λ v. v.sends) kept.role)
           (sym (ap (λ v. v.lane) heard ∙ ap (λ v. v.lane) kept.role))
           (omega (arith, sent))
-          (omega (arith, may, role)),
+          (omega (arith, may_send, role)),
       moments _ _,
     )
 
@@ -30,7 +30,7 @@ returns-in-Err-clause-room g c =
     (is_full (view c.self.inside.pass) (view c.receipt.inside.pass) _ _ c.args.self.now c.args.receipt
     c.absorb.ensures.rule
     (ap (λ q. ruled_capacity q) c.deref-2.ensures ∙ kept.has_room)
-    (ap (λ v. v.may) kept.role)
+    (ap (λ v. v.may_send) kept.role)
     (ap (λ s. s.sent) c.self.view_is)
     (ap (λ r. r.bounds) c.receipt.view_is)
     c.in-Err.ensures.rule.2)

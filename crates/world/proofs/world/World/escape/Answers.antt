@@ -25,8 +25,8 @@ named : (c : goal.In_ok-way_out) → c.client-name.result.now ≡ c.index.result
 named c = c.client-name.ensures ∙ ap (λ (k : Core). k.state.client) c.core.ensures
 
 -- all that was looked at
-abbrev can : (c : goal.In_ok-way_out) → CanEscape c.args.members.now c.args.client.now c.args.self.now
-can c =
+abbrev possible : (c : goal.In_ok-way_out) → CanEscape c.args.members.now c.args.client.now c.args.self.now
+possible c =
     can_escape c.args.members.now c.args.client.now c.args.self.now
     (ap (refusal c.args.self.now.nodes.master) (sym c.in_ok-config.ensures) ∙ (c.can_lead.ensures.0 c.if-not-can_lead.false).0)
     (ap (list_all (is_running c.args.self.now.nodes.nodes)) (sym (its_members c.args.members.now c.in_ok-config.config c.in_ok-config.ensures)) ∙ (c.can_lead.ensures.0 c.if-not-can_lead.false).1)
@@ -51,7 +51,7 @@ returns-clause-short c =
 pub returns-clause-leads_out : goal.returns-clause-leads_out
 returns-clause-leads_out c =
     subst (LeadsClientOut c.args.client.now c.args.self.now) (sym (written c))
-    (escaping_leads_out c.args.members.now c.args.client.now c.args.self.now (can c) (is_holding c.index.result.now.piped) refl (rw (← c.self.view_is) c.self.invariant.0))
+    (escaping_leads_out c.args.members.now c.args.client.now c.args.self.now (possible c) (is_holding c.index.result.now.piped) refl (rw (← c.self.view_is) c.self.invariant.0))
 
 pub returns-clause-can : goal.returns-clause-can
-returns-clause-can c = can c
+returns-clause-can c = possible c

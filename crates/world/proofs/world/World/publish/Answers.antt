@@ -51,7 +51,7 @@ returns-clause-meets c =
     let before = get_there c.self.inside.clients.items c.in-Some.at c.index.result.now few c.index.ensures in
     let is : c.core.result.now ≡ c.index_mut.result.now.piped.core =
     c.core.ensures ∙ ap (λ (k : WorldClient). k.piped.core) (same_Some c.index.result.now c.index_mut.result.now (sym before ∙ found)) in
-    let can = takes_publication c.args.publication.now c.index_mut.result.now.piped.core (subst (λ (k : Core). is_some (publish_refusal c.args.publication.now k.state) ≡ false) is (sym c.refuses.ensures ∙ c.if-refuses.false)) in
+    let possible = takes_publication c.args.publication.now c.index_mut.result.now.piped.core (subst (λ (k : Core). is_some (publish_refusal c.args.publication.now k.state) ≡ false) is (sym c.refuses.ensures ∙ c.if-refuses.false)) in
     let first = rw (← c.self.view_is) at c.in-Some.ensures.exact in
     let old : WorldState = record {
       nodes = c.self.inside.nodes;
@@ -63,7 +63,7 @@ returns-clause-meets c =
     rw (← c.self.view_is)
     (publish_meets c.args.client.now c.args.publication.now old c.called.result c.called.new.self
     (client_meets c.args.client.now (RefusesCall call) (SendsCall call) (LosesAsking call) old c.in-Some.at c.index_mut.result.now c.publish_copy-done.new.piped c.publish_copy-done.result c.called.result c.called.new.self (sym first) found
-    (call_outcome (c.args.publication.now ∷ []) call c.index_mut.result.now.piped c.publish_copy-done.result c.publish_copy-done.new.piped can c.publish_copy-done.ensures.calls c.publish_copy-done.ensures.goes) c.called.ensures))
+    (call_outcome (c.args.publication.now ∷ []) call c.index_mut.result.now.piped c.publish_copy-done.result c.publish_copy-done.new.piped possible c.publish_copy-done.ensures.calls c.publish_copy-done.ensures.goes) c.called.ensures))
 
 pub returns-then-refuses-clause-asked : goal.returns-then-refuses-clause-asked
 returns-then-refuses-clause-asked c = record { asked = []; is = refl; goes = goes_on_rest _ _ refl }

@@ -50,7 +50,7 @@ returns-clause-meets c =
     let before = get_there c.self.inside.clients.items c.in-Some.at c.index.result.now few c.index.ensures in
     let is : c.core.result.now ≡ c.index_mut.result.now.piped.core =
     c.core.ensures ∙ ap (λ (k : WorldClient). k.piped.core) (same_Some c.index.result.now c.index_mut.result.now (sym before ∙ found)) in
-    let can = takes_filter c.args.filter.now c.args.qos c.index_mut.result.now.piped.core (subst (λ (k : Core). is_some (request_refusal k.state) ≡ false) is (sym c.refuses_requests.ensures ∙ c.if-refuses_requests.false)) in
+    let possible = takes_filter c.args.filter.now c.args.qos c.index_mut.result.now.piped.core (subst (λ (k : Core). is_some (request_refusal k.state) ≡ false) is (sym c.refuses_requests.ensures ∙ c.if-refuses_requests.false)) in
     let first = rw (← c.self.view_is) at c.in-Some.ensures.exact in
     let old : WorldState = record {
       nodes = c.self.inside.nodes;
@@ -62,7 +62,7 @@ returns-clause-meets c =
     rw (← c.self.view_is)
     (subscribe_meets c.args.client.now c.args.filter.now c.args.qos old c.called.result c.called.new.self
     (client_meets c.args.client.now (RefusesCall call) (SendsCall call) (LosesAsking call) old c.in-Some.at c.index_mut.result.now c.subscribe_copy-done.new.piped c.subscribe_copy-done.result c.called.result c.called.new.self (sym first) found
-    (call_outcome [] call c.index_mut.result.now.piped c.subscribe_copy-done.result c.subscribe_copy-done.new.piped can.0 c.subscribe_copy-done.ensures.calls c.subscribe_copy-done.ensures.goes) c.called.ensures))
+    (call_outcome [] call c.index_mut.result.now.piped c.subscribe_copy-done.result c.subscribe_copy-done.new.piped possible.0 c.subscribe_copy-done.ensures.calls c.subscribe_copy-done.ensures.goes) c.called.ensures))
 
 pub returns-then-refuses_requests-clause-goes : goal.returns-then-refuses_requests-clause-goes
 returns-then-refuses_requests-clause-goes c = goes_on_rest _ _ refl

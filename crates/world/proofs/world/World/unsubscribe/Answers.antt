@@ -51,7 +51,7 @@ returns-clause-meets c =
     let before = get_there c.self.inside.clients.items c.in-Some.at c.index.result.now few c.index.ensures in
     let is : c.core.result.now ≡ c.index_mut.result.now.piped.core =
     c.core.ensures ∙ ap (λ (k : WorldClient). k.piped.core) (same_Some c.index.result.now c.index_mut.result.now (sym before ∙ found)) in
-    let can = takes_filter c.args.filter.now qualities.AtMostOnce c.index_mut.result.now.piped.core (subst (λ (k : Core). is_some (request_refusal k.state) ≡ false) is (sym c.refuses_requests.ensures ∙ c.if-refuses_requests.false)) in
+    let possible = takes_filter c.args.filter.now qualities.AtMostOnce c.index_mut.result.now.piped.core (subst (λ (k : Core). is_some (request_refusal k.state) ≡ false) is (sym c.refuses_requests.ensures ∙ c.if-refuses_requests.false)) in
     let first = rw (← c.self.view_is) at c.in-Some.ensures.exact in
     let old : WorldState = record {
       nodes = c.self.inside.nodes;
@@ -63,7 +63,7 @@ returns-clause-meets c =
     rw (← c.self.view_is)
     (unsubscribe_meets c.args.client.now c.args.filter.now old c.called.result c.called.new.self
     (client_meets c.args.client.now (RefusesCall call) (SendsCall call) (LosesAsking call) old c.in-Some.at c.index_mut.result.now c.unsubscribe_copy-done.new.piped c.unsubscribe_copy-done.result c.called.result c.called.new.self (sym first) found
-    (call_outcome [] call c.index_mut.result.now.piped c.unsubscribe_copy-done.result c.unsubscribe_copy-done.new.piped can.1 c.unsubscribe_copy-done.ensures.calls c.unsubscribe_copy-done.ensures.goes) c.called.ensures))
+    (call_outcome [] call c.index_mut.result.now.piped c.unsubscribe_copy-done.result c.unsubscribe_copy-done.new.piped possible.1 c.unsubscribe_copy-done.ensures.calls c.unsubscribe_copy-done.ensures.goes) c.called.ensures))
 
 pub returns-then-refuses_requests-clause-goes : goal.returns-then-refuses_requests-clause-goes
 returns-then-refuses_requests-clause-goes c = goes_on_rest _ _ refl
