@@ -41,7 +41,7 @@ pub(crate) enum Came {
     Sent(usize, u64, [u8; 8]),
 }
 
-/// A row that was answered otherwise, by its index, and what came.
+/// A row whose answer differs from the wanted one, by its index, and what came.
 #[derive(Clone, Copy, Debug, PartialEq, Eq)]
 pub(crate) struct Other {
     row: usize,
@@ -54,7 +54,7 @@ pub(crate) const CLOSED: &[u8] = &[];
 /// Nothing is sent.
 pub(crate) const NOTHING: &[Answer<'static>] = &[];
 
-/// Finds the first row that a broker does not answer as expected, and what came.
+/// Returns the first row whose answer differs from the wanted one, and what came.
 pub(crate) fn other_answer(
     alloc: Global,
     broker: &mut BrokerMachine,
@@ -135,8 +135,8 @@ fn sized(packet: Packet) -> Option<SizedPacket> {
     SizedPacket::new(packet).ok()
 }
 
-// Finds the first of these outputs that is not the answer of a row; how many there are if there are
-// too few.
+// Returns the first of these outputs that differs from the answer of a row; how many there are if
+// there are too few.
 fn first_unwanted(alloc: Global, given: &[Output], wanted: &[Answer<'_>]) -> Option<Came> {
     for (index, output) in given.iter().enumerate() {
         if !is_wanted_at(alloc, output, wanted, index) {

@@ -31,17 +31,17 @@ pub(crate) enum Run<'a> {
     Sends(u8, &'a [Row<'a>]),
 }
 
-/// What was not as it was to be.
+/// Why a run fails.
 #[derive(Clone, Copy, Debug, PartialEq, Eq)]
 pub(crate) enum Fault {
     /// There was no broker: memory ran out, or its bytes were not read.
     Start,
-    /// This row was answered otherwise.
+    /// This row had another answer.
     Row(Other),
     /// At this step this came.
     Step(usize, Came),
-    /// When the part of this index came once more, after this many times, this row was answered
-    /// otherwise.
+    /// When the part of this index came once more, after this many times, this row had another
+    /// answer.
     Part(usize, u32, Other),
     /// For the publication with this identifier this came.
     Publication(u8, Came),
@@ -68,7 +68,7 @@ fn started(alloc: Global, start: Start<'_>) -> Option<BrokerMachine> {
     }
 }
 
-// Finds the first row that a broker answers otherwise.
+// Returns the first row whose answer differs from the wanted one.
 fn fault_in_rows(alloc: Global, broker: &mut BrokerMachine, rows: &[Row<'_>]) -> Option<Fault> {
     match other_answer(alloc, broker, rows) {
         Some(other) => Some(Fault::Row(other)),
@@ -76,7 +76,7 @@ fn fault_in_rows(alloc: Global, broker: &mut BrokerMachine, rows: &[Row<'_>]) ->
     }
 }
 
-// Finds the first step at which a broker goes through a run in another way.
+// Returns the first step of a run whose outcome differs from the wanted one.
 fn fault_of(alloc: Global, broker: &mut BrokerMachine, run: Run<'_>) -> Option<Fault> {
     match run {
         Run::Rows(rows) => fault_in_rows(alloc, broker, rows),
@@ -87,7 +87,7 @@ fn fault_of(alloc: Global, broker: &mut BrokerMachine, run: Run<'_>) -> Option<F
     }
 }
 
-/// Finds the first step at which a broker goes through a run in another way, and what came.
+/// Returns the first step of a run whose outcome differs from the wanted one, and what came.
 pub(crate) fn first_fault(alloc: Global, start: Start<'_>, run: Run<'_>) -> Option<Fault> {
     match started(alloc, start) {
         Some(mut broker) => fault_of(alloc, &mut broker, run),

@@ -140,7 +140,8 @@ pub fn hear_end_within(stream: &mut TcpStream, milliseconds: u64) -> Result<(), 
     hear_only(stream, milliseconds, StreamState::Ended)
 }
 
-// Reads once, for this many milliseconds. No bytes are to come, and the stream is to be so then.
+// Reads once, for this many milliseconds. No bytes may come, and the stream has to be in the wanted
+// state then.
 fn hear_only(stream: &mut TcpStream, milliseconds: u64, wanted: StreamState) -> Result<(), Came> {
     let mut buffer = [0; SHOWN];
     limit_reads(stream, milliseconds)?;

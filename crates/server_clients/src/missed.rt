@@ -1,8 +1,8 @@
-// What a test tells of a step that is not so.
+// A step of a test that fails, and what came in place of what it awaits.
 
 use crate::came::Came;
 
-/// A step that is not as its words say.
+/// A step that fails.
 #[derive(Clone, Copy, Debug, PartialEq, Eq)]
 pub struct Missed {
     /// The words.
@@ -12,7 +12,7 @@ pub struct Missed {
 }
 
 impl Missed {
-    /// Returns a step that uses no stream, and is not as these words say.
+    /// Returns a step that uses no stream, and fails.
     pub fn new(step: &'static str) -> Missed {
         Missed { step, came: None }
     }

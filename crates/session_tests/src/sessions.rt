@@ -115,7 +115,7 @@ const FROZEN: [u8; 29] = [
     0x78, 0xAA, 0xBB,
 ];
 
-// Finds the first of these rows that a new session does not do.
+// Returns the first of these rows that a new session does not do as it says.
 fn first_undone(alloc: Global, rows: &[Row<'_>]) -> Option<Fault> {
     let mut session = Session::new(alloc);
     first_fault(alloc, &mut session, rows)
@@ -165,7 +165,7 @@ fn refusals_have_their_numbers_and_texts(rt: HostRuntime) -> Result<(), Fail> {
     Ok(())
 }
 
-// Returns the first of these that is not so of the session of the bytes.
+// Returns the first check that fails for the session of the bytes.
 fn missed_of(alloc: Global, session: &Session) -> Option<&'static str> {
     if !is_received(session, 7) {
         Some("identifier 7 was received")
@@ -182,7 +182,7 @@ fn missed_of(alloc: Global, session: &Session) -> Option<&'static str> {
 
 const UNREAD: Option<&str> = Some("the bytes are read");
 
-// Returns the first of these that is not so of these bytes.
+// Returns the first check that fails for these bytes.
 fn missed_by(alloc: Global, bytes: &[u8]) -> Option<&'static str> {
     let mut reader = Reader::new(bytes);
     match Session::read(alloc, 64, &mut reader) {

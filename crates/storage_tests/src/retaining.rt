@@ -41,7 +41,7 @@ const AT_THE_LIMIT: &[Row<'static>] = &[
 // The index of a row that a store does not do as it says, and how many topics it keeps then.
 type Fault = (usize, usize);
 
-// Returns which row a store does not do as it says, if there is one.
+// Returns the first row that a store does not do as it says, and how many topics it keeps then.
 fn first_fault(alloc: Global, store: &mut RetainedStore, rows: &[Row<'_>]) -> Option<Fault> {
     for (index, row) in rows.iter().enumerate() {
         if !is_right(alloc, store, *row) {

@@ -39,8 +39,8 @@ const ACTIVATED: &[(&str, u64, (bool, u64))] = &[
     ("ballot 1 does not come back", 1, (false, 3)),
 ];
 
-// Returns the first row that is not so of ballots that are activated in turn; that node 2 is the
-// sole member then, if it is not.
+// Activates the ballots of the rows in turn. Returns the first row whose outcome differs from the
+// wanted one. If none does, node 2 has to be the sole member then.
 fn other_activation(master: &mut Master) -> Option<&'static str> {
     for (words, ballot, wanted) in ACTIVATED {
         let activated = master.activate(*ballot) == Activation::Activated;
@@ -55,7 +55,8 @@ fn other_activation(master: &mut Master) -> Option<&'static str> {
     }
 }
 
-// Returns the first step that is not so: ballots 2 and 3 are given, and ballot 2 is superseded.
+// Checks that ballots 2 and 3 are given, and ballot 2 is superseded. Returns the first step that
+// fails.
 fn supersedes(master: &mut Master, alloc: Global) -> Option<&'static str> {
     if !is_given(master, alloc, &[1, 2], 1, 2) {
         Some("ballot 2 is given")
@@ -73,7 +74,7 @@ enum Task {
     RefusesAll,
 }
 
-// Returns the first step that is not so of a fresh master, in words.
+// Returns the first step of this task that fails with a fresh master, in words.
 fn first_fault(alloc: Global, task: Task) -> Option<&'static str> {
     match opened(alloc) {
         Some(mut master) => fault_of(&mut master, alloc, task),
@@ -81,7 +82,7 @@ fn first_fault(alloc: Global, task: Task) -> Option<&'static str> {
     }
 }
 
-// Returns the first step that is not so of this master, in words.
+// Returns the first step of this task that fails with this master, in words.
 fn fault_of(master: &mut Master, alloc: Global, task: Task) -> Option<&'static str> {
     match task {
         Task::Supersedes => supersedes(master, alloc),

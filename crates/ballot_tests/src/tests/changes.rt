@@ -6,7 +6,8 @@ use ballot_replicas::{Pair, hand_on, hands_on, is_assigned, master_says, shows, 
 use machine::TallyCommand;
 use std::alloc::Global;
 
-/// Returns the first step that is not so: node 2, given ballot 2, fetches and installs the log.
+/// Checks that node 2, given ballot 2, fetches and installs the log. Returns the first step that
+/// fails.
 pub fn goes_over(pair: &mut Pair, alloc: Global) -> Option<&'static str> {
     if !is_assigned(pair, alloc, &[1]) {
         Some("node 2 is given ballot 2")
@@ -41,7 +42,7 @@ fn went_over(pair: &mut Pair, alloc: Global) -> bool {
     is_assigned
 }
 
-/// Returns the first step that is not so: the start of ballot 2 is added and committed.
+/// Checks that the start of ballot 2 is added and committed. Returns the first step that fails.
 pub fn begins(pair: &mut Pair, alloc: Global) -> Option<&'static str> {
     if !went_over(pair, alloc) {
         Some("node 2 is given ballot 2")
@@ -68,7 +69,8 @@ fn a_new_ballot_begins_with_its_start(rt: HostRuntime) {
     assert_eq!(rt; first_fault_of_two(rt.alloc(), &[1], Change::Begins), None);
 }
 
-/// Returns the first step that is not so: node 2 is a backup after Superseded, and stays one.
+/// Checks that node 2 is a backup after Superseded, and stays one. Returns the first step that
+/// fails.
 pub fn is_superseded(pair: &mut Pair, alloc: Global) -> Option<&'static str> {
     if !went_over(pair, alloc) {
         Some("node 2 is given ballot 2")
@@ -94,8 +96,8 @@ fn a_superseded_ballot_does_not_begin(rt: HostRuntime) {
     );
 }
 
-/// Returns the first step that is not so: the log of node 1, which appended a command that never
-/// came to node 2, is replaced by that of ballot 2.
+/// Checks that the log of ballot 2 replaces that of node 1, which appended a command that never
+/// came to node 2. Returns the first step that fails.
 pub fn is_replaced(pair: &mut Pair, alloc: Global) -> Option<&'static str> {
     if !takes(&mut pair.one, TallyCommand::Add(2), &mut pair.out) {
         Some("node 1 takes a command")
@@ -128,8 +130,8 @@ fn asks_again(pair: &mut Pair, kinds: &[&str]) -> bool {
     hands_on(pair, kinds)
 }
 
-/// Returns the first step that is not so: it does so while it fetches the log, and while it
-/// installs it.
+/// Checks that node 2 asks again while it fetches the log, and while it installs it. Returns the
+/// first step that fails.
 pub fn asks_twice(pair: &mut Pair, alloc: Global) -> Option<&'static str> {
     if !is_assigned(pair, alloc, &[1]) {
         Some("node 2 is given ballot 2")

@@ -25,7 +25,7 @@ const THREE: &[TallyCommand] = &[
     TallyCommand::Add(3),
 ];
 
-/// Returns the first step that is not so: a sole member answers these commands at once.
+/// Checks that a sole member answers these commands at once. Returns the first step that fails.
 pub fn answers_at_once(
     replica: &mut Replica<Tally>,
     out: &mut Vec<Effect<TallyCommand, u64>>,
@@ -58,8 +58,8 @@ fn a_sole_member_answers_at_once(rt: HostRuntime) {
     );
 }
 
-// Returns the first step that is not so: the output leaves once node 2 holds the place, and node 2
-// is sent a Commit.
+// Checks that the output leaves once node 2 holds the place, and node 2 is sent a Commit. Returns
+// the first step that fails.
 fn leaves(
     primary: &mut Replica<Tally>,
     out: &mut Vec<Effect<TallyCommand, u64>>,
@@ -78,8 +78,8 @@ fn leaves(
     }
 }
 
-/// Returns the first step that is not so: node 1 of two members appends a command that adds 2, and
-/// the output leaves once both hold it.
+/// Checks that node 1 of two members appends a command that adds 2, and the output leaves once both
+/// hold it. Returns the first step that fails.
 pub fn leaves_once_held(
     primary: &mut Replica<Tally>,
     out: &mut Vec<Effect<TallyCommand, u64>>,
@@ -104,8 +104,8 @@ fn an_output_leaves_once_all_members_hold_it(rt: HostRuntime) {
     );
 }
 
-// Returns the first step that is not so: a Held that comes again does nothing, and a tick says what
-// is committed.
+// Checks that a Held that comes again does nothing, and a tick says what is committed. Returns the
+// first step that fails.
 fn hears_nothing_new(
     primary: &mut Replica<Tally>,
     out: &mut Vec<Effect<TallyCommand, u64>>,
@@ -129,8 +129,8 @@ fn hears_nothing_new(
     }
 }
 
-/// Returns the first step that is not so: node 1 of two members, which appended a command that adds
-/// 2, receives Held twice.
+/// Has node 1 of two members append a command that adds 2 and receive Held twice. Returns the first
+/// step that fails.
 pub fn hears_it_again(
     primary: &mut Replica<Tally>,
     out: &mut Vec<Effect<TallyCommand, u64>>,
@@ -164,7 +164,7 @@ fn is_appended(
     hears(backup, 1, body, out)
 }
 
-/// Returns the first step that is not so: place 1 waits for place 0.
+/// Checks that place 1 waits for place 0. Returns the first step that fails.
 pub fn waits_for_the_first(
     backup: &mut Replica<Tally>,
     out: &mut Vec<Effect<TallyCommand, u64>>,
@@ -212,8 +212,8 @@ fn says_nothing(backup: &mut Replica<Tally>, out: &mut Vec<Effect<TallyCommand, 
     goes_on && out.is_empty() && shows(backup, 1, Role::Backup, 1, 1)
 }
 
-/// Returns the first step that is not so: a backup that is sent a place is silent, and takes no
-/// proposal.
+/// Checks that a backup that is sent a place is silent, and takes no proposal. Returns the first
+/// step that fails.
 pub fn is_silent(
     backup: &mut Replica<Tally>,
     out: &mut Vec<Effect<TallyCommand, u64>>,
@@ -261,8 +261,8 @@ fn says_four_things(
     }
 }
 
-/// Returns the first step that is not so: node 2 of three members, which appended commands that add
-/// 2 and 3, sends at a tick what node 1 lacks, which holds the first one.
+/// Has node 2 of three members append commands that add 2 and 3, of which node 1 holds the first.
+/// Checks that a tick then sends what each member lacks. Returns the first step that fails.
 pub fn says_what_is_lacking(
     primary: &mut Replica<Tally>,
     out: &mut Vec<Effect<TallyCommand, u64>>,

@@ -20,7 +20,7 @@ fn gives(alloc: Global, tally: &mut Tally, command: &TallyCommand, wanted: &[u64
     }
 }
 
-// Returns the first row whose command has another output, if there is one.
+// Returns the first row whose output differs from the wanted one.
 fn other_row(alloc: Global, tally: &mut Tally) -> Option<usize> {
     for (row, (command, wanted)) in ROWS.iter().enumerate() {
         if !gives(alloc, tally, command, wanted) {
@@ -30,7 +30,7 @@ fn other_row(alloc: Global, tally: &mut Tally) -> Option<usize> {
     None
 }
 
-// Returns the first row whose command has another output of a fresh counting machine.
+// Returns the first row whose output of a fresh counting machine differs from the wanted one.
 fn other_row_of_fresh(alloc: Global) -> Option<usize> {
     match Tally::fresh(alloc) {
         Ok(mut tally) => other_row(alloc, &mut tally),

@@ -15,8 +15,8 @@ fn is_cut_at(replica: &Replica<Tally>, base: u64, bytes: &[u8]) -> bool {
     at == base && snapshot == bytes
 }
 
-/// Returns the first step that is not so: a sole member that has added 2 and 3 cuts its log once,
-/// and then continues.
+/// Checks that a sole member that has added 2 and 3 cuts its log once, and then continues. Returns
+/// the first step that fails.
 pub fn is_cut_once(
     replica: &mut Replica<Tally>,
     out: &mut Vec<Effect<TallyCommand, u64>>,
@@ -38,8 +38,8 @@ pub fn is_cut_once(
     }
 }
 
-// Returns the first step that is not so: a member that was cut at place 2 has its total there, and
-// counts its places from 0 as before.
+// Checks that a member that was cut at place 2 has its total there, and counts its places from 0 as
+// before. Returns the first step that fails.
 fn goes_on(
     replica: &mut Replica<Tally>,
     out: &mut Vec<Effect<TallyCommand, u64>>,
@@ -69,8 +69,8 @@ fn a_sole_member_cuts_its_log_once(rt: HostRuntime) {
     assert_eq!(rt; first_fault(rt.alloc(), 1, &[1], 1, Run::IsCut), None);
 }
 
-/// Returns the first step that is not so: a node that is no member takes a log that it can read,
-/// and counts one whose snapshot is no total as lost, which changes nothing.
+/// Checks that a node that is no member takes a log that it can read. A log whose snapshot is no
+/// total counts as lost, and changes nothing. Returns the first step that fails.
 pub fn reads_snapshots(
     replica: &mut Replica<Tally>,
     out: &mut Vec<Effect<TallyCommand, u64>>,
@@ -124,8 +124,8 @@ fn a_snapshot_is_read_or_lost(rt: HostRuntime) {
     );
 }
 
-/// Returns the first step that is not so: the snapshot of node 1, which has added 2 and 3 and cut
-/// its log, goes over to node 2, which begins ballot 2.
+/// Checks that the snapshot of node 1, which has added 2 and 3 and cut its log, goes over to node
+/// 2. That begins ballot 2. Returns the first step that fails.
 pub fn snapshot_goes_over(pair: &mut Pair, alloc: Global) -> Option<&'static str> {
     if !takes(&mut pair.one, TallyCommand::Add(2), &mut pair.out) {
         Some("node 1 takes a command")
@@ -146,7 +146,8 @@ pub fn snapshot_goes_over(pair: &mut Pair, alloc: Global) -> Option<&'static str
     }
 }
 
-// Returns the first step that is not so: both nodes commit the start of ballot 2 after two places.
+// Checks that both nodes commit the start of ballot 2 after two places. Returns the first step that
+// fails.
 fn begins_after(pair: &mut Pair) -> Option<&'static str> {
     if !hands_on(pair, &["Install", "Installed", "Activate"]) {
         Some("Install, Installed and Activate are delivered")

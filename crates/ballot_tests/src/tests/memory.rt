@@ -11,8 +11,8 @@ use std::test::*;
 
 type Out = Vec<Effect<TallyCommand, u64>>;
 
-// Returns what is not so of a replica that took the command: it gives what it is to give, or its
-// one message is lost and counted.
+// Checks a replica that took the command: its effect comes, or its one message is lost and counted.
+// Returns the first step that fails.
 fn missed_when_taken(replica: &Replica<Tally>, out: &Out, is_alone: bool) -> Option<&'static str> {
     let given = if is_alone {
         gives(out, 0, 0, 2)
@@ -29,7 +29,7 @@ fn missed_when_taken(replica: &Replica<Tally>, out: &Out, is_alone: bool) -> Opt
     }
 }
 
-// Returns what is not so of a replica that has stopped and gives nothing any more.
+// Checks that a replica has stopped and gives nothing any more. Returns the first step that fails.
 fn missed_when_stopped(replica: &mut Replica<Tally>, out: &mut Out) -> Option<&'static str> {
     replica.tick(out);
     if !out.is_empty() {
@@ -45,7 +45,7 @@ fn missed_when_stopped(replica: &mut Replica<Tally>, out: &mut Out) -> Option<&'
     }
 }
 
-// Proposes to add 2, again if it was refused. Returns the first step that is not so, in words.
+// Proposes to add 2, again if it was refused. Returns the first step that fails, in words.
 fn missed_step(
     replica: &mut Replica<Tally>,
     out: &mut Out,
@@ -69,8 +69,8 @@ fn missed_step(
     }
 }
 
-// Returns what is not so of the primary of these members. If memory runs out for it nothing is
-// asked of it.
+// Returns the first step that fails with the primary of these members. If memory runs out for it
+// nothing is asked of it.
 fn missed_by(alloc: Global, members: &[u8]) -> Option<&'static str> {
     let mut out = Vec::new(alloc);
     match made(alloc, 1, members, 1) {

@@ -20,7 +20,7 @@ pub enum Run {
     ReadsSnapshots,
 }
 
-/// What was not as it was to be.
+/// Why a run or a change fails.
 #[derive(Clone, Copy, Debug, PartialEq, Eq)]
 pub enum Fault {
     /// A node did not open.
@@ -31,7 +31,7 @@ pub enum Fault {
     StepOfTwo(&'static str, Status, Status),
 }
 
-// Returns the first step of a run that is not so, in words.
+// Returns the first step that fails in a run, in words.
 fn step_of(
     replica: &mut Replica<Tally>,
     out: &mut Vec<Effect<TallyCommand, u64>>,
@@ -70,7 +70,7 @@ fn fault_of(
     }
 }
 
-/// Returns the first step of a run that is not so of a node that opens with these members and this
+/// Returns the first step that fails in a run of a node that opens with these members and this
 /// primary.
 pub fn first_fault(
     alloc: Global,
@@ -97,7 +97,7 @@ pub enum Change {
     SnapshotGoesOver,
 }
 
-// Returns the first step of a change that is not so, in words.
+// Returns the first step that fails in a change, in words.
 fn step_of_two(alloc: Global, pair: &mut Pair, change: Change) -> Option<&'static str> {
     match change {
         Change::GoesOver => changes::goes_over(pair, alloc),
@@ -117,8 +117,8 @@ fn fault_of_two(alloc: Global, pair: &mut Pair, change: Change) -> Option<Fault>
     }
 }
 
-/// Returns the first step of a change that is not so of two nodes that open with these members and
-/// node 1 as primary.
+/// Returns the first step that fails in a change of two nodes that open with these members and node
+/// 1 as primary.
 pub fn first_fault_of_two(alloc: Global, members: &[u8], change: Change) -> Option<Fault> {
     match open(alloc, members) {
         Ok(mut pair) => fault_of_two(alloc, &mut pair, change),

@@ -60,7 +60,8 @@ fn outcome_of_all(alloc: Global, bytes: &mut Vec<u8>) -> Outcome {
     }
 }
 
-// Returns the outcome and how many bytes came, if not all bytes came, or none for want of memory.
+// Returns the outcome and how many bytes came, if it is not `Done` with all bytes, or `NoMemory`
+// with none.
 fn other_outcome(alloc: Global) -> Option<(Outcome, usize)> {
     let mut bytes = Vec::new(alloc);
     let outcome = outcome_of_all(alloc, &mut bytes);

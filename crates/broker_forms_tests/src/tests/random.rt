@@ -116,7 +116,7 @@ fn is_next_alike(
     answer_alike(alloc, whole, thawed, event) && (count > FROZEN || is_thawed_again(alloc, thawed))
 }
 
-// The first command that two brokers answer otherwise.
+// Returns the first command that two brokers do not answer alike.
 fn other_answer(
     alloc: Global,
     whole: &mut BrokerMachine,
@@ -132,7 +132,7 @@ fn other_answer(
     None
 }
 
-// Returns the first command that a broker and one that is frozen and thawed answer otherwise.
+// Returns the first command that a broker and one that is frozen and thawed do not answer alike.
 fn first_difference(alloc: Global) -> Option<usize> {
     match (BrokerMachine::fresh(alloc), BrokerMachine::fresh(alloc)) {
         (Ok(mut whole), Ok(mut thawed)) => other_answer(alloc, &mut whole, &mut thawed),

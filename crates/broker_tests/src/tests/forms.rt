@@ -185,7 +185,8 @@ fn first_unlike(bytes: &[u8], wanted: &[u8]) -> Option<usize> {
     }
 }
 
-/// Finds what is otherwise if a broker is frozen after these steps to the bytes of this form.
+/// Returns the first byte that differs if a broker is frozen after these steps to the bytes of this
+/// form.
 pub(crate) fn other_bytes(
     alloc: Global,
     broker: &BrokerMachine,
@@ -225,7 +226,7 @@ const STEPS: &[Step<'static>] = &[
     ),
 ];
 
-// Finds what is otherwise at the step of this index: what comes, or the form, if one is asked for.
+// Returns what differs at the step of this index: what comes, or the form, if one is asked for.
 fn other_step(
     alloc: Global,
     broker: &mut BrokerMachine,
@@ -242,7 +243,8 @@ fn other_step(
     }
 }
 
-/// Finds the first step at which a broker has other bytes, or answers in another way.
+/// Returns the first step at which the bytes of a broker, or its answers, differ from the wanted
+/// ones.
 pub(crate) fn other_form(
     alloc: Global,
     broker: &mut BrokerMachine,
@@ -259,8 +261,8 @@ pub(crate) fn other_form(
     fault
 }
 
-// Finds what is wrong with the broker that is thawed from form 2 with these fields, if it is not
-// frozen to them again.
+// Returns the first byte that differs if the broker that is thawed from form 2 with these fields is
+// frozen again.
 fn other_again(alloc: Global, fields: &[&[u8]]) -> Option<Fault> {
     let form = (WIDE, fields);
     first_fault(alloc, Start::Thawed(form), Run::HasBytes(form))
@@ -278,7 +280,7 @@ const READ: [(&[&[u8]], &[Step<'static>]); 2] = [
     (ONE_SESSION, STARTED_AWAY),
 ];
 
-// Finds what is wrong with the broker that is thawed from form 1 with these fields.
+// Returns the first step that differs with the broker that is thawed from form 1 with these fields.
 fn other_before<'a>(alloc: Global, fields: &'a [&'a [u8]], steps: &'a [Step<'a>]) -> Option<Fault> {
     first_fault(
         alloc,

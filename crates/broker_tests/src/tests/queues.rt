@@ -159,8 +159,8 @@ const FULL: &[Part<'static>] = &[
     (1, LAST),
 ];
 
-// Finds the first row of the part at an index that a broker does not answer as expected, and after
-// how many times it does not.
+// Returns the first row of the part at an index whose answer differs from the wanted one, and after
+// how many times it does.
 fn other_time(
     alloc: Global,
     broker: &mut BrokerMachine,
@@ -176,7 +176,7 @@ fn other_time(
     None
 }
 
-/// Finds the first part that a broker does not answer as expected.
+/// Returns the first part that has a row whose answer differs from the wanted one.
 pub(crate) fn other_part(
     alloc: Global,
     broker: &mut BrokerMachine,

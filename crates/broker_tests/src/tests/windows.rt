@@ -103,7 +103,7 @@ fn came_for(alloc: Global, broker: &mut BrokerMachine, id: u8, sent: bool) -> Op
     }
 }
 
-// Finds the first of seventeen publications that is not routed so: the first `sent` of them are
+// Returns the first of seventeen publications that is not routed so: the first `sent` of them are
 // sent at once, and no others.
 fn other_routed(alloc: Global, broker: &mut BrokerMachine, sent: u8) -> Option<Fault> {
     for id in 1..=17 {
@@ -114,8 +114,8 @@ fn other_routed(alloc: Global, broker: &mut BrokerMachine, sent: u8) -> Option<F
     None
 }
 
-/// Finds what is otherwise: a broker sends this many of seventeen publications at once, and then it
-/// answers these rows, which are part 1. Part 0 are the rows before.
+/// Has a broker send this many of seventeen publications at once, and then answer these rows, which
+/// are part 1. Part 0 are the rows before. Returns the first row that differs.
 pub(crate) fn other_sent(
     alloc: Global,
     broker: &mut BrokerMachine,

@@ -77,7 +77,7 @@ fn act_again(client: &mut ClientCore, alloc: Global, done: Act<'_>) -> Option<Cl
     }
 }
 
-// The first row that comes out otherwise, done again if memory ran out, and what came.
+// Returns the first row whose result differs, done again if memory ran out, and what came.
 fn first_fault_again(client: &mut ClientCore, alloc: Global, rows: &[Row<'_>]) -> Option<Fault> {
     for (at, row) in rows.iter().enumerate() {
         let (done, _, _, _, _) = *row;
@@ -173,8 +173,8 @@ fn answers_again(client: &mut ClientCore, alloc: Global) -> bool {
         && wrote(client, alloc, PUBRECS)
 }
 
-// Returns the first step that is not so: both are accepted and answered, those before running out
-// of memory at once.
+// Checks that both publications are accepted and answered, those before memory runs out at once.
+// Returns the first step that fails.
 fn missed_step(client: &mut ClientCore, alloc: Global) -> Option<&'static str> {
     let refusal = give(client, PUBLISHES);
     let count = client.accepted().len();

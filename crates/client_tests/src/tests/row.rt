@@ -35,7 +35,7 @@ pub struct Came {
     counts: (usize, usize),
 }
 
-/// What was not as it was to be.
+/// Why rows fail.
 #[derive(Clone, Copy, Debug, PartialEq, Eq)]
 pub enum Fault {
     /// There was no memory for a client, or for its bytes.
@@ -218,7 +218,7 @@ pub fn came_instead(
 }
 
 /// Does the rows with a client that was never connected, each piece of the server whole or cut in
-/// two. Returns the first row whose result is another, and what came.
+/// two. Fails with the first row whose result differs, and what came.
 pub fn play_cut(alloc: Global, rows: &[Row<'_>], cut: Option<usize>) -> Result<ClientCore, Fault> {
     let Some(mut client) = new_client(alloc) else {
         return Err(Fault::NoMemory);
@@ -239,7 +239,7 @@ pub fn play(alloc: Global, rows: &[Row<'_>]) -> Result<ClientCore, Fault> {
     play_cut(alloc, rows, None)
 }
 
-/// Returns the first row whose result is another, with some cut or none, and what came.
+/// Returns the first row whose result differs, with some cut or none, and what came.
 pub fn first_fault(alloc: Global, rows: &[Row<'_>]) -> Option<Fault> {
     play(alloc, rows).err()
 }

@@ -135,7 +135,7 @@ const TAKEN: &[(&str, Taken)] = &[
     ("that there was a fault", Taken::Fault(CutError::Failed)),
 ];
 
-// Returns the first step that is not so, in words, and what came instead.
+// Returns the first step that fails, in words, and what came instead.
 fn other_answer_of(cutter: &mut Cutter, out: &mut Vec<u8>) -> Option<(&'static str, Taken)> {
     for piece in [STREAM.as_slice(), [0xF0, 0x00].as_slice()] {
         if let Err(fault) = cutter.feed(piece) {
@@ -155,7 +155,7 @@ fn other_answer_of(cutter: &mut Cutter, out: &mut Vec<u8>) -> Option<(&'static s
     }
 }
 
-// Returns the first step that is not so of a fresh cutter, and what came instead.
+// Returns the first step that fails with a fresh cutter, and what came instead.
 fn other_answer_of_fresh(alloc: Global) -> Option<(&'static str, Taken)> {
     let mut cutter = Cutter::new(alloc);
     let mut out = Vec::new(alloc);

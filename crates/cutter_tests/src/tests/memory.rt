@@ -43,7 +43,7 @@ fn is_next(cutter: &mut Cutter, out: &mut Vec<u8>) -> bool {
     }
 }
 
-// Returns the first step that is not so of a stream in two pieces, cut into its three packets.
+// Cuts a stream in two pieces into its three packets. Returns the first step that fails.
 fn missed_step(cutter: &mut Cutter, out: &mut Vec<u8>) -> Option<&'static str> {
     if !feed(cutter, &STREAM[..20]) {
         Some("the first piece is fed")
@@ -62,7 +62,7 @@ fn missed_step(cutter: &mut Cutter, out: &mut Vec<u8>) -> Option<&'static str> {
     }
 }
 
-// Returns the first step that is not so of a fresh cutter.
+// Returns the first step that fails with a fresh cutter.
 fn missed_by_fresh(alloc: Global) -> Option<&'static str> {
     let mut cutter = Cutter::new(alloc);
     let mut out = Vec::new(alloc);

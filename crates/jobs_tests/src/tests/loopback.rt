@@ -50,7 +50,7 @@ enum Part {
     Meter,
     // The publisher, which then gives the orders.
     Switch(PipeWriter),
-    // It has ended, as it has to or not.
+    // It has ended, with the wanted outcome or not.
     Ended(bool),
 }
 
@@ -67,7 +67,7 @@ const ENDS: &[&str] = &[
     "the publisher ends with 0, and the orders are given",
 ];
 
-// Returns what the first part does not do that has not ended as it has to.
+// Returns what the first part that failed has to do.
 fn other_end(parts: &[Part]) -> Option<&'static str> {
     for (part, words) in parts.iter().zip(ENDS) {
         if !matches!(part, Part::Ended(true)) {
@@ -96,7 +96,7 @@ where
     *part = Part::Ended(is_well);
 }
 
-// Says whether `serve` answers the orders as it has to, and ends with status 0.
+// Says whether `serve` gives the wanted answers to the orders, and ends with status 0.
 fn serves<R>(rt: &R, table: &Table, orders: PipeReader) -> bool
 where
     R: Files + Threads + Wait + Clock + Sync + AllocGlobal,
@@ -108,7 +108,8 @@ where
     }
 }
 
-// Says whether `serve` answers the orders of this input as it has to, and ends with status 0.
+// Says whether `serve` gives the wanted answers to the orders of this input, and ends with status
+// 0.
 fn are_answered<R>(rt: &R, table: &Table, input: &mut BufReader<PipeReader>) -> bool
 where
     R: Files + Threads + Wait + Clock + Sync + AllocGlobal,
@@ -121,7 +122,8 @@ where
     status == 0 && output.as_slice() == ANSWERS.as_bytes()
 }
 
-// Says whether something is kept, and `sub`, which comes after it, ends as it has to.
+// Says whether something is kept, and `sub`, which comes after it, reports nothing and ends with
+// status 0.
 fn keeps_and_hears<R>(rt: &R, table: &Table, printed: &Shown) -> bool
 where
     R: Files + Threads + Wait + Clock + Sync + AllocGlobal,

@@ -242,8 +242,8 @@ impl Given {
     }
 }
 
-/// Returns what is not so of nodes on a port that is free, with these orders and clients. Takes
-/// down what the nodes answer, and what the clients write.
+/// Serves nodes on a port that is free, with these orders and clients. Takes down what the nodes
+/// answer, and what the clients write. Returns the first step that fails.
 pub(super) fn first_missed<R>(rt: &R, given: Given, written: &Written) -> Option<&'static str>
 where
     R: Files + Threads + Wait + Clock + Sync + AllocGlobal,
@@ -258,7 +258,7 @@ where
     }
 }
 
-// Returns what is not so: the nodes of this table are served, and the orders given.
+// Serves the nodes of this table, and gives the orders. Returns the first step that fails.
 fn missed_with<R>(rt: &R, served: &Served, given: Given, written: &Written) -> Option<&'static str>
 where
     R: Files + Threads + Wait + Clock + Sync + AllocGlobal,

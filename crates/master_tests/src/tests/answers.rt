@@ -37,7 +37,7 @@ fn sent_all(group: &Group<Tally>) -> bool {
     is_append(group, 0) && is_held(group, 1) && is_held(group, 2) && is_commit(group, 3)
 }
 
-/// Returns the first step that is not so: a command is answered once both members hold it.
+/// Checks that a command is answered once both members hold it. Returns the first step that fails.
 pub fn waits_for_all(group: &mut Group<Tally>) -> Option<&'static str> {
     if !adds(group, 1, 2) {
         Some("node 1 takes the command")
@@ -70,8 +70,8 @@ const ALONE: &[TallyCommand] = &[
     TallyCommand::Add(3),
 ];
 
-/// Returns the first of these that is not so: a sole member answers at once two numbers that are
-/// proposed to it, and a Start between them.
+/// Checks that a sole member answers at once two numbers that are proposed to it, and a Start
+/// between them. Returns the first step that fails.
 pub fn counts_alone(group: &mut Group<Tally>) -> Option<&'static str> {
     group.run(&[
         Event::Propose(1, TallyCommand::Add(2)),

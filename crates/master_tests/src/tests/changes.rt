@@ -19,8 +19,8 @@ const CHANGED: &[Row] = &[
     (8, 10, 0, 1),
 ];
 
-/// Returns the first step that is not so: the master gives the ballot to members 1 and 2 and
-/// primary 2, and its messages come as these rows say.
+/// Checks that the master gives the ballot to members 1 and 2 and primary 2, and its messages come
+/// as these rows say. Returns the first step that fails.
 pub fn is_changed(group: &mut Group<Tally>, alloc: Global) -> Option<&'static str> {
     if !gives_to(group, alloc, &[1, 2], 2) {
         Some("the master gives ballot 2")
@@ -76,8 +76,8 @@ fn is_refused(group: &Group<Tally>) -> bool {
     asks && refuses
 }
 
-/// Returns the first step that is not so: the ballot of members 1 and 2 is superseded by that of
-/// member 3, and messages come as these rows say.
+/// Checks that the ballot of members 1 and 2 is superseded by that of member 3, and messages come
+/// as these rows say. Returns the first step that fails.
 pub fn is_superseded(group: &mut Group<Tally>, alloc: Global) -> Option<&'static str> {
     if !gives_to(group, alloc, &[1, 2], 2) {
         Some("the master gives ballot 2")
@@ -125,8 +125,8 @@ const TAKEN_OVER: &[TallyCommand] = &[
     TallyCommand::Add(3),
 ];
 
-/// Returns the first step that is not so: node 1 answers a command and stops, and node 2 answers
-/// the next one.
+/// Checks that node 1 answers a command and stops, and node 2 answers the next one. Returns the
+/// first step that fails.
 pub fn takes_over(group: &mut Group<Tally>, alloc: Global) -> Option<&'static str> {
     if !adds_and_settles(group, 1, 2) {
         Some("node 1 takes a command")
@@ -168,8 +168,8 @@ const LEFT_BEHIND: &[Row] = &[
     (12, 13, 0, 1),
 ];
 
-/// Returns the first step that is not so: the longer log of node 1 is replaced after the change to
-/// primary 2.
+/// Checks that the longer log of node 1 is replaced after the change to primary 2. Returns the
+/// first step that fails.
 pub fn is_replaced(group: &mut Group<Tally>, alloc: Global) -> Option<&'static str> {
     if !adds(group, 1, 2) {
         Some("node 1 takes a command")

@@ -14,8 +14,8 @@ fn cuts(group: &mut Group<Tally>, node: u8) -> bool {
         && counts(group) == before
 }
 
-/// Returns the first step that is not so: two members cut what they applied, and no more; node 2
-/// applies it only with the Commit.
+/// Checks that two members cut what they applied, and no more; node 2 applies it only with the
+/// Commit. Returns the first step that fails.
 pub fn cuts_what_is_applied(group: &mut Group<Tally>) -> Option<&'static str> {
     if !adds(group, 1, 2) {
         Some("node 1 takes a command")
@@ -58,8 +58,8 @@ const CHANGE: &[Row] = &[
     (8, 10, 1, 2),
 ];
 
-/// Returns the first step that is not so: node 1 cuts its log, and node 2 takes over from its
-/// snapshot and counts on from 2.
+/// Checks that node 1 cuts its log, and node 2 takes over from its snapshot and counts on from 2.
+/// Returns the first step that fails.
 pub fn takes_over_from_a_snapshot(group: &mut Group<Tally>, alloc: Global) -> Option<&'static str> {
     if !adds(group, 1, 2) {
         Some("node 1 takes a command")
@@ -80,7 +80,7 @@ const COUNTED: &[TallyCommand] = &[
     TallyCommand::Add(3),
 ];
 
-// Returns the first step that is not so: node 2 adds 3 to the total of the snapshot.
+// Checks that node 2 adds 3 to the total of the snapshot. Returns the first step that fails.
 fn counts_on(group: &mut Group<Tally>) -> Option<&'static str> {
     if !adds(group, 2, 3) {
         Some("node 2 takes a command")

@@ -6,8 +6,8 @@ use master::{Event, Group, Idle};
 use std::alloc::Global;
 use std::test::Fail;
 
-// Returns the first of these that is not so: there is no node 0 or 3, no message, and no backup
-// that takes a proposal.
+// Checks that there is no node 0 or 3, no message, and no backup that takes a proposal. Returns the
+// first step that fails.
 fn idles_at_first(group: &mut Group<Tally>) -> Option<&'static str> {
     if happens(group, &Event::Propose(0, TallyCommand::Add(1))) {
         Some("node 0 takes no command")
@@ -34,8 +34,8 @@ fn runs_on(group: &mut Group<Tally>) -> bool {
     counts(group) == (3, 0, 0) && is_active(group, 1)
 }
 
-// Returns the first of these that is not so: node 2, which has stopped, does nothing, and a run
-// continues after that.
+// Checks that node 2, which has stopped, does nothing, and a run continues after that. Returns the
+// first step that fails.
 fn idles_stopped(group: &mut Group<Tally>) -> Option<&'static str> {
     if happens(group, &Event::Crash(2)) {
         Some("node 2 stops once")
@@ -50,8 +50,8 @@ fn idles_stopped(group: &mut Group<Tally>) -> Option<&'static str> {
     }
 }
 
-/// Returns the first step that is not so: what cannot happen at first, and once node 2 has stopped,
-/// is idle.
+/// Checks that what cannot happen is idle, at first and once node 2 has stopped. Returns the first
+/// step that fails.
 pub fn is_idle_where_nothing_can_happen(group: &mut Group<Tally>) -> Option<&'static str> {
     if let Some(step) = idles_at_first(group) {
         return Some(step);

@@ -46,8 +46,8 @@ fn is_taken_over(group: &mut Group<Tally>, alloc: Global) -> bool {
     group.left().len() == left.saturating_add(1)
 }
 
-/// Returns the first step that is not so: a command is answered or counted, and two nodes take
-/// over; at the second try if memory ran out at the first.
+/// Checks that a command is answered or counted, and two nodes take over; at the second try if
+/// memory ran out at the first. Returns the first step that fails.
 pub fn serves_on(group: &mut Group<Tally>, alloc: Global) -> Option<&'static str> {
     answers(group, 1, 2);
     if !is_whole_or_counted(group) {
@@ -124,8 +124,8 @@ fn takes_over(group: &mut Group<Tally>, alloc: Global) -> bool {
     true
 }
 
-/// Returns the first step that is not so: a log is cut and its snapshot goes over, or one loss is
-/// counted; what left is right in any case.
+/// Checks that a log is cut and its snapshot goes over, or one loss is counted; what left is right
+/// in any case. Returns the first step that fails.
 pub fn cuts_on(group: &mut Group<Tally>, alloc: Global) -> Option<&'static str> {
     adds_and_cuts(group);
     let is_given = takes_over(group, alloc) || takes_over(group, alloc);

@@ -33,7 +33,7 @@ pub struct Shown {
     losses: u64,
 }
 
-/// What was not as it was to be.
+/// Why a run fails.
 #[derive(Clone, Copy, Debug, PartialEq, Eq)]
 pub enum Fault {
     /// The group did not open.
@@ -42,7 +42,7 @@ pub enum Fault {
     Step(&'static str, Shown),
 }
 
-// Returns the first step of a run that is not so, in words.
+// Returns the first step that fails in a run, in words.
 fn step_of(alloc: Global, group: &mut Group<Tally>, run: Run) -> Option<&'static str> {
     match run {
         Run::WaitsForAll => answers::waits_for_all(group),
@@ -76,7 +76,7 @@ fn fault_of(alloc: Global, group: &mut Group<Tally>, run: Run) -> Option<Fault> 
     }
 }
 
-// Returns the first step that is not so of a fresh group; `unopened` if it does not open.
+// Returns the first step that fails with a fresh group; `unopened` if it does not open.
 fn fault_from_the_opening(
     alloc: Global,
     nodes: u8,
@@ -90,8 +90,8 @@ fn fault_from_the_opening(
     }
 }
 
-/// Returns the first step of a run that is not so of this many nodes, these of them members and
-/// node 1 the primary.
+/// Returns the first step that fails in a run of this many nodes, these of them members and node 1
+/// the primary.
 pub fn first_fault(alloc: Global, nodes: u8, members: &[u8], run: Run) -> Option<Fault> {
     fault_from_the_opening(alloc, nodes, members, run, Some(Fault::Unopened))
 }

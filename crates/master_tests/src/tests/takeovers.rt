@@ -77,8 +77,8 @@ fn serve(group: &mut Group<Tally>, course: &mut Course, leader: u8, stale: u8) {
     }
 }
 
-// Returns the first step that is not so: another configuration takes over and agrees on commands
-// with its members. Each second time its former primary has stopped.
+// Has another configuration take over and agree on commands with its members. Each second time its
+// former primary has stopped. Returns the first step that fails.
 fn serves_next(
     group: &mut Group<Tally>,
     course: &mut Course,
@@ -104,8 +104,8 @@ fn serves_next(
     }
 }
 
-/// Returns the first step that is not so of twelve primaries, 2 to 13, one after another. Each is
-/// given the ballot of its own number.
+/// Has twelve primaries, 2 to 13, serve one after another. Each is given the ballot of its own
+/// number. Returns the first step that fails.
 pub fn serves_in_turn(group: &mut Group<Tally>, alloc: Global) -> Option<&'static str> {
     let mut course = Course {
         next: 0,
@@ -162,8 +162,8 @@ fn goes_over(group: &mut Group<Tally>, alloc: Global) -> bool {
         && is_active(group, 2)
 }
 
-/// Returns the first step that is not so: once ballot 2 is active the output of place 2 leaves, and
-/// then that of place 0.
+/// Checks that once ballot 2 is active the output of place 2 leaves, and then that of place 0.
+/// Returns the first step that fails.
 pub fn leaves_late(group: &mut Group<Tally>, alloc: Global) -> Option<&'static str> {
     if !goes_over(group, alloc) {
         Some("node 1 takes a command, and ballot 2 is active")

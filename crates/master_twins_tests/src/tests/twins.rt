@@ -34,8 +34,8 @@ struct Twins {
     cuts: u64,
 }
 
-// What was not as it was to be: the groups did not open, an event had other results in the two, or
-// this of the results of both was not alike at the end.
+// Why the two fail: they did not open, an event had other results in the two, or at the end these
+// words did not hold.
 #[derive(Clone, Copy, Debug, PartialEq, Eq)]
 enum Fault {
     Opening,
@@ -143,7 +143,7 @@ impl Twins {
         self.count_alike()
     }
 
-    // Finds the first event that has not the same result in both.
+    // Returns the first event that has not the same result in both.
     fn go(&mut self, alloc: Global) -> Option<Fault> {
         for at in 0..EVENTS {
             let Some(event) = self.draw_event(alloc, at) else {
@@ -166,8 +166,8 @@ impl Twins {
         }
     }
 
-    // Returns the first of these that is not so at the end: both have the same agreed list and the
-    // same outputs, and nothing is lost.
+    // Checks that at the end both have the same agreed list and the same outputs, and nothing is
+    // lost. Returns the first step that fails.
     fn fault_at_the_end(&self) -> Option<Fault> {
         if !self.agree() {
             Some(Fault::End("both have the same agreed list"))
@@ -182,7 +182,7 @@ impl Twins {
         }
     }
 
-    // Lets all events happen, and finds the first fault.
+    // Lets all events happen, and returns the first fault.
     fn first_fault(&mut self, alloc: Global) -> Option<Fault> {
         match self.go(alloc) {
             Some(fault) => Some(fault),

@@ -212,7 +212,7 @@ fn goes_on_with_the_rest(cutting: Cutting, node: &mut NodeCore, got: &mut Got) -
     }
 }
 
-// Returns the first step that is not so on the way of this node's queue to a client.
+// Fills the queue of this node, and empties it to its client. Returns the first step that fails.
 fn missed_step(cutting: Cutting, node: &mut NodeCore, got: &mut Got) -> Option<&'static str> {
     if !fills(cutting, node) {
         Some("all slots but one are taken while the subscriber is away")
@@ -231,7 +231,7 @@ fn missed_step(cutting: Cutting, node: &mut NodeCore, got: &mut Got) -> Option<&
     }
 }
 
-// Returns the first step that is not so when pieces come so.
+// Returns the first step that fails with a fresh node, to which pieces come so.
 fn missed_by(alloc: Global, coming: Coming) -> Option<&'static str> {
     match primary(alloc, &[1]) {
         Some(mut node) => missed_step(Cutting { alloc, coming }, &mut node, &mut Got::new(alloc)),
@@ -242,10 +242,10 @@ fn missed_by(alloc: Global, coming: Coming) -> Option<&'static str> {
 // The longest piece of a publisher: three publications.
 const LONGEST: usize = 30;
 
-// A cut, and the first step that is not so with it.
+// A cut, and the first step that fails with it.
 type Missed = (usize, &'static str);
 
-// Returns the first cut with which a step is not so, as far as a publisher's pieces are long.
+// Returns the first cut with which a step fails, as far as a publisher's pieces are long.
 fn missed_with_a_cut(alloc: Global) -> Option<Missed> {
     for cut in 0..=LONGEST {
         if let Some(step) = missed_by(alloc, Coming::Cut(cut)) {

@@ -79,7 +79,8 @@ fn loses(alloc: Global, node: &mut NodeCore, time: u64, wanted: &[u64]) -> bool 
     }
 }
 
-// Both fall silent: the one of the lower port is lost first. Returns the first step that is not so.
+// Checks that of two that fall silent the one of the lower port is lost first. Returns the first
+// step that fails.
 fn missed_step(alloc: Global, node: &mut NodeCore) -> Option<&'static str> {
     if !connects(alloc, node, 7, CONNECT_A) {
         Some("the client of port 7 connects")
@@ -98,7 +99,7 @@ fn missed_step(alloc: Global, node: &mut NodeCore) -> Option<&'static str> {
     }
 }
 
-// Returns the first step that is not so of the primary of two nodes.
+// Returns the first step that fails with the primary of two nodes.
 fn missed_by_a_primary(alloc: Global) -> Option<&'static str> {
     match primary(alloc, &[1, 2]) {
         Some(mut node) => missed_step(alloc, &mut node),

@@ -27,7 +27,7 @@ fn comes_at_last(alloc: Global, node: &mut NodeCore, row: &Row<'_>) {
 // What a node answered, and how many bytes it handed over; no answer if memory ran out.
 type Came = (Option<Handed>, usize);
 
-// What was not as it was to be.
+// Why rows fail.
 #[derive(Clone, Copy, Debug, PartialEq, Eq)]
 enum Missed {
     // At this row this came, although nothing was lost.
@@ -53,7 +53,7 @@ fn other_at_last(alloc: Global, node: &mut NodeCore, row: &Row<'_>) -> Option<Ca
     Some((None, 0))
 }
 
-// Finds the first row that comes out otherwise although nothing was lost, or how many steps are
+// Returns the first row whose result differs although nothing was lost, or how many steps are
 // counted if there are more than one.
 fn first_missed(alloc: Global, node: &mut NodeCore, rows: &[Row<'_>]) -> Option<Missed> {
     let mut missed: Option<Missed> = None;

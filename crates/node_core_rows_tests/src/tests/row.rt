@@ -45,7 +45,7 @@ pub struct Came {
     losses: u64,
 }
 
-/// What was not as it was to be.
+/// Why rows fail.
 #[derive(Clone, Copy, Debug, PartialEq, Eq)]
 pub enum Fault {
     /// There was no memory for a node, or for the bytes that come.
@@ -225,8 +225,8 @@ fn other_of(alloc: Global, node: &mut NodeCore, row: &Row<'_>, coming: Coming) -
     }
 }
 
-// Goes through the rows with a node, to which pieces come so: the first row that comes out
-// otherwise, and what came.
+// Goes through the rows with a node, to which pieces come so. Returns the first row whose result
+// differs, and what came.
 fn fault_with(
     alloc: Global,
     node: &mut NodeCore,
@@ -241,8 +241,8 @@ fn fault_with(
     None
 }
 
-/// Goes through the rows with a fresh node, the sole member of ballot 1, to which pieces come so:
-/// the first row that comes out otherwise, and what came.
+/// Goes through the rows with a fresh node, the sole member of ballot 1, to which pieces come so.
+/// Returns the first row whose result differs, and what came.
 pub fn first_fault_so(alloc: Global, rows: &[Row<'_>], coming: Coming) -> Option<Fault> {
     match primary(alloc, &[1]) {
         Some(mut node) => fault_with(alloc, &mut node, rows, coming),
@@ -261,8 +261,8 @@ fn longest(rows: &[Row<'_>]) -> usize {
     longest
 }
 
-/// Goes through the rows with the pieces whole, cut in two at every byte, and byte by byte: the
-/// first row that comes out otherwise, with which cut, and what came.
+/// Goes through the rows with the pieces whole, cut in two at every byte, and byte by byte. Returns
+/// the first row whose result differs, with which cut, and what came.
 pub fn first_fault(alloc: Global, rows: &[Row<'_>]) -> Option<Fault> {
     for cut in 0..=longest(rows) {
         let fault = first_fault_so(alloc, rows, Coming::Cut(cut));

@@ -27,7 +27,7 @@ fn filled(alloc: Global, first: &[u8], length: usize) -> Option<Vec<u8>> {
     Some(bytes)
 }
 
-// Finds the first row that comes out otherwise if a PUBLISH of this length comes.
+// Returns the first row whose result differs if a PUBLISH of this length comes.
 fn fault_with_length(alloc: Global, first: &[u8], length: usize) -> Option<Fault> {
     let Some(bytes) = filled(alloc, first, length) else {
         return Some(Fault::NoMemory);
@@ -69,7 +69,7 @@ const FRONTS: [(&[u8], bool); 7] = [
     (&[0x30, 0xFF, 0xFF, 0xFF, 0xFF], false),
 ];
 
-// Finds the first row that comes out otherwise if these bytes come after a CONNECT, and the
+// Returns the first row whose result differs if these bytes come after a CONNECT, and the
 // connection is open then, or not.
 fn fault_after_connect(alloc: Global, bytes: &[u8], open: bool) -> Option<Fault> {
     let rows: [Row<'_>; 3] = [
@@ -135,8 +135,8 @@ const FILTERS: [(&[u8], &[u8], bool); 6] = [
     ),
 ];
 
-// Finds the first row that comes out otherwise if a publication comes, or does not come, to a
-// client with that filter.
+// Returns the first row whose result differs if a publication comes, or does not come, to a client
+// with that filter.
 fn fault_with_filter<'a>(
     alloc: Global,
     subscribe: &'a [u8],
@@ -182,7 +182,7 @@ fn many(alloc: Global, packet: &[u8]) -> Option<Vec<u8>> {
     Some(bytes)
 }
 
-// Finds the first row that goes otherwise when all PINGREQ come in one piece.
+// Returns the first row whose result differs when all PINGREQ come in one piece.
 fn fault_with_pings(alloc: Global) -> Option<Fault> {
     let (Some(pings), Some(answers)) = (many(alloc, &[0xC0, 0x00]), many(alloc, &[0xD0, 0x00]))
     else {

@@ -128,8 +128,8 @@ fn comes_back(alloc: Global, one: &mut NodeCore, two: &mut NodeCore) -> bool {
     hands_over(alloc, two, 1, PRESENT, true)
 }
 
-// Returns the first step that is not so: a session goes over by a snapshot, and both nodes lose
-// nothing.
+// Checks that a session goes over by a snapshot, and both nodes lose nothing. Returns the first
+// step that fails.
 fn fault_of_going_over(
     alloc: Global,
     one: &mut NodeCore,
@@ -150,8 +150,8 @@ fn fault_of_going_over(
     }
 }
 
-// Returns the first step that is not so with a fresh second node. Each node has an owner of its
-// own, which has one way on which it drops it.
+// Returns the first step that fails with a fresh second node. Each node has an owner of its own,
+// which has one way on which it drops it.
 fn fault_with_fresh(alloc: Global, one: &mut NodeCore) -> Option<&'static str> {
     match node_of(alloc, 2, &[1]) {
         Some(mut two) => fault_of_going_over(alloc, one, &mut two),
@@ -159,7 +159,7 @@ fn fault_with_fresh(alloc: Global, one: &mut NodeCore) -> Option<&'static str> {
     }
 }
 
-// Returns the first step that is not so of two fresh nodes.
+// Returns the first step that fails with two fresh nodes.
 fn fault_of_fresh(alloc: Global) -> Option<&'static str> {
     match node_of(alloc, 1, &[1]) {
         Some(mut one) => fault_with_fresh(alloc, &mut one),
@@ -221,8 +221,8 @@ fn is_lost(alloc: Global, two: &mut NodeCore, bytes: &[u8]) -> bool {
     effects.is_empty() && same && same_places && kept && two.losses() == losses.saturating_add(1)
 }
 
-// Returns the first row that is not so, or what is not so after them: the node continues from bytes
-// that it can read, and four messages are lost.
+// Returns the first row whose bytes do not count as lost. After the rows the node has to continue
+// from bytes that it can read, and four messages have to be lost.
 fn first_not_lost(alloc: Global, two: &mut NodeCore) -> Option<&'static str> {
     for (words, bytes) in UNREADABLE {
         if !is_lost(alloc, two, bytes) {

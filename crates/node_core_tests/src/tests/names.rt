@@ -60,7 +60,8 @@ fn is_named(
     }
 }
 
-// Returns the first step that is not so: a connection of ballot 1, and two of ballot 2.
+// Checks how a connection of ballot 1 and two of ballot 2 are numbered. Returns the first step that
+// fails.
 fn first_fault(alloc: Global, node: &mut NodeCore) -> Option<&'static str> {
     if !serves(alloc, node) {
         Some("a CONNECT comes in ballot 1")
@@ -75,7 +76,7 @@ fn first_fault(alloc: Global, node: &mut NodeCore) -> Option<&'static str> {
     }
 }
 
-// Returns the first step that is not so of a fresh node.
+// Returns the first step that fails with a fresh node.
 fn first_fault_of_fresh(alloc: Global) -> Option<&'static str> {
     match primary(alloc, &[1]) {
         Some(mut node) => first_fault(alloc, &mut node),

@@ -84,7 +84,7 @@ fn agree(alloc: Global, primary: &mut NodeCore, backup: &mut NodeCore) -> Option
     commit(alloc, primary, held)
 }
 
-// Returns the first of these that is not so of the messages and bytes of a CONNECT.
+// Checks the messages and bytes of a CONNECT. Returns the first step that fails.
 fn missed_by_both(
     alloc: Global,
     primary: &mut NodeCore,
@@ -102,7 +102,7 @@ fn missed_by_both(
     }
 }
 
-// Returns the first that is not so with a fresh backup. Each node has an owner of its own, which
+// Returns the first step that fails with a fresh backup. Each node has an owner of its own, which
 // has one way on which it drops it.
 fn missed_with_fresh(alloc: Global, primary: &mut NodeCore) -> Option<&'static str> {
     match node_of(alloc, 2, &[1, 2]) {
@@ -111,7 +111,7 @@ fn missed_with_fresh(alloc: Global, primary: &mut NodeCore) -> Option<&'static s
     }
 }
 
-// Returns the first that is not so of two fresh nodes.
+// Returns the first step that fails with two fresh nodes.
 fn missed_by_fresh(alloc: Global) -> Option<&'static str> {
     match node_of(alloc, 1, &[1, 2]) {
         Some(mut primary) => missed_with_fresh(alloc, &mut primary),

@@ -63,8 +63,8 @@ fn is_settled<J: Naming, R: Wait>(
     }
 }
 
-// Two items arrive, in order, and no other, and all is settled. Returns the first step that is not
-// so.
+// Checks that two items arrive, in order, and no other, and all is settled. Returns the first step
+// that fails.
 fn missed_step<J: Naming, R: Wait>(
     rt: &R,
     alloc: Global,
@@ -90,7 +90,7 @@ fn missed_step<J: Naming, R: Wait>(
     }
 }
 
-// Returns the first step that is not so, if there is memory for the lanes.
+// Returns the first step that fails, if there is memory for the lanes.
 fn missed_in<J: Naming, R: Wait>(rt: &R, alloc: Global, inbox: Inbox<u64>) -> Option<&'static str>
     requires { inbox ≡ J.inbox_of 1 }
 {

@@ -93,8 +93,8 @@ fn is_answered<J: NodeNaming>(alloc: Global, state: &mut NodeState<J>) -> bool {
     is_whole && state.losses() <= 1
 }
 
-// Each item is taken, in order, and the CONNECT is answered or lost. Returns the first step that is
-// not so.
+// Checks that each item is taken, in order, and the CONNECT is answered or lost. Returns the first
+// step that fails.
 fn missed_step<J: NodeNaming, R: Wait>(
     rt: &R,
     alloc: Global,
@@ -145,8 +145,8 @@ fn first_missed(missed: Option<&'static str>, is_told: bool) -> Option<&'static 
     }
 }
 
-// Returns the first step that is not so of the node, which says at its end what happened to its
-// items, if there is memory for the lane.
+// Returns the first step that fails, if there is memory for the lane. At its end the node says what
+// happened to its items.
 fn missed_in<J: NodeNaming, R: Wait>(
     rt: &R,
     alloc: Global,
@@ -168,7 +168,7 @@ fn missed_in<J: NodeNaming, R: Wait>(
 }
 
 // A node for which memory runs out does not exist, or counts what it lost. Returns the first step
-// that is not so.
+// that fails.
 fn missed_by<R: Wait>(rt: &R, alloc: Global) -> Option<&'static str> {
     match (Inbox::new(alloc), sole(alloc)) {
         (Ok(inbox), Some(core)) => missed_in::<Brand, R>(rt, alloc, inbox, core),

@@ -199,14 +199,14 @@ fn closes<J: NodeNaming, R: Wait>(
     }
 }
 
-// Returns the words for what is not so.
+// Returns these words if what they say is false.
 fn unless(is_so: bool, words: &'static str) -> Option<&'static str> {
     if is_so { None } else { Some(words) }
 }
 
-// Returns the first step that is not so: two nodes meet at a gate that shuts after this many
-// takings, continue, and report so. Each is sent three ticks and takes two. What is long to drop is
-// lent or passed on by each function here, or goes by a call of `drop`, which is proved once.
+// Has two nodes meet at a gate that shuts after this many takings, continue, and report so. Each is
+// sent three ticks and takes two. Returns the first step that fails. What is long to drop is lent
+// or passed on by each function here, or goes by a call of `drop`, which is proved once.
 fn meet<J, R>(
     rt: &R,
     alloc: Global,
@@ -270,7 +270,7 @@ where
     }
 }
 
-// Returns the first step up to the report of node 2 that is not so, while node 1 runs.
+// Returns the first step that fails, up to the report of node 2, while node 1 runs.
 fn meet_with<J, R>(
     rt: &R,
     alloc: Global,

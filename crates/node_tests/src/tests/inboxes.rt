@@ -114,7 +114,7 @@ fn is_right<J: Naming, R: Wait>(
     }
 }
 
-// Does the rows with an inbox of this many lanes. Returns the first row whose result is another.
+// Does the rows with an inbox of this many lanes. Returns the first row whose result differs.
 fn first_fault<J: Naming, R: Wait>(
     rt: &R,
     alloc: Global,
@@ -232,7 +232,7 @@ impl<J: Naming> Two<J> {
     }
 }
 
-// Goes through the rows with two inboxes: the first that comes out otherwise.
+// Does the rows with two inboxes. Returns the first row whose result differs.
 fn first_fault_of_two<J: Naming, R: Wait>(
     rt: &R,
     first: Inbox<u64>,

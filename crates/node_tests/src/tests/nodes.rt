@@ -41,7 +41,7 @@ enum Act<'a> {
     HandOver(&'a [u8]),
 }
 
-// What goes otherwise than a run says.
+// What differs from a run.
 #[derive(Clone, Copy, Debug, PartialEq, Eq)]
 enum Otherwise {
     // The act at this index.
@@ -196,8 +196,8 @@ fn is_right<J: NodeNaming, R: Wait>(
     }
 }
 
-// Returns the index of the first act that goes otherwise. The node's lock is held until the end, so
-// a lane that waited for it would wait for ever.
+// Returns the index of the first act whose result differs. The node's lock is held until the end,
+// so a lane that waited for it would wait for ever.
 fn other_act<J: NodeNaming, R: Wait>(
     rt: &R,
     alloc: Global,
@@ -238,7 +238,7 @@ fn closes<J: NodeNaming, R: Wait>(
     }
 }
 
-// Returns what went otherwise, by the first other act and by whether the report is right.
+// Returns what differs from a run, by the first act that does and by whether the report is right.
 fn first_of(act: Option<usize>, is_reported: bool) -> Option<Otherwise> {
     match act {
         Some(index) => Some(Otherwise::Act(index)),
@@ -247,7 +247,7 @@ fn first_of(act: Option<usize>, is_reported: bool) -> Option<Otherwise> {
     }
 }
 
-// Finds what goes otherwise with a node that is started for a run.
+// Returns what differs from a run with a node that is started for it.
 fn other_with<J: NodeNaming, R: Wait>(
     rt: &R,
     alloc: Global,
@@ -264,7 +264,7 @@ fn other_with<J: NodeNaming, R: Wait>(
     }
 }
 
-// Finds what goes otherwise with node 1 than a run says.
+// Returns what differs from a run with node 1.
 fn first_other<J: NodeNaming, R: Wait>(
     rt: &R,
     alloc: Global,

@@ -66,7 +66,7 @@ impl<J: NodeNaming> Two<J> {
     }
 }
 
-// Does the rows with two nodes. Returns the first row whose result is another.
+// Does the rows with two nodes. Returns the first row whose result differs.
 fn first_fault_of_two<J: NodeNaming, R: Wait>(
     rt: &R,
     alloc: Global,

@@ -30,7 +30,7 @@ pub fn answer_to(alloc: Global, bytes: &[u8]) -> Answer {
 /// A row: what its bytes are, in words; the bytes; and the answer.
 pub type Row<'a> = (&'a str, &'a [u8], Answer);
 
-/// Finds the first row whose bytes have another answer: its words, and that answer.
+/// Returns the first row whose answer differs from the wanted one: its words, and that answer.
 pub fn other_answer<'a>(alloc: Global, rows: &[Row<'a>]) -> Option<(&'a str, Answer)> {
     for (words, bytes, wanted) in rows {
         let answer = answer_to(alloc, bytes);

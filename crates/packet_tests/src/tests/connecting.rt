@@ -45,7 +45,7 @@ fn changed(at: usize, byte: u8) -> [u8; 15] {
 // An index of that CONNECT, the byte there, and what it is then.
 type Change = (usize, u8, Answer);
 
-// Returns the first change whose CONNECT is something else, with what it is.
+// Returns the first change whose answer differs from the wanted one, with its own answer.
 fn other_change(alloc: Global, rows: &[Change]) -> Option<Change> {
     for (at, byte, wanted) in rows {
         let answer = answer_to(alloc, &changed(*at, *byte));
@@ -198,7 +198,7 @@ fn is_client_before(alloc: Global, client: &ClientId, later: &str) -> bool {
     }
 }
 
-// Returns the first of these that is not so of a Client Identifier of this text.
+// Returns the first check that fails for a Client Identifier of this text.
 fn missed_by(alloc: Global, client: &ClientId, text: &str, later: &str) -> Option<&'static str> {
     if client.as_str() != text {
         Some("it has its text")
@@ -211,7 +211,7 @@ fn missed_by(alloc: Global, client: &ClientId, text: &str, later: &str) -> Optio
     }
 }
 
-// Returns the first of these that is not so of a text, that it is a Client Identifier among them.
+// Returns the first check that fails for a text, which has to be a Client Identifier.
 fn missed_by_text(alloc: Global, text: &str, later: &str) -> Option<&'static str> {
     match ClientId::new(alloc, text) {
         Ok(client) => missed_by(alloc, &client, text, later),

@@ -255,7 +255,7 @@ fn came_of(alloc: Global, packet: Made<'_>, bytes: &[u8]) -> Option<Came> {
     }
 }
 
-/// Finds the first row whose bytes are not written for its packet, or not read as it: its words,
+/// Returns the first row whose bytes are not written for its packet, or not read as it: its words,
 /// and what came.
 pub fn other_spelling<'a>(alloc: Global, rows: &[Spelling<'a>]) -> Option<(&'a str, Came)> {
     for (words, packet, bytes) in rows {

@@ -18,7 +18,8 @@ fn lines_in(transcript: &[u8]) -> usize {
     transcript.iter().filter(|byte| **byte == b'\n').count()
 }
 
-// Returns what is not so: it is played as usual, or to its end with losses, or stops early.
+// Checks that a script is played as usual, or to its end with losses, or stops early. Returns the
+// check that fails.
 fn missed_in(alloc: Global, row: &[&str; 2]) -> Option<&'static str> {
     let mut transcript = Vec::new(alloc);
     let played = play(alloc, row[0].as_bytes(), &mut transcript);

@@ -106,10 +106,10 @@ fn shown<R: Wait>(rt: &R, cluster: &Cluster, node: u8) -> Option<Shown> {
     Some((peer.is_wanted(rt), peer.wants_help(rt)))
 }
 
-// What is told of a row: what it shows, whether that was done, and what the nodes show.
+// What came of a row: what it shows, whether that was done, and what the nodes show.
 type Told = (&'static str, bool, Option<Shown>, Option<Shown>);
 
-// Returns what is told of the first row that is not so.
+// Returns what came of the first row that fails.
 fn first_other<R: Wait>(rt: &R, alloc: Global, cluster: &Cluster) -> Option<Told> {
     for (words, act, (first, second)) in ROWS {
         let told = (

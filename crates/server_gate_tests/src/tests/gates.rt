@@ -14,7 +14,7 @@ use std::time::{Clock, Duration};
 
 // A gate, and what is done while nodes ask it.
 trait Watched: Gate {
-    // Returns the first step that is not so while nodes ask it.
+    // Returns the first step that fails while nodes ask it.
     fn attend<R>(
         &self,
         rt: &R,
@@ -25,8 +25,8 @@ trait Watched: Gate {
         R: AllocGlobal + Wait + Clock + Net<Stream = TcpStream>;
 }
 
-// Returns the first step that is not so with these nodes, the members of ballot 1, of which node 1
-// is the primary. The last one is that each node took what was sent to it.
+// Returns the first step that fails with these nodes, the members of ballot 1, of which node 1 is
+// the primary. The last one is that each node took what was sent to it.
 fn missed_at<R, G>(rt: &R, members: &[u8], gate: &G) -> Result<(), Missed>
 where
     R: AllocGlobal + Threads + Wait + Clock + Sync,
@@ -41,7 +41,7 @@ where
     }
 }
 
-// Returns the first step that is not so with the nodes of these listeners.
+// Returns the first step that fails with the nodes of these listeners.
 fn serve<R, G>(rt: &R, members: &[u8], listeners: &[Listener], gate: &G) -> Result<(), Missed>
 where
     R: AllocGlobal + Threads + Wait + Clock + Sync + Net<Stream = TcpStream>,
@@ -217,7 +217,7 @@ impl Bar {
         *self.open.lock(rt) = open;
     }
 
-    // Returns the first step of `holds` that is not so for a subscriber and a publisher.
+    // Returns the first step of `holds` that fails with a subscriber and a publisher.
     fn passes<R>(&self, rt: &R, listener: Option<&Listener>) -> Result<(), Missed>
     where
         R: AllocGlobal + Wait + Net<Stream = TcpStream>,
@@ -229,8 +229,8 @@ impl Bar {
         }
     }
 
-    // Returns the first step that is not so: a publication at QoS 2 is answered, and comes to its
-    // subscriber, but neither while node 3 is held.
+    // Checks that a publication at QoS 2 is answered, and comes to its subscriber, but neither
+    // while node 3 is held. Returns the first step that fails.
     fn holds<R: Wait>(&self, rt: &R, pair: &mut Pair, heard: &mut Heard) -> Result<(), Missed> {
         named(pair.subscribe(), "SUBACK comes")?;
         self.set(rt, true);
@@ -269,7 +269,7 @@ impl Gate for Bar {
 }
 
 impl Watched for Bar {
-    // What this load leads to is as it has to be.
+    // Returns the first step that fails under this load.
     fn attend<R>(
         &self,
         rt: &R,

@@ -10,8 +10,8 @@ use std::sync::Wait;
 use std::thread;
 use std::time::{Clock, Duration};
 
-/// Returns the first step that is not so: of 98,304 PINGREQ that come while a member is held, no
-/// more than 37,000 become places until it continues, and all are answered then.
+/// Checks that of 98,304 PINGREQ that come while a member is held, no more than 37,000 become
+/// places until it continues. All are answered then. Returns the first step that fails.
 pub(super) fn missed_of_places<R>(
     rt: &R,
     bar: &Bar,
@@ -27,7 +27,7 @@ where
     }
 }
 
-// Returns the first step that is not so with this flood.
+// Returns the first step that fails with this flood.
 fn waits_with<R>(
     rt: &R,
     bar: &Bar,
@@ -42,7 +42,7 @@ where
     waits(rt, bar, cluster, flood, &mut stream)
 }
 
-// Returns the first step that is not so with this client.
+// Returns the first step that fails with this client.
 fn waits<R: Wait + Clock>(
     rt: &R,
     bar: &Bar,
@@ -83,9 +83,9 @@ fn open_places<R: Wait + Clock>(rt: &R, cluster: &Cluster) -> Option<u64> {
     Some(status.held.saturating_sub(status.committed))
 }
 
-/// Returns the first step that is not so: of 150 MB that a client sends while a member is held, no
-/// more than 72 MB become places, 64 MiB and what was in transit, and the rest is not read. Once
-/// the member continues, another client is answered.
+/// A client sends 150 MB while a member is held: no more than 72 MB become places, 64 MiB and what
+/// was in transit. The rest is not read. Once the member continues, another client is answered.
+/// Returns the first step that fails.
 pub(super) fn missed_of_bytes<R>(
     rt: &R,
     bar: &Bar,
@@ -101,7 +101,7 @@ where
     }
 }
 
-// Returns the first step that is not so with this publication.
+// Returns the first step that fails with this publication.
 fn holding_back<R>(
     rt: &R,
     bar: &Bar,
@@ -118,8 +118,8 @@ where
     held.and(visited)
 }
 
-// Returns the first step that is not so while a member is held. A write is given up after a second,
-// as the socket is full.
+// Returns the first step that fails while a member is held. A write is given up after a second, as
+// the socket is full.
 fn holding_back_on<R: Wait + Clock>(
     rt: &R,
     bar: &Bar,

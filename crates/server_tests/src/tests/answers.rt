@@ -44,7 +44,7 @@ fn a_flood_is_answered_whole(rt: HostRuntime) {
 }
 
 /// A client with keep alive 1 that falls silent is closed after one and a half seconds (MQTT
-/// 3.1.2.10), and nothing more is sent to it. Returns what of that is not so.
+/// 3.1.2.10). Nothing more is sent to it. Returns the first step that fails.
 pub(super) fn silence<R>(rt: &R, listener: Option<&Listener>) -> Result<(), Missed>
 where
     R: Clock + Net<Stream = TcpStream>,
@@ -56,7 +56,7 @@ where
     silence_on(rt, start, &mut stream)
 }
 
-// Returns what is not so of a client with keep alive 1 on this stream.
+// Returns the first step that fails with a client with keep alive 1 on this stream.
 fn silence_on<R: Clock>(rt: &R, start: Instant, stream: &mut TcpStream) -> Result<(), Missed> {
     let mut sent = connect(b'a', false);
     sent[11] = 1;
@@ -79,8 +79,8 @@ fn has_taken<R: Clock>(rt: &R, start: Instant) -> bool {
     }
 }
 
-/// 32,768 PINGREQ in one write are answered by as many PINGRESP and nothing else. Returns what of
-/// that is not so.
+/// 32,768 PINGREQ in one write are answered by as many PINGRESP and nothing else. Returns the first
+/// step that fails.
 pub(super) fn flooding<R>(rt: &R, listener: Option<&Listener>) -> Result<(), Missed>
 where
     R: AllocGlobal + Net<Stream = TcpStream>,
@@ -91,7 +91,7 @@ where
     }
 }
 
-// Returns what is not so of this flood by a client that joins for it.
+// Returns the first step that fails with this flood by a client that joins for it.
 fn flooding_with<R>(rt: &R, listener: Option<&Listener>, flood: &mut Flood) -> Result<(), Missed>
 where
     R: Net<Stream = TcpStream>,
@@ -100,7 +100,7 @@ where
     flooding_on(&mut stream, flood)
 }
 
-// Returns what is not so of this flood on a stream.
+// Returns the first step that fails with this flood on a stream.
 fn flooding_on(stream: &mut TcpStream, flood: &mut Flood) -> Result<(), Missed> {
     named(flood.send_to(stream, 1), "32,768 PINGREQ are sent")?;
     named(flood.hear_from(stream, 1), "as many PINGRESP come")

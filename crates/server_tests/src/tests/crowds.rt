@@ -45,7 +45,7 @@ fn a_client_that_never_reads_keeps_nobody_waiting(rt: HostRuntime) {
 }
 
 /// Sixty clients are answered by PINGRESP while they are connected and one more has come. Returns
-/// what of that is not so.
+/// the first step that fails.
 pub(super) fn sixty<R>(rt: &R, listener: Option<&Listener>) -> Result<(), Missed>
 where
     R: AllocGlobal + Net<Stream = TcpStream>,
@@ -54,7 +54,7 @@ where
     sixty_on(rt, listener, &mut streams)
 }
 
-// Returns what is not so of sixty clients that have these streams.
+// Returns the first step that fails with sixty clients that have these streams.
 fn sixty_on<R>(
     rt: &R,
     listener: Option<&Listener>,
@@ -113,7 +113,7 @@ where
 }
 
 /// Sixty clients that say nothing keep their connections for four seconds, and lose them within ten
-/// more. Then another is accepted. Returns what of that is not so.
+/// more. Then another is accepted. Returns the first step that fails.
 pub(super) fn silent_ones<R>(rt: &R, listener: Option<&Listener>) -> Result<(), Missed>
 where
     R: AllocGlobal + Net<Stream = TcpStream>,
@@ -122,7 +122,7 @@ where
     silent_ones_on(rt, listener, &mut streams)
 }
 
-// Returns what is not so of silent clients that have these streams.
+// Returns the first step that fails with silent clients that have these streams.
 fn silent_ones_on<R>(
     rt: &R,
     listener: Option<&Listener>,
@@ -182,7 +182,7 @@ where
 }
 
 /// 200 clients that come one after another, each once the one before has left, are all accepted.
-/// Returns what of that is not so.
+/// Returns the first step that fails.
 pub(super) fn coming_and_going<R>(rt: &R, listener: Option<&Listener>) -> Result<(), Missed>
 where
     R: Net<Stream = TcpStream>,
@@ -213,8 +213,8 @@ where
     exchange(&mut stream, &connect(letter, true), &[0x20, 2, 0, 0])
 }
 
-/// A subscriber gets 50 MB while another one has the same subscription and never reads. Returns
-/// what of that is not so.
+/// A subscriber gets 50 MB while another one has the same subscription and never reads. Returns the
+/// first step that fails.
 pub(super) fn never_reading<R>(rt: &R, listener: Option<&Listener>) -> Result<(), Missed>
 where
     R: AllocGlobal + Net<Stream = TcpStream>,
@@ -226,7 +226,7 @@ where
     hearing_beside(rt, listener, &mut deaf)
 }
 
-// Returns what is not so of a subscriber that gets 50 MB, while this one never reads.
+// Returns the first step that fails with a subscriber that gets 50 MB, while this one never reads.
 fn hearing_beside<R>(
     rt: &R,
     listener: Option<&Listener>,
@@ -246,7 +246,7 @@ where
     hearing_by(rt.alloc(), &mut pair)
 }
 
-// Returns what is not so of fifty publications of 1 MB between these two.
+// Returns the first step that fails with fifty publications of 1 MB between these two.
 fn hearing_by(alloc: Global, pair: &mut Pair) -> Result<(), Missed> {
     named(pair.subscribe(), "the subscriber subscribes")?;
     match Large::new(alloc) {
@@ -267,7 +267,7 @@ fn pass_fifty(large: &mut Large, pair: &mut Pair) -> Result<(), Came> {
 }
 
 /// A subscriber with keep alive 10 that never reads, and says nothing more, keeps its connection
-/// for a while, and then loses it to another client. Returns what of that is not so.
+/// for a while. Then it loses it to another client. Returns the first step that fails.
 pub(super) fn deaf_one<R>(rt: &R, listener: Option<&Listener>) -> Result<(), Missed>
 where
     R: AllocGlobal + Wait + Clock + Net<Stream = TcpStream>,
@@ -279,8 +279,8 @@ where
     }
 }
 
-// Returns what is not so as 59 more clients, which have these streams, come to one that never
-// reads.
+// Returns the first step that fails as 59 more clients, which have these streams, come to one that
+// never reads.
 fn crowd_beside<R>(
     rt: &R,
     listener: Option<&Listener>,
@@ -300,7 +300,8 @@ where
     room_beside(rt, listener, streams.last_mut())
 }
 
-// Returns what is not so once 60 are there: 20 MB make the silent one lose its connection.
+// Returns the first step that fails once 60 are there: 20 MB make the silent one lose its
+// connection.
 fn room_beside<R>(
     rt: &R,
     listener: Option<&Listener>,

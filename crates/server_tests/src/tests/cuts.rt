@@ -59,7 +59,7 @@ fn logs_are_cut(rt: HostRuntime) {
     }
 }
 
-// Returns the first step of a row that is not so with nodes of its own.
+// Returns the first step of a row that fails with nodes of its own.
 fn missed_with<R>(rt: &R, row: &Row) -> Result<(), Missed>
 where
     R: AllocGlobal + Threads + Wait + Clock + Sync,
@@ -73,7 +73,7 @@ where
     }
 }
 
-// Returns the first step of a row that is not so with the nodes of these listeners.
+// Returns the first step of a row that fails with the nodes of these listeners.
 fn serve<R>(rt: &R, row: &Row, listeners: &[Listener]) -> Result<(), Missed>
 where
     R: AllocGlobal + Threads + Wait + Clock + Sync + Net<Stream = TcpStream>,
@@ -105,7 +105,8 @@ where
     }
 }
 
-// Returns the first step that is not so: the publications are sent and taken. Then it waits.
+// Sends the publications, which have to be taken, and then waits. Returns the first step that
+// fails.
 fn sends<R>(rt: &R, row: &Row, listener: Option<&Listener>) -> Result<(), Missed>
 where
     R: AllocGlobal + Wait + Clock + Net<Stream = TcpStream>,

@@ -31,8 +31,8 @@ fn sessions_are_expelled(rt: HostRuntime) {
 }
 
 /// Client `h` finds no session and nothing of before each time that its session is ended, while it
-/// is connected and while it is away; and another client that is away gets all that was published.
-/// Returns what of that is not so.
+/// is connected and while it is away. Another client that is away gets all that was published.
+/// Returns the first step that fails.
 pub(super) fn expelling<R>(
     rt: &R,
     cluster: &Cluster,
@@ -52,7 +52,7 @@ where
     expelling_of(rt, cluster, listener, &mut pair)
 }
 
-// Returns what is not so of two Expels of the subscriber of this pair.
+// Returns the first step that fails with two Expels of the subscriber of this pair.
 fn expelling_of<R>(
     rt: &R,
     cluster: &Cluster,
@@ -79,8 +79,8 @@ where
     exchange(&mut stream, &SUBSCRIBE, &SUBSCRIBED)
 }
 
-// Returns what is not so: the subscriber's connection is closed after it was sent `x`, which it has
-// not acknowledged.
+// Checks that the subscriber's connection is closed after it was sent `x`, which it has not
+// acknowledged. Returns the first step that fails.
 fn end_while_connected<R>(rt: &R, cluster: &Cluster, pair: &mut Pair) -> Result<(), Missed>
 where
     R: AllocGlobal + Wait + Clock,
@@ -111,8 +111,8 @@ fn begin_by(pair: &mut Pair, heard: &mut Heard) -> Result<(), Came> {
     Ok(())
 }
 
-// Returns what is not so: the subscriber comes back to a new session, and to another one after an
-// Expel while `z` waits for it.
+// Checks that the subscriber comes back to a new session, and to another one after an Expel while
+// `z` waits for it. Returns the first step that fails.
 fn end_while_away<R>(
     rt: &R,
     cluster: &Cluster,
@@ -159,9 +159,9 @@ where
     }
 }
 
-// Waits until the orders that were taken are obeyed. Returns what is not so of one more client,
-// which is expelled after them: a node obeys its orders in turn, so they are obeyed once this
-// client is closed.
+// Waits until the orders that were taken are obeyed. One more client is expelled after them: a node
+// obeys its orders in turn, so they are obeyed once this client is closed. Returns the first step
+// that fails.
 fn await_orders<R>(rt: &R, cluster: &Cluster, listener: Option<&Listener>) -> Result<(), Missed>
 where
     R: AllocGlobal + Wait + Clock + Net<Stream = TcpStream>,
@@ -173,7 +173,7 @@ where
     await_end(rt, cluster, &mut last)
 }
 
-// Returns what is not so: client `l` is expelled, and closed.
+// Checks that client `l` is expelled, and closed. Returns the first step that fails.
 fn await_end<R>(rt: &R, cluster: &Cluster, last: &mut TcpStream) -> Result<(), Missed>
 where
     R: AllocGlobal + Wait + Clock,

@@ -9,8 +9,8 @@ use std::thread;
 use std::thread::Threads;
 use std::time::{Clock, Duration};
 
-/// Returns the name of the first of these tables whose row does not hold, each with nodes of its
-/// own, and the step of it that is not so.
+/// Returns the name of the first of these tables whose row fails, and the step that fails. Each
+/// table has nodes of its own.
 pub(super) fn fault_in<R>(rt: &R, tables: &[Table]) -> Option<(&'static str, Missed)>
 where
     R: AllocGlobal + Threads + Wait + Clock + Sync,
@@ -24,8 +24,8 @@ where
     None
 }
 
-/// Returns the first step of a row that is not so with nodes of its own, the members of ballot 1.
-/// Node 1 is the primary.
+/// Returns the first step of a row that fails with nodes of its own, the members of ballot 1. Node
+/// 1 is the primary.
 pub(super) fn missed_with<R>(rt: &R, members: &[u8], row: Row) -> Result<(), Missed>
 where
     R: AllocGlobal + Threads + Wait + Clock + Sync,
@@ -39,7 +39,7 @@ where
     }
 }
 
-// Returns the first step of a row that is not so with the nodes of these listeners.
+// Returns the first step of a row that fails with the nodes of these listeners.
 fn serve<R>(rt: &R, members: &[u8], listeners: &[Listener], row: Row) -> Result<(), Missed>
 where
     R: AllocGlobal + Threads + Wait + Clock + Sync,

@@ -44,7 +44,7 @@ pub(super) struct Table {
     pub(super) row: Row,
 }
 
-/// Returns the first step of a row that is not so with the nodes of these listeners, in words.
+/// Returns the first step of a row that fails with the nodes of these listeners, in words.
 pub(super) fn missed_step<R>(
     rt: &R,
     cluster: &Cluster,

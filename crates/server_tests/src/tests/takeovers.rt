@@ -32,9 +32,9 @@ fn sessions_outlive_their_nodes(rt: HostRuntime) {
 // CONNACK with a session present, and the PUBLISH again.
 const FOUND: [u8; 14] = [0x20, 2, 1, 0, 0x3C, 8, 0, 3, 0x74, 0x2F, 0x31, 0, 1, 0x78];
 
-/// Client `a`, which has not finished a handshake with node 1 when ballot 2 with node 2 as sole
-/// member is given, finds its session at node 2, and is sent the publication again. Returns what of
-/// that is not so.
+/// Client `a` has not finished a handshake with node 1 when ballot 2 with node 2 as sole member is
+/// given. It finds its session at node 2, and is sent the publication again. Returns the first step
+/// that fails.
 pub(super) fn moving<R>(rt: &R, cluster: &Cluster, listeners: &[Listener]) -> Result<(), Missed>
 where
     R: AllocGlobal + Wait + Clock + Net<Stream = TcpStream>,
@@ -64,7 +64,7 @@ where
 }
 
 /// The subscriber gets each of four publications once, in order, if node 1 crashes between them and
-/// node 2 takes over. Returns what of that is not so.
+/// node 2 takes over. Returns the first step that fails.
 pub(super) fn taking_over<R>(
     rt: &R,
     cluster: &Cluster,

@@ -39,7 +39,7 @@ fn is_no_puback(alloc: Global, payload: &str, sent: &Awaits) -> bool {
     }
 }
 
-// Returns the first of these that is not so of an entry that waits for PUBREC.
+// Returns the first check that fails for an entry that waits for PUBREC.
 fn missed_by(alloc: Global, sent: &Awaits) -> Option<&'static str> {
     if !has_equal_copy(sent) {
         Some("it equals its copy")

@@ -68,7 +68,7 @@ fn is_received(session: &mut Session) -> bool {
     is_first && session.receive(id) == Ok(Arrival::Again)
 }
 
-// Returns the first step that is not so, in words.
+// Returns the first step that fails, in words.
 fn missed_step(alloc: Global, session: &mut Session) -> Option<&'static str> {
     if !(0..3).all(|_| is_added(alloc, session) == Some(true)) {
         Some("three publications are added, each once")

@@ -59,7 +59,7 @@ pub(crate) struct Fault {
     subscriptions: usize,
 }
 
-/// Returns which row a session does not do as it says, if there is one.
+/// Returns the first row that a session does not do as it says.
 pub(crate) fn first_fault(alloc: Global, session: &mut Session, rows: &[Row<'_>]) -> Option<Fault> {
     for (row, wanted) in rows.iter().enumerate() {
         if !is_right(alloc, session, *wanted) {

@@ -21,7 +21,7 @@ pub(crate) enum Call<'a> {
     Granted(&'a str, &'a [Grant<'a>]),
 }
 
-// Returns which call of a row an index does not answer as expected, if there is one.
+// Returns the first call of a row whose answer differs from the wanted one.
 fn other_answer<I: SubIndex>(alloc: Global, index: &mut I, row: &[Call<'_>]) -> Option<usize> {
     for (number, call) in row.iter().enumerate() {
         if !is_answered(alloc, index, *call) {
@@ -31,7 +31,7 @@ fn other_answer<I: SubIndex>(alloc: Global, index: &mut I, row: &[Call<'_>]) -> 
     None
 }
 
-/// Returns which call of a row an index that begins does not answer as expected, if there is one.
+/// Returns the first call of a row whose answer by a fresh index differs from the wanted one.
 pub(crate) fn first_fault<I: SubIndex>(alloc: Global, row: &[Call<'_>]) -> Option<usize> {
     let mut index = I::new(alloc);
     other_answer(alloc, &mut index, row)

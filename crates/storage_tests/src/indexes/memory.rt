@@ -146,8 +146,8 @@ fn is_dropped<I: SubIndex>(alloc: Global, index: &mut I, text: &str) -> bool {
     }
 }
 
-// It grants what it is to when all is set, and nothing when both clients are dropped. Returns the
-// first step that is not so.
+// Checks that the index grants the wanted rows when all is set, and nothing when both clients are
+// dropped. Returns the first step that fails.
 fn missed_step<I: SubIndex>(alloc: Global, index: &mut I) -> Option<&'static str> {
     if !all_are_set(alloc, index) {
         Some("each row is set")

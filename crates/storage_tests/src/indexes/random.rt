@@ -106,7 +106,7 @@ fn called_alike(alloc: Global, both: &mut Both, numbers: &mut Numbers) -> Option
     called_with(alloc, both, numbers, &client, &filter, topic)
 }
 
-// The first call that both do not answer alike. How many rows were granted is added up.
+// Returns the first call that both do not answer alike. How many rows were granted is added up.
 fn first_difference(alloc: Global, both: &mut Both, rows: &mut usize) -> Option<u32> {
     let mut numbers = Numbers { state: 23 };
     for number in 0..CALLS {

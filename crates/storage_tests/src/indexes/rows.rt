@@ -119,7 +119,7 @@ const ROWS: &[&[Call<'static>]] = &[
     EMPTY_LEVELS,
 ];
 
-// Returns the first row, and its first call, that an index does not answer as expected.
+// Returns the first row that has a call whose answer differs from the wanted one, and that call.
 fn first_row<I: SubIndex>(alloc: Global, rows: &[&[Call<'_>]]) -> Option<(usize, usize)> {
     for (number, row) in rows.iter().enumerate() {
         if let Some(call) = first_fault::<I>(alloc, row) {

@@ -45,7 +45,7 @@ fn finds(alloc: Global, store: &RetainedStore, text: &str, wanted: usize) -> boo
     }
 }
 
-// Returns the first step that is not so, in words.
+// Returns the first step that fails, in words.
 fn missed_step(alloc: Global, store: &mut RetainedStore) -> Option<&'static str> {
     if !is_put(alloc, store, "t/1", "x", 1) {
         Some("t/1 is kept")

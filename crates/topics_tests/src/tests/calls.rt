@@ -28,7 +28,7 @@ fn is_text_before(alloc: Global, text: &Text, later: &str) -> bool {
     }
 }
 
-// Returns the first of these that is not so of a text.
+// Returns the first check that fails for a text.
 fn missed_by_text(alloc: Global, made: &Text, row: Order<'_>) -> Option<&'static str> {
     let (text, later) = row;
     if !is_text_copied(made, text) {
@@ -42,7 +42,7 @@ fn missed_by_text(alloc: Global, made: &Text, row: Order<'_>) -> Option<&'static
     }
 }
 
-// Returns the first of these that is not so, that it is a text among them.
+// Returns the first check that fails for a row, of which the first has to be a text.
 fn missed_text(alloc: Global, row: Order<'_>) -> Option<&'static str> {
     let (text, _) = row;
     match Text::new(alloc, text) {
@@ -78,7 +78,7 @@ fn is_name_before(alloc: Global, name: &TopicName, later: &str) -> bool {
     }
 }
 
-// Returns the first of these that is not so of a name.
+// Returns the first check that fails for a name.
 fn missed_by_name(alloc: Global, name: &TopicName, row: Order<'_>) -> Option<&'static str> {
     let (first, later) = row;
     if !is_name_printed(alloc, name, first) {
@@ -90,7 +90,7 @@ fn missed_by_name(alloc: Global, name: &TopicName, row: Order<'_>) -> Option<&'s
     }
 }
 
-// Returns the first of these that is not so, that it is a name among them.
+// Returns the first check that fails for a row, of which the first has to be a name.
 fn missed_name(alloc: Global, row: Order<'_>) -> Option<&'static str> {
     let (first, _) = row;
     match TopicName::new(alloc, first) {
@@ -118,7 +118,7 @@ fn is_filter_printed(alloc: Global, filter: &Filter, wanted: &str) -> bool {
     }
 }
 
-// Returns the first of these that is not so of a later filter.
+// Returns the first check that fails for a later filter.
 fn missed_by_later(
     alloc: Global,
     first: &Filter,
@@ -138,7 +138,7 @@ fn missed_by_later(
     }
 }
 
-// Returns the first of these that is not so, that the later is a filter among them.
+// Returns the first check that fails for the later text, which has to be a filter.
 fn missed_later(alloc: Global, first: &Filter, text: &str) -> Option<&'static str> {
     match Filter::new(alloc, text) {
         Ok(later) => missed_by_later(alloc, first, &later, text),
@@ -146,7 +146,7 @@ fn missed_later(alloc: Global, first: &Filter, text: &str) -> Option<&'static st
     }
 }
 
-// Returns the first of these that is not so, that both are filters among them.
+// Returns the first check that fails for a row, of which both have to be filters.
 fn missed_filter(alloc: Global, row: Order<'_>) -> Option<&'static str> {
     let (first, later) = row;
     match Filter::new(alloc, first) {
@@ -164,7 +164,7 @@ fn has_text(topic: &TopicName, wanted: Option<&str>) -> bool {
     Some(topic.as_str()) == wanted
 }
 
-// Returns what is not so of a filter that is the topic of this text, or none.
+// Returns the check that fails for a filter that has to be the topic of this text, or none.
 fn missed_topic(filter: &Filter, wanted: Option<&str>) -> Option<&'static str> {
     match filter.as_topic() {
         Ok(Some(topic)) => {
@@ -185,7 +185,7 @@ fn missed_topic(filter: &Filter, wanted: Option<&str>) -> Option<&'static str> {
     }
 }
 
-// Returns the first of these that is not so of a text, that it is a filter among them.
+// Returns the check that fails for a text, which has to be a filter.
 fn missed_topic_of(alloc: Global, text: &str, wanted: Option<&str>) -> Option<&'static str> {
     match Filter::new(alloc, text) {
         Ok(filter) => missed_topic(&filter, wanted),

@@ -25,7 +25,7 @@ fn fault_of_topic(alloc: Global, part: &str, count: usize) -> Option<MalformedKi
     }
 }
 
-// Returns the first row that is another fault as a Topic Filter, with that fault.
+// Returns the first row whose fault as a Topic Filter differs from the wanted one, with that fault.
 fn other_filter<'a>(alloc: Global, rows: &[Row<'a>]) -> Option<Row<'a>> {
     for row in rows {
         let (part, count, wanted) = *row;
@@ -37,7 +37,7 @@ fn other_filter<'a>(alloc: Global, rows: &[Row<'a>]) -> Option<Row<'a>> {
     None
 }
 
-// Returns the first row that is another fault as a Topic Name, with that fault.
+// Returns the first row whose fault as a Topic Name differs from the wanted one, with that fault.
 fn other_topic<'a>(alloc: Global, rows: &[Row<'a>]) -> Option<Row<'a>> {
     for row in rows {
         let (part, count, wanted) = *row;

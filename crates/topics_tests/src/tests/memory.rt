@@ -68,7 +68,7 @@ const NO_TOPICS: &[(&str, MalformedKind)] = &[
 // A text, and its fault.
 type Other = (&'static str, Option<MalformedKind>);
 
-// Returns the first text that has another fault as a Topic Filter.
+// Returns the first text whose fault as a Topic Filter differs from the wanted one.
 fn other_filter(alloc: Global) -> Option<Other> {
     for (text, kind) in NO_FILTERS {
         let fault = filter_fault(alloc, text);
@@ -79,7 +79,7 @@ fn other_filter(alloc: Global) -> Option<Other> {
     None
 }
 
-// Returns the first text that has another fault as a Topic Name.
+// Returns the first text whose fault as a Topic Name differs from the wanted one.
 fn other_topic(alloc: Global) -> Option<Other> {
     for (text, kind) in NO_TOPICS {
         let fault = topic_fault(alloc, text);

@@ -12,8 +12,8 @@ fn publish(alloc: Global, qos: QoS, servers: &mut Scripted<'_>) -> Result<(), Us
     publisher.run(servers, 3)
 }
 
-// Finds what is not so of a publication at this QoS over these connections: how it ends, how often
-// it waited, and what is written.
+// Publishes at this QoS over these connections. Returns what differs from the wanted run: how it
+// ends, how often it waited, or what is written.
 fn fault_of_publishing(
     alloc: Global,
     qos: QoS,
@@ -25,7 +25,7 @@ fn fault_of_publishing(
     fault_within(alloc, qos, usize::MAX, connections, written, ended, pauses)
 }
 
-// Finds what is not so of a publication if the first connection takes no more than `room` bytes.
+// Returns the same if the first connection takes no more than `room` bytes.
 fn fault_within(
     alloc: Global,
     qos: QoS,

@@ -145,7 +145,7 @@ pub const DISCONNECT: &[u8] = &[0xE0, 0];
 /// SUBSCRIBE to `t/#` at QoS 2.
 pub const SUBSCRIBE: &[u8] = &[0x82, 8, 0, 1, 0, 3, b't', b'/', b'#', 2];
 
-/// What was not as it was to be.
+/// What differs from the wanted run.
 #[derive(Clone, Copy, Debug, PartialEq, Eq)]
 pub enum Wrong {
     /// How it ended.
@@ -158,7 +158,7 @@ pub enum Wrong {
     Printed(usize),
 }
 
-/// Finds the first of these packets that is not written in these bytes, one after another.
+/// Returns the first of these packets that is not written in these bytes, one after another.
 pub fn first_unwritten(bytes: &[u8], packets: &[&[u8]]) -> Option<Wrong> {
     let mut rest = bytes;
     for (number, packet) in packets.iter().enumerate() {

@@ -17,8 +17,8 @@ fn subscribe(
     subscriber.run(servers, output, 2)
 }
 
-// Finds what is not so of a client that waits for this many publications over these connections: it
-// ends well, and prints and writes this.
+// Waits for this many publications over these connections. Returns what differs from the wanted
+// run: how it ends, what it prints, or what it writes.
 fn fault_of_hearing(
     alloc: Global,
     count: u32,
@@ -29,7 +29,7 @@ fn fault_of_hearing(
     fault_within(alloc, count, usize::MAX, connections, printed, written)
 }
 
-// Finds what is not so of a client whose first connection takes no more than `room` bytes.
+// Returns the same if the first connection takes no more than `room` bytes.
 fn fault_within(
     alloc: Global,
     count: u32,

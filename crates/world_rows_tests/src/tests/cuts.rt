@@ -14,7 +14,7 @@ fn is_cut_once(world: &mut World, node: u8) -> bool {
     is_idle
 }
 
-// What is not so, and what the world shows then.
+// The step that fails, and what the world shows then.
 type Changed = (&'static str, Fault);
 
 // Returns the first row that does not hold if a node cuts its log after the row at this index, or
@@ -57,7 +57,8 @@ fn changed_from_the_opening(
     }
 }
 
-// Returns the first index after which a cut of a node changes what a row says, and what is not so.
+// Returns the first index after which a cut of a node changes what a row says, and the step that
+// fails.
 fn changed_by(alloc: Global, rows: &'static [Row], node: u8) -> Option<(usize, Changed)> {
     for at in 0..rows.len().saturating_add(1) {
         if let Some(changed) = changed_from_the_opening(alloc, rows, at, node) {

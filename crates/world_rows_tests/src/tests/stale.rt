@@ -86,7 +86,8 @@ fn is_free_of_pubrel(world: &World) -> bool {
     (1..4u64).all(|connection| !has_pubrel(world.down(connection)))
 }
 
-// Finds the first row that does not hold, or after which one waits, and what the world shows then.
+// Returns the first row that does not hold, or after which one waits, and what the world shows
+// then.
 fn first_pubrel(alloc: Global, world: &mut World) -> Option<(&'static str, Fault)> {
     for (at, row) in STALE.iter().enumerate() {
         if !is_right(alloc, world, row) {
@@ -99,7 +100,7 @@ fn first_pubrel(alloc: Global, world: &mut World) -> Option<(&'static str, Fault
     None
 }
 
-// Finds the first such row of a fresh world.
+// Returns the first such row of a fresh world.
 fn first_pubrel_from_the_opening(alloc: Global) -> Option<(&'static str, Fault)> {
     match opened(alloc, 2, &[1, 2]) {
         Some(mut world) => {

@@ -24,9 +24,10 @@ const LISTS: &[&[u8]] = &[
 
 const CLIENTS: &[&str] = &["a", "b", "z"];
 
-// Returns what is not so of the way out of the world after this many rows. It is returned, if there
-// is one, and leads to its end, and `Idle` is returned otherwise. Here and below a world is lent by
-// the one function that makes it, and goes by a call of `drop`, which is proved once.
+// Checks the way out of the world after this many rows. It is returned, if there is one, and leads
+// to its end, and `Idle` is returned otherwise. Returns the first step that fails. Here and below a
+// world is lent by the one function that makes it, and goes by a call of `drop`, which is proved
+// once.
 fn missed_of(
     alloc: Global,
     course: &Course,
@@ -75,7 +76,7 @@ fn missed_in(
     }
 }
 
-// Returns what is not so if no way out is returned.
+// Returns the step that fails if no way out is returned.
 fn missed_without(error: EscapeError, may: bool) -> Option<&'static str> {
     if may {
         Some("there is a way out")
@@ -86,8 +87,8 @@ fn missed_without(error: EscapeError, may: bool) -> Option<&'static str> {
     }
 }
 
-// Returns what is not so of a way out in one more world, after these rows of its course. The other
-// world is there before the way out.
+// Goes a way out in one more world, after these rows of its course. The other world is there before
+// the way out. Returns the first step that fails.
 fn missed_by(
     alloc: Global,
     course: &Course,
@@ -111,7 +112,8 @@ fn missed_by(
     }
 }
 
-// Returns what is not so: each of the events happens, and they end as they are to.
+// Checks that each of the events happens, and that they lead to the promised end. Returns the first
+// step that fails.
 fn missed_at_end(
     before: &World,
     world: &mut World,
@@ -173,8 +175,8 @@ fn is_same(one: &Command, other: &Command) -> bool {
     }
 }
 
-// A way out that is not as it is to be: after how many rows and which last one, for which members
-// and client, and what is not so.
+// A way out that differs from the wanted one: after how many rows and which last one, for which
+// members and client. The step says what fails.
 #[derive(Clone, Copy, Debug, PartialEq, Eq)]
 struct Fault {
     rows: usize,
@@ -184,7 +186,7 @@ struct Fault {
     missed: &'static str,
 }
 
-// Returns the first way out of a course that is not as it is to be.
+// Returns the first way out of a course that differs from the wanted one.
 fn fault_in(alloc: Global, course: &Course) -> Option<Fault> {
     for rows in 0..course.rows.len().saturating_add(1) {
         for members in LISTS {

@@ -31,8 +31,8 @@ fn changes(alloc: Global, world: &mut World, primary: u8, ballot: u64) -> bool {
     assigned && world.active().0 == ballot && world.agreed_len() == ballot.saturating_sub(1)
 }
 
-// Finds the first change that goes otherwise: the primary is node 2, 3, 1 in turn, and each of
-// their ballots is active. The number after the last change says that something was lost.
+// Returns the first change that fails. The primary is node 2, 3, 1 in turn, and each of their
+// ballots is active. The number after the last change says that something was lost.
 fn first_fault(alloc: Global, world: &mut World) -> Option<u64> {
     for change in 0..CHANGES {
         let primary = (change.saturating_add(1) % 3) as u8 + 1;
@@ -47,7 +47,7 @@ fn first_fault(alloc: Global, world: &mut World) -> Option<u64> {
     }
 }
 
-// Finds the first change that goes otherwise in a world of three nodes; 0 if it does not open.
+// Returns the first change that fails in a world of three nodes; 0 if it does not open.
 fn first_fault_of_three(alloc: Global) -> Option<u64> {
     match opened(alloc, 3, &[1, 2, 3]) {
         Some(mut world) => {

@@ -72,8 +72,8 @@ fn all_took_each_once(alloc: Global, world: &World) -> bool {
         .all(|client| took_each_once(alloc, world, client))
 }
 
-// Returns what is not so of a world after the run, with many takeovers and many cuts: the first of
-// these steps, in words.
+// Checks a world after the run, with many takeovers and many cuts. Returns the first step that
+// fails, in words.
 fn missed_in(alloc: Global, world: &mut World) -> Option<&'static str> {
     let mut course = Course::new();
     if !all_come(alloc, world, &mut course) {
@@ -91,7 +91,7 @@ fn missed_in(alloc: Global, world: &mut World) -> Option<&'static str> {
     }
 }
 
-// Returns what is not so of the world that the run begins in.
+// Returns the first step that fails with the world that the run begins in.
 fn missed_from_the_opening(alloc: Global) -> Option<&'static str> {
     match opened_for(alloc, 3, &[1, 2, 3], &CLIENTS) {
         Some(mut world) => {

@@ -78,7 +78,7 @@ fn is_well(alloc: Global, world: &mut World) -> bool {
 // commands are agreed.
 type Shown = (u64, u64, u64);
 
-// Returns what a world shows in the end, if something is not as it is to be.
+// Returns what a world shows in the end, unless all came as usual or a loss was counted.
 fn shown_unless_well(alloc: Global, world: &mut World) -> Option<Shown> {
     if is_well(alloc, world) {
         None
