@@ -1,3 +1,6 @@
+// What no clause says: what comes of events while there is memory, and that a step that runs out of
+// memory is counted.
+
 mod answers;
 mod changes;
 mod cutting;

@@ -1,3 +1,5 @@
+// Texts that are Topic Names and Filters, and texts that are not; which topics a filter matches.
+
 mod asking;
 mod calls;
 mod faults;

@@ -1,3 +1,5 @@
+// A master alone: it gives ballots, supersedes them and activates them, and refuses bad members.
+
 use ballot_replicas::config;
 use master::{Activation, AssignError, Master};
 use std::alloc::Global;

@@ -1,3 +1,5 @@
+// Members with which no replica opens, and a replica that is no member.
+
 use super::stories::{Run, first_fault};
 use ballot::OpeningError;
 use ballot_replicas::made;

@@ -1,3 +1,5 @@
+// Commands that are answered once all members hold them, or at once by a sole member.
+
 use super::groups::*;
 use super::stories::{Run, first_fault};
 use ballot::{Body, Message};

@@ -1,3 +1,5 @@
+// Changes of configuration: to one that takes over, to one that is superseded, and after a crash.
+
 use super::groups::*;
 use super::stories::{Run, first_fault};
 use ballot::{Body, Message};

@@ -1,3 +1,5 @@
+// Events that cannot happen, and members with which no group opens.
+
 use super::groups::*;
 use super::stories::{Run, first_fault};
 use ballot::{Config, OpeningError};

@@ -1,3 +1,5 @@
+// Twelve takeovers in 20,000 events, and an answer that leaves late.
+
 use super::groups::*;
 use super::stories::{Run, first_fault};
 use ballot::Effect;
