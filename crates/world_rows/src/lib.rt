@@ -7,7 +7,7 @@ mod row;
 
 pub use fault::{Came, Fault, UNOPENED, fault_after, fault_at, fault_in};
 pub use row::{
-    ABSENT, Action, CONNECT_A, CONNECT_B, NOTHING, PRESENT, PRESENT_AND_PUBLISH, PUBLISH,
-    PUBLISH_AGAIN, PUBREC, PUBREL, Row, Said, Table, does, is_right, named, opened,
+    ABSENT, Action, Agreed, CONNECT_A, CONNECT_B, NOTHING, PRESENT, PRESENT_AND_PUBLISH, PUBLISH,
+    PUBLISH_AGAIN, PUBREC, PUBREL, Row, Said, Sent, Session, Table, does, is_right, named, opened,
 };
 pub use world::{Command, EscapeError, Event, World};

@@ -79,6 +79,18 @@ pub enum Said {
     Expel(&'static str),
 }
 
+/// How many messages were sent in all.
+#[derive(Clone, Copy, Debug, PartialEq, Eq)]
+pub struct Sent(pub u64);
+
+/// How many commands are agreed.
+#[derive(Clone, Copy, Debug, PartialEq, Eq)]
+pub struct Agreed(pub u64);
+
+/// A session of a client, by its number; 0 is none.
+#[derive(Clone, Copy, Debug, PartialEq, Eq)]
+pub struct Session(pub u64);
+
 /// What happens in a world, or is seen of it. The rules of `ballot_base` say how many messages are
 /// sent. The primary sends each command to the other members as an Append. Each answers Held, and
 /// once all hold it the primary sends each a Commit. A tick of an active primary sends each the
@@ -88,15 +100,15 @@ pub enum Said {
 /// Activated, and the command that starts the ballot follows; or Superseded, if a later one waits.
 #[derive(Clone, Copy, Debug, PartialEq, Eq)]
 pub enum Row {
-    /// This happens. Then this many messages were sent in all, and this many commands are agreed.
-    Does(Action, u64, u64),
+    /// This happens. Then these messages were sent, and these commands are agreed.
+    Does(Action, Sent, Agreed),
     /// This cannot happen.
     Idle(Action),
     /// These bytes wait to go up on a connection, or down.
     HasUp(u64, &'static [u8]),
     HasDown(u64, &'static [u8]),
     /// A client accepted this many publications, the last of them in this session.
-    Took(&'static str, usize, u64),
+    Took(&'static str, usize, Session),
     /// This ballot is active.
     Active(u64),
     /// These commands are agreed, in this order.
@@ -136,16 +148,16 @@ fn config_of(alloc: Global, members: &[u8], primary: u8) -> Option<Config> {
 /// Says whether a row holds for a world.
 pub fn is_right(alloc: Global, world: &mut World, row: &Row) -> bool {
     match row {
-        Row::Does(action, messages, agreed) => {
+        Row::Does(action, sent, agreed) => {
             does(alloc, world, action)
-                && world.messages() == *messages
-                && world.agreed_len() == *agreed
+                && world.messages() == sent.0
+                && world.agreed_len() == agreed.0
         }
         Row::Idle(action) => !does(alloc, world, action),
         Row::HasUp(connection, bytes) => are_same(world.up(*connection), bytes),
         Row::HasDown(connection, bytes) => are_same(world.down(*connection), bytes),
         Row::Took(client, count, session) => match accepted(alloc, world, client) {
-            Some((found, last)) => found == *count && (found == 0 || last == *session),
+            Some((found, last)) => found == *count && (found == 0 || last == session.0),
             None => false,
         },
         Row::Active(ballot) => world.active().0 == *ballot,

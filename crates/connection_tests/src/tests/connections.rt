@@ -11,7 +11,7 @@ use devices::Counted;
 use mailbox::{Inbox, Lane, Naming, Receiver};
 use node::{Config, Handed, Item, Members, Memory, NodeCore, Piece, Port};
 use std::alloc::Global;
-use std::io::ErrorKind;
+use std::io::ErrorKind::{self, BrokenPipe, Interrupted, TimedOut, WouldBlock};
 use std::marker::Brand;
 use std::sync::Wait;
 use std::test::Fail;
@@ -84,20 +84,31 @@ impl Outlet<OneTap> for Spring {
     }
 }
 
-// Whether the connection is accepted, which read fails, how it ends, and how many bytes are
-// reported.
-type Row = (bool, u64, Ending, usize);
+// Whether the connection is accepted.
+#[derive(Clone, Copy, Debug)]
+struct IsOpen(bool);
+
+// Which call of a device fails, from 1 on; none if it is 0.
+#[derive(Clone, Copy, Debug)]
+struct BadCall(u64);
+
+// How many bytes are reported.
+#[derive(Clone, Copy, Debug)]
+struct Reported(usize);
+
+// A connection, which read of it fails, how it ends, and what is reported.
+type Row = (IsOpen, BadCall, Ending, Reported);
 
 // Four reads bring the CONNECT, and the fifth finds the end.
 const ROWS: &[Row] = &[
-    (true, 0, Ending::End, 15),
-    (true, 1, Ending::Fault, 0),
-    (true, 2, Ending::Fault, 4),
-    (true, 3, Ending::Fault, 8),
-    (true, 4, Ending::Fault, 12),
-    (true, 5, Ending::Fault, 15),
-    (true, 6, Ending::End, 15),
-    (false, 0, Ending::Refused, 0),
+    (IsOpen(true), BadCall(0), Ending::End, Reported(15)),
+    (IsOpen(true), BadCall(1), Ending::Fault, Reported(0)),
+    (IsOpen(true), BadCall(2), Ending::Fault, Reported(4)),
+    (IsOpen(true), BadCall(3), Ending::Fault, Reported(8)),
+    (IsOpen(true), BadCall(4), Ending::Fault, Reported(12)),
+    (IsOpen(true), BadCall(5), Ending::Fault, Reported(15)),
+    (IsOpen(true), BadCall(6), Ending::End, Reported(15)),
+    (IsOpen(false), BadCall(0), Ending::Refused, Reported(0)),
 ];
 
 // How a connection ended and how many faults were counted (none without a lane), and how many first
@@ -124,10 +135,11 @@ fn end_of<J: Naming, R: Wait + Clock>(
     lane: Option<Lane<Item, J>>,
     row: &Row,
 ) -> Option<(Ending, u64)> {
-    let (is_open, bad_call, _, _) = *row;
+    let (open, bad_call, _, _) = *row;
+    let is_open = open.0;
     match lane {
         Some(lane) => {
-            let mut source = Counted::new(Source::new(CONNECT, 4, bad_call));
+            let mut source = Counted::new(Source::new(CONNECT, 4, bad_call.0));
             let ended = report_connection(
                 rt,
                 alloc,
@@ -201,28 +213,40 @@ fn a_connection_is_reported_whole(rt: HostRuntime) -> Result<(), Fail> {
     for row in ROWS {
         let inbox = Inbox::new(rt.alloc())?;
         let heard = heard::<Brand, HostRuntime>(&rt, rt.alloc(), inbox, row);
-        let (_, _, ending, count) = *row;
+        let (_, _, ending, reported) = *row;
         let faults = u64::from(ending == Ending::Fault);
-        assert_eq!(rt; heard, (Some((ending, faults)), Some(count)), "{row:?}");
+        assert_eq!(rt;
+            heard,
+            (Some((ending, faults)), Some(reported.0)),
+            "{row:?}"
+        );
     }
     Ok(())
 }
 
-// Which write fails and how, how often the device is full, how the writing ends, and how many bytes
-// are written. A fault is counted once, and nothing else is.
-type WriteRow = (u64, ErrorKind, u64, Flow, usize);
+// How often a device is full.
+#[derive(Clone, Copy, Debug)]
+struct Blocked(u64);
+
+// How many bytes are written.
+#[derive(Clone, Copy, Debug)]
+struct Written(usize);
+
+// Which write fails and how, how often the device is full, how the writing ends, and what is
+// written. A fault is counted once, and nothing else is.
+type WriteRow = (BadCall, ErrorKind, Blocked, Flow, Written);
 
 // Five bytes are two writes, and the answer's four are two.
 const WRITE_ROWS: &[WriteRow] = &[
-    (0, ErrorKind::BrokenPipe, 0, Flow::Open, 9),
-    (1, ErrorKind::BrokenPipe, 0, Flow::Fault, 0),
-    (2, ErrorKind::BrokenPipe, 0, Flow::Fault, 3),
-    (3, ErrorKind::BrokenPipe, 0, Flow::Fault, 5),
-    (4, ErrorKind::BrokenPipe, 0, Flow::Fault, 8),
-    (2, ErrorKind::WouldBlock, 1, Flow::Open, 9),
-    (3, ErrorKind::WouldBlock, 1, Flow::Open, 9),
-    (4, ErrorKind::TimedOut, 1, Flow::Open, 9),
-    (3, ErrorKind::Interrupted, 0, Flow::Open, 9),
+    (BadCall(0), BrokenPipe, Blocked(0), Flow::Open, Written(9)),
+    (BadCall(1), BrokenPipe, Blocked(0), Flow::Fault, Written(0)),
+    (BadCall(2), BrokenPipe, Blocked(0), Flow::Fault, Written(3)),
+    (BadCall(3), BrokenPipe, Blocked(0), Flow::Fault, Written(5)),
+    (BadCall(4), BrokenPipe, Blocked(0), Flow::Fault, Written(8)),
+    (BadCall(2), WouldBlock, Blocked(1), Flow::Open, Written(9)),
+    (BadCall(3), WouldBlock, Blocked(1), Flow::Open, Written(9)),
+    (BadCall(4), TimedOut, Blocked(1), Flow::Open, Written(9)),
+    (BadCall(3), Interrupted, Blocked(0), Flow::Open, Written(9)),
 ];
 
 // What was left before, and that with the node's answer after it, CONNACK 0.
@@ -283,8 +307,8 @@ struct Came {
 // Writes what was left before, and then the node's answer. Returns what came, if it is not what the
 // row says.
 fn other_with<R: Wait>(rt: &R, alloc: Global, spring: &mut Spring, row: &WriteRow) -> Option<Came> {
-    let (bad_call, kind, blocked, flow, count) = *row;
-    let mut sink = Counted::new(Sink::new(alloc, 3, bad_call, kind));
+    let (bad_call, kind, blocked, flow, written) = *row;
+    let mut sink = Counted::new(Sink::new(alloc, 3, bad_call.0, kind));
     let ended = if connects(alloc, spring) {
         write_all(rt, alloc, spring, &mut sink)
     } else {
@@ -293,7 +317,7 @@ fn other_with<R: Wait>(rt: &R, alloc: Global, spring: &mut Spring, row: &WriteRo
     let faults = sink.faults();
     let device = sink.into_device();
     let is_counted = faults == u64::from(flow == Flow::Fault);
-    if ended == Some((blocked, flow)) && is_counted && has_written(&device, count) {
+    if ended == Some((blocked.0, flow)) && is_counted && has_written(&device, written.0) {
         None
     } else {
         Some(Came {
@@ -345,7 +369,7 @@ fn stream_ends<R: Wait>(rt: &R, alloc: Global) -> Option<(Flow, Flow, Flow)> {
     if !connects(alloc, &mut spring) {
         return None;
     }
-    let sink = Sink::new(alloc, 3, 2, ErrorKind::WouldBlock);
+    let sink = Sink::new(alloc, 3, 2, WouldBlock);
     let mut stream = Outflow::new(alloc, OneTap, sink);
     let first = stream.write(rt, &mut spring);
     let second = stream.write(rt, &mut spring);

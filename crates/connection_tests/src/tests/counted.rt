@@ -8,18 +8,29 @@ use std::test::Fail;
 
 const TEXT: &[u8] = b"0123456789";
 
-// Which call fails, how the write ends, how many bytes are written, and how many faults are
-// counted.
-type Row = (u64, WholeWrite, usize, u64);
+// Which call of a device fails.
+#[derive(Clone, Copy)]
+struct BadCall(u64);
+
+// How many bytes are written.
+#[derive(Clone, Copy, Debug, PartialEq, Eq)]
+struct Written(usize);
+
+// How many faults are counted.
+#[derive(Clone, Copy, Debug, PartialEq, Eq)]
+struct Faults(u64);
+
+// Which call fails, how the write ends, and what is written and counted.
+type Row = (BadCall, WholeWrite, Written, Faults);
 
 // Ten bytes at three a call are four writes, and the fifth call is the flush.
 const ROWS: &[Row] = &[
-    (1, WholeWrite::Fault, 0, 1),
-    (2, WholeWrite::Fault, 3, 1),
-    (3, WholeWrite::Fault, 6, 1),
-    (4, WholeWrite::Fault, 9, 1),
-    (5, WholeWrite::Fault, 10, 1),
-    (6, WholeWrite::Whole, 10, 0),
+    (BadCall(1), WholeWrite::Fault, Written(0), Faults(1)),
+    (BadCall(2), WholeWrite::Fault, Written(3), Faults(1)),
+    (BadCall(3), WholeWrite::Fault, Written(6), Faults(1)),
+    (BadCall(4), WholeWrite::Fault, Written(9), Faults(1)),
+    (BadCall(5), WholeWrite::Fault, Written(10), Faults(1)),
+    (BadCall(6), WholeWrite::Whole, Written(10), Faults(0)),
 ];
 
 // Returns a device that takes this many bytes a call.
@@ -27,18 +38,18 @@ fn sink_of(alloc: Global, most: usize, bad_call: u64) -> Counted<Sink> {
     Counted::new(Sink::new(alloc, most, bad_call, ErrorKind::BrokenPipe))
 }
 
-// How a write ends, how many bytes are written, and how many faults are counted.
-type Came = (WholeWrite, usize, u64);
+// How a write ends, and what is written and counted.
+type Came = (WholeWrite, Written, Faults);
 
 // Writes the text to a device of which one call fails. Returns what came; none if other bytes are
 // written than the first ones of the text.
 fn came_of(alloc: Global, bad_call: u64) -> Option<Came> {
     let mut device = sink_of(alloc, 3, bad_call);
     let end = device.write_whole(TEXT);
-    let faults = device.faults();
+    let faults = Faults(device.faults());
     let sink = device.into_device();
     if TEXT.starts_with(sink.bytes()) {
-        Some((end, sink.bytes().len(), faults))
+        Some((end, Written(sink.bytes().len()), faults))
     } else {
         None
     }
@@ -46,9 +57,10 @@ fn came_of(alloc: Global, bad_call: u64) -> Option<Came> {
 
 #[test]
 fn what_stands_written_is_a_prefix(rt: HostRuntime) {
-    for (bad_call, end, count, faults) in ROWS {
-        let wanted = Some((*end, *count, *faults));
-        assert_eq!(rt; came_of(rt.alloc(), *bad_call), wanted, "{bad_call}");
+    for (bad_call, end, written, faults) in ROWS {
+        let call = bad_call.0;
+        let wanted = Some((*end, *written, *faults));
+        assert_eq!(rt; came_of(rt.alloc(), call), wanted, "{call}");
     }
 }
 

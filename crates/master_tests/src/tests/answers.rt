@@ -32,7 +32,12 @@ fn is_commit(group: &Group<Tally>, at: usize) -> bool {
     }
 }
 
-const ANSWERED: &[Row] = &[(0, 2, 0, 1), (0, 3, 0, 1), (1, 4, 1, 1), (3, 4, 1, 1)];
+const ANSWERED: &[Row] = &[
+    (Arrives(0), Sent(2), Left(0), Agreed(1)),
+    (Arrives(0), Sent(3), Left(0), Agreed(1)),
+    (Arrives(1), Sent(4), Left(1), Agreed(1)),
+    (Arrives(3), Sent(4), Left(1), Agreed(1)),
+];
 
 // Says whether these messages were sent, in order.
 fn sent_all(group: &Group<Tally>) -> bool {
@@ -43,7 +48,7 @@ fn sent_all(group: &Group<Tally>) -> bool {
 pub fn waits_for_all(group: &mut Group<Tally>) -> Option<&'static str> {
     if !adds(group, 1, 2) {
         Some("node 1 takes the command")
-    } else if counts(group) != (1, 0, 0) {
+    } else if counts(group) != (Sent(1), Left(0), Agreed(0)) {
         Some("one message is sent, and nothing is agreed")
     } else if !come(group, ANSWERED) {
         Some("the messages come as the rows say")
@@ -80,7 +85,7 @@ pub fn counts_alone(group: &mut Group<Tally>) -> Option<&'static str> {
         Event::Propose(1, TallyCommand::Start(2)),
         Event::Propose(1, TallyCommand::Add(3)),
     ]);
-    if counts(group) != (0, 2, 3) {
+    if counts(group) != (Sent(0), Left(2), Agreed(3)) {
         Some("no message is sent, two outputs leave, three places are agreed")
     } else if !gave(group, 0, 0, 2) {
         Some("the first output is 2, of place 0")

@@ -10,15 +10,15 @@ use std::alloc::Global;
 const STARTED: &[TallyCommand] = &[TallyCommand::Start(2)];
 
 const CHANGED: &[Row] = &[
-    (0, 2, 0, 0),
-    (1, 3, 0, 0),
-    (2, 4, 0, 0),
-    (3, 5, 0, 0),
-    (4, 6, 0, 0),
-    (5, 7, 0, 0),
-    (6, 8, 0, 0),
-    (7, 9, 0, 1),
-    (8, 10, 0, 1),
+    (Arrives(0), Sent(2), Left(0), Agreed(0)),
+    (Arrives(1), Sent(3), Left(0), Agreed(0)),
+    (Arrives(2), Sent(4), Left(0), Agreed(0)),
+    (Arrives(3), Sent(5), Left(0), Agreed(0)),
+    (Arrives(4), Sent(6), Left(0), Agreed(0)),
+    (Arrives(5), Sent(7), Left(0), Agreed(0)),
+    (Arrives(6), Sent(8), Left(0), Agreed(0)),
+    (Arrives(7), Sent(9), Left(0), Agreed(1)),
+    (Arrives(8), Sent(10), Left(0), Agreed(1)),
 ];
 
 /// Checks that the master gives the ballot to members 1 and 2 and primary 2, and its messages come
@@ -26,7 +26,7 @@ const CHANGED: &[Row] = &[
 pub fn is_changed(group: &mut Group<Tally>, alloc: Global) -> Option<&'static str> {
     if !gives_to(group, alloc, &[1, 2], 2) {
         Some("the master gives ballot 2")
-    } else if counts(group) != (1, 0, 0) {
+    } else if counts(group) != (Sent(1), Left(0), Agreed(0)) {
         Some("one message is sent")
     } else if !come(group, CHANGED) {
         Some("the messages come as the rows say")
@@ -47,21 +47,21 @@ fn a_new_configuration_takes_the_log_over(rt: HostRuntime) {
 }
 
 const WAITING: &[Row] = &[
-    (0, 2, 0, 0),
-    (1, 3, 0, 0),
-    (2, 4, 0, 0),
-    (3, 5, 0, 0),
-    (4, 6, 0, 0),
+    (Arrives(0), Sent(2), Left(0), Agreed(0)),
+    (Arrives(1), Sent(3), Left(0), Agreed(0)),
+    (Arrives(2), Sent(4), Left(0), Agreed(0)),
+    (Arrives(3), Sent(5), Left(0), Agreed(0)),
+    (Arrives(4), Sent(6), Left(0), Agreed(0)),
 ];
 
 const SUPERSEDED: &[Row] = &[
-    (5, 8, 0, 0),
-    (7, 8, 0, 0),
-    (6, 9, 0, 0),
-    (8, 10, 0, 0),
-    (9, 11, 0, 0),
-    (10, 12, 0, 0),
-    (11, 12, 0, 1),
+    (Arrives(5), Sent(8), Left(0), Agreed(0)),
+    (Arrives(7), Sent(8), Left(0), Agreed(0)),
+    (Arrives(6), Sent(9), Left(0), Agreed(0)),
+    (Arrives(8), Sent(10), Left(0), Agreed(0)),
+    (Arrives(9), Sent(11), Left(0), Agreed(0)),
+    (Arrives(10), Sent(12), Left(0), Agreed(0)),
+    (Arrives(11), Sent(12), Left(0), Agreed(1)),
 ];
 
 // Says whether the primary of ballot 2 asks the master for its activation by message 5, and is
@@ -157,17 +157,17 @@ fn a_new_primary_takes_over(rt: HostRuntime) {
 }
 
 const LEFT_BEHIND: &[Row] = &[
-    (2, 5, 0, 0),
-    (4, 6, 0, 0),
-    (5, 7, 0, 0),
-    (6, 8, 0, 0),
-    (7, 9, 0, 0),
-    (8, 10, 0, 0),
-    (9, 11, 0, 0),
-    (10, 12, 0, 1),
-    (11, 13, 0, 1),
-    (0, 13, 0, 1),
-    (12, 13, 0, 1),
+    (Arrives(2), Sent(5), Left(0), Agreed(0)),
+    (Arrives(4), Sent(6), Left(0), Agreed(0)),
+    (Arrives(5), Sent(7), Left(0), Agreed(0)),
+    (Arrives(6), Sent(8), Left(0), Agreed(0)),
+    (Arrives(7), Sent(9), Left(0), Agreed(0)),
+    (Arrives(8), Sent(10), Left(0), Agreed(0)),
+    (Arrives(9), Sent(11), Left(0), Agreed(0)),
+    (Arrives(10), Sent(12), Left(0), Agreed(1)),
+    (Arrives(11), Sent(13), Left(0), Agreed(1)),
+    (Arrives(0), Sent(13), Left(0), Agreed(1)),
+    (Arrives(12), Sent(13), Left(0), Agreed(1)),
 ];
 
 /// Checks that the longer log of node 1 is replaced after the change to primary 2. Returns the

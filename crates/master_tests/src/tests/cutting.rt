@@ -14,6 +14,13 @@ fn cuts(group: &mut Group<Tally>, node: u8) -> bool {
         && counts(group) == before
 }
 
+const HELD: &[Row] = &[
+    (Arrives(0), Sent(2), Left(0), Agreed(1)),
+    (Arrives(1), Sent(3), Left(1), Agreed(1)),
+];
+
+const COMMITTED: &[Row] = &[(Arrives(2), Sent(3), Left(1), Agreed(1))];
+
 /// Checks that two members cut what they applied, and no more; node 2 applies it only with the
 /// Commit. Returns the first step that fails.
 pub fn cuts_what_is_applied(group: &mut Group<Tally>) -> Option<&'static str> {
@@ -21,13 +28,13 @@ pub fn cuts_what_is_applied(group: &mut Group<Tally>) -> Option<&'static str> {
         Some("node 1 takes a command")
     } else if happens(group, &Event::Cut(1)) {
         Some("node 1 has nothing to cut before Held")
-    } else if !come(group, &[(0, 2, 0, 1), (1, 3, 1, 1)]) {
+    } else if !come(group, HELD) {
         Some("Append and Held come")
     } else if !cuts(group, 1) {
         Some("node 1 cuts its log once")
     } else if happens(group, &Event::Cut(2)) {
         Some("node 2 has nothing to cut before Commit")
-    } else if !come(group, &[(2, 3, 1, 1)]) {
+    } else if !come(group, COMMITTED) {
         Some("Commit comes")
     } else if !cuts(group, 2) {
         Some("node 2 cuts its log once")
@@ -47,15 +54,15 @@ fn a_cut_changes_nothing_that_is_seen(rt: HostRuntime) {
 // The messages 0 to 9 of the change: NewBallot, Join, State, Install, Installed, Activate,
 // Activated, Append, Held, Commit.
 const CHANGE: &[Row] = &[
-    (0, 2, 1, 1),
-    (1, 3, 1, 1),
-    (2, 4, 1, 1),
-    (3, 5, 1, 1),
-    (4, 6, 1, 1),
-    (5, 7, 1, 1),
-    (6, 8, 1, 1),
-    (7, 9, 1, 2),
-    (8, 10, 1, 2),
+    (Arrives(0), Sent(2), Left(1), Agreed(1)),
+    (Arrives(1), Sent(3), Left(1), Agreed(1)),
+    (Arrives(2), Sent(4), Left(1), Agreed(1)),
+    (Arrives(3), Sent(5), Left(1), Agreed(1)),
+    (Arrives(4), Sent(6), Left(1), Agreed(1)),
+    (Arrives(5), Sent(7), Left(1), Agreed(1)),
+    (Arrives(6), Sent(8), Left(1), Agreed(1)),
+    (Arrives(7), Sent(9), Left(1), Agreed(2)),
+    (Arrives(8), Sent(10), Left(1), Agreed(2)),
 ];
 
 /// Checks that node 1 cuts its log, and node 2 takes over from its snapshot and counts on from 2.
@@ -80,11 +87,16 @@ const COUNTED: &[TallyCommand] = &[
     TallyCommand::Add(3),
 ];
 
+const HELD_BY_BOTH: &[Row] = &[
+    (Arrives(10), Sent(12), Left(1), Agreed(3)),
+    (Arrives(11), Sent(13), Left(2), Agreed(3)),
+];
+
 // Checks that node 2 adds 3 to the total of the snapshot. Returns the first step that fails.
 fn counts_on(group: &mut Group<Tally>) -> Option<&'static str> {
     if !adds(group, 2, 3) {
         Some("node 2 takes a command")
-    } else if !come(group, &[(10, 12, 1, 3), (11, 13, 2, 3)]) {
+    } else if !come(group, HELD_BY_BOTH) {
         Some("its Append and the Held come")
     } else if !gave(group, 1, 2, 5) {
         Some("the second output is 5, of place 2")

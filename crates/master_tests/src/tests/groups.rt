@@ -47,18 +47,41 @@ pub fn gives_to(group: &mut Group<Tally>, alloc: Global, members: &[u8], primary
     }
 }
 
-/// Returns how many messages were sent, how many outputs left, and how many places are agreed.
-pub fn counts(group: &Group<Tally>) -> (usize, usize, u64) {
-    (group.sent().len(), group.left().len(), group.agreed_len())
+/// How many messages were sent.
+#[derive(Clone, Copy, Debug, PartialEq, Eq)]
+pub struct Sent(pub usize);
+
+/// How many outputs left.
+#[derive(Clone, Copy, Debug, PartialEq, Eq)]
+pub struct Left(pub usize);
+
+/// How many places are agreed.
+#[derive(Clone, Copy, Debug, PartialEq, Eq)]
+pub struct Agreed(pub u64);
+
+/// What is counted of a group.
+pub type Counts = (Sent, Left, Agreed);
+
+/// Returns what is counted of a group.
+pub fn counts(group: &Group<Tally>) -> Counts {
+    (
+        Sent(group.sent().len()),
+        Left(group.left().len()),
+        Agreed(group.agreed_len()),
+    )
 }
 
-/// The number of a message that comes, and the counts after it.
-pub type Row = (u64, usize, usize, u64);
+/// The message that comes, by its number.
+#[derive(Clone, Copy)]
+pub struct Arrives(pub u64);
+
+/// A message that comes, and what is counted after it.
+pub type Row = (Arrives, Sent, Left, Agreed);
 
 /// Says whether messages come one after another, with these counts after each.
 pub fn come(group: &mut Group<Tally>, rows: &[Row]) -> bool {
-    for (number, sent, left, agreed) in rows {
-        if !comes(group, *number) || counts(group) != (*sent, *left, *agreed) {
+    for (message, sent, left, agreed) in rows {
+        if !comes(group, message.0) || counts(group) != (*sent, *left, *agreed) {
             return false;
         }
     }

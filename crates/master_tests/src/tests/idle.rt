@@ -33,7 +33,7 @@ fn idles_at_first(group: &mut Group<Tally>) -> Option<&'static str> {
 // Says whether a run continues after what is idle in it.
 fn runs_on(group: &mut Group<Tally>) -> bool {
     group.run(&[Event::Tick(2), Event::Tick(1)]);
-    counts(group) == (3, 0, 0) && is_active(group, 1)
+    counts(group) == (Sent(3), Left(0), Agreed(0)) && is_active(group, 1)
 }
 
 // Checks that node 2, which has stopped, does nothing, and a run continues after that. Returns the

@@ -18,7 +18,8 @@ fn answers(group: &mut Group<Tally>, node: u8, number: u64) {
 // With one growth refused the first command is answered as usual, or one step is counted.
 fn is_whole_or_counted(group: &Group<Tally>) -> bool {
     let losses = group.losses();
-    (losses == 0 && counts(group) == (6, 1, 1) && gave(group, 0, 0, 2)) || losses == 1
+    (losses == 0 && counts(group) == (Sent(6), Left(1), Agreed(1)) && gave(group, 0, 0, 2))
+        || losses == 1
 }
 
 // Two of three nodes, of which one at most has stopped: at that one a tick cannot happen.

@@ -1,6 +1,6 @@
 // Which groups go through what. Each group is made in one place and lent from there.
 
-use super::groups::{counts, group};
+use super::groups::{Counts, counts, group};
 use super::{answers, changes, cutting, idle, memory, takeovers};
 use machine::Tally;
 use master::Group;
@@ -28,7 +28,7 @@ pub enum Run {
 /// agreed, which ballot is active, and how many steps ran out of memory.
 #[derive(Clone, Copy, Debug, PartialEq, Eq)]
 pub struct Shown {
-    counts: (usize, usize, u64),
+    counts: Counts,
     active: u64,
     losses: u64,
 }

@@ -6,30 +6,29 @@ use crate::tests::stale::STALE;
 use crate::tests::superseded::SUPERSEDED;
 use crate::tests::travelling::TRAVELLED;
 use std::alloc::Global;
-use world_rows::{Action, Row, World, is_right, opened};
+use world_rows::{Action, Agreed, Row, Sent, World, is_right, opened};
 
-/// The primary answers a CONNECT once its backup holds it. The numbers of `Does`, here and in the
-/// next table: messages sent, commands agreed.
+/// The primary answers a CONNECT once its backup holds it.
 pub const WAITS: &[Row] = &[
-    Row::Does(Action::Open("a", 1), 0, 0),
-    Row::Does(Action::Up(1), 1, 0),
-    Row::Does(Action::Deliver(0), 2, 1),
-    Row::Does(Action::Deliver(1), 3, 1),
-    Row::Does(Action::Down(1), 3, 1),
+    Row::Does(Action::Open("a", 1), Sent(0), Agreed(0)),
+    Row::Does(Action::Up(1), Sent(1), Agreed(0)),
+    Row::Does(Action::Deliver(0), Sent(2), Agreed(1)),
+    Row::Does(Action::Deliver(1), Sent(3), Agreed(1)),
+    Row::Does(Action::Down(1), Sent(3), Agreed(1)),
 ];
 
 // A sole member is joined by another one, which becomes the primary. No client comes.
 const CHANGED: &[Row] = &[
-    Row::Does(Action::Assign(&[1, 2], 2), 1, 0),
-    Row::Does(Action::Deliver(0), 2, 0),
-    Row::Does(Action::Deliver(1), 3, 0),
-    Row::Does(Action::Deliver(2), 4, 0),
-    Row::Does(Action::Deliver(3), 5, 0),
-    Row::Does(Action::Deliver(4), 6, 0),
-    Row::Does(Action::Deliver(5), 7, 0),
-    Row::Does(Action::Deliver(6), 8, 0),
-    Row::Does(Action::Deliver(7), 9, 1),
-    Row::Does(Action::Deliver(8), 10, 1),
+    Row::Does(Action::Assign(&[1, 2], 2), Sent(1), Agreed(0)),
+    Row::Does(Action::Deliver(0), Sent(2), Agreed(0)),
+    Row::Does(Action::Deliver(1), Sent(3), Agreed(0)),
+    Row::Does(Action::Deliver(2), Sent(4), Agreed(0)),
+    Row::Does(Action::Deliver(3), Sent(5), Agreed(0)),
+    Row::Does(Action::Deliver(4), Sent(6), Agreed(0)),
+    Row::Does(Action::Deliver(5), Sent(7), Agreed(0)),
+    Row::Does(Action::Deliver(6), Sent(8), Agreed(0)),
+    Row::Does(Action::Deliver(7), Sent(9), Agreed(1)),
+    Row::Does(Action::Deliver(8), Sent(10), Agreed(1)),
 ];
 
 /// A client that has a session in the log that is fetched, from one number of rows to another.

@@ -1,24 +1,23 @@
 // Messages that come again, or in another order.
 
-use world_rows::{ABSENT, Action, CONNECT_A, NOTHING, Row, Table, fault_in};
+use world_rows::{ABSENT, Action, Agreed, CONNECT_A, NOTHING, Row, Sent, Table, fault_in};
 
 // A CONNECT is answered once the backup holds it. Then the Commit comes again, the Held, and the
-// Append, which is held again; an Append that is already there adds nothing. The numbers of `Does`,
-// here and in the next table: messages sent, commands agreed.
+// Append, which is held again; an Append that is already there adds nothing.
 const REPEATED: &[Row] = &[
-    Row::Does(Action::Open("a", 1), 0, 0),
+    Row::Does(Action::Open("a", 1), Sent(0), Agreed(0)),
     Row::HasUp(1, CONNECT_A),
-    Row::Does(Action::Up(1), 1, 0),
+    Row::Does(Action::Up(1), Sent(1), Agreed(0)),
     Row::HasDown(1, NOTHING),
     Row::Idle(Action::Deliver(1)),
-    Row::Does(Action::Deliver(0), 2, 1),
+    Row::Does(Action::Deliver(0), Sent(2), Agreed(1)),
     Row::HasDown(1, NOTHING),
-    Row::Does(Action::Deliver(1), 3, 1),
+    Row::Does(Action::Deliver(1), Sent(3), Agreed(1)),
     Row::HasDown(1, ABSENT),
-    Row::Does(Action::Down(1), 3, 1),
-    Row::Does(Action::Deliver(2), 3, 1),
-    Row::Does(Action::Deliver(1), 3, 1),
-    Row::Does(Action::Deliver(0), 4, 1),
+    Row::Does(Action::Down(1), Sent(3), Agreed(1)),
+    Row::Does(Action::Deliver(2), Sent(3), Agreed(1)),
+    Row::Does(Action::Deliver(1), Sent(3), Agreed(1)),
+    Row::Does(Action::Deliver(0), Sent(4), Agreed(1)),
     Row::HasDown(1, NOTHING),
     Row::Idle(Action::Down(1)),
     Row::Idle(Action::Deliver(4)),
@@ -27,17 +26,17 @@ const REPEATED: &[Row] = &[
 
 // What a tick sends again is a message of its own.
 const TICKED: &[Row] = &[
-    Row::Does(Action::Open("a", 1), 0, 0),
-    Row::Does(Action::Up(1), 1, 0),
-    Row::Does(Action::Tick(1), 3, 0),
-    Row::Does(Action::Tick(2), 3, 0),
+    Row::Does(Action::Open("a", 1), Sent(0), Agreed(0)),
+    Row::Does(Action::Up(1), Sent(1), Agreed(0)),
+    Row::Does(Action::Tick(1), Sent(3), Agreed(0)),
+    Row::Does(Action::Tick(2), Sent(3), Agreed(0)),
     Row::Idle(Action::Tick(3)),
     Row::Idle(Action::Tick(0)),
-    Row::Does(Action::Deliver(1), 4, 1),
-    Row::Does(Action::Deliver(3), 5, 1),
+    Row::Does(Action::Deliver(1), Sent(4), Agreed(1)),
+    Row::Does(Action::Deliver(3), Sent(5), Agreed(1)),
     Row::HasDown(1, ABSENT),
-    Row::Does(Action::Deliver(0), 6, 1),
-    Row::Does(Action::Deliver(5), 6, 1),
+    Row::Does(Action::Deliver(0), Sent(6), Agreed(1)),
+    Row::Does(Action::Deliver(5), Sent(6), Agreed(1)),
     Row::HasDown(1, ABSENT),
 ];
 

@@ -2,8 +2,8 @@
 
 use std::alloc::Global;
 use world_rows::{
-    Action, Fault, NOTHING, PRESENT_AND_PUBLISH, PUBREC, Row, Said, Table, UNOPENED, World,
-    fault_at, fault_in, is_right, opened,
+    Action, Agreed, Fault, NOTHING, PRESENT_AND_PUBLISH, PUBREC, Row, Said, Sent, Session, Table,
+    UNOPENED, World, fault_at, fault_in, is_right, opened,
 };
 
 // What is agreed at the end. The PUBREC of the subscriber, which only the stale primary holds, is
@@ -20,48 +20,48 @@ const AFTER: &[Said] = &[
 /// The events of the script `stale_primary` of the folder `examples`, with what waits on
 /// connections. The subscriber's PUBREC comes to a primary that another member replaces, and is
 /// lost with it. No PUBREL goes down on any connection, and the subscriber accepts each publication
-/// once. The numbers of `Does`: messages sent, by the rules at `Row`, and commands agreed. Ballot 2
-/// has a sole member: its five messages are NewBallot, two Joins, a State and Activate, and
-/// Activated is the sixth. The tick of node 1 sends the Append that holds the PUBREC, and a Commit.
+/// once. Messages are counted by the rules at `Row`. Ballot 2 has a sole member: its five messages
+/// are NewBallot, two Joins, a State and Activate, and Activated is the sixth. The tick of node 1
+/// sends the Append that holds the PUBREC, and a Commit.
 pub const STALE: &[Row] = &[
-    Row::Does(Action::Open("b", 1), 0, 0),
-    Row::Does(Action::Up(1), 1, 0),
-    Row::Does(Action::Deliver(0), 2, 1),
-    Row::Does(Action::Deliver(1), 3, 1),
-    Row::Does(Action::Down(1), 3, 1),
-    Row::Does(Action::Subscribe("b"), 3, 1),
-    Row::Does(Action::Up(1), 4, 1),
-    Row::Does(Action::Deliver(3), 5, 2),
-    Row::Does(Action::Deliver(4), 6, 2),
-    Row::Does(Action::Open("a", 1), 6, 2),
-    Row::Does(Action::Up(2), 7, 2),
-    Row::Does(Action::Deliver(6), 8, 3),
-    Row::Does(Action::Deliver(7), 9, 3),
-    Row::Does(Action::Down(2), 9, 3),
-    Row::Does(Action::Publish("a"), 9, 3),
-    Row::Does(Action::Up(2), 10, 3),
-    Row::Does(Action::Deliver(9), 11, 4),
-    Row::Does(Action::Deliver(10), 12, 4),
-    Row::Took("b", 0, 0),
-    Row::Does(Action::Down(1), 12, 4),
-    Row::Took("b", 1, 1),
-    Row::Does(Action::Up(1), 13, 4),
-    Row::Does(Action::Assign(&[2], 2), 14, 4),
-    Row::Does(Action::Deliver(13), 16, 4),
-    Row::Does(Action::Deliver(15), 17, 4),
-    Row::Does(Action::Deliver(16), 18, 4),
-    Row::Does(Action::Deliver(17), 19, 4),
-    Row::Does(Action::Deliver(18), 19, 5),
-    Row::Does(Action::Tick(1), 21, 5),
-    Row::Does(Action::Deliver(19), 21, 5),
-    Row::Does(Action::Abandon("b"), 21, 5),
-    Row::Does(Action::Open("b", 2), 21, 5),
-    Row::Does(Action::Up(3), 21, 6),
+    Row::Does(Action::Open("b", 1), Sent(0), Agreed(0)),
+    Row::Does(Action::Up(1), Sent(1), Agreed(0)),
+    Row::Does(Action::Deliver(0), Sent(2), Agreed(1)),
+    Row::Does(Action::Deliver(1), Sent(3), Agreed(1)),
+    Row::Does(Action::Down(1), Sent(3), Agreed(1)),
+    Row::Does(Action::Subscribe("b"), Sent(3), Agreed(1)),
+    Row::Does(Action::Up(1), Sent(4), Agreed(1)),
+    Row::Does(Action::Deliver(3), Sent(5), Agreed(2)),
+    Row::Does(Action::Deliver(4), Sent(6), Agreed(2)),
+    Row::Does(Action::Open("a", 1), Sent(6), Agreed(2)),
+    Row::Does(Action::Up(2), Sent(7), Agreed(2)),
+    Row::Does(Action::Deliver(6), Sent(8), Agreed(3)),
+    Row::Does(Action::Deliver(7), Sent(9), Agreed(3)),
+    Row::Does(Action::Down(2), Sent(9), Agreed(3)),
+    Row::Does(Action::Publish("a"), Sent(9), Agreed(3)),
+    Row::Does(Action::Up(2), Sent(10), Agreed(3)),
+    Row::Does(Action::Deliver(9), Sent(11), Agreed(4)),
+    Row::Does(Action::Deliver(10), Sent(12), Agreed(4)),
+    Row::Took("b", 0, Session(0)),
+    Row::Does(Action::Down(1), Sent(12), Agreed(4)),
+    Row::Took("b", 1, Session(1)),
+    Row::Does(Action::Up(1), Sent(13), Agreed(4)),
+    Row::Does(Action::Assign(&[2], 2), Sent(14), Agreed(4)),
+    Row::Does(Action::Deliver(13), Sent(16), Agreed(4)),
+    Row::Does(Action::Deliver(15), Sent(17), Agreed(4)),
+    Row::Does(Action::Deliver(16), Sent(18), Agreed(4)),
+    Row::Does(Action::Deliver(17), Sent(19), Agreed(4)),
+    Row::Does(Action::Deliver(18), Sent(19), Agreed(5)),
+    Row::Does(Action::Tick(1), Sent(21), Agreed(5)),
+    Row::Does(Action::Deliver(19), Sent(21), Agreed(5)),
+    Row::Does(Action::Abandon("b"), Sent(21), Agreed(5)),
+    Row::Does(Action::Open("b", 2), Sent(21), Agreed(5)),
+    Row::Does(Action::Up(3), Sent(21), Agreed(6)),
     Row::HasDown(1, NOTHING),
     Row::HasDown(2, PUBREC),
     Row::HasDown(3, PRESENT_AND_PUBLISH),
-    Row::Does(Action::Down(3), 21, 6),
-    Row::Took("b", 1, 1),
+    Row::Does(Action::Down(3), Sent(21), Agreed(6)),
+    Row::Took("b", 1, Session(1)),
     Row::Active(2),
     Row::Agrees(AFTER),
 ];

@@ -1,6 +1,6 @@
 // Nodes that cut their logs.
 
-use world_rows::{Action, PRESENT, Row, Said, Table, fault_in};
+use world_rows::{Action, Agreed, PRESENT, Row, Said, Sent, Table, fault_in};
 
 // What is agreed before and after the other member takes over.
 const BEFORE: &[Said] = &[Said::Connect("a")];
@@ -9,33 +9,32 @@ const AFTER: &[Said] = &[Said::Connect("a"), Said::Start(2), Said::Connect("a")]
 
 /// The events of the script `snapshot_travels` of the folder `examples`. A sole member cuts its
 /// log, and has nothing to cut then. Another member takes over, to which its snapshot comes, and
-/// finds the client's session in it. The numbers of `Does`, here and in
-/// the next table: messages sent, commands agreed.
+/// finds the client's session in it.
 pub const TRAVELLED: &[Row] = &[
-    Row::Does(Action::Open("a", 1), 0, 0),
-    Row::Does(Action::Up(1), 0, 1),
-    Row::Does(Action::Down(1), 0, 1),
+    Row::Does(Action::Open("a", 1), Sent(0), Agreed(0)),
+    Row::Does(Action::Up(1), Sent(0), Agreed(1)),
+    Row::Does(Action::Down(1), Sent(0), Agreed(1)),
     Row::Agrees(BEFORE),
-    Row::Does(Action::Cut(1), 0, 1),
+    Row::Does(Action::Cut(1), Sent(0), Agreed(1)),
     Row::Agrees(BEFORE),
     Row::Idle(Action::Cut(1)),
-    Row::Does(Action::Assign(&[1, 2], 2), 1, 1),
-    Row::Does(Action::Deliver(0), 2, 1),
-    Row::Does(Action::Deliver(1), 3, 1),
-    Row::Does(Action::Deliver(2), 4, 1),
-    Row::Does(Action::Deliver(3), 5, 1),
-    Row::Does(Action::Deliver(4), 6, 1),
-    Row::Does(Action::Deliver(5), 7, 1),
-    Row::Does(Action::Deliver(6), 8, 1),
-    Row::Does(Action::Deliver(7), 9, 2),
-    Row::Does(Action::Deliver(8), 10, 2),
-    Row::Does(Action::Abandon("a"), 10, 2),
-    Row::Does(Action::Open("a", 2), 10, 2),
-    Row::Does(Action::Up(2), 11, 2),
-    Row::Does(Action::Deliver(10), 12, 3),
-    Row::Does(Action::Deliver(11), 13, 3),
+    Row::Does(Action::Assign(&[1, 2], 2), Sent(1), Agreed(1)),
+    Row::Does(Action::Deliver(0), Sent(2), Agreed(1)),
+    Row::Does(Action::Deliver(1), Sent(3), Agreed(1)),
+    Row::Does(Action::Deliver(2), Sent(4), Agreed(1)),
+    Row::Does(Action::Deliver(3), Sent(5), Agreed(1)),
+    Row::Does(Action::Deliver(4), Sent(6), Agreed(1)),
+    Row::Does(Action::Deliver(5), Sent(7), Agreed(1)),
+    Row::Does(Action::Deliver(6), Sent(8), Agreed(1)),
+    Row::Does(Action::Deliver(7), Sent(9), Agreed(2)),
+    Row::Does(Action::Deliver(8), Sent(10), Agreed(2)),
+    Row::Does(Action::Abandon("a"), Sent(10), Agreed(2)),
+    Row::Does(Action::Open("a", 2), Sent(10), Agreed(2)),
+    Row::Does(Action::Up(2), Sent(11), Agreed(2)),
+    Row::Does(Action::Deliver(10), Sent(12), Agreed(3)),
+    Row::Does(Action::Deliver(11), Sent(13), Agreed(3)),
     Row::HasDown(2, PRESENT),
-    Row::Does(Action::Down(2), 13, 3),
+    Row::Does(Action::Down(2), Sent(13), Agreed(3)),
     Row::Active(2),
     Row::Agrees(AFTER),
 ];
@@ -45,18 +44,18 @@ const IDLE: &[Row] = &[
     Row::Idle(Action::Cut(0)),
     Row::Idle(Action::Cut(1)),
     Row::Idle(Action::Cut(3)),
-    Row::Does(Action::Open("a", 1), 0, 0),
-    Row::Does(Action::Up(1), 1, 0),
+    Row::Does(Action::Open("a", 1), Sent(0), Agreed(0)),
+    Row::Does(Action::Up(1), Sent(1), Agreed(0)),
     Row::Idle(Action::Cut(1)),
-    Row::Does(Action::Deliver(0), 2, 1),
+    Row::Does(Action::Deliver(0), Sent(2), Agreed(1)),
     Row::Idle(Action::Cut(1)),
     Row::Idle(Action::Cut(2)),
-    Row::Does(Action::Deliver(1), 3, 1),
+    Row::Does(Action::Deliver(1), Sent(3), Agreed(1)),
     Row::Idle(Action::Cut(2)),
-    Row::Does(Action::Deliver(2), 3, 1),
-    Row::Does(Action::Cut(2), 3, 1),
+    Row::Does(Action::Deliver(2), Sent(3), Agreed(1)),
+    Row::Does(Action::Cut(2), Sent(3), Agreed(1)),
     Row::Idle(Action::Cut(2)),
-    Row::Does(Action::Crash(1), 3, 1),
+    Row::Does(Action::Crash(1), Sent(3), Agreed(1)),
     Row::Idle(Action::Cut(1)),
     Row::Agrees(BEFORE),
 ];
