@@ -71,68 +71,100 @@ fn is_closed(stream: &mut TcpStream) -> bool {
     matches!(stream.read(&mut byte), Ok(0))
 }
 
-// Says whether the node accepts a client on this stream, and ends the stream after it is ordered to
-// crash.
-fn is_crashed(stream: &mut TcpStream, orders: &mut PipeWriter) -> bool {
-    is_accepted(stream) && gives(orders, THEN) && is_closed(stream)
+// Has the node accept client `p` on this stream, and end the stream after it is ordered to crash.
+// Returns the first step that fails.
+fn crash_by(stream: &mut TcpStream, orders: &mut PipeWriter) -> Option<&'static str> {
+    if !is_accepted(stream) {
+        Some("client p is accepted")
+    } else if !gives(orders, THEN) {
+        Some("the order to crash is given")
+    } else if !is_closed(stream) {
+        Some("the node ends the stream of client p")
+    } else {
+        None
+    }
 }
 
-// Says whether the node crashes by order. It has stopped once it ends a client's stream.
-fn crashes<R>(rt: &R, orders: &mut PipeWriter, address: &str) -> bool
+// Crashes the node by order: it has stopped once it ends a client's stream. Returns the first step
+// that fails.
+fn crash<R>(rt: &R, orders: &mut PipeWriter, address: &str) -> Option<&'static str>
 where
     R: Net<Listener = TcpListener, Stream = TcpStream>,
 {
     match TcpStream::connect(rt, address) {
         Ok(mut stream) => {
-            let is_so = is_crashed(&mut stream, orders);
+            let fault = crash_by(&mut stream, orders);
             drop(stream);
-            is_so
+            fault
         }
-        Err(_) => false,
+        Err(_) => Some("client p connects"),
     }
 }
 
-// Says whether each order is given, once it shows that the one before was obeyed. The `sub` has a
-// session once it prints what was kept, and has lost it once it prints that.
-fn gives_all<R>(rt: &R, orders: &mut PipeWriter, address: &str, heard: &Shown) -> bool
+// Gives each order once it shows that the one before was obeyed. The `sub` has a session once it
+// prints what was kept, and has lost it once it prints that. Returns the first step that fails.
+fn give_all<R>(
+    rt: &R,
+    orders: &mut PipeWriter,
+    address: &str,
+    heard: &Shown,
+) -> Option<&'static str>
 where
     R: Wait + Clock + Net<Listener = TcpListener, Stream = TcpStream>,
 {
-    heard.comes_to(rt, KEPT)
-        && gives(orders, FIRST)
-        && heard.comes_to(rt, LOST)
-        && crashes(rt, orders, address)
-        && gives(orders, LAST)
+    if !heard.comes_to(rt, KEPT) {
+        return Some("`sub` prints what was kept");
+    }
+    if !gives(orders, FIRST) {
+        return Some("the first orders are given");
+    }
+    if !heard.comes_to(rt, LOST) {
+        return Some("`sub` prints that it is lost");
+    }
+    let fault = crash(rt, orders, address);
+    if fault.is_some() {
+        return fault;
+    }
+    if gives(orders, LAST) {
+        None
+    } else {
+        Some("the last orders are given")
+    }
 }
 
-// Says whether all orders are given, by a pipe that then ends.
-fn orders_all<R>(rt: &R, orders: PipeWriter, address: &str, heard: &Shown) -> bool
+// Gives all orders, by a pipe that then ends. Returns the first step that fails.
+fn order_all<R>(rt: &R, orders: PipeWriter, address: &str, heard: &Shown) -> Option<&'static str>
 where
     R: Wait + Clock + Net<Listener = TcpListener, Stream = TcpStream>,
 {
     let mut orders = orders;
-    let are_given = gives_all(rt, &mut orders, address, heard);
+    let fault = give_all(rt, &mut orders, address, heard);
     drop(orders);
-    are_given
+    fault
 }
 
 /// Gives the orders while a `sub` waits that gets what was kept before, and takes down what the
-/// clients write. Says whether the orders are given.
-pub(super) fn talks<R>(rt: &R, orders: PipeWriter, address: &str, written: &Written) -> bool
+/// clients write. Returns the first step that fails.
+pub(super) fn talk_and_expel<R>(
+    rt: &R,
+    orders: PipeWriter,
+    address: &str,
+    written: &Written,
+) -> Option<&'static str>
 where
     R: Threads + Wait + Clock + Sync + AllocGlobal,
     R: Net<Listener = TcpListener, Stream = TcpStream>,
 {
     if !keeps(rt, address, &written.told) {
-        return false;
+        return Some("`pub` has something kept");
     }
     let heard = &written.heard;
-    let (are_given, ()) = thread::join(
+    let (fault, ()) = thread::join(
         rt,
-        || orders_all(rt, orders, address, heard),
+        || order_all(rt, orders, address, heard),
         || hears(rt, address, 2, heard),
     );
-    are_given
+    fault
 }
 
 #[test]

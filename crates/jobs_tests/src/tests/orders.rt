@@ -1,6 +1,6 @@
 // Orders to the nodes of a server, before and after its two clients run.
 
-use super::expels::talks;
+use super::expels::talk_and_expel;
 use super::hand::gives;
 use super::shown::{Shown, ShownOutput};
 use command_line::{Publish, Subscribe};
@@ -195,28 +195,45 @@ where
     }
 }
 
-// Gives the orders, and has the clients talk between them, once the first orders are answered. Says
-// whether the orders are given.
-fn order_around<R>(rt: &R, orders: &mut PipeWriter, address: &str, written: &Written) -> bool
+// Gives the orders, and has the clients talk between them, once the first orders are answered.
+// Returns the first step that fails.
+fn order_around<R>(
+    rt: &R,
+    orders: &mut PipeWriter,
+    address: &str,
+    written: &Written,
+) -> Option<&'static str>
 where
     R: Wait + Clock + AllocGlobal + Net<Stream = TcpStream>,
 {
-    if !gives(orders, FIRST) || !written.answers.comes_to(rt, STATUS) {
-        return false;
+    if !gives(orders, FIRST) {
+        return Some("the first orders are given");
+    }
+    if !written.answers.comes_to(rt, STATUS) {
+        return Some("the first orders are answered");
     }
     talk(rt, address, written);
-    gives(orders, THEN)
+    if gives(orders, THEN) {
+        None
+    } else {
+        Some("the last orders are given")
+    }
 }
 
-// Says whether all orders are given, by a pipe that then ends.
-fn order_all<R>(rt: &R, orders: PipeWriter, address: &str, written: &Written) -> bool
+// Gives all orders, by a pipe that then ends. Returns the first step that fails.
+fn order_all<R>(
+    rt: &R,
+    orders: PipeWriter,
+    address: &str,
+    written: &Written,
+) -> Option<&'static str>
 where
     R: Wait + Clock + AllocGlobal + Net<Stream = TcpStream>,
 {
     let mut orders = orders;
-    let are_given = order_around(rt, &mut orders, address, written);
+    let fault = order_around(rt, &mut orders, address, written);
     drop(orders);
-    are_given
+    fault
 }
 
 /// Which orders are given, and what clients do meanwhile.
@@ -229,15 +246,21 @@ pub(super) enum Given {
 }
 
 impl Given {
-    // Says whether the orders are given.
-    fn is_done<R>(self, rt: &R, orders: PipeWriter, address: &str, written: &Written) -> bool
+    // Gives the orders. Returns the first step that fails.
+    fn order<R>(
+        self,
+        rt: &R,
+        orders: PipeWriter,
+        address: &str,
+        written: &Written,
+    ) -> Option<&'static str>
     where
         R: Threads + Wait + Clock + Sync + AllocGlobal,
         R: Net<Listener = TcpListener, Stream = TcpStream>,
     {
         match self {
             Given::Orders => order_all(rt, orders, address, written),
-            Given::Expels => talks(rt, orders, address, written),
+            Given::Expels => talk_and_expel(rt, orders, address, written),
         }
     }
 }
@@ -268,15 +291,15 @@ where
         return Some("there is a pipe");
     };
     let answers = &written.answers;
-    let (is_served, are_given) = thread::join(
+    let (is_served, fault) = thread::join(
         rt,
         || serve(rt, served.table.as_str(), input, answers),
-        || given.is_done(rt, orders, served.address.as_str(), written),
+        || given.order(rt, orders, served.address.as_str(), written),
     );
-    match (is_served, are_given) {
-        (true, true) => None,
-        (false, _) => Some("the nodes are served"),
-        (true, false) => Some("the orders are given"),
+    if is_served {
+        fault
+    } else {
+        Some("the nodes are served")
     }
 }
 
