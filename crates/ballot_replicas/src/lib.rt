@@ -6,4 +6,4 @@ mod pairs;
 mod replicas;
 
 pub use pairs::{Pair, hand_on, hands_on, is_assigned, master_says, open};
-pub use replicas::{Way, appends, commits, config, gives, hears, holds, logs, made, shows, takes};
+pub use replicas::{Way, appends, commits, gives, hears, holds, logs, made, shows, takes};

@@ -4,8 +4,8 @@ use ballot::{Body, Config, Effect, Members, Message, OpeningError, Replica, Role
 use machine::{Memory, Tally, TallyCommand};
 use std::alloc::Global;
 
-/// Returns a configuration with these members and this primary.
-pub fn config(alloc: Global, members: &[u8], primary: u8) -> Result<Config, Memory> {
+// Returns a configuration with these members and this primary.
+fn config(alloc: Global, members: &[u8], primary: u8) -> Result<Config, Memory> {
     Ok(Config {
         members: Members::from_slice(alloc, members)?,
         primary,

@@ -1,5 +1,5 @@
-//! Tests of crate `ballot`, and of a master alone, through public calls: that the calls succeed
-//! while there is memory, and what a replica returns then, as worked examples.
+//! Tests of crate `ballot` through its public calls: that the calls succeed while there is memory,
+//! and what a replica returns then, as worked examples.
 #![tactic(auto)]
 
 #[cfg(test)]

@@ -1,6 +1,5 @@
 // What no clause says: what replicas send one another and answer, and that calls do not give up.
 
-mod ballots;
 mod changes;
 mod commands;
 mod counting;

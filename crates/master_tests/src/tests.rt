@@ -2,6 +2,7 @@
 // memory is counted.
 
 mod answers;
+mod ballots;
 mod changes;
 mod cutting;
 mod groups;

@@ -2,7 +2,6 @@
 
 use ballot::{OpeningError, ProposeError};
 use machine::{Halted, Memory, ThawFault};
-use master::AssignError;
 use std::test::Fail;
 
 const OPENING: &[(OpeningError, u8, &str)] = &[
@@ -32,28 +31,6 @@ fn refusals_of_a_replica_have_their_texts(rt: HostRuntime) -> Result<(), Fail> {
         );
     }
     for (error, number, text) in PROPOSING {
-        let printed = format!(in rt.alloc(); "{error}")?;
-        assert_eq!(rt;
-            (error.number(), printed.as_str()),
-            (*number, *text),
-            "{error:?}"
-        );
-    }
-    Ok(())
-}
-
-const ASSIGNING: &[(AssignError, u8, &str)] = &[
-    (
-        AssignError::BadMembers,
-        20,
-        "members or primary of the ballot",
-    ),
-    (AssignError::BallotsSpent, 21, "no ballot left"),
-];
-
-#[test]
-fn refusals_of_a_master_have_their_texts(rt: HostRuntime) -> Result<(), Fail> {
-    for (error, number, text) in ASSIGNING {
         let printed = format!(in rt.alloc(); "{error}")?;
         assert_eq!(rt;
             (error.number(), printed.as_str()),

@@ -1,8 +1,9 @@
 // A master alone: it gives ballots, supersedes them and activates them, and refuses bad members.
 
-use ballot_replicas::config;
+use super::groups::config;
 use master::{Activation, AssignError, Master};
 use std::alloc::Global;
+use std::test::Fail;
 
 // Returns a master whose ballot 1 is active with node 1; none if there was no memory for it.
 fn opened(alloc: Global) -> Option<Master> {
@@ -141,4 +142,27 @@ fn refusal_of(alloc: Global, members: &[u8], primary: u8) -> Option<AssignError>
 fn a_primary_is_a_member(rt: HostRuntime) {
     let refusal = refusal_of(rt.alloc(), &[2], 1);
     assert_eq!(rt; refusal, Some(AssignError::BadMembers));
+}
+
+// Why no ballot is given, with the numbers of docs/REFUSALS.md and what a user is told.
+const ASSIGNING: &[(AssignError, u8, &str)] = &[
+    (
+        AssignError::BadMembers,
+        20,
+        "members or primary of the ballot",
+    ),
+    (AssignError::BallotsSpent, 21, "no ballot left"),
+];
+
+#[test]
+fn refusals_of_a_master_have_their_texts(rt: HostRuntime) -> Result<(), Fail> {
+    for (error, number, text) in ASSIGNING {
+        let printed = format!(in rt.alloc(); "{error}")?;
+        assert_eq!(rt;
+            (error.number(), printed.as_str()),
+            (*number, *text),
+            "{error:?}"
+        );
+    }
+    Ok(())
 }
