@@ -43,7 +43,7 @@ pub(crate) enum Came {
 
 /// A row whose answer differs from the wanted one, by its index, and what came.
 #[derive(Clone, Copy, Debug, PartialEq, Eq)]
-pub(crate) struct Other {
+pub(crate) struct RowFault {
     row: usize,
     came: Came,
 }
@@ -55,14 +55,14 @@ pub(crate) const CLOSED: &[u8] = &[];
 pub(crate) const NOTHING: &[Answer<'static>] = &[];
 
 /// Returns the first row whose answer differs from the wanted one, and what came.
-pub(crate) fn other_answer(
+pub(crate) fn first_fault_of_rows(
     alloc: Global,
     broker: &mut BrokerMachine,
     rows: &[Row<'_>],
-) -> Option<Other> {
+) -> Option<RowFault> {
     for (row, (event, wanted)) in rows.iter().enumerate() {
         if let Some(came) = came_instead(alloc, broker, *event, wanted) {
-            return Some(Other { row, came });
+            return Some(RowFault { row, came });
         }
     }
     None
@@ -77,7 +77,7 @@ pub(crate) fn came_instead(
 ) -> Option<Came> {
     let mut given = Vec::new(alloc);
     if is_given(alloc, broker, event, &mut given) {
-        first_unwanted(alloc, &given, wanted)
+        first_fault_of_outputs(alloc, &given, wanted)
     } else {
         Some(Came::Nothing)
     }
@@ -137,7 +137,7 @@ fn sized(packet: Packet) -> Option<SizedPacket> {
 
 // Returns the first of these outputs that differs from the answer of a row; how many there are if
 // there are too few.
-fn first_unwanted(alloc: Global, given: &[Output], wanted: &[Answer<'_>]) -> Option<Came> {
+fn first_fault_of_outputs(alloc: Global, given: &[Output], wanted: &[Answer<'_>]) -> Option<Came> {
     for (index, output) in given.iter().enumerate() {
         if !is_wanted_at(alloc, output, wanted, index) {
             return Some(came_at(alloc, index, output));

@@ -1,8 +1,8 @@
 // Runs: what a broker goes through. Each is made in one place, and lent from there.
 
-use crate::row::{Came, Other, Row, other_answer};
+use crate::row::{Came, Row, RowFault, first_fault_of_rows};
 use crate::tests::forms::{Form, Step, is_built};
-use crate::tests::queues::{Part, other_part};
+use crate::tests::queues::{Part, first_fault_of_parts};
 use crate::tests::{forms, windows};
 use broker::BrokerMachine;
 use machine::Machine;
@@ -37,12 +37,12 @@ pub(crate) enum Fault {
     /// There was no broker: memory ran out, or its bytes were not read.
     Start,
     /// This row had another answer.
-    Row(Other),
+    Row(RowFault),
     /// At this step this came.
     Step(usize, Came),
     /// When the part of this index came once more, after this many times, this row had another
     /// answer.
-    Part(usize, u32, Other),
+    Part(usize, u32, RowFault),
     /// For the publication with this identifier this came.
     Publication(u8, Came),
     /// After this many steps the bytes of a frozen broker were others, from this index on; none if
@@ -70,8 +70,8 @@ fn started(alloc: Global, start: Start<'_>) -> Option<BrokerMachine> {
 
 // Returns the first row whose answer differs from the wanted one.
 fn fault_in_rows(alloc: Global, broker: &mut BrokerMachine, rows: &[Row<'_>]) -> Option<Fault> {
-    match other_answer(alloc, broker, rows) {
-        Some(other) => Some(Fault::Row(other)),
+    match first_fault_of_rows(alloc, broker, rows) {
+        Some(fault) => Some(Fault::Row(fault)),
         None => None,
     }
 }
@@ -80,10 +80,10 @@ fn fault_in_rows(alloc: Global, broker: &mut BrokerMachine, rows: &[Row<'_>]) ->
 fn fault_of(alloc: Global, broker: &mut BrokerMachine, run: Run<'_>) -> Option<Fault> {
     match run {
         Run::Rows(rows) => fault_in_rows(alloc, broker, rows),
-        Run::HasBytes(form) => forms::other_bytes(alloc, broker, form, 0),
-        Run::HasForms(first, steps) => forms::other_form(alloc, broker, first, steps),
-        Run::Parts(parts) => other_part(alloc, broker, parts),
-        Run::Sends(sent, rows) => windows::other_sent(alloc, broker, sent, rows),
+        Run::HasBytes(form) => forms::first_fault_of_form(alloc, broker, form, 0),
+        Run::HasForms(first, steps) => forms::first_fault_of_forms(alloc, broker, first, steps),
+        Run::Parts(parts) => first_fault_of_parts(alloc, broker, parts),
+        Run::Sends(sent, rows) => windows::first_fault_of_sending(alloc, broker, sent, rows),
     }
 }
 

@@ -76,7 +76,7 @@ impl Came {
     /// are shown from the first one on that differs.
     pub(crate) fn new(read: &[u8], wanted: &[u8], stream: StreamState) -> Came {
         let from = if wanted.len() > SHOWN {
-            first_difference(read, wanted)
+            first_fault(read, wanted)
         } else {
             0
         };
@@ -94,7 +94,7 @@ impl Came {
 }
 
 // Returns the index of the first byte that differs; the shorter length if none does.
-fn first_difference(read: &[u8], wanted: &[u8]) -> usize {
+fn first_fault(read: &[u8], wanted: &[u8]) -> usize {
     let mut at: usize = 0;
     for (one, other) in read.iter().zip(wanted) {
         if *one != *other {

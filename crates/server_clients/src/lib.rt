@@ -5,10 +5,10 @@
 
 mod came;
 mod client;
+mod fault;
 mod floods;
 mod heard;
 mod hearing;
-mod missed;
 mod ports;
 mod visiting;
 
@@ -16,11 +16,11 @@ pub use came::{Came, Excerpt, StreamState};
 pub use client::{
     Pair, SUBSCRIBE, SUBSCRIBED, connect, deliver, exchange, join, open, ping, publish,
 };
+pub use fault::{Fault, named, unless};
 pub use floods::{Flood, Large, large_publish, publish_times};
 pub use heard::Heard;
 pub use hearing::{
     hear, hear_end, hear_end_within, hear_nothing, hear_nothing_for, limit_writes, send, send_times,
 };
-pub use missed::{Missed, named, unless};
 pub use ports::{listen_all, opening};
 pub use visiting::visit;

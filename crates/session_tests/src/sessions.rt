@@ -116,34 +116,37 @@ const FROZEN: [u8; 29] = [
 ];
 
 // Returns the first of these rows that a new session does not do as it says.
-fn first_undone(alloc: Global, rows: &[Row<'_>]) -> Option<Fault> {
+fn first_fault_of_fresh(alloc: Global, rows: &[Row<'_>]) -> Option<Fault> {
     let mut session = Session::new(alloc);
     first_fault(alloc, &mut session, rows)
 }
 
 #[test]
 fn a_puback_frees_its_identifier(rt: HostRuntime) {
-    assert_eq!(rt; first_undone(rt.alloc(), FREES_ITS_IDENTIFIER), None);
+    assert_eq!(rt;
+        first_fault_of_fresh(rt.alloc(), FREES_ITS_IDENTIFIER),
+        None
+    );
 }
 
 #[test]
 fn released_entries_come_first_again(rt: HostRuntime) {
-    assert_eq!(rt; first_undone(rt.alloc(), RELEASED_COME_FIRST), None);
+    assert_eq!(rt; first_fault_of_fresh(rt.alloc(), RELEASED_COME_FIRST), None);
 }
 
 #[test]
 fn an_identifier_is_new_after_pubrel(rt: HostRuntime) {
-    assert_eq!(rt; first_undone(rt.alloc(), NEW_AFTER_PUBREL), None);
+    assert_eq!(rt; first_fault_of_fresh(rt.alloc(), NEW_AFTER_PUBREL), None);
 }
 
 #[test]
 fn the_greatest_matching_qos_is_granted(rt: HostRuntime) {
-    assert_eq!(rt; first_undone(rt.alloc(), GREATEST_QOS), None);
+    assert_eq!(rt; first_fault_of_fresh(rt.alloc(), GREATEST_QOS), None);
 }
 
 #[test]
 fn a_queue_takes_4096_entries(rt: HostRuntime) {
-    assert_eq!(rt; first_undone(rt.alloc(), QUEUE_IS_FULL), None);
+    assert_eq!(rt; first_fault_of_fresh(rt.alloc(), QUEUE_IS_FULL), None);
 }
 
 // Why nothing is queued, with the numbers of docs/REFUSALS.md.
@@ -166,7 +169,7 @@ fn refusals_have_their_numbers_and_texts(rt: HostRuntime) -> Result<(), Fail> {
 }
 
 // Returns the first check that fails for the session of the bytes.
-fn missed_of(alloc: Global, session: &Session) -> Option<&'static str> {
+fn first_fault_of_session(alloc: Global, session: &Session) -> Option<&'static str> {
     if !is_received(session, 7) {
         Some("identifier 7 was received")
     } else if is_received(session, 8) {
@@ -183,13 +186,13 @@ fn missed_of(alloc: Global, session: &Session) -> Option<&'static str> {
 const UNREAD: Option<&str> = Some("the bytes are read");
 
 // Returns the first check that fails for these bytes.
-fn missed_by(alloc: Global, bytes: &[u8]) -> Option<&'static str> {
+fn first_fault_of_bytes(alloc: Global, bytes: &[u8]) -> Option<&'static str> {
     let mut reader = Reader::new(bytes);
     match Session::read(alloc, 64, &mut reader) {
         Ok(session) => {
-            let missed = missed_of(alloc, &session);
+            let fault = first_fault_of_session(alloc, &session);
             drop(session);
-            missed
+            fault
         }
         Err(_) => UNREAD,
     }
@@ -197,7 +200,7 @@ fn missed_by(alloc: Global, bytes: &[u8]) -> Option<&'static str> {
 
 #[test]
 fn a_frozen_session_is_read(rt: HostRuntime) {
-    assert_eq!(rt; missed_by(rt.alloc(), &FROZEN), None);
+    assert_eq!(rt; first_fault_of_bytes(rt.alloc(), &FROZEN), None);
 }
 
 #[test]
@@ -207,7 +210,7 @@ fn other_bytes_are_no_session(rt: HostRuntime) {
     for (index, byte) in rows {
         let mut bytes = FROZEN;
         bytes[index] = byte;
-        assert_eq!(rt; missed_by(rt.alloc(), &bytes), UNREAD, "{index}");
+        assert_eq!(rt; first_fault_of_bytes(rt.alloc(), &bytes), UNREAD, "{index}");
     }
-    assert_eq!(rt; missed_by(rt.alloc(), &FROZEN[..26]), UNREAD);
+    assert_eq!(rt; first_fault_of_bytes(rt.alloc(), &FROZEN[..26]), UNREAD);
 }

@@ -53,7 +53,7 @@ fn first_fault(alloc: Global, store: &mut RetainedStore, rows: &[Row<'_>]) -> Op
 
 // Keeps a publication of each of as many topics as a store may have. Returns the first of them that
 // is not kept.
-fn first_unkept(alloc: Global, store: &mut RetainedStore) -> Option<u32> {
+fn first_fault_of_filling(alloc: Global, store: &mut RetainedStore) -> Option<u32> {
     for number in 0..16_384u32 {
         let Ok(text) = format!(in alloc; "t/{number}") else {
             return Some(number);
@@ -74,7 +74,7 @@ fn the_last_publication_of_a_topic_is_found(rt: HostRuntime) {
 #[test]
 fn a_store_keeps_16384_topics(rt: HostRuntime) {
     let mut store = RetainedStore::new(rt.alloc());
-    assert_eq!(rt; first_unkept(rt.alloc(), &mut store), None);
+    assert_eq!(rt; first_fault_of_filling(rt.alloc(), &mut store), None);
     assert_eq!(rt; first_fault(rt.alloc(), &mut store, AT_THE_LIMIT), None);
 }
 

@@ -110,7 +110,7 @@ fn what_came(alloc: Global, world: &World, row: &Row) -> Came {
             let (count, session) = accepted(alloc, world, client).unwrap_or((0, 0));
             Came::Accepted(count, session)
         }
-        Row::Agrees(list) => other_command(world, list),
+        Row::Agrees(list) => first_fault_of_agreed(world, list),
         _ => Came::Nothing,
     }
 }
@@ -125,7 +125,7 @@ fn waiting(bytes: &[u8]) -> Came {
 }
 
 // Returns the first agreed command that is not the one of the list.
-fn other_command(world: &World, list: &[Said]) -> Came {
+fn first_fault_of_agreed(world: &World, list: &[Said]) -> Came {
     let (recorded, kept) = world.agreed();
     let mut at: usize = 0;
     for command in recorded.iter().chain(kept.iter()) {

@@ -21,7 +21,7 @@ fn gives(alloc: Global, tally: &mut Tally, command: &TallyCommand, wanted: &[u64
 }
 
 // Returns the first row whose output differs from the wanted one.
-fn other_row(alloc: Global, tally: &mut Tally) -> Option<usize> {
+fn first_fault(alloc: Global, tally: &mut Tally) -> Option<usize> {
     for (row, (command, wanted)) in ROWS.iter().enumerate() {
         if !gives(alloc, tally, command, wanted) {
             return Some(row);
@@ -31,16 +31,16 @@ fn other_row(alloc: Global, tally: &mut Tally) -> Option<usize> {
 }
 
 // Returns the first row whose output of a fresh counting machine differs from the wanted one.
-fn other_row_of_fresh(alloc: Global) -> Option<usize> {
+fn first_fault_of_fresh(alloc: Global) -> Option<usize> {
     match Tally::fresh(alloc) {
-        Ok(mut tally) => other_row(alloc, &mut tally),
+        Ok(mut tally) => first_fault(alloc, &mut tally),
         Err(_) => Some(0),
     }
 }
 
 #[test]
 fn a_tally_adds_up_and_starts_give_nothing(rt: HostRuntime) {
-    assert_eq!(rt; other_row_of_fresh(rt.alloc()), None);
+    assert_eq!(rt; first_fault_of_fresh(rt.alloc()), None);
 }
 
 // The frozen machine is its total, most significant byte first; nothing else thaws.

@@ -13,7 +13,11 @@ type Out = Vec<Effect<TallyCommand, u64>>;
 
 // Checks a replica that took the command: its effect comes, or its one message is lost and counted.
 // Returns the first step that fails.
-fn missed_when_taken(replica: &Replica<Tally>, out: &Out, is_alone: bool) -> Option<&'static str> {
+fn first_fault_when_taken(
+    replica: &Replica<Tally>,
+    out: &Out,
+    is_alone: bool,
+) -> Option<&'static str> {
     let given = if is_alone {
         gives(out, 0, 0, 2)
     } else {
@@ -30,7 +34,7 @@ fn missed_when_taken(replica: &Replica<Tally>, out: &Out, is_alone: bool) -> Opt
 }
 
 // Checks that a replica has stopped and gives nothing any more. Returns the first step that fails.
-fn missed_when_stopped(replica: &mut Replica<Tally>, out: &mut Out) -> Option<&'static str> {
+fn first_fault_when_stopped(replica: &mut Replica<Tally>, out: &mut Out) -> Option<&'static str> {
     replica.tick(out);
     if !out.is_empty() {
         Some("a stopped replica gives nothing")
@@ -46,13 +50,13 @@ fn missed_when_stopped(replica: &mut Replica<Tally>, out: &mut Out) -> Option<&'
 }
 
 // Proposes to add 2, again if it was refused. Returns the first step that fails, in words.
-fn missed_step(
+fn first_fault(
     replica: &mut Replica<Tally>,
     out: &mut Out,
     is_alone: bool,
 ) -> Option<&'static str> {
     match replica.propose(TallyCommand::Add(2), out) {
-        Ok(()) => missed_when_taken(replica, out, is_alone),
+        Ok(()) => first_fault_when_taken(replica, out, is_alone),
         Err(ProposeError::Memory) => {
             if !out.is_empty() || !shows(replica, 1, Role::Active, 0, 0) {
                 Some("a refused command leaves the replica as it was")
@@ -61,28 +65,28 @@ fn missed_step(
             } else if replica.propose(TallyCommand::Add(2), out).is_err() {
                 Some("the command is taken at the second try")
             } else {
-                missed_when_taken(replica, out, is_alone)
+                first_fault_when_taken(replica, out, is_alone)
             }
         }
-        Err(ProposeError::Halted) => missed_when_stopped(replica, out),
+        Err(ProposeError::Halted) => first_fault_when_stopped(replica, out),
         Err(_) => Some("a command is refused only for memory"),
     }
 }
 
 // Returns the first step that fails with the primary of these members. If memory runs out for it
 // nothing is asked of it.
-fn missed_by(alloc: Global, members: &[u8]) -> Option<&'static str> {
+fn first_fault_of_primary(alloc: Global, members: &[u8]) -> Option<&'static str> {
     let mut out = Vec::new(alloc);
     match made(alloc, 1, members, 1) {
-        Ok(mut replica) => missed_step(&mut replica, &mut out, members.len() == 1),
+        Ok(mut replica) => first_fault(&mut replica, &mut out, members.len() == 1),
         Err(_) => None,
     }
 }
 
 #[test]
 fn a_command_is_taken_or_refused_whole(rt: HostRuntime) {
-    assert_eq!(rt; missed_by(rt.alloc(), &[1]), None);
-    assert_eq!(rt; missed_by(rt.alloc(), &[1, 2]), None);
+    assert_eq!(rt; first_fault_of_primary(rt.alloc(), &[1]), None);
+    assert_eq!(rt; first_fault_of_primary(rt.alloc(), &[1, 2]), None);
 }
 
 // How many numbers a machine gives, the first of them, and to how many bytes it is frozen.

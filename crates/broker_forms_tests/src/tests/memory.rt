@@ -62,7 +62,7 @@ fn outcome_of_all(alloc: Global, bytes: &mut Vec<u8>) -> Outcome {
 
 // Returns the outcome and how many bytes came, if it is not `Done` with all bytes, or `NoMemory`
 // with none.
-fn other_outcome(alloc: Global) -> Option<(Outcome, usize)> {
+fn fault_of_all(alloc: Global) -> Option<(Outcome, usize)> {
     let mut bytes = Vec::new(alloc);
     let outcome = outcome_of_all(alloc, &mut bytes);
     let is_so = match outcome {
@@ -79,5 +79,5 @@ fn other_outcome(alloc: Global) -> Option<(Outcome, usize)> {
 
 #[test]
 fn memory_is_the_one_free_answer(rt: HostRuntime) {
-    assert_eq!(rt; other_outcome(rt.alloc()), None);
+    assert_eq!(rt; fault_of_all(rt.alloc()), None);
 }

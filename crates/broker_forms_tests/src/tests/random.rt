@@ -117,7 +117,7 @@ fn is_next_alike(
 }
 
 // Returns the first command that two brokers do not answer alike.
-fn other_answer(
+fn first_fault(
     alloc: Global,
     whole: &mut BrokerMachine,
     thawed: &mut BrokerMachine,
@@ -133,9 +133,9 @@ fn other_answer(
 }
 
 // Returns the first command that a broker and one that is frozen and thawed do not answer alike.
-fn first_difference(alloc: Global) -> Option<usize> {
+fn first_fault_of_fresh(alloc: Global) -> Option<usize> {
     match (BrokerMachine::fresh(alloc), BrokerMachine::fresh(alloc)) {
-        (Ok(mut whole), Ok(mut thawed)) => other_answer(alloc, &mut whole, &mut thawed),
+        (Ok(mut whole), Ok(mut thawed)) => first_fault(alloc, &mut whole, &mut thawed),
         _ => Some(0),
     }
 }
@@ -143,5 +143,5 @@ fn first_difference(alloc: Global) -> Option<usize> {
 // A broker that is frozen and thawed after each of the first commands answers as one that is not.
 #[test]
 fn a_broker_frozen_and_thawed_answers_alike(rt: HostRuntime) {
-    assert_eq!(rt; first_difference(rt.alloc()), None);
+    assert_eq!(rt; first_fault_of_fresh(rt.alloc()), None);
 }

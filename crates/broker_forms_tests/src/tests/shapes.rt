@@ -67,7 +67,7 @@ fn is_refused_when_changed(alloc: Global, index: usize, byte: u8) -> bool {
 }
 
 // Returns the first change, by its index in the list, with which the bytes are not refused.
-fn first_change(alloc: Global, changes: &[(usize, u8)]) -> Option<usize> {
+fn first_fault_of_changes(alloc: Global, changes: &[(usize, u8)]) -> Option<usize> {
     for (row, (index, byte)) in changes.iter().enumerate() {
         if !is_refused_when_changed(alloc, *index, *byte) {
             return Some(row);
@@ -86,12 +86,12 @@ const OTHER_FORMS: &[&[u8]] = &[
 ];
 
 // Returns the first of these bytes, by its index in the list, that are not refused.
-fn first_form(alloc: Global, forms: &[&[u8]]) -> Option<usize> {
+fn first_fault_of_forms(alloc: Global, forms: &[&[u8]]) -> Option<usize> {
     forms.iter().position(|bytes| !is_refused(alloc, bytes))
 }
 
 // Returns the first length of a front of these bytes that is not refused.
-fn first_front(alloc: Global, bytes: &[u8]) -> Option<usize> {
+fn first_fault_of_fronts(alloc: Global, bytes: &[u8]) -> Option<usize> {
     for end in 0..bytes.len() {
         if !is_refused(alloc, &bytes[..end]) {
             return Some(end);
@@ -102,9 +102,9 @@ fn first_front(alloc: Global, bytes: &[u8]) -> Option<usize> {
 
 #[test]
 fn other_bytes_are_refused(rt: HostRuntime) {
-    assert_eq!(rt; first_change(rt.alloc(), &CHANGES), None);
-    assert_eq!(rt; first_form(rt.alloc(), OTHER_FORMS), None);
-    assert_eq!(rt; first_front(rt.alloc(), ONE_ENTRY), None);
+    assert_eq!(rt; first_fault_of_changes(rt.alloc(), &CHANGES), None);
+    assert_eq!(rt; first_fault_of_forms(rt.alloc(), OTHER_FORMS), None);
+    assert_eq!(rt; first_fault_of_fronts(rt.alloc(), ONE_ENTRY), None);
 }
 
 /// The front of a form, how many entries of a session may be in flight, and one more.

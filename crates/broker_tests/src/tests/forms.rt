@@ -172,7 +172,7 @@ pub(crate) fn is_built(form: Form<'_>, bytes: &mut Vec<u8>) -> bool {
 }
 
 // Returns the index from which on these bytes are not those that are wanted.
-fn first_unlike(bytes: &[u8], wanted: &[u8]) -> Option<usize> {
+fn first_fault_of_bytes(bytes: &[u8], wanted: &[u8]) -> Option<usize> {
     for (index, byte) in bytes.iter().enumerate() {
         if !wanted.get(index).is_some_and(|one| *one == *byte) {
             return Some(index);
@@ -187,7 +187,7 @@ fn first_unlike(bytes: &[u8], wanted: &[u8]) -> Option<usize> {
 
 /// Returns the first byte that differs if a broker is frozen after these steps to the bytes of this
 /// form.
-pub(crate) fn other_bytes(
+pub(crate) fn first_fault_of_form(
     alloc: Global,
     broker: &BrokerMachine,
     wanted: Form<'_>,
@@ -198,7 +198,7 @@ pub(crate) fn other_bytes(
     if !is_built(wanted, &mut built) || !is_frozen(broker, &mut bytes) {
         return Some(Fault::Bytes(steps, None));
     }
-    match first_unlike(bytes.as_slice(), built.as_slice()) {
+    match first_fault_of_bytes(bytes.as_slice(), built.as_slice()) {
         Some(index) => Some(Fault::Bytes(steps, Some(index))),
         None => None,
     }
@@ -227,7 +227,7 @@ const STEPS: &[Step<'static>] = &[
 ];
 
 // Returns what differs at the step of this index: what comes, or the form, if one is asked for.
-fn other_step(
+fn first_fault_of_step(
     alloc: Global,
     broker: &mut BrokerMachine,
     index: usize,
@@ -238,32 +238,32 @@ fn other_step(
         return Some(Fault::Step(index, came));
     }
     match form {
-        Some(form) => other_bytes(alloc, broker, form, index.saturating_add(1)),
+        Some(form) => first_fault_of_form(alloc, broker, form, index.saturating_add(1)),
         None => None,
     }
 }
 
 /// Returns the first step at which the bytes of a broker, or its answers, differ from the wanted
 /// ones.
-pub(crate) fn other_form(
+pub(crate) fn first_fault_of_forms(
     alloc: Global,
     broker: &mut BrokerMachine,
     first: Form<'_>,
     steps: &[Step<'_>],
 ) -> Option<Fault> {
-    let mut fault = other_bytes(alloc, broker, first, 0);
+    let mut fault = first_fault_of_form(alloc, broker, first, 0);
     for (index, step) in steps.iter().enumerate() {
         if fault.is_some() {
             return fault;
         }
-        fault = other_step(alloc, broker, index, *step);
+        fault = first_fault_of_step(alloc, broker, index, *step);
     }
     fault
 }
 
 // Returns the first byte that differs if the broker that is thawed from form 2 with these fields is
 // frozen again.
-fn other_again(alloc: Global, fields: &[&[u8]]) -> Option<Fault> {
+fn first_fault_again(alloc: Global, fields: &[&[u8]]) -> Option<Fault> {
     let form = (WIDE, fields);
     first_fault(alloc, Start::Thawed(form), Run::HasBytes(form))
 }
@@ -281,7 +281,11 @@ const READ: [(&[&[u8]], &[Step<'static>]); 2] = [
 ];
 
 // Returns the first step that differs with the broker that is thawed from form 1 with these fields.
-fn other_before<'a>(alloc: Global, fields: &'a [&'a [u8]], steps: &'a [Step<'a>]) -> Option<Fault> {
+fn first_fault_from_form_1<'a>(
+    alloc: Global,
+    fields: &'a [&'a [u8]],
+    steps: &'a [Step<'a>],
+) -> Option<Fault> {
     first_fault(
         alloc,
         Start::Thawed((BEFORE, fields)),
@@ -293,7 +297,7 @@ fn other_before<'a>(alloc: Global, fields: &'a [&'a [u8]], steps: &'a [Step<'a>]
 #[test]
 fn form_1_is_read(rt: HostRuntime) {
     for (fields, steps) in READ {
-        assert_eq!(rt; other_before(rt.alloc(), fields, steps), None);
+        assert_eq!(rt; first_fault_from_form_1(rt.alloc(), fields, steps), None);
     }
     let fault = first_fault(
         rt.alloc(),
@@ -311,10 +315,10 @@ fn brokers_have_their_frozen_bytes(rt: HostRuntime) {
         Run::HasForms((WIDE, FRESH), STEPS),
     );
     assert_eq!(rt; fault, None);
-    assert_eq!(rt; other_again(rt.alloc(), FRESH), None);
-    assert_eq!(rt; other_again(rt.alloc(), ONE_SESSION), None);
-    assert_eq!(rt; other_again(rt.alloc(), ONE_ENTRY), None);
-    assert_eq!(rt; other_again(rt.alloc(), FULL), None);
+    assert_eq!(rt; first_fault_again(rt.alloc(), FRESH), None);
+    assert_eq!(rt; first_fault_again(rt.alloc(), ONE_SESSION), None);
+    assert_eq!(rt; first_fault_again(rt.alloc(), ONE_ENTRY), None);
+    assert_eq!(rt; first_fault_again(rt.alloc(), FULL), None);
 }
 
 // The repeat is known, and the client that comes back is sent its entry again.

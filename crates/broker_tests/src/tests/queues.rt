@@ -1,7 +1,7 @@
 // What a session keeps for its client (MQTT 4.4, 4.6).
 
 use super::handshakes::{AGAIN, BEGINS, PUBLISH, SUBSCRIBE};
-use crate::row::{CLOSED, Event, NOTHING, Row, other_answer};
+use crate::row::{CLOSED, Event, NOTHING, Row, first_fault_of_rows};
 use crate::story::{Fault, Run, Start, first_fault};
 use broker::BrokerMachine;
 use std::alloc::Global;
@@ -161,7 +161,7 @@ const FULL: &[Part<'static>] = &[
 
 // Returns the first row of the part at an index whose answer differs from the wanted one, and after
 // how many times it does.
-fn other_time(
+fn first_fault_of_part(
     alloc: Global,
     broker: &mut BrokerMachine,
     index: usize,
@@ -169,21 +169,21 @@ fn other_time(
 ) -> Option<Fault> {
     let (times, rows) = part;
     for time in 0..times {
-        if let Some(other) = other_answer(alloc, broker, rows) {
-            return Some(Fault::Part(index, time, other));
+        if let Some(fault) = first_fault_of_rows(alloc, broker, rows) {
+            return Some(Fault::Part(index, time, fault));
         }
     }
     None
 }
 
 /// Returns the first part that has a row whose answer differs from the wanted one.
-pub(crate) fn other_part(
+pub(crate) fn first_fault_of_parts(
     alloc: Global,
     broker: &mut BrokerMachine,
     parts: &[Part<'_>],
 ) -> Option<Fault> {
     for (index, part) in parts.iter().enumerate() {
-        let fault = other_time(alloc, broker, index, *part);
+        let fault = first_fault_of_part(alloc, broker, index, *part);
         if fault.is_some() {
             return fault;
         }

@@ -4,7 +4,7 @@
 use super::forms::FRESH_BEFORE;
 use super::handshakes::BEGINS;
 use super::queues::{self, COMES_BACK, FINISHES, GOES_ON, Part, WAITS};
-use crate::row::{CLOSED, Came, Event, NOTHING, Row, came_instead, other_answer};
+use crate::row::{CLOSED, Came, Event, NOTHING, Row, came_instead, first_fault_of_rows};
 use crate::story::{Fault, Run, Start, first_fault};
 use broker::BrokerMachine;
 use std::alloc::Global;
@@ -105,7 +105,7 @@ fn came_for(alloc: Global, broker: &mut BrokerMachine, id: u8, sent: bool) -> Op
 
 // Returns the first of seventeen publications that is not routed so: the first `sent` of them are
 // sent at once, and no others.
-fn other_routed(alloc: Global, broker: &mut BrokerMachine, sent: u8) -> Option<Fault> {
+fn first_fault_of_seventeen(alloc: Global, broker: &mut BrokerMachine, sent: u8) -> Option<Fault> {
     for id in 1..=17 {
         if let Some(came) = came_for(alloc, broker, id, id <= sent) {
             return Some(Fault::Publication(id, came));
@@ -116,21 +116,21 @@ fn other_routed(alloc: Global, broker: &mut BrokerMachine, sent: u8) -> Option<F
 
 /// Has a broker send this many of seventeen publications at once, and then answer these rows, which
 /// are part 1. Part 0 are the rows before. Returns the first row that differs.
-pub(crate) fn other_sent(
+pub(crate) fn first_fault_of_sending(
     alloc: Global,
     broker: &mut BrokerMachine,
     sent: u8,
     rows: &[Row<'_>],
 ) -> Option<Fault> {
-    if let Some(other) = other_answer(alloc, broker, BEFORE) {
-        return Some(Fault::Part(0, 0, other));
+    if let Some(fault) = first_fault_of_rows(alloc, broker, BEFORE) {
+        return Some(Fault::Part(0, 0, fault));
     }
-    let routed = other_routed(alloc, broker, sent);
+    let routed = first_fault_of_seventeen(alloc, broker, sent);
     if routed.is_some() {
         return routed;
     }
-    match other_answer(alloc, broker, rows) {
-        Some(other) => Some(Fault::Part(1, 0, other)),
+    match first_fault_of_rows(alloc, broker, rows) {
+        Some(fault) => Some(Fault::Part(1, 0, fault)),
         None => None,
     }
 }

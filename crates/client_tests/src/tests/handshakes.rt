@@ -141,7 +141,7 @@ fn shows(one: &Accepted, shown: Shown<'_>) -> bool {
 
 // Returns the first of these that was not accepted, in this order; the one after the last if there
 // are more.
-fn other_accepted(accepted: &[Accepted], wanted: &[Shown<'_>]) -> Option<usize> {
+fn first_fault_of_accepted(accepted: &[Accepted], wanted: &[Shown<'_>]) -> Option<usize> {
     for (at, shown) in wanted.iter().enumerate() {
         if !accepted.get(at).is_some_and(|one| shows(one, *shown)) {
             return Some(at);
@@ -162,9 +162,9 @@ fn an_accepted_publication_shows_what_was_sent(rt: HostRuntime) {
         (QoS::AtLeastOnce, false, "t/2", b"y"),
         (QoS::AtMostOnce, true, "t/1", b""),
     ];
-    let other = match play(rt.alloc(), SENT) {
-        Ok(client) => Ok(other_accepted(client.accepted(), &wanted)),
+    let fault = match play(rt.alloc(), SENT) {
+        Ok(client) => Ok(first_fault_of_accepted(client.accepted(), &wanted)),
         Err(fault) => Err(fault),
     };
-    assert_eq!(rt; other, Ok(None));
+    assert_eq!(rt; fault, Ok(None));
 }

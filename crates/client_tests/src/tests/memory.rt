@@ -175,7 +175,7 @@ fn answers_again(client: &mut ClientCore, alloc: Global) -> bool {
 
 // Checks that both publications are accepted and answered, those before memory runs out at once.
 // Returns the first step that fails.
-fn missed_step(client: &mut ClientCore, alloc: Global) -> Option<&'static str> {
+fn first_fault_of_piece(client: &mut ClientCore, alloc: Global) -> Option<&'static str> {
     let refusal = give(client, PUBLISHES);
     let count = client.accepted().len();
     if !answers(client, alloc, count) {
@@ -200,6 +200,6 @@ fn missed_step(client: &mut ClientCore, alloc: Global) -> Option<&'static str> {
 #[test]
 fn earlier_packets_of_a_piece_stand(rt: HostRuntime) {
     let mut client = online_at_last(rt.alloc()).expect(&rt, "memory runs out at most once");
-    assert_eq!(rt; missed_step(&mut client, rt.alloc()), None);
+    assert_eq!(rt; first_fault_of_piece(&mut client, rt.alloc()), None);
     assert_eq!(rt; taken(&mut client), (2, 0));
 }

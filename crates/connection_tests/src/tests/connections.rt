@@ -306,7 +306,12 @@ struct Came {
 
 // Writes what was left before, and then the node's answer. Returns what came, if it is not what the
 // row says.
-fn other_with<R: Wait>(rt: &R, alloc: Global, spring: &mut Spring, row: &WriteRow) -> Option<Came> {
+fn came_instead<R: Wait>(
+    rt: &R,
+    alloc: Global,
+    spring: &mut Spring,
+    row: &WriteRow,
+) -> Option<Came> {
     let (bad_call, kind, blocked, flow, written) = *row;
     let mut sink = Counted::new(Sink::new(alloc, 3, bad_call.0, kind));
     let ended = if connects(alloc, spring) {
@@ -334,9 +339,9 @@ fn has_written(sink: &Sink, count: usize) -> bool {
 }
 
 // Returns what came of a row with a fresh node, if it is not what the row says.
-fn other_of_fresh<R: Wait>(rt: &R, alloc: Global, row: &WriteRow) -> Option<Came> {
+fn came_instead_of_fresh<R: Wait>(rt: &R, alloc: Global, row: &WriteRow) -> Option<Came> {
     match sole(alloc) {
-        Some(mut spring) => other_with(rt, alloc, &mut spring, row),
+        Some(mut spring) => came_instead(rt, alloc, &mut spring, row),
         None => Some(Came {
             ended: None,
             faults: 0,
@@ -345,13 +350,13 @@ fn other_of_fresh<R: Wait>(rt: &R, alloc: Global, row: &WriteRow) -> Option<Came
     }
 }
 
-// The index of a row, and what came of it.
-type Other = (usize, Came);
+// The index of a row that differs, and what came of it.
+type Fault = (usize, Came);
 
-// Returns the first row of which something else came.
-fn first_other<R: Wait>(rt: &R, alloc: Global) -> Option<Other> {
+// Returns the first row whose outcome differs from the wanted one.
+fn first_fault<R: Wait>(rt: &R, alloc: Global) -> Option<Fault> {
     for (index, row) in WRITE_ROWS.iter().enumerate() {
-        if let Some(came) = other_of_fresh(rt, alloc, row) {
+        if let Some(came) = came_instead_of_fresh(rt, alloc, row) {
             return Some((index, came));
         }
     }
@@ -360,7 +365,7 @@ fn first_other<R: Wait>(rt: &R, alloc: Global) -> Option<Other> {
 
 #[test]
 fn what_was_left_is_written_first(rt: HostRuntime) {
-    assert_eq!(rt; first_other(&rt, rt.alloc()), None);
+    assert_eq!(rt; first_fault(&rt, rt.alloc()), None);
 }
 
 // How three writes of a stream end, whose device is full at its second call.

@@ -99,7 +99,7 @@ type Arrived = (bool, usize, u64);
 
 // Reads the text around a fault of this call. Returns what came, if not the whole text arrives, or
 // that fault is not counted.
-fn other_arrival(alloc: Global, buffer: &mut [u8], bad_call: u64) -> Option<Arrived> {
+fn came_instead(alloc: Global, buffer: &mut [u8], bad_call: u64) -> Option<Arrived> {
     let mut device = Counted::new(Source::new(TEXT, 4, bad_call));
     let mut arrived = Vec::new(alloc);
     let read = (1..7u64).all(|call| reads(&mut device, buffer, &mut arrived, call, bad_call));
@@ -111,10 +111,10 @@ fn other_arrival(alloc: Global, buffer: &mut [u8], bad_call: u64) -> Option<Arri
     }
 }
 
-// Returns the first call around whose fault something else came, and what.
-fn first_other(alloc: Global, buffer: &mut [u8]) -> Option<(u64, Arrived)> {
+// Returns the first call whose fault changes what comes, and what came.
+fn first_fault(alloc: Global, buffer: &mut [u8]) -> Option<(u64, Arrived)> {
     for bad_call in 0..6u64 {
-        if let Some(arrived) = other_arrival(alloc, buffer, bad_call) {
+        if let Some(arrived) = came_instead(alloc, buffer, bad_call) {
             return Some((bad_call, arrived));
         }
     }
@@ -127,6 +127,6 @@ fn first_other(alloc: Global, buffer: &mut [u8]) -> Option<(u64, Arrived)> {
 fn each_piece_arrives_around_a_fault(rt: HostRuntime) -> Result<(), Fail> {
     let alloc = rt.alloc();
     let mut buffer = Vec::from_elem(alloc, 0u8, PIECE_BYTES)?;
-    assert_eq!(rt; first_other(alloc, buffer.as_mut_slice()), None);
+    assert_eq!(rt; first_fault(alloc, buffer.as_mut_slice()), None);
     Ok(())
 }

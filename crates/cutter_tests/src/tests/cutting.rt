@@ -66,7 +66,7 @@ fn are_cut(cutter: &mut Cutter, pieces: &[&[u8]], out: &mut Vec<u8>) -> bool {
 
 // Returns how many bytes of packets come of the stream in these pieces, if it is not cut into its
 // packets.
-fn other_stream(alloc: Global, pieces: &[&[u8]]) -> Option<usize> {
+fn came_instead(alloc: Global, pieces: &[&[u8]]) -> Option<usize> {
     let mut cutter = Cutter::new(alloc);
     let mut out = Vec::new(alloc);
     let is_taken = are_cut(&mut cutter, pieces, &mut out);
@@ -78,12 +78,13 @@ fn other_stream(alloc: Global, pieces: &[&[u8]]) -> Option<usize> {
 }
 
 // An index at which a stream is cut in two, and how many bytes of packets come then.
-type Cut = (usize, usize);
+type Fault = (usize, usize);
 
-// Returns the first index at which the stream may not be cut in two, and what comes then.
-fn first_cut(alloc: Global, stream: &[u8]) -> Option<Cut> {
+// Returns the first index at which the stream cut in two does not give its packets, and what comes
+// then.
+fn first_fault_of_cuts(alloc: Global, stream: &[u8]) -> Option<Fault> {
     for at in 0..=stream.len() {
-        if let Some(count) = other_stream(alloc, &[&stream[..at], &stream[at..]]) {
+        if let Some(count) = came_instead(alloc, &[&stream[..at], &stream[at..]]) {
             return Some((at, count));
         }
     }
@@ -92,11 +93,11 @@ fn first_cut(alloc: Global, stream: &[u8]) -> Option<Cut> {
 
 #[test]
 fn a_stream_cut_in_two_gives_its_packets(rt: HostRuntime) {
-    assert_eq!(rt; first_cut(rt.alloc(), &STREAM), None);
+    assert_eq!(rt; first_fault_of_cuts(rt.alloc(), &STREAM), None);
 }
 
 // Returns the first byte of a stream, fed byte by byte, that is not taken.
-fn other_byte(cutter: &mut Cutter, stream: &[u8], out: &mut Vec<u8>) -> Option<usize> {
+fn first_fault_of_bytes(cutter: &mut Cutter, stream: &[u8], out: &mut Vec<u8>) -> Option<usize> {
     for (at, byte) in stream.iter().enumerate() {
         if !is_cut(cutter, &[*byte], out) {
             return Some(at);
@@ -107,20 +108,20 @@ fn other_byte(cutter: &mut Cutter, stream: &[u8], out: &mut Vec<u8>) -> Option<u
 
 // Returns the first byte of the stream that is not taken; the one after the last if other packets
 // are given than those of the stream.
-fn other_in_stream(alloc: Global) -> Option<usize> {
+fn first_fault_of_stream(alloc: Global) -> Option<usize> {
     let mut cutter = Cutter::new(alloc);
     let mut out = Vec::new(alloc);
-    let other = other_byte(&mut cutter, &STREAM, &mut out);
+    let fault = first_fault_of_bytes(&mut cutter, &STREAM, &mut out);
     if out.as_slice() == STREAM.as_slice() {
-        other
+        fault
     } else {
-        other.or(Some(STREAM.len()))
+        fault.or(Some(STREAM.len()))
     }
 }
 
 #[test]
 fn a_stream_byte_by_byte_gives_its_packets(rt: HostRuntime) {
-    assert_eq!(rt; other_in_stream(rt.alloc()), None);
+    assert_eq!(rt; first_fault_of_stream(rt.alloc()), None);
 }
 
 // Packet type 15 is reserved (MQTT 2.2.1).
@@ -136,7 +137,7 @@ const TAKEN: &[(&str, Taken)] = &[
 ];
 
 // Returns the first step that fails, in words, and what came instead.
-fn other_answer_of(cutter: &mut Cutter, out: &mut Vec<u8>) -> Option<(&'static str, Taken)> {
+fn first_fault_of_answers(cutter: &mut Cutter, out: &mut Vec<u8>) -> Option<(&'static str, Taken)> {
     for piece in [STREAM.as_slice(), [0xF0, 0x00].as_slice()] {
         if let Err(fault) = cutter.feed(piece) {
             return Some(("the bytes are taken", Taken::Fault(fault)));
@@ -156,15 +157,15 @@ fn other_answer_of(cutter: &mut Cutter, out: &mut Vec<u8>) -> Option<(&'static s
 }
 
 // Returns the first step that fails with a fresh cutter, and what came instead.
-fn other_answer_of_fresh(alloc: Global) -> Option<(&'static str, Taken)> {
+fn first_fault_of_fresh(alloc: Global) -> Option<(&'static str, Taken)> {
     let mut cutter = Cutter::new(alloc);
     let mut out = Vec::new(alloc);
-    other_answer_of(&mut cutter, &mut out)
+    first_fault_of_answers(&mut cutter, &mut out)
 }
 
 #[test]
 fn a_fault_after_good_packets_stays(rt: HostRuntime) {
-    assert_eq!(rt; other_answer_of_fresh(rt.alloc()), None);
+    assert_eq!(rt; first_fault_of_fresh(rt.alloc()), None);
 }
 
 // Why no packet comes from a stream, with the numbers of docs/REFUSALS.md.

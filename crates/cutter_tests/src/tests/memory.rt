@@ -44,7 +44,7 @@ fn is_next(cutter: &mut Cutter, out: &mut Vec<u8>) -> bool {
 }
 
 // Cuts a stream in two pieces into its three packets. Returns the first step that fails.
-fn missed_step(cutter: &mut Cutter, out: &mut Vec<u8>) -> Option<&'static str> {
+fn first_fault(cutter: &mut Cutter, out: &mut Vec<u8>) -> Option<&'static str> {
     if !feed(cutter, &STREAM[..20]) {
         Some("the first piece is fed")
     } else if !is_next(cutter, out) {
@@ -63,13 +63,13 @@ fn missed_step(cutter: &mut Cutter, out: &mut Vec<u8>) -> Option<&'static str> {
 }
 
 // Returns the first step that fails with a fresh cutter.
-fn missed_by_fresh(alloc: Global) -> Option<&'static str> {
+fn first_fault_of_fresh(alloc: Global) -> Option<&'static str> {
     let mut cutter = Cutter::new(alloc);
     let mut out = Vec::new(alloc);
-    missed_step(&mut cutter, &mut out)
+    first_fault(&mut cutter, &mut out)
 }
 
 #[test]
 fn a_cutter_without_memory_is_as_it_was(rt: HostRuntime) {
-    assert_eq!(rt; missed_by_fresh(rt.alloc()), None);
+    assert_eq!(rt; first_fault_of_fresh(rt.alloc()), None);
 }

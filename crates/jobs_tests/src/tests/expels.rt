@@ -1,7 +1,7 @@
 // The order to end the session of a client.
 
 use super::hand::gives;
-use super::orders::{Given, KEPT, Written, first_missed, hears, keeps};
+use super::orders::{Given, KEPT, Written, first_fault, hears, keeps};
 use super::shown::Shown;
 use std::io::{PipeWriter, Read, Write};
 use std::net::{Net, TcpListener, TcpStream};
@@ -170,8 +170,8 @@ where
 #[test]
 fn clients_are_expelled(rt: HostRuntime) {
     let mut written = Written::new(rt.alloc());
-    let missed = first_missed(&rt, Given::Expels, &written);
+    let fault = first_fault(&rt, Given::Expels, &written);
     let came = written.texts();
-    assert_eq!(rt; missed, None, "{came:?}");
+    assert_eq!(rt; fault, None, "{came:?}");
     assert_eq!(rt; came, (ANSWERS, HEARD, ""));
 }

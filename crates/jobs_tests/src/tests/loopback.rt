@@ -68,7 +68,7 @@ const ENDS: &[&str] = &[
 ];
 
 // Returns what the first part that failed has to do.
-fn other_end(parts: &[Part]) -> Option<&'static str> {
+fn first_fault(parts: &[Part]) -> Option<&'static str> {
     for (part, words) in parts.iter().zip(ENDS) {
         if !matches!(part, Part::Ended(true)) {
             return Some(*words);
@@ -218,9 +218,9 @@ fn nodes_and_clients_end_with_0(rt: HostRuntime) -> io::Result<()> {
         3,
         &|_, part| take_part(&rt, &table, &printed, part),
     );
-    let missed = other_end(parts.as_slice());
+    let fault = first_fault(parts.as_slice());
     drop(parts);
     fs::remove_file(&rt, table.file.as_str())?;
-    assert_eq!(rt; (missed, printed.text()), (None, PRINTED));
+    assert_eq!(rt; (fault, printed.text()), (None, PRINTED));
     Ok(())
 }

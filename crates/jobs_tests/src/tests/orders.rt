@@ -267,7 +267,7 @@ impl Given {
 
 /// Serves nodes on a port that is free, with these orders and clients. Takes down what the nodes
 /// answer, and what the clients write. Returns the first step that fails.
-pub(super) fn first_missed<R>(rt: &R, given: Given, written: &Written) -> Option<&'static str>
+pub(super) fn first_fault<R>(rt: &R, given: Given, written: &Written) -> Option<&'static str>
 where
     R: Files + Threads + Wait + Clock + Sync + AllocGlobal,
     R: Net<Listener = TcpListener, Stream = TcpStream>,
@@ -276,13 +276,18 @@ where
         return Some("a port is free");
     };
     match Served::new(rt.alloc(), port) {
-        Ok(served) => missed_with(rt, &served, given, written),
+        Ok(served) => first_fault_with(rt, &served, given, written),
         Err(_) => Some("there is memory for a table"),
     }
 }
 
 // Serves the nodes of this table, and gives the orders. Returns the first step that fails.
-fn missed_with<R>(rt: &R, served: &Served, given: Given, written: &Written) -> Option<&'static str>
+fn first_fault_with<R>(
+    rt: &R,
+    served: &Served,
+    given: Given,
+    written: &Written,
+) -> Option<&'static str>
 where
     R: Files + Threads + Wait + Clock + Sync + AllocGlobal,
     R: Net<Listener = TcpListener, Stream = TcpStream>,
@@ -306,8 +311,8 @@ where
 #[test]
 fn orders_are_answered(rt: HostRuntime) {
     let mut written = Written::new(rt.alloc());
-    let missed = first_missed(&rt, Given::Orders, &written);
+    let fault = first_fault(&rt, Given::Orders, &written);
     let came = written.texts();
-    assert_eq!(rt; missed, None, "{came:?}");
+    assert_eq!(rt; fault, None, "{came:?}");
     assert_eq!(rt; came, (ANSWERS, KEPT, ""));
 }

@@ -44,7 +44,7 @@ const ACTIVATED: &[(&str, u64, (bool, u64))] = &[
 
 // Activates the ballots of the rows in turn. Returns the first row whose outcome differs from the
 // wanted one. If none does, node 2 has to be the sole member then.
-fn other_activation(master: &mut Master) -> Option<&'static str> {
+fn first_fault_of_activations(master: &mut Master) -> Option<&'static str> {
     for (words, ballot, wanted) in ACTIVATED {
         let activated = master.activate(*ballot) == Activation::Activated;
         if (activated, master.active().0) != *wanted {
@@ -66,7 +66,7 @@ fn supersedes(master: &mut Master, alloc: Global) -> Option<&'static str> {
     } else if !is_given(master, alloc, &[2], 2, 3) {
         Some("ballot 3 is given")
     } else {
-        other_activation(master)
+        first_fault_of_activations(master)
     }
 }
 

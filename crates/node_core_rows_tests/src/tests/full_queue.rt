@@ -213,7 +213,7 @@ fn goes_on_with_the_rest(cutting: Cutting, node: &mut NodeCore, got: &mut Got) -
 }
 
 // Fills the queue of this node, and empties it to its client. Returns the first step that fails.
-fn missed_step(cutting: Cutting, node: &mut NodeCore, got: &mut Got) -> Option<&'static str> {
+fn first_fault(cutting: Cutting, node: &mut NodeCore, got: &mut Got) -> Option<&'static str> {
     if !fills(cutting, node) {
         Some("all slots but one are taken while the subscriber is away")
     } else if !answers(cutting, node, 2, THREE, FIRST, false) {
@@ -232,9 +232,9 @@ fn missed_step(cutting: Cutting, node: &mut NodeCore, got: &mut Got) -> Option<&
 }
 
 // Returns the first step that fails with a fresh node, to which pieces come so.
-fn missed_by(alloc: Global, coming: Coming) -> Option<&'static str> {
+fn first_fault_of_fresh(alloc: Global, coming: Coming) -> Option<&'static str> {
     match primary(alloc, &[1]) {
-        Some(mut node) => missed_step(Cutting { alloc, coming }, &mut node, &mut Got::new(alloc)),
+        Some(mut node) => first_fault(Cutting { alloc, coming }, &mut node, &mut Got::new(alloc)),
         None => Some("there is memory for a node"),
     }
 }
@@ -243,12 +243,12 @@ fn missed_by(alloc: Global, coming: Coming) -> Option<&'static str> {
 const LONGEST: usize = 30;
 
 // A cut, and the first step that fails with it.
-type Missed = (usize, &'static str);
+type Fault = (usize, &'static str);
 
 // Returns the first cut with which a step fails, as far as a publisher's pieces are long.
-fn missed_with_a_cut(alloc: Global) -> Option<Missed> {
+fn first_fault_of_cuts(alloc: Global) -> Option<Fault> {
     for cut in 0..=LONGEST {
-        if let Some(step) = missed_by(alloc, Coming::Cut(cut)) {
+        if let Some(step) = first_fault_of_fresh(alloc, Coming::Cut(cut)) {
             return Some((cut, step));
         }
     }
@@ -257,6 +257,6 @@ fn missed_with_a_cut(alloc: Global) -> Option<Missed> {
 
 #[test]
 fn a_full_queue_keeps_the_order(rt: HostRuntime) {
-    assert_eq!(rt; missed_with_a_cut(rt.alloc()), None);
-    assert_eq!(rt; missed_by(rt.alloc(), Coming::Bytes), None);
+    assert_eq!(rt; first_fault_of_cuts(rt.alloc()), None);
+    assert_eq!(rt; first_fault_of_fresh(rt.alloc(), Coming::Bytes), None);
 }

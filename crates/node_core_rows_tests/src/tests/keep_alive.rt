@@ -81,7 +81,7 @@ fn loses(alloc: Global, node: &mut NodeCore, time: u64, wanted: &[u64]) -> bool 
 
 // Checks that of two that fall silent the one of the lower port is lost first. Returns the first
 // step that fails.
-fn missed_step(alloc: Global, node: &mut NodeCore) -> Option<&'static str> {
+fn first_fault_of_two(alloc: Global, node: &mut NodeCore) -> Option<&'static str> {
     if !connects(alloc, node, 7, CONNECT_A) {
         Some("the client of port 7 connects")
     } else if !connects(alloc, node, 3, CONNECT_B) {
@@ -100,14 +100,14 @@ fn missed_step(alloc: Global, node: &mut NodeCore) -> Option<&'static str> {
 }
 
 // Returns the first step that fails with the primary of two nodes.
-fn missed_by_a_primary(alloc: Global) -> Option<&'static str> {
+fn first_fault_of_primary(alloc: Global) -> Option<&'static str> {
     match primary(alloc, &[1, 2]) {
-        Some(mut node) => missed_step(alloc, &mut node),
+        Some(mut node) => first_fault_of_two(alloc, &mut node),
         None => Some("there is memory for a primary"),
     }
 }
 
 #[test]
 fn silent_ones_are_closed_by_port(rt: HostRuntime) {
-    assert_eq!(rt; missed_by_a_primary(rt.alloc()), None);
+    assert_eq!(rt; first_fault_of_primary(rt.alloc()), None);
 }

@@ -27,9 +27,9 @@ fn comes_at_last(alloc: Global, node: &mut NodeCore, row: &Row<'_>) {
 // What a node answered, and how many bytes it handed over; no answer if memory ran out.
 type Came = (Option<Handed>, usize);
 
-// Why rows fail.
+// The first row that fails, or how many losses there are.
 #[derive(Clone, Copy, Debug, PartialEq, Eq)]
-enum Missed {
+enum Fault {
     // At this row this came, although nothing was lost.
     Row(usize, Came),
     // So many steps ran out of memory.
@@ -38,7 +38,7 @@ enum Missed {
 
 // Returns what came, if not a row's bytes are handed over, or its port is not open or closed as the
 // row says. What found no memory is asked again.
-fn other_at_last(alloc: Global, node: &mut NodeCore, row: &Row<'_>) -> Option<Came> {
+fn came_instead(alloc: Global, node: &mut NodeCore, row: &Row<'_>) -> Option<Came> {
     let (_, port, _, bytes, open) = *row;
     let answer = if open { Handed::Open } else { Handed::Closed };
     for _ in 0..2 {
@@ -55,27 +55,27 @@ fn other_at_last(alloc: Global, node: &mut NodeCore, row: &Row<'_>) -> Option<Ca
 
 // Returns the first row whose result differs although nothing was lost, or how many steps are
 // counted if there are more than one.
-fn first_missed(alloc: Global, node: &mut NodeCore, rows: &[Row<'_>]) -> Option<Missed> {
-    let mut missed: Option<Missed> = None;
+fn first_fault(alloc: Global, node: &mut NodeCore, rows: &[Row<'_>]) -> Option<Fault> {
+    let mut fault: Option<Fault> = None;
     for (at, row) in rows.iter().enumerate() {
         comes_at_last(alloc, node, row);
-        if let Some(came) = other_at_last(alloc, node, row) {
-            if missed.is_none() {
-                missed = Some(Missed::Row(at, came));
+        if let Some(came) = came_instead(alloc, node, row) {
+            if fault.is_none() {
+                fault = Some(Fault::Row(at, came));
             }
         }
     }
     match node.losses() {
-        0 => missed,
+        0 => fault,
         1 => None,
-        losses => Some(Missed::Losses(losses)),
+        losses => Some(Fault::Losses(losses)),
     }
 }
 
 // If memory runs out for a node nothing is asked of it.
-fn first_missed_if_opened(alloc: Global, rows: &[Row<'_>]) -> Option<Missed> {
+fn first_fault_if_opened(alloc: Global, rows: &[Row<'_>]) -> Option<Fault> {
     match primary(alloc, &[1]) {
-        Some(mut node) => first_missed(alloc, &mut node, rows),
+        Some(mut node) => first_fault(alloc, &mut node, rows),
         None => None,
     }
 }
@@ -83,7 +83,7 @@ fn first_missed_if_opened(alloc: Global, rows: &[Row<'_>]) -> Option<Missed> {
 #[test]
 fn rows_are_whole_or_one_step_is_counted(rt: HostRuntime) {
     for (table, rows) in TABLES.iter().enumerate() {
-        let missed = first_missed_if_opened(rt.alloc(), rows);
-        assert_eq!(rt; missed, None, "table {table}");
+        let fault = first_fault_if_opened(rt.alloc(), rows);
+        assert_eq!(rt; fault, None, "table {table}");
     }
 }

@@ -205,7 +205,7 @@ fn front_of(bytes: &[u8]) -> [u8; 8] {
 }
 
 // Lets a row come. Returns what came, if it is not what the row says, or something was lost.
-fn other_of(alloc: Global, node: &mut NodeCore, row: &Row<'_>, coming: Coming) -> Option<Came> {
+fn came_instead(alloc: Global, node: &mut NodeCore, row: &Row<'_>, coming: Coming) -> Option<Came> {
     let (_, port, _, bytes, open) = *row;
     let answer = if open { Handed::Open } else { Handed::Closed };
     let is_silent = bring_row(alloc, node, row, coming);
@@ -234,7 +234,7 @@ fn fault_with(
     coming: Coming,
 ) -> Option<Fault> {
     for (at, row) in rows.iter().enumerate() {
-        if let Some(came) = other_of(alloc, node, row, coming) {
+        if let Some(came) = came_instead(alloc, node, row, coming) {
             return Some(Fault::Row(at, coming, came));
         }
     }

@@ -130,11 +130,7 @@ fn comes_back(alloc: Global, one: &mut NodeCore, two: &mut NodeCore) -> bool {
 
 // Checks that a session goes over by a snapshot, and both nodes lose nothing. Returns the first
 // step that fails.
-fn fault_of_going_over(
-    alloc: Global,
-    one: &mut NodeCore,
-    two: &mut NodeCore,
-) -> Option<&'static str> {
+fn first_fault(alloc: Global, one: &mut NodeCore, two: &mut NodeCore) -> Option<&'static str> {
     if !serves_and_cuts(alloc, one) {
         Some("node 1 accepts client a, and cuts its log once")
     } else if takes_over(alloc, one, two) != Some(true) {
@@ -152,24 +148,24 @@ fn fault_of_going_over(
 
 // Returns the first step that fails with a fresh second node. Each node has an owner of its own,
 // which has one way on which it drops it.
-fn fault_with_fresh(alloc: Global, one: &mut NodeCore) -> Option<&'static str> {
+fn first_fault_with_fresh(alloc: Global, one: &mut NodeCore) -> Option<&'static str> {
     match node_of(alloc, 2, &[1]) {
-        Some(mut two) => fault_of_going_over(alloc, one, &mut two),
+        Some(mut two) => first_fault(alloc, one, &mut two),
         None => Some("there is memory for node 2"),
     }
 }
 
 // Returns the first step that fails with two fresh nodes.
-fn fault_of_fresh(alloc: Global) -> Option<&'static str> {
+fn first_fault_of_fresh(alloc: Global) -> Option<&'static str> {
     match node_of(alloc, 1, &[1]) {
-        Some(mut one) => fault_with_fresh(alloc, &mut one),
+        Some(mut one) => first_fault_with_fresh(alloc, &mut one),
         None => Some("there is memory for node 1"),
     }
 }
 
 #[test]
 fn a_session_goes_over_by_a_snapshot(rt: HostRuntime) {
-    assert_eq!(rt; fault_of_fresh(rt.alloc()), None);
+    assert_eq!(rt; first_fault_of_fresh(rt.alloc()), None);
 }
 
 // Node 1 sends node 2 a log of one place with this snapshot in ballot 2: what node 2 hands out.
@@ -223,7 +219,7 @@ fn is_lost(alloc: Global, two: &mut NodeCore, bytes: &[u8]) -> bool {
 
 // Returns the first row whose bytes do not count as lost. After the rows the node has to continue
 // from bytes that it can read, and four messages have to be lost.
-fn first_not_lost(alloc: Global, two: &mut NodeCore) -> Option<&'static str> {
+fn first_fault_of_bytes(alloc: Global, two: &mut NodeCore) -> Option<&'static str> {
     for (words, bytes) in UNREADABLE {
         if !is_lost(alloc, two, bytes) {
             return Some(*words);
@@ -239,27 +235,27 @@ fn first_not_lost(alloc: Global, two: &mut NodeCore) -> Option<&'static str> {
 }
 
 // Returns the same once the node is given ballot 2.
-fn first_not_lost_in_2(alloc: Global, two: &mut NodeCore) -> Option<&'static str> {
+fn first_fault_of_bytes_in_2(alloc: Global, two: &mut NodeCore) -> Option<&'static str> {
     match ballot_2(alloc, &[2]) {
         Some(ballot) => {
             tell(alloc, two, 0, ballot);
-            first_not_lost(alloc, two)
+            first_fault_of_bytes(alloc, two)
         }
         None => Some("there is memory for ballot 2"),
     }
 }
 
 // Returns the same of a fresh node.
-fn first_not_lost_of_fresh(alloc: Global) -> Option<&'static str> {
+fn first_fault_of_bytes_by_fresh(alloc: Global) -> Option<&'static str> {
     match node_of(alloc, 2, &[1]) {
-        Some(mut two) => first_not_lost_in_2(alloc, &mut two),
+        Some(mut two) => first_fault_of_bytes_in_2(alloc, &mut two),
         None => Some("there is memory for a node"),
     }
 }
 
 #[test]
 fn bytes_that_are_no_snapshot_count_as_lost(rt: HostRuntime) {
-    assert_eq!(rt; first_not_lost_of_fresh(rt.alloc()), None);
+    assert_eq!(rt; first_fault_of_bytes_by_fresh(rt.alloc()), None);
 }
 
 // Ballot 2 of nodes 1 and 2 continues until nothing is said any more. What found no memory is said
@@ -305,7 +301,7 @@ type Came = (u64, usize);
 
 // Returns what came, if client `a` does not find its session at node 2; or, if a loss was counted,
 // finds another than a session, no session, or no node that serves.
-fn other_than_session(alloc: Global, one: &mut NodeCore, two: &mut NodeCore) -> Option<Came> {
+fn came_instead_of_session(alloc: Global, one: &mut NodeCore, two: &mut NodeCore) -> Option<Came> {
     let appended = connects(alloc, two);
     commits(alloc, one, two, appended);
     settles(alloc, one, two);
@@ -325,7 +321,7 @@ fn other_than_session(alloc: Global, one: &mut NodeCore, two: &mut NodeCore) -> 
 
 // Returns what came, if a session does not move by a snapshot although no allocation is refused, or
 // more than one step is counted.
-fn other_than_moved(alloc: Global, one: &mut NodeCore, two: &mut NodeCore) -> Option<Came> {
+fn came_instead_of_move(alloc: Global, one: &mut NodeCore, two: &mut NodeCore) -> Option<Came> {
     connects(alloc, one);
     for _ in 0..2 {
         take(alloc, one, Item::Cut);
@@ -335,23 +331,23 @@ fn other_than_moved(alloc: Global, one: &mut NodeCore, two: &mut NodeCore) -> Op
     };
     tell(alloc, two, 0, ballot);
     settles(alloc, one, two);
-    other_than_session(alloc, one, two)
+    came_instead_of_session(alloc, one, two)
 }
 
 // Returns what came, if it does not give its snapshot to a fresh second node, and no refusal is
 // counted. If memory runs out for a node nothing is asked of the other.
-fn other_with(alloc: Global, one: &mut NodeCore) -> Option<Came> {
+fn came_instead_with(alloc: Global, one: &mut NodeCore) -> Option<Came> {
     match node_of(alloc, 2, &[1]) {
-        Some(mut two) => other_than_moved(alloc, one, &mut two),
+        Some(mut two) => came_instead_of_move(alloc, one, &mut two),
         None => None,
     }
 }
 
 // Returns what came, if a fresh first node does not give its snapshot to a second one, and does not
 // count the refusal.
-fn other_of_fresh(alloc: Global) -> Option<Came> {
+fn came_instead_of_fresh(alloc: Global) -> Option<Came> {
     match node_of(alloc, 1, &[1]) {
-        Some(mut one) => other_with(alloc, &mut one),
+        Some(mut one) => came_instead_with(alloc, &mut one),
         None => None,
     }
 }
@@ -359,5 +355,5 @@ fn other_of_fresh(alloc: Global) -> Option<Came> {
 // Run with each allocation failing in turn.
 #[test]
 fn a_refused_snapshot_is_counted(rt: HostRuntime) {
-    assert_eq!(rt; other_of_fresh(rt.alloc()), None);
+    assert_eq!(rt; came_instead_of_fresh(rt.alloc()), None);
 }

@@ -119,7 +119,7 @@ fn has_no_gap(subscriber: &Seen, publisher: &Seen) -> bool {
 type Came = (u64, usize, usize);
 
 // Returns what came, if it has a gap, or something is closed although nothing was lost.
-fn other_than_whole(alloc: Global, node: &mut NodeCore) -> Option<Came> {
+fn came_instead(alloc: Global, node: &mut NodeCore) -> Option<Came> {
     let (subscriber, publisher) = rows_seen(alloc, node);
     let losses = node.losses();
     let is_well = match losses {
@@ -135,14 +135,14 @@ fn other_than_whole(alloc: Global, node: &mut NodeCore) -> Option<Came> {
 }
 
 // If memory runs out for a node nothing is asked of it.
-fn other_of_fresh(alloc: Global) -> Option<Came> {
+fn came_instead_of_fresh(alloc: Global) -> Option<Came> {
     match primary(alloc, &[1]) {
-        Some(mut node) => other_than_whole(alloc, &mut node),
+        Some(mut node) => came_instead(alloc, &mut node),
         None => None,
     }
 }
 
 #[test]
 fn a_refused_growth_is_counted_and_leaves_no_gap(rt: HostRuntime) {
-    assert_eq!(rt; other_of_fresh(rt.alloc()), None);
+    assert_eq!(rt; came_instead_of_fresh(rt.alloc()), None);
 }

@@ -85,7 +85,7 @@ fn agree(alloc: Global, primary: &mut NodeCore, backup: &mut NodeCore) -> Option
 }
 
 // Checks the messages and bytes of a CONNECT. Returns the first step that fails.
-fn missed_by_both(
+fn first_fault(
     alloc: Global,
     primary: &mut NodeCore,
     backup: &mut NodeCore,
@@ -104,22 +104,22 @@ fn missed_by_both(
 
 // Returns the first step that fails with a fresh backup. Each node has an owner of its own, which
 // has one way on which it drops it.
-fn missed_with_fresh(alloc: Global, primary: &mut NodeCore) -> Option<&'static str> {
+fn first_fault_with_fresh(alloc: Global, primary: &mut NodeCore) -> Option<&'static str> {
     match node_of(alloc, 2, &[1, 2]) {
-        Some(mut backup) => missed_by_both(alloc, primary, &mut backup),
+        Some(mut backup) => first_fault(alloc, primary, &mut backup),
         None => Some("there is memory for the backup"),
     }
 }
 
 // Returns the first step that fails with two fresh nodes.
-fn missed_by_fresh(alloc: Global) -> Option<&'static str> {
+fn first_fault_of_fresh(alloc: Global) -> Option<&'static str> {
     match node_of(alloc, 1, &[1, 2]) {
-        Some(mut primary) => missed_with_fresh(alloc, &mut primary),
+        Some(mut primary) => first_fault_with_fresh(alloc, &mut primary),
         None => Some("there is memory for the primary"),
     }
 }
 
 #[test]
 fn the_answer_waits_for_the_backup(rt: HostRuntime) {
-    assert_eq!(rt; missed_by_fresh(rt.alloc()), None);
+    assert_eq!(rt; first_fault_of_fresh(rt.alloc()), None);
 }

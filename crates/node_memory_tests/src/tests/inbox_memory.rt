@@ -65,7 +65,7 @@ fn is_settled<J: Naming, R: Wait>(
 
 // Checks that two items arrive, in order, and no other, and all is settled. Returns the first step
 // that fails.
-fn missed_step<J: Naming, R: Wait>(
+fn first_fault<J: Naming, R: Wait>(
     rt: &R,
     alloc: Global,
     receiver: &mut Receiver<u64, J>,
@@ -91,12 +91,16 @@ fn missed_step<J: Naming, R: Wait>(
 }
 
 // Returns the first step that fails, if there is memory for the lanes.
-fn missed_in<J: Naming, R: Wait>(rt: &R, alloc: Global, inbox: Inbox<u64>) -> Option<&'static str>
+fn first_fault_in<J: Naming, R: Wait>(
+    rt: &R,
+    alloc: Global,
+    inbox: Inbox<u64>,
+) -> Option<&'static str>
     requires { inbox ≡ J.inbox_of 1 }
 {
     match inbox.named::<J>(1, 2) {
         Ok((mut receiver, mut lanes)) => {
-            missed_step(rt, alloc, &mut receiver, lanes.as_mut_slice())
+            first_fault(rt, alloc, &mut receiver, lanes.as_mut_slice())
         }
         Err(_) => None,
     }
@@ -105,7 +109,7 @@ fn missed_in<J: Naming, R: Wait>(rt: &R, alloc: Global, inbox: Inbox<u64>) -> Op
 #[test]
 fn an_inbox_is_whole_or_none(rt: HostRuntime) {
     if let Ok(inbox) = Inbox::new(rt.alloc()) {
-        let missed = missed_in::<Brand, HostRuntime>(&rt, rt.alloc(), inbox);
-        assert_eq!(rt; missed, None);
+        let fault = first_fault_in::<Brand, HostRuntime>(&rt, rt.alloc(), inbox);
+        assert_eq!(rt; fault, None);
     }
 }

@@ -95,7 +95,7 @@ fn is_answered<J: NodeNaming>(alloc: Global, state: &mut NodeState<J>) -> bool {
 
 // Checks that each item is taken, in order, and the CONNECT is answered or lost. Returns the first
 // step that fails.
-fn missed_step<J: NodeNaming, R: Wait>(
+fn first_fault<J: NodeNaming, R: Wait>(
     rt: &R,
     alloc: Global,
     state: &mut NodeState<J>,
@@ -136,18 +136,18 @@ fn closes<J: NodeNaming, R: Wait>(
     }
 }
 
-// Returns the step that was missed before; if there is none, what the report does not say.
-fn first_missed(missed: Option<&'static str>, is_told: bool) -> Option<&'static str> {
-    if missed.is_none() && !is_told {
+// Returns the step that failed before; if none did, what the report does not say.
+fn fault_or_report(fault: Option<&'static str>, is_told: bool) -> Option<&'static str> {
+    if fault.is_none() && !is_told {
         Some("the report says that three items were taken and a tick is left over")
     } else {
-        missed
+        fault
     }
 }
 
 // Returns the first step that fails, if there is memory for the lane. At its end the node says what
 // happened to its items.
-fn missed_in<J: NodeNaming, R: Wait>(
+fn first_fault_in<J: NodeNaming, R: Wait>(
     rt: &R,
     alloc: Global,
     inbox: Inbox<Item>,
@@ -159,9 +159,9 @@ fn missed_in<J: NodeNaming, R: Wait>(
     match inbox.named::<J>(1, 1) {
         Ok((receiver, mut lanes)) => {
             let mut state = NodeState::new(receiver, core);
-            let missed = missed_step(rt, alloc, &mut state, lanes.as_mut_slice());
+            let fault = first_fault(rt, alloc, &mut state, lanes.as_mut_slice());
             let is_told = closes(rt, alloc, state, lanes.as_mut_slice());
-            first_missed(missed, is_told)
+            fault_or_report(fault, is_told)
         }
         Err(_) => None,
     }
@@ -169,15 +169,15 @@ fn missed_in<J: NodeNaming, R: Wait>(
 
 // A node for which memory runs out does not exist, or counts what it lost. Returns the first step
 // that fails.
-fn missed_by<R: Wait>(rt: &R, alloc: Global) -> Option<&'static str> {
+fn first_fault_of_fresh<R: Wait>(rt: &R, alloc: Global) -> Option<&'static str> {
     match (Inbox::new(alloc), sole(alloc)) {
-        (Ok(inbox), Some(core)) => missed_in::<Brand, R>(rt, alloc, inbox, core),
+        (Ok(inbox), Some(core)) => first_fault_in::<Brand, R>(rt, alloc, inbox, core),
         _ => None,
     }
 }
 
 #[test]
 fn a_refused_step_is_counted(rt: HostRuntime) {
-    let missed = missed_by(&rt, rt.alloc());
-    assert_eq!(rt; missed, None);
+    let fault = first_fault_of_fresh(&rt, rt.alloc());
+    assert_eq!(rt; fault, None);
 }

@@ -256,9 +256,9 @@ where
 {
     match Node::start(alloc, state, Some(gate)) {
         Ok(node) => {
-            let missed = meet_with(rt, alloc, &node, lanes, second, gate);
+            let fault = meet_with(rt, alloc, &node, lanes, second, gate);
             let closed = closes(rt, node, lanes, 2, gate.missed());
-            missed.or(unless(closed, "each node reports so")).or(unless(
+            fault.or(unless(closed, "each node reports so")).or(unless(
                 gate.heard_all(rt, 2),
                 "the gate is asked for and informed of each taking",
             ))
@@ -335,8 +335,8 @@ where
 fn nodes_meet_at_their_gate(rt: HostRuntime) -> Result<(), Fail> {
     let gate = Meeting::new(u64::MAX);
     let (first, second) = fresh_two(rt.alloc())?;
-    let missed = meet::<Brand, HostRuntime>(&rt, rt.alloc(), first, second, &gate);
-    assert_eq!(rt; missed, None);
+    let fault = meet::<Brand, HostRuntime>(&rt, rt.alloc(), first, second, &gate);
+    assert_eq!(rt; fault, None);
     Ok(())
 }
 
@@ -346,7 +346,7 @@ fn nodes_meet_at_their_gate(rt: HostRuntime) -> Result<(), Fail> {
 fn a_gate_that_stays_shut_is_passed(rt: HostRuntime) -> Result<(), Fail> {
     let gate = Meeting::new(1);
     let (first, second) = fresh_two(rt.alloc())?;
-    let missed = meet::<Brand, HostRuntime>(&rt, rt.alloc(), first, second, &gate);
-    assert_eq!(rt; missed, None);
+    let fault = meet::<Brand, HostRuntime>(&rt, rt.alloc(), first, second, &gate);
+    assert_eq!(rt; fault, None);
     Ok(())
 }

@@ -305,7 +305,10 @@ fn pour<J: Naming, R: Wait>(rt: &R, lane: &mut Lane<u64, J>) {
 
 // Returns the first item that is not the next number of its lane, of four lanes whose numbers come
 // from 0 on with none left out.
-fn first_other<J: Naming, R: Wait>(rt: &R, receiver: &mut Receiver<u64, J>) -> Option<(u8, u64)> {
+fn first_fault_of_four<J: Naming, R: Wait>(
+    rt: &R,
+    receiver: &mut Receiver<u64, J>,
+) -> Option<(u8, u64)> {
     let mut next = [0u64; 4];
     for _ in rt.forever() {
         if next == [POURED; 4] {
@@ -342,12 +345,12 @@ fn pour_and_take<J: Naming + Send, R: Threads + Wait + Sync>(
     first: &mut Lane<u64, J>,
     second: &mut Lane<u64, J>,
 ) -> Option<(u8, u64)> {
-    let ((), other) = thread::join(
+    let ((), fault) = thread::join(
         rt,
         || pour_two(rt, first, second),
-        || first_other(rt, receiver),
+        || first_fault_of_four(rt, receiver),
     );
-    other
+    fault
 }
 
 // Returns the first item that does not come in order, of those that four lanes send at once, each
@@ -365,18 +368,18 @@ fn pour_four<J: Naming + Send, R: Threads + Wait + Sync + Abort>(
     let mut third = lanes.pop().expect(rt, "four lanes");
     let mut second = lanes.pop().expect(rt, "four lanes");
     let mut first = lanes.pop().expect(rt, "four lanes");
-    let ((), other) = thread::join(
+    let ((), fault) = thread::join(
         rt,
         || pour_two(rt, &mut first, &mut second),
         || pour_and_take(rt, &mut receiver, &mut third, &mut fourth),
     );
-    other
+    fault
 }
 
 #[test]
 fn four_lanes_arrive_whole_once_and_in_order(rt: HostRuntime) -> Result<(), Fail> {
     let inbox = Inbox::new(rt.alloc())?;
-    let other = pour_four::<Brand, HostRuntime>(&rt, inbox);
-    assert_eq!(rt; other, None);
+    let fault = pour_four::<Brand, HostRuntime>(&rt, inbox);
+    assert_eq!(rt; fault, None);
     Ok(())
 }

@@ -43,7 +43,7 @@ enum Act<'a> {
 
 // What differs from a run.
 #[derive(Clone, Copy, Debug, PartialEq, Eq)]
-enum Otherwise {
+enum Fault {
     // The act at this index.
     Act(usize),
     // The report at the end.
@@ -198,7 +198,7 @@ fn is_right<J: NodeNaming, R: Wait>(
 
 // Returns the index of the first act whose result differs. The node's lock is held until the end,
 // so a lane that waited for it would wait for ever.
-fn other_act<J: NodeNaming, R: Wait>(
+fn first_fault_of_acts<J: NodeNaming, R: Wait>(
     rt: &R,
     alloc: Global,
     node: &Node<'_, J, NodeState<J>, NoGate>,
@@ -239,44 +239,44 @@ fn closes<J: NodeNaming, R: Wait>(
 }
 
 // Returns what differs from a run, by the first act that does and by whether the report is right.
-fn first_of(act: Option<usize>, is_reported: bool) -> Option<Otherwise> {
+fn fault_of(act: Option<usize>, is_reported: bool) -> Option<Fault> {
     match act {
-        Some(index) => Some(Otherwise::Act(index)),
+        Some(index) => Some(Fault::Act(index)),
         None if is_reported => None,
-        None => Some(Otherwise::Report),
+        None => Some(Fault::Report),
     }
 }
 
 // Returns what differs from a run with a node that is started for it.
-fn other_with<J: NodeNaming, R: Wait>(
+fn first_fault_with<J: NodeNaming, R: Wait>(
     rt: &R,
     alloc: Global,
     state: NodeState<J>,
     lanes: &mut [Lane<Item, J>],
     run: &Run<'_>,
-) -> Option<Otherwise> {
+) -> Option<Fault> {
     match Node::start(alloc, state, None::<&NoGate>) {
         Ok(node) => {
-            let act = other_act(rt, alloc, &node, lanes, run.acts);
-            first_of(act, closes(rt, node, lanes, run))
+            let act = first_fault_of_acts(rt, alloc, &node, lanes, run.acts);
+            fault_of(act, closes(rt, node, lanes, run))
         }
-        Err(_) => Some(Otherwise::Start),
+        Err(_) => Some(Fault::Start),
     }
 }
 
 // Returns what differs from a run with node 1.
-fn first_other<J: NodeNaming, R: Wait>(
+fn first_fault<J: NodeNaming, R: Wait>(
     rt: &R,
     alloc: Global,
     start: Start,
     run: &Run<'_>,
-) -> Option<Otherwise>
+) -> Option<Fault>
     requires inbox { start.inbox ≡ J.inbox_of 1 }
     requires first { start.core ≡ J.first_of 1 }
     requires lanes { (1 ≤ run.now.lanes) × (run.now.lanes ≤ 16) }
 {
     match start.inbox.named::<J>(1, run.lanes) {
-        Ok((receiver, mut lanes)) => other_with(
+        Ok((receiver, mut lanes)) => first_fault_with(
             rt,
             alloc,
             NodeState::new(receiver, start.core),
@@ -285,7 +285,7 @@ fn first_other<J: NodeNaming, R: Wait>(
         ),
         Err(_) => {
             drop(start.core);
-            Some(Otherwise::Start)
+            Some(Fault::Start)
         }
     }
 }
@@ -309,8 +309,8 @@ const IN_ORDER: &Run<'static> = &Run {
 #[test]
 fn items_are_taken_in_their_order(rt: HostRuntime) -> Result<(), Fail> {
     let start = fresh(rt.alloc(), 1)?;
-    let other = first_other::<Brand, HostRuntime>(&rt, rt.alloc(), start, IN_ORDER);
-    assert_eq!(rt; other, None);
+    let fault = first_fault::<Brand, HostRuntime>(&rt, rt.alloc(), start, IN_ORDER);
+    assert_eq!(rt; fault, None);
     Ok(())
 }
 
@@ -334,8 +334,8 @@ const BESIDE: &Run<'static> = &Run {
 #[test]
 fn send_waits_for_no_lock(rt: HostRuntime) -> Result<(), Fail> {
     let start = fresh(rt.alloc(), 1)?;
-    let other = first_other::<Brand, HostRuntime>(&rt, rt.alloc(), start, BESIDE);
-    assert_eq!(rt; other, None);
+    let fault = first_fault::<Brand, HostRuntime>(&rt, rt.alloc(), start, BESIDE);
+    assert_eq!(rt; fault, None);
     Ok(())
 }
 
@@ -359,7 +359,7 @@ const LEFT: &Run<'static> = &Run {
 #[test]
 fn what_is_not_taken_is_left_over(rt: HostRuntime) -> Result<(), Fail> {
     let start = fresh(rt.alloc(), 1)?;
-    let other = first_other::<Brand, HostRuntime>(&rt, rt.alloc(), start, LEFT);
-    assert_eq!(rt; other, None);
+    let fault = first_fault::<Brand, HostRuntime>(&rt, rt.alloc(), start, LEFT);
+    assert_eq!(rt; fault, None);
     Ok(())
 }

@@ -31,7 +31,7 @@ pub fn answer_to(alloc: Global, bytes: &[u8]) -> Answer {
 pub type Row<'a> = (&'a str, &'a [u8], Answer);
 
 /// Returns the first row whose answer differs from the wanted one: its words, and that answer.
-pub fn other_answer<'a>(alloc: Global, rows: &[Row<'a>]) -> Option<(&'a str, Answer)> {
+pub fn first_fault_of_answers<'a>(alloc: Global, rows: &[Row<'a>]) -> Option<(&'a str, Answer)> {
     for (words, bytes, wanted) in rows {
         let answer = answer_to(alloc, bytes);
         if answer != *wanted {

@@ -1,7 +1,7 @@
 // CONNECT and CONNACK, and the texts and numbers around them.
 
 use super::answers::*;
-use super::spelling::{Made, Spelling, other_spelling};
+use super::spelling::{Made, Spelling, first_fault_of_spellings};
 use packet::*;
 use std::alloc::Global;
 use std::cmp::Ordering;
@@ -15,7 +15,7 @@ const CONNECT: [u8; 15] = [
 
 // Returns the length of the first front of the bytes that is not less than a packet, and what it
 // is.
-fn finished_front(alloc: Global, bytes: &[u8]) -> Option<(usize, Answer)> {
+fn first_fault_of_fronts(alloc: Global, bytes: &[u8]) -> Option<(usize, Answer)> {
     for len in 0..bytes.len() {
         let answer = answer_to(alloc, &bytes[..len]);
         if answer != Answer::More {
@@ -29,8 +29,8 @@ const CONNECTS: &[Spelling<'static>] = &[("CONNECT", Made::Connect("a", 60), &CO
 
 #[test]
 fn connect_is_read_and_written(rt: HostRuntime) {
-    assert_eq!(rt; other_spelling(rt.alloc(), CONNECTS), None);
-    assert_eq!(rt; finished_front(rt.alloc(), &CONNECT), None);
+    assert_eq!(rt; first_fault_of_spellings(rt.alloc(), CONNECTS), None);
+    assert_eq!(rt; first_fault_of_fronts(rt.alloc(), &CONNECT), None);
 }
 
 // That CONNECT with another byte at an index.
@@ -46,7 +46,7 @@ fn changed(at: usize, byte: u8) -> [u8; 15] {
 type Change = (usize, u8, Answer);
 
 // Returns the first change whose answer differs from the wanted one, with its own answer.
-fn other_change(alloc: Global, rows: &[Change]) -> Option<Change> {
+fn first_fault_of_changes(alloc: Global, rows: &[Change]) -> Option<Change> {
     for (at, byte, wanted) in rows {
         let answer = answer_to(alloc, &changed(*at, *byte));
         if answer != *wanted {
@@ -74,8 +74,8 @@ const NO_FLAGS: &[Row<'static>] = &[(
 
 #[test]
 fn a_changed_connect_is_malformed(rt: HostRuntime) {
-    assert_eq!(rt; other_change(rt.alloc(), MALFORMED_CHANGES), None);
-    assert_eq!(rt; other_answer(rt.alloc(), NO_FLAGS), None);
+    assert_eq!(rt; first_fault_of_changes(rt.alloc(), MALFORMED_CHANGES), None);
+    assert_eq!(rt; first_fault_of_answers(rt.alloc(), NO_FLAGS), None);
 }
 
 // MQTT 3.1.2: level 3; then connect flags whose fields are not there. They are a user name, a Will,
@@ -100,8 +100,8 @@ const NO_CLIENT: &[Row<'static>] = &[(
 
 #[test]
 fn a_connect_is_refused_with_its_code(rt: HostRuntime) {
-    assert_eq!(rt; other_change(rt.alloc(), REFUSED_CHANGES), None);
-    assert_eq!(rt; other_answer(rt.alloc(), NO_CLIENT), None);
+    assert_eq!(rt; first_fault_of_changes(rt.alloc(), REFUSED_CHANGES), None);
+    assert_eq!(rt; first_fault_of_answers(rt.alloc(), NO_CLIENT), None);
 }
 
 const CONNACKS: &[Spelling<'static>] = &[
@@ -145,7 +145,7 @@ const CONNACKS: &[Spelling<'static>] = &[
 // MQTT 3.2.2: session present occurs only with code 0.
 #[test]
 fn a_connack_is_written_and_read(rt: HostRuntime) {
-    assert_eq!(rt; other_spelling(rt.alloc(), CONNACKS), None);
+    assert_eq!(rt; first_fault_of_spellings(rt.alloc(), CONNACKS), None);
 }
 
 const NO_CONNACKS: &[Row<'static>] = &[
@@ -168,7 +168,7 @@ const NO_CONNACKS: &[Row<'static>] = &[
 
 #[test]
 fn other_connacks_are_malformed(rt: HostRuntime) {
-    assert_eq!(rt; other_answer(rt.alloc(), NO_CONNACKS), None);
+    assert_eq!(rt; first_fault_of_answers(rt.alloc(), NO_CONNACKS), None);
 }
 
 // Returns the kind with which a text is refused as a Client Identifier.
@@ -199,7 +199,12 @@ fn is_client_before(alloc: Global, client: &ClientId, later: &str) -> bool {
 }
 
 // Returns the first check that fails for a Client Identifier of this text.
-fn missed_by(alloc: Global, client: &ClientId, text: &str, later: &str) -> Option<&'static str> {
+fn first_fault_of_client(
+    alloc: Global,
+    client: &ClientId,
+    text: &str,
+    later: &str,
+) -> Option<&'static str> {
     if client.as_str() != text {
         Some("it has its text")
     } else if !is_client_printed(alloc, client, text) {
@@ -212,9 +217,9 @@ fn missed_by(alloc: Global, client: &ClientId, text: &str, later: &str) -> Optio
 }
 
 // Returns the first check that fails for a text, which has to be a Client Identifier.
-fn missed_by_text(alloc: Global, text: &str, later: &str) -> Option<&'static str> {
+fn first_fault_of_text(alloc: Global, text: &str, later: &str) -> Option<&'static str> {
     match ClientId::new(alloc, text) {
-        Ok(client) => missed_by(alloc, &client, text, later),
+        Ok(client) => first_fault_of_client(alloc, &client, text, later),
         Err(_) => Some("it is a Client Identifier"),
     }
 }
@@ -222,7 +227,7 @@ fn missed_by_text(alloc: Global, text: &str, later: &str) -> Option<&'static str
 #[test]
 fn a_client_identifier_may_have_64_bytes(rt: HostRuntime) {
     let longest = "0123456789012345678901234567890123456789012345678901234567890123";
-    assert_eq!(rt; missed_by_text(rt.alloc(), longest, "b"), None);
+    assert_eq!(rt; first_fault_of_text(rt.alloc(), longest, "b"), None);
 }
 
 const NO_CLIENTS: &[(&str, MalformedKind)] = &[

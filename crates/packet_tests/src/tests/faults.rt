@@ -204,8 +204,8 @@ const RESERVED: &[Row<'static>] = &[
 
 #[test]
 fn each_fault_of_decode_has_its_kind(rt: HostRuntime) {
-    assert_eq!(rt; other_answer(rt.alloc(), FAULTS), None);
-    assert_eq!(rt; other_answer(rt.alloc(), RESERVED), None);
+    assert_eq!(rt; first_fault_of_answers(rt.alloc(), FAULTS), None);
+    assert_eq!(rt; first_fault_of_answers(rt.alloc(), RESERVED), None);
 }
 
 // Prefixes of packets, which more bytes may complete.
@@ -223,7 +223,7 @@ const LESS: &[Row<'static>] = &[
 
 #[test]
 fn a_front_of_a_packet_is_less_than_one(rt: HostRuntime) {
-    assert_eq!(rt; other_answer(rt.alloc(), LESS), None);
+    assert_eq!(rt; first_fault_of_answers(rt.alloc(), LESS), None);
 }
 
 // A body is looked at once it is all there, and its first byte before its length.
@@ -252,5 +252,5 @@ const FIRST: &[Row<'static>] = &[
 
 #[test]
 fn the_first_fault_counts(rt: HostRuntime) {
-    assert_eq!(rt; other_answer(rt.alloc(), FIRST), None);
+    assert_eq!(rt; first_fault_of_answers(rt.alloc(), FIRST), None);
 }

@@ -1,6 +1,6 @@
 // SUBSCRIBE, SUBACK and UNSUBSCRIBE.
 
-use super::spelling::{Made, Spelling, other_spelling};
+use super::spelling::{Made, Spelling, first_fault_of_spellings};
 use packet::*;
 use std::alloc::Global;
 use std::test::*;
@@ -42,7 +42,7 @@ const LISTS: &[Spelling<'static>] = &[
 
 #[test]
 fn lists_are_written_and_read(rt: HostRuntime) {
-    assert_eq!(rt; other_spelling(rt.alloc(), LISTS), None);
+    assert_eq!(rt; first_fault_of_spellings(rt.alloc(), LISTS), None);
 }
 
 // Returns how many codes a list of these gives; none if there is no memory.

@@ -33,7 +33,7 @@ fn round(alloc: Global, bytes: &[u8], out: &mut Vec<u8>) -> Option<u8> {
 type Came = (Option<u8>, usize);
 
 // Returns what came, if these bytes do not come back, and it did not run out of memory with none.
-fn other_round(alloc: Global, bytes: &[u8]) -> Option<Came> {
+fn came_instead(alloc: Global, bytes: &[u8]) -> Option<Came> {
     let mut out = Vec::new(alloc);
     let refusal = round(alloc, bytes, &mut out);
     let is_so = match refusal {
@@ -49,6 +49,6 @@ fn other_round(alloc: Global, bytes: &[u8]) -> Option<Came> {
 
 #[test]
 fn memory_is_the_one_free_answer(rt: HostRuntime) {
-    assert_eq!(rt; other_round(rt.alloc(), &SUBSCRIBE), None);
-    assert_eq!(rt; other_round(rt.alloc(), &PUBLISH), None);
+    assert_eq!(rt; came_instead(rt.alloc(), &SUBSCRIBE), None);
+    assert_eq!(rt; came_instead(rt.alloc(), &PUBLISH), None);
 }

@@ -36,7 +36,7 @@ const PUBLISHES: &[Spelling<'static>] = &[
 
 #[test]
 fn a_publish_is_written_and_read(rt: HostRuntime) {
-    assert_eq!(rt; other_spelling(rt.alloc(), PUBLISHES), None);
+    assert_eq!(rt; first_fault_of_spellings(rt.alloc(), PUBLISHES), None);
 }
 
 #[test]
@@ -61,7 +61,7 @@ const ANSWERS: &[Spelling<'static>] = &[
 
 #[test]
 fn answers_and_empty_packets_are_written_and_read(rt: HostRuntime) {
-    assert_eq!(rt; other_spelling(rt.alloc(), ANSWERS), None);
+    assert_eq!(rt; first_fault_of_spellings(rt.alloc(), ANSWERS), None);
 }
 
 // The result of a PUBLISH with a payload of this many sevens that is written after the bytes 1 and
@@ -91,7 +91,7 @@ type Attempt = (Option<u8>, usize);
 
 // Returns what came of a packet, if it is not written as expected, or is not refused and not read
 // again.
-fn other_after_two(
+fn came_instead_after_two(
     alloc: Global,
     packet: &Packet,
     out: &mut Vec<u8>,
@@ -113,18 +113,18 @@ fn other_after_two(
 }
 
 // Returns what came of a PUBLISH with this payload, if it is something else.
-fn other_sent(alloc: Global, payload: &[u8], wanted: Large<'_>) -> Option<Attempt> {
+fn came_instead_of_payload(alloc: Global, payload: &[u8], wanted: Large<'_>) -> Option<Attempt> {
     let mut out = Vec::new(alloc);
     match &publish(alloc, Delivery::AtMostOnce, false, payload) {
-        Some(packet) => other_after_two(alloc, packet, &mut out, wanted),
+        Some(packet) => came_instead_after_two(alloc, packet, &mut out, wanted),
         None => Some((None, 0)),
     }
 }
 
 // Returns what came of a large PUBLISH, if it is something else.
-fn other_large(alloc: Global, wanted: Large<'_>) -> Option<Attempt> {
+fn came_instead_of_large(alloc: Global, wanted: Large<'_>) -> Option<Attempt> {
     match Vec::from_elem(alloc, 7u8, wanted.count) {
-        Ok(payload) => other_sent(alloc, payload.as_slice(), wanted),
+        Ok(payload) => came_instead_of_payload(alloc, payload.as_slice(), wanted),
         Err(_) => Some((None, 0)),
     }
 }
@@ -146,10 +146,10 @@ const LARGER: Large<'static> = Large {
 
 #[test]
 fn the_largest_publish_is_written(rt: HostRuntime) {
-    assert_eq!(rt; other_large(rt.alloc(), LARGEST), None);
+    assert_eq!(rt; came_instead_of_large(rt.alloc(), LARGEST), None);
 }
 
 #[test]
 fn a_larger_publish_is_refused(rt: HostRuntime) {
-    assert_eq!(rt; other_large(rt.alloc(), LARGER), None);
+    assert_eq!(rt; came_instead_of_large(rt.alloc(), LARGER), None);
 }

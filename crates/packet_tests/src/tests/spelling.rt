@@ -209,7 +209,7 @@ pub enum Came {
 pub type Spelling<'a> = (&'a str, Made<'a>, &'a [u8]);
 
 // Returns what was written, if it is something else.
-fn other_bytes(written: &[u8], bytes: &[u8]) -> Option<Came> {
+fn first_fault_of_bytes(written: &[u8], bytes: &[u8]) -> Option<Came> {
     for (index, byte) in written.iter().enumerate() {
         if !bytes.get(index).is_some_and(|one| *one == *byte) {
             return Some(Came::Written(written.len(), index));
@@ -224,7 +224,7 @@ fn other_bytes(written: &[u8], bytes: &[u8]) -> Option<Came> {
 
 // Returns what came, if not these bytes are written for the packet, after a byte that the vector is
 // given.
-fn other_written(packet: &Packet, out: &mut Vec<u8>, bytes: &[u8]) -> Option<Came> {
+fn first_fault_of_written(packet: &Packet, out: &mut Vec<u8>, bytes: &[u8]) -> Option<Came> {
     if out.push(9).is_err() {
         return Some(Came::NoMemory);
     }
@@ -232,7 +232,7 @@ fn other_written(packet: &Packet, out: &mut Vec<u8>, bytes: &[u8]) -> Option<Cam
         return Some(Came::Refused(number));
     }
     match out.as_slice() {
-        [9, written @ ..] => other_bytes(written, bytes),
+        [9, written @ ..] => first_fault_of_bytes(written, bytes),
         _ => Some(Came::Before),
     }
 }
@@ -240,7 +240,7 @@ fn other_written(packet: &Packet, out: &mut Vec<u8>, bytes: &[u8]) -> Option<Cam
 // Returns what came, if not these bytes are written for the packet, or they are not read as it.
 fn came_instead(alloc: Global, packet: &Packet, bytes: &[u8]) -> Option<Came> {
     let mut out = Vec::new(alloc);
-    match other_written(packet, &mut out, bytes) {
+    match first_fault_of_written(packet, &mut out, bytes) {
         Some(came) => Some(came),
         None if is_read(alloc, packet, bytes) => None,
         None => Some(Came::Read(answer_to(alloc, bytes))),
@@ -257,7 +257,10 @@ fn came_of(alloc: Global, packet: Made<'_>, bytes: &[u8]) -> Option<Came> {
 
 /// Returns the first row whose bytes are not written for its packet, or not read as it: its words,
 /// and what came.
-pub fn other_spelling<'a>(alloc: Global, rows: &[Spelling<'a>]) -> Option<(&'a str, Came)> {
+pub fn first_fault_of_spellings<'a>(
+    alloc: Global,
+    rows: &[Spelling<'a>],
+) -> Option<(&'a str, Came)> {
     for (words, packet, bytes) in rows {
         if let Some(came) = came_of(alloc, *packet, bytes) {
             return Some((*words, came));

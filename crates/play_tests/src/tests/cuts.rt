@@ -49,7 +49,7 @@ fn goes_with_each(alloc: Global, row: &[&str; 2], at: usize, events: usize) -> b
 }
 
 // Returns after how many events of a script a cut of a node changes it. The first line is no event.
-fn other_after(alloc: Global, row: &[&str; 2]) -> Option<usize> {
+fn first_fault(alloc: Global, row: &[&str; 2]) -> Option<usize> {
     let mut events = 0;
     for (at, byte) in row[0].as_bytes().iter().enumerate() {
         if *byte == b'\n' {
@@ -66,6 +66,6 @@ fn other_after(alloc: Global, row: &[&str; 2]) -> Option<usize> {
 // that is accepted.
 #[test]
 fn cuts_change_nothing_that_is_told(rt: HostRuntime) {
-    assert_eq!(rt; other_after(rt.alloc(), &PRIMARY_CRASHES), None);
-    assert_eq!(rt; other_after(rt.alloc(), &STALE_PRIMARY), None);
+    assert_eq!(rt; first_fault(rt.alloc(), &PRIMARY_CRASHES), None);
+    assert_eq!(rt; first_fault(rt.alloc(), &STALE_PRIMARY), None);
 }

@@ -20,7 +20,7 @@ fn lines_in(transcript: &[u8]) -> usize {
 
 // Checks that a script is played as usual, or to its end with losses, or stops early. Returns the
 // check that fails.
-fn missed_in(alloc: Global, row: &[&str; 2]) -> Option<&'static str> {
+fn first_fault(alloc: Global, row: &[&str; 2]) -> Option<&'static str> {
     let mut transcript = Vec::new(alloc);
     let played = play(alloc, row[0].as_bytes(), &mut transcript);
     let written = transcript.as_slice();
@@ -36,5 +36,5 @@ fn missed_in(alloc: Global, row: &[&str; 2]) -> Option<&'static str> {
 
 #[test]
 fn what_finds_no_memory_is_told(rt: HostRuntime) {
-    assert_eq!(rt; missed_in(rt.alloc(), &ANSWER_WAITS_FOR_THE_BACKUP), None);
+    assert_eq!(rt; first_fault(rt.alloc(), &ANSWER_WAITS_FOR_THE_BACKUP), None);
 }

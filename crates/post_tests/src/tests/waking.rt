@@ -106,20 +106,20 @@ fn shown<R: Wait>(rt: &R, cluster: &Cluster, node: u8) -> Option<Shown> {
     Some((peer.is_wanted(rt), peer.wants_help(rt)))
 }
 
-// What came of a row: what it shows, whether that was done, and what the nodes show.
-type Told = (&'static str, bool, Option<Shown>, Option<Shown>);
+// A row that fails: what it shows, whether that was done, and what the nodes show.
+type Fault = (&'static str, bool, Option<Shown>, Option<Shown>);
 
-// Returns what came of the first row that fails.
-fn first_other<R: Wait>(rt: &R, alloc: Global, cluster: &Cluster) -> Option<Told> {
+// Returns the first row that fails.
+fn first_fault<R: Wait>(rt: &R, alloc: Global, cluster: &Cluster) -> Option<Fault> {
     for (words, act, (first, second)) in ROWS {
-        let told = (
+        let came = (
             *words,
             does(rt, alloc, cluster, *act),
             shown(rt, cluster, 1),
             shown(rt, cluster, 2),
         );
-        if told != (*words, true, Some(*first), Some(*second)) {
-            return Some(told);
+        if came != (*words, true, Some(*first), Some(*second)) {
+            return Some(came);
         }
     }
     None
@@ -128,7 +128,7 @@ fn first_other<R: Wait>(rt: &R, alloc: Global, cluster: &Cluster) -> Option<Told
 #[test]
 fn a_node_that_sleeps_is_woken(rt: HostRuntime) -> Result<(), Fail> {
     let cluster = two_nodes(rt.alloc())?;
-    assert_eq!(rt; first_other(&rt, rt.alloc(), &cluster), None);
+    assert_eq!(rt; first_fault(&rt, rt.alloc(), &cluster), None);
     Ok(())
 }
 

@@ -1,9 +1,9 @@
 // Nodes that are held at a gate.
 
-use super::lagging::{missed_of_bytes, missed_of_places};
+use super::lagging::{first_fault_of_bytes, first_fault_of_places};
 use server::{Cluster, Gate, Listener, NodeReport, serve_gated};
 use server_clients::{
-    Came, Heard, Missed, Pair, hear, hear_nothing, listen_all, named, opening, publish, send,
+    Came, Fault, Heard, Pair, hear, hear_nothing, listen_all, named, opening, publish, send,
     unless, visit,
 };
 use std::net::{Net, TcpListener, TcpStream};
@@ -15,19 +15,14 @@ use std::time::{Clock, Duration};
 // A gate, and what is done while nodes ask it.
 trait Watched: Gate {
     // Returns the first step that fails while nodes ask it.
-    fn attend<R>(
-        &self,
-        rt: &R,
-        cluster: &Cluster,
-        listener: Option<&Listener>,
-    ) -> Result<(), Missed>
+    fn attend<R>(&self, rt: &R, cluster: &Cluster, listener: Option<&Listener>) -> Result<(), Fault>
     where
         R: AllocGlobal + Wait + Clock + Net<Stream = TcpStream>;
 }
 
 // Returns the first step that fails with these nodes, the members of ballot 1, of which node 1 is
 // the primary. The last one is that each node took what was sent to it.
-fn missed_at<R, G>(rt: &R, members: &[u8], gate: &G) -> Result<(), Missed>
+fn first_fault_at<R, G>(rt: &R, members: &[u8], gate: &G) -> Result<(), Fault>
 where
     R: AllocGlobal + Threads + Wait + Clock + Sync,
     R: Net<Listener = TcpListener, Stream = TcpStream>,
@@ -37,18 +32,18 @@ where
     if listen_all(rt, members, &mut listeners) {
         serve(rt, members, listeners.as_slice(), gate)
     } else {
-        Err(Missed::new("a port is free"))
+        Err(Fault::new("a port is free"))
     }
 }
 
 // Returns the first step that fails with the nodes of these listeners.
-fn serve<R, G>(rt: &R, members: &[u8], listeners: &[Listener], gate: &G) -> Result<(), Missed>
+fn serve<R, G>(rt: &R, members: &[u8], listeners: &[Listener], gate: &G) -> Result<(), Fault>
 where
     R: AllocGlobal + Threads + Wait + Clock + Sync + Net<Stream = TcpStream>,
     G: Watched + Sync,
 {
     let Ok(config) = opening(rt.alloc(), members) else {
-        return Err(Missed::new("there is memory for a ballot"));
+        return Err(Fault::new("there is memory for a ballot"));
     };
     let served = serve_gated(
         rt,
@@ -63,7 +58,7 @@ where
             are_through(reports.as_slice(), listeners.len()),
             "each node took what was sent to it, and passed no shut gate",
         )),
-        Err(_) => Err(Missed::new("the nodes serve")),
+        Err(_) => Err(Fault::new("the nodes serve")),
     }
 }
 
@@ -160,7 +155,7 @@ impl Watched for Meeting {
         rt: &R,
         _cluster: &Cluster,
         listener: Option<&Listener>,
-    ) -> Result<(), Missed>
+    ) -> Result<(), Fault>
     where
         R: AllocGlobal + Wait + Clock + Net<Stream = TcpStream>,
     {
@@ -172,7 +167,7 @@ impl Watched for Meeting {
             }
             thread::sleep(rt, Duration::from_millis(10));
         }
-        Err(Missed::new("the nodes meet within ten seconds"))
+        Err(Fault::new("the nodes meet within ten seconds"))
     }
 }
 
@@ -182,7 +177,11 @@ impl Watched for Meeting {
 fn nodes_run_apart(rt: HostRuntime) {
     for members in [[1, 2].as_slice(), [1, 2, 3].as_slice()] {
         let meeting = Meeting::new(members.len());
-        assert_eq!(rt; missed_at(&rt, members, &meeting), Ok(()), "{members:?}");
+        assert_eq!(rt;
+            first_fault_at(&rt, members, &meeting),
+            Ok(()),
+            "{members:?}"
+        );
     }
 }
 
@@ -218,20 +217,20 @@ impl Bar {
     }
 
     // Returns the first step of `holds` that fails with a subscriber and a publisher.
-    fn passes<R>(&self, rt: &R, listener: Option<&Listener>) -> Result<(), Missed>
+    fn passes<R>(&self, rt: &R, listener: Option<&Listener>) -> Result<(), Fault>
     where
         R: AllocGlobal + Wait + Net<Stream = TcpStream>,
     {
         let mut heard = Heard::new(rt);
         match named(Pair::join(rt, listener, false), "two clients come") {
             Ok(mut pair) => self.holds(rt, &mut pair, &mut heard),
-            Err(missed) => Err(missed),
+            Err(fault) => Err(fault),
         }
     }
 
     // Checks that a publication at QoS 2 is answered, and comes to its subscriber, but neither
     // while node 3 is held. Returns the first step that fails.
-    fn holds<R: Wait>(&self, rt: &R, pair: &mut Pair, heard: &mut Heard) -> Result<(), Missed> {
+    fn holds<R: Wait>(&self, rt: &R, pair: &mut Pair, heard: &mut Heard) -> Result<(), Fault> {
         named(pair.subscribe(), "SUBACK comes")?;
         self.set(rt, true);
         let held = hold_back(pair);
@@ -270,19 +269,14 @@ impl Gate for Bar {
 
 impl Watched for Bar {
     // Returns the first step that fails under this load.
-    fn attend<R>(
-        &self,
-        rt: &R,
-        cluster: &Cluster,
-        listener: Option<&Listener>,
-    ) -> Result<(), Missed>
+    fn attend<R>(&self, rt: &R, cluster: &Cluster, listener: Option<&Listener>) -> Result<(), Fault>
     where
         R: AllocGlobal + Wait + Clock + Net<Stream = TcpStream>,
     {
         match self.load {
             Load::One => self.passes(rt, listener),
-            Load::Packets => missed_of_places(rt, self, cluster, listener),
-            Load::Bytes => missed_of_bytes(rt, self, cluster, listener),
+            Load::Packets => first_fault_of_places(rt, self, cluster, listener),
+            Load::Bytes => first_fault_of_bytes(rt, self, cluster, listener),
         }
     }
 }
@@ -295,8 +289,8 @@ fn what_waits_for_a_held_member_is_bounded(rt: HostRuntime) {
             load,
             open: Mutex::new(None),
         };
-        let missed = missed_at(&rt, &[1, 2, 3], &bar);
+        let fault = first_fault_at(&rt, &[1, 2, 3], &bar);
         let open = *bar.open.lock(&rt);
-        assert_eq!(rt; missed, Ok(()), "{load:?}, places open: {open:?}");
+        assert_eq!(rt; fault, Ok(()), "{load:?}, places open: {open:?}");
     }
 }

@@ -3,7 +3,7 @@
 use super::gates::Bar;
 use server::{Cluster, Listener};
 use server_clients::{
-    Flood, Missed, join, large_publish, limit_writes, named, send_times, unless, visit,
+    Fault, Flood, join, large_publish, limit_writes, named, send_times, unless, visit,
 };
 use std::net::{Net, TcpStream};
 use std::sync::Wait;
@@ -12,18 +12,18 @@ use std::time::{Clock, Duration};
 
 /// Checks that of 98,304 PINGREQ that come while a member is held, no more than 37,000 become
 /// places until it continues. All are answered then. Returns the first step that fails.
-pub(super) fn missed_of_places<R>(
+pub(super) fn first_fault_of_places<R>(
     rt: &R,
     bar: &Bar,
     cluster: &Cluster,
     listener: Option<&Listener>,
-) -> Result<(), Missed>
+) -> Result<(), Fault>
 where
     R: AllocGlobal + Wait + Clock + Net<Stream = TcpStream>,
 {
     match Flood::new(rt.alloc()) {
         Ok(mut flood) => waits_with(rt, bar, cluster, listener, &mut flood),
-        Err(_) => Err(Missed::new("there is memory for a flood")),
+        Err(_) => Err(Fault::new("there is memory for a flood")),
     }
 }
 
@@ -34,7 +34,7 @@ fn waits_with<R>(
     cluster: &Cluster,
     listener: Option<&Listener>,
     flood: &mut Flood,
-) -> Result<(), Missed>
+) -> Result<(), Fault>
 where
     R: Wait + Clock + Net<Stream = TcpStream>,
 {
@@ -49,7 +49,7 @@ fn waits<R: Wait + Clock>(
     cluster: &Cluster,
     flood: &mut Flood,
     stream: &mut TcpStream,
-) -> Result<(), Missed> {
+) -> Result<(), Fault> {
     bar.set(rt, true);
     let sent = flood.send_to(stream, 3);
     let open = crowded_places(rt, cluster);
@@ -86,18 +86,18 @@ fn open_places<R: Wait + Clock>(rt: &R, cluster: &Cluster) -> Option<u64> {
 /// A client sends 150 MB while a member is held: no more than 72 MB become places, 64 MiB and what
 /// was in transit. The rest is not read. Once the member continues, another client is answered.
 /// Returns the first step that fails.
-pub(super) fn missed_of_bytes<R>(
+pub(super) fn first_fault_of_bytes<R>(
     rt: &R,
     bar: &Bar,
     cluster: &Cluster,
     listener: Option<&Listener>,
-) -> Result<(), Missed>
+) -> Result<(), Fault>
 where
     R: AllocGlobal + Wait + Clock + Net<Stream = TcpStream>,
 {
     match large_publish(rt.alloc()) {
         Ok(large) => holding_back(rt, bar, cluster, listener, large.as_slice()),
-        Err(_) => Err(Missed::new("there is memory for a publication")),
+        Err(_) => Err(Fault::new("there is memory for a publication")),
     }
 }
 
@@ -108,7 +108,7 @@ fn holding_back<R>(
     cluster: &Cluster,
     listener: Option<&Listener>,
     large: &[u8],
-) -> Result<(), Missed>
+) -> Result<(), Fault>
 where
     R: Wait + Clock + Net<Stream = TcpStream>,
 {
@@ -126,7 +126,7 @@ fn holding_back_on<R: Wait + Clock>(
     cluster: &Cluster,
     large: &[u8],
     stream: &mut TcpStream,
-) -> Result<(), Missed> {
+) -> Result<(), Fault> {
     bar.set(rt, true);
     let limited = limit_writes(stream, 1_000);
     let is_sent = send_times(stream, large, 150).is_ok();

@@ -1,11 +1,9 @@
 // What one client is answered, and when it is closed.
 
-use super::nodes::{fault_in, missed_with};
+use super::nodes::{fault_in, first_fault_with};
 use super::row::{Row, Table};
 use server::Listener;
-use server_clients::{
-    Flood, Missed, connect, exchange, hear_end_within, join, named, open, unless,
-};
+use server_clients::{Fault, Flood, connect, exchange, hear_end_within, join, named, open, unless};
 use std::net::{Net, TcpStream};
 use std::time::{Clock, Instant};
 
@@ -30,12 +28,12 @@ const FLOODS: &[Table] = &[
 
 #[test]
 fn one_client_is_answered(rt: HostRuntime) {
-    assert_eq!(rt; missed_with(&rt, &[1], Row::Visits), Ok(()));
+    assert_eq!(rt; first_fault_with(&rt, &[1], Row::Visits), Ok(()));
 }
 
 #[test]
 fn a_silent_client_is_closed_in_time(rt: HostRuntime) {
-    assert_eq!(rt; missed_with(&rt, &[1], Row::Silence), Ok(()));
+    assert_eq!(rt; first_fault_with(&rt, &[1], Row::Silence), Ok(()));
 }
 
 #[test]
@@ -45,19 +43,19 @@ fn a_flood_is_answered_whole(rt: HostRuntime) {
 
 /// A client with keep alive 1 that falls silent is closed after one and a half seconds (MQTT
 /// 3.1.2.10). Nothing more is sent to it. Returns the first step that fails.
-pub(super) fn silence<R>(rt: &R, listener: Option<&Listener>) -> Result<(), Missed>
+pub(super) fn silence<R>(rt: &R, listener: Option<&Listener>) -> Result<(), Fault>
 where
     R: Clock + Net<Stream = TcpStream>,
 {
     let Ok(start) = Instant::now(rt) else {
-        return Err(Missed::new("the clock can be read"));
+        return Err(Fault::new("the clock can be read"));
     };
     let mut stream = named(open(rt, listener), "a connection is opened")?;
     silence_on(rt, start, &mut stream)
 }
 
 // Returns the first step that fails with a client with keep alive 1 on this stream.
-fn silence_on<R: Clock>(rt: &R, start: Instant, stream: &mut TcpStream) -> Result<(), Missed> {
+fn silence_on<R: Clock>(rt: &R, start: Instant, stream: &mut TcpStream) -> Result<(), Fault> {
     let mut sent = connect(b'a', false);
     sent[11] = 1;
     named(
@@ -81,18 +79,18 @@ fn has_taken<R: Clock>(rt: &R, start: Instant) -> bool {
 
 /// 32,768 PINGREQ in one write are answered by as many PINGRESP and nothing else. Returns the first
 /// step that fails.
-pub(super) fn flooding<R>(rt: &R, listener: Option<&Listener>) -> Result<(), Missed>
+pub(super) fn flooding<R>(rt: &R, listener: Option<&Listener>) -> Result<(), Fault>
 where
     R: AllocGlobal + Net<Stream = TcpStream>,
 {
     match Flood::new(rt.alloc()) {
         Ok(mut flood) => flooding_with(rt, listener, &mut flood),
-        Err(_) => Err(Missed::new("there is memory for a flood")),
+        Err(_) => Err(Fault::new("there is memory for a flood")),
     }
 }
 
 // Returns the first step that fails with this flood by a client that joins for it.
-fn flooding_with<R>(rt: &R, listener: Option<&Listener>, flood: &mut Flood) -> Result<(), Missed>
+fn flooding_with<R>(rt: &R, listener: Option<&Listener>, flood: &mut Flood) -> Result<(), Fault>
 where
     R: Net<Stream = TcpStream>,
 {
@@ -101,7 +99,7 @@ where
 }
 
 // Returns the first step that fails with this flood on a stream.
-fn flooding_on(stream: &mut TcpStream, flood: &mut Flood) -> Result<(), Missed> {
+fn flooding_on(stream: &mut TcpStream, flood: &mut Flood) -> Result<(), Fault> {
     named(flood.send_to(stream, 1), "32,768 PINGREQ are sent")?;
     named(flood.hear_from(stream, 1), "as many PINGRESP come")
 }

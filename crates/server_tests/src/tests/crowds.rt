@@ -1,10 +1,10 @@
 // Many clients, at the same time and one after another.
 
-use super::nodes::missed_with;
+use super::nodes::first_fault_with;
 use super::row::Row;
 use server::Listener;
 use server_clients::{
-    Came, Large, Missed, Pair, SUBSCRIBE, SUBSCRIBED, StreamState, connect, exchange, hear_end,
+    Came, Fault, Large, Pair, SUBSCRIBE, SUBSCRIBED, StreamState, connect, exchange, hear_end,
     hear_end_within, hear_nothing_for, join, large_publish, named, open, ping, publish_times,
 };
 use std::alloc::Global;
@@ -16,37 +16,37 @@ use std::time::{Clock, Duration};
 
 #[test]
 fn a_sixty_first_client_is_closed(rt: HostRuntime) {
-    assert_eq!(rt; missed_with(&rt, &[1], Row::Sixty), Ok(()));
+    assert_eq!(rt; first_fault_with(&rt, &[1], Row::Sixty), Ok(()));
 }
 
 #[test]
 fn clients_that_come_and_go_are_accepted(rt: HostRuntime) {
-    assert_eq!(rt; missed_with(&rt, &[1], Row::ComeAndGo), Ok(()));
+    assert_eq!(rt; first_fault_with(&rt, &[1], Row::ComeAndGo), Ok(()));
 }
 
 #[test]
 fn clients_without_a_first_packet_are_ended(rt: HostRuntime) {
-    assert_eq!(rt; missed_with(&rt, &[1], Row::SilentOnes), Ok(()));
+    assert_eq!(rt; first_fault_with(&rt, &[1], Row::SilentOnes), Ok(()));
 }
 
 #[test]
 fn a_client_that_never_reads_makes_room(rt: HostRuntime) {
-    assert_eq!(rt; missed_with(&rt, &[1], Row::Deaf), Ok(()));
+    assert_eq!(rt; first_fault_with(&rt, &[1], Row::Deaf), Ok(()));
 }
 
 #[test]
 fn a_client_that_never_reads_makes_room_with_three_members(rt: HostRuntime) {
-    assert_eq!(rt; missed_with(&rt, &[1, 2, 3], Row::Deaf), Ok(()));
+    assert_eq!(rt; first_fault_with(&rt, &[1, 2, 3], Row::Deaf), Ok(()));
 }
 
 #[test]
 fn a_client_that_never_reads_keeps_nobody_waiting(rt: HostRuntime) {
-    assert_eq!(rt; missed_with(&rt, &[1], Row::NeverReads), Ok(()));
+    assert_eq!(rt; first_fault_with(&rt, &[1], Row::NeverReads), Ok(()));
 }
 
 /// Sixty clients are answered by PINGRESP while they are connected and one more has come. Returns
 /// the first step that fails.
-pub(super) fn sixty<R>(rt: &R, listener: Option<&Listener>) -> Result<(), Missed>
+pub(super) fn sixty<R>(rt: &R, listener: Option<&Listener>) -> Result<(), Fault>
 where
     R: AllocGlobal + Net<Stream = TcpStream>,
 {
@@ -59,7 +59,7 @@ fn sixty_on<R>(
     rt: &R,
     listener: Option<&Listener>,
     streams: &mut Vec<TcpStream>,
-) -> Result<(), Missed>
+) -> Result<(), Fault>
 where
     R: Net<Stream = TcpStream>,
 {
@@ -114,7 +114,7 @@ where
 
 /// Sixty clients that say nothing keep their connections for four seconds, and lose them within ten
 /// more. Then another is accepted. Returns the first step that fails.
-pub(super) fn silent_ones<R>(rt: &R, listener: Option<&Listener>) -> Result<(), Missed>
+pub(super) fn silent_ones<R>(rt: &R, listener: Option<&Listener>) -> Result<(), Fault>
 where
     R: AllocGlobal + Net<Stream = TcpStream>,
 {
@@ -127,7 +127,7 @@ fn silent_ones_on<R>(
     rt: &R,
     listener: Option<&Listener>,
     streams: &mut Vec<TcpStream>,
-) -> Result<(), Missed>
+) -> Result<(), Fault>
 where
     R: Net<Stream = TcpStream>,
 {
@@ -183,7 +183,7 @@ where
 
 /// 200 clients that come one after another, each once the one before has left, are all accepted.
 /// Returns the first step that fails.
-pub(super) fn coming_and_going<R>(rt: &R, listener: Option<&Listener>) -> Result<(), Missed>
+pub(super) fn coming_and_going<R>(rt: &R, listener: Option<&Listener>) -> Result<(), Fault>
 where
     R: Net<Stream = TcpStream>,
 {
@@ -215,7 +215,7 @@ where
 
 /// A subscriber gets 50 MB while another one has the same subscription and never reads. Returns the
 /// first step that fails.
-pub(super) fn never_reading<R>(rt: &R, listener: Option<&Listener>) -> Result<(), Missed>
+pub(super) fn never_reading<R>(rt: &R, listener: Option<&Listener>) -> Result<(), Fault>
 where
     R: AllocGlobal + Net<Stream = TcpStream>,
 {
@@ -227,11 +227,7 @@ where
 }
 
 // Returns the first step that fails with a subscriber that gets 50 MB, while this one never reads.
-fn hearing_beside<R>(
-    rt: &R,
-    listener: Option<&Listener>,
-    deaf: &mut TcpStream,
-) -> Result<(), Missed>
+fn hearing_beside<R>(rt: &R, listener: Option<&Listener>, deaf: &mut TcpStream) -> Result<(), Fault>
 where
     R: AllocGlobal + Net<Stream = TcpStream>,
 {
@@ -247,14 +243,14 @@ where
 }
 
 // Returns the first step that fails with fifty publications of 1 MB between these two.
-fn hearing_by(alloc: Global, pair: &mut Pair) -> Result<(), Missed> {
+fn hearing_by(alloc: Global, pair: &mut Pair) -> Result<(), Fault> {
     named(pair.subscribe(), "the subscriber subscribes")?;
     match Large::new(alloc) {
         Ok(mut large) => named(
             pass_fifty(&mut large, pair),
             "each publication of 1 MB comes as it was sent",
         ),
-        Err(_) => Err(Missed::new("there is memory for a publication")),
+        Err(_) => Err(Fault::new("there is memory for a publication")),
     }
 }
 
@@ -268,14 +264,14 @@ fn pass_fifty(large: &mut Large, pair: &mut Pair) -> Result<(), Came> {
 
 /// A subscriber with keep alive 10 that never reads, and says nothing more, keeps its connection
 /// for a while. Then it loses it to another client. Returns the first step that fails.
-pub(super) fn deaf_one<R>(rt: &R, listener: Option<&Listener>) -> Result<(), Missed>
+pub(super) fn deaf_one<R>(rt: &R, listener: Option<&Listener>) -> Result<(), Fault>
 where
     R: AllocGlobal + Wait + Clock + Net<Stream = TcpStream>,
 {
     let mut streams = Vec::new(rt.alloc());
     match named(deaf(rt, listener), "the client that never reads subscribes") {
         Ok(_deaf) => crowd_beside(rt, listener, &mut streams),
-        Err(missed) => Err(missed),
+        Err(fault) => Err(fault),
     }
 }
 
@@ -285,7 +281,7 @@ fn crowd_beside<R>(
     rt: &R,
     listener: Option<&Listener>,
     streams: &mut Vec<TcpStream>,
-) -> Result<(), Missed>
+) -> Result<(), Fault>
 where
     R: AllocGlobal + Wait + Clock + Net<Stream = TcpStream>,
 {
@@ -306,7 +302,7 @@ fn room_beside<R>(
     rt: &R,
     listener: Option<&Listener>,
     speaker: Option<&mut TcpStream>,
-) -> Result<(), Missed>
+) -> Result<(), Fault>
 where
     R: AllocGlobal + Wait + Clock + Net<Stream = TcpStream>,
 {

@@ -1,7 +1,7 @@
 // Nodes that cut their logs, as their reports show.
 
 use server::{Config, Listener, Members, NoGate, NodeReport, serve_gated};
-use server_clients::{Missed, join, large_publish, listen_all, named, publish_times, unless};
+use server_clients::{Fault, join, large_publish, listen_all, named, publish_times, unless};
 use std::net::{Net, TcpListener, TcpStream};
 use std::sync::Wait;
 use std::thread;
@@ -55,12 +55,12 @@ const ROWS: &[Row] = &[
 #[test]
 fn logs_are_cut(rt: HostRuntime) {
     for row in ROWS {
-        assert_eq!(rt; missed_with(&rt, row), Ok(()), "{}", row.name);
+        assert_eq!(rt; first_fault_with(&rt, row), Ok(()), "{}", row.name);
     }
 }
 
 // Returns the first step of a row that fails with nodes of its own.
-fn missed_with<R>(rt: &R, row: &Row) -> Result<(), Missed>
+fn first_fault_with<R>(rt: &R, row: &Row) -> Result<(), Fault>
 where
     R: AllocGlobal + Threads + Wait + Clock + Sync,
     R: Net<Listener = TcpListener, Stream = TcpStream>,
@@ -69,12 +69,12 @@ where
     if listen_all(rt, row.members, &mut listeners) {
         serve(rt, row, listeners.as_slice())
     } else {
-        Err(Missed::new("a port is free"))
+        Err(Fault::new("a port is free"))
     }
 }
 
 // Returns the first step of a row that fails with the nodes of these listeners.
-fn serve<R>(rt: &R, row: &Row, listeners: &[Listener]) -> Result<(), Missed>
+fn serve<R>(rt: &R, row: &Row, listeners: &[Listener]) -> Result<(), Fault>
 where
     R: AllocGlobal + Threads + Wait + Clock + Sync + Net<Stream = TcpStream>,
 {
@@ -82,7 +82,7 @@ where
         Members::from_slice(rt.alloc(), row.members),
         row.members.first(),
     ) else {
-        return Err(Missed::new("there is memory for a ballot"));
+        return Err(Fault::new("there is memory for a ballot"));
     };
     let config = Config {
         members,
@@ -101,27 +101,27 @@ where
             are_as_told(reports.as_slice(), row.are_cut),
             "just the logs of these nodes are cut",
         )),
-        Err(_) => Err(Missed::new("the nodes serve")),
+        Err(_) => Err(Fault::new("the nodes serve")),
     }
 }
 
 // Sends the publications, which have to be taken, and then waits. Returns the first step that
 // fails.
-fn sends<R>(rt: &R, row: &Row, listener: Option<&Listener>) -> Result<(), Missed>
+fn sends<R>(rt: &R, row: &Row, listener: Option<&Listener>) -> Result<(), Fault>
 where
     R: AllocGlobal + Wait + Clock + Net<Stream = TcpStream>,
 {
     let Ok(large) = large_publish(rt.alloc()) else {
-        return Err(Missed::new("there is memory for a publication"));
+        return Err(Fault::new("there is memory for a publication"));
     };
     match named(join(rt, listener, b's', false), "a client comes") {
         Ok(mut stream) => sends_on(rt, row, &mut stream, large.as_slice()),
-        Err(missed) => Err(missed),
+        Err(fault) => Err(fault),
     }
 }
 
 // The same on a stream of the client, with this publication.
-fn sends_on<R>(rt: &R, row: &Row, stream: &mut TcpStream, large: &[u8]) -> Result<(), Missed>
+fn sends_on<R>(rt: &R, row: &Row, stream: &mut TcpStream, large: &[u8]) -> Result<(), Fault>
 where
     R: Wait + Clock,
 {

@@ -5,7 +5,7 @@ use super::row::{Row, Table};
 use packet::ClientId;
 use server::{Cluster, Listener};
 use server_clients::{
-    Came, Heard, Missed, Pair, SUBSCRIBE, SUBSCRIBED, deliver, exchange, hear_end, hear_nothing,
+    Came, Fault, Heard, Pair, SUBSCRIBE, SUBSCRIBED, deliver, exchange, hear_end, hear_nothing,
     join, named, publish, unless,
 };
 use std::net::{Net, TcpStream};
@@ -37,7 +37,7 @@ pub(super) fn expelling<R>(
     rt: &R,
     cluster: &Cluster,
     listener: Option<&Listener>,
-) -> Result<(), Missed>
+) -> Result<(), Fault>
 where
     R: AllocGlobal + Wait + Clock + Net<Stream = TcpStream>,
 {
@@ -58,7 +58,7 @@ fn expelling_of<R>(
     cluster: &Cluster,
     listener: Option<&Listener>,
     pair: &mut Pair,
-) -> Result<(), Missed>
+) -> Result<(), Fault>
 where
     R: AllocGlobal + Wait + Clock + Net<Stream = TcpStream>,
 {
@@ -81,7 +81,7 @@ where
 
 // Checks that the subscriber's connection is closed after it was sent `x`, which it has not
 // acknowledged. Returns the first step that fails.
-fn end_while_connected<R>(rt: &R, cluster: &Cluster, pair: &mut Pair) -> Result<(), Missed>
+fn end_while_connected<R>(rt: &R, cluster: &Cluster, pair: &mut Pair) -> Result<(), Fault>
 where
     R: AllocGlobal + Wait + Clock,
 {
@@ -118,7 +118,7 @@ fn end_while_away<R>(
     cluster: &Cluster,
     listener: Option<&Listener>,
     speaker: &mut TcpStream,
-) -> Result<(), Missed>
+) -> Result<(), Fault>
 where
     R: AllocGlobal + Wait + Clock + Net<Stream = TcpStream>,
 {
@@ -162,7 +162,7 @@ where
 // Waits until the orders that were taken are obeyed. One more client is expelled after them: a node
 // obeys its orders in turn, so they are obeyed once this client is closed. Returns the first step
 // that fails.
-fn await_orders<R>(rt: &R, cluster: &Cluster, listener: Option<&Listener>) -> Result<(), Missed>
+fn await_orders<R>(rt: &R, cluster: &Cluster, listener: Option<&Listener>) -> Result<(), Fault>
 where
     R: AllocGlobal + Wait + Clock + Net<Stream = TcpStream>,
 {
@@ -174,7 +174,7 @@ where
 }
 
 // Checks that client `l` is expelled, and closed. Returns the first step that fails.
-fn await_end<R>(rt: &R, cluster: &Cluster, last: &mut TcpStream) -> Result<(), Missed>
+fn await_end<R>(rt: &R, cluster: &Cluster, last: &mut TcpStream) -> Result<(), Fault>
 where
     R: AllocGlobal + Wait + Clock,
 {

@@ -1,8 +1,8 @@
 // Nodes on free ports of the loopback interface, and the rows that run with them.
 
-use super::row::{Row, Table, missed_step};
+use super::row::{Row, Table, first_fault};
 use server::{Cluster, Config, Listener, Members, serve_while};
-use server_clients::{Missed, listen_all, opening};
+use server_clients::{Fault, listen_all, opening};
 use std::net::{Net, TcpListener, TcpStream};
 use std::sync::Wait;
 use std::thread;
@@ -11,14 +11,14 @@ use std::time::{Clock, Duration};
 
 /// Returns the name of the first of these tables whose row fails, and the step that fails. Each
 /// table has nodes of its own.
-pub(super) fn fault_in<R>(rt: &R, tables: &[Table]) -> Option<(&'static str, Missed)>
+pub(super) fn fault_in<R>(rt: &R, tables: &[Table]) -> Option<(&'static str, Fault)>
 where
     R: AllocGlobal + Threads + Wait + Clock + Sync,
     R: Net<Listener = TcpListener, Stream = TcpStream>,
 {
     for table in tables {
-        if let Err(missed) = missed_with(rt, table.members, table.row) {
-            return Some((table.name, missed));
+        if let Err(fault) = first_fault_with(rt, table.members, table.row) {
+            return Some((table.name, fault));
         }
     }
     None
@@ -26,7 +26,7 @@ where
 
 /// Returns the first step of a row that fails with nodes of its own, the members of ballot 1. Node
 /// 1 is the primary.
-pub(super) fn missed_with<R>(rt: &R, members: &[u8], row: Row) -> Result<(), Missed>
+pub(super) fn first_fault_with<R>(rt: &R, members: &[u8], row: Row) -> Result<(), Fault>
 where
     R: AllocGlobal + Threads + Wait + Clock + Sync,
     R: Net<Listener = TcpListener, Stream = TcpStream>,
@@ -35,27 +35,27 @@ where
     if listen_all(rt, members, &mut listeners) {
         serve(rt, members, listeners.as_slice(), row)
     } else {
-        Err(Missed::new("a port is free"))
+        Err(Fault::new("a port is free"))
     }
 }
 
 // Returns the first step of a row that fails with the nodes of these listeners.
-fn serve<R>(rt: &R, members: &[u8], listeners: &[Listener], row: Row) -> Result<(), Missed>
+fn serve<R>(rt: &R, members: &[u8], listeners: &[Listener], row: Row) -> Result<(), Fault>
 where
     R: AllocGlobal + Threads + Wait + Clock + Sync,
     R: Net<Listener = TcpListener, Stream = TcpStream>,
 {
     let Ok(config) = opening(rt.alloc(), members) else {
-        return Err(Missed::new("there is memory for a ballot"));
+        return Err(Fault::new("there is memory for a ballot"));
     };
     let served = serve_while(
         rt,
         rt.alloc(),
         listeners,
         &config,
-        |cluster| missed_step(rt, cluster, listeners, row),
+        |cluster| first_fault(rt, cluster, listeners, row),
     );
-    served.unwrap_or(Err(Missed::new("the nodes serve")))
+    served.unwrap_or(Err(Fault::new("the nodes serve")))
 }
 
 /// Says whether the next ballot is given to these members, and their primary becomes the active

@@ -5,7 +5,7 @@ use super::crowds::{coming_and_going, deaf_one, never_reading, silent_ones, sixt
 use super::expulsions::expelling;
 use super::takeovers::{moving, taking_over};
 use server::{Cluster, Listener};
-use server_clients::{Missed, named, visit};
+use server_clients::{Fault, named, visit};
 use std::net::{Net, TcpStream};
 use std::sync::Wait;
 use std::time::Clock;
@@ -45,12 +45,12 @@ pub(super) struct Table {
 }
 
 /// Returns the first step of a row that fails with the nodes of these listeners, in words.
-pub(super) fn missed_step<R>(
+pub(super) fn first_fault<R>(
     rt: &R,
     cluster: &Cluster,
     listeners: &[Listener],
     row: Row,
-) -> Result<(), Missed>
+) -> Result<(), Fault>
 where
     R: AllocGlobal + Wait + Clock + Net<Stream = TcpStream>,
 {

@@ -4,8 +4,8 @@ use super::nodes::{fault_in, moves_to};
 use super::row::{Row, Table};
 use server::{Cluster, Listener};
 use server_clients::{
-    Came, Heard, Missed, Pair, connect, deliver, exchange, hear_nothing, named, open, publish,
-    send, unless, visit,
+    Came, Fault, Heard, Pair, connect, deliver, exchange, hear_nothing, named, open, publish, send,
+    unless, visit,
 };
 use std::net::{Net, TcpStream};
 use std::sync::Wait;
@@ -35,7 +35,7 @@ const FOUND: [u8; 14] = [0x20, 2, 1, 0, 0x3C, 8, 0, 3, 0x74, 0x2F, 0x31, 0, 1, 0
 /// Client `a` has not finished a handshake with node 1 when ballot 2 with node 2 as sole member is
 /// given. It finds its session at node 2, and is sent the publication again. Returns the first step
 /// that fails.
-pub(super) fn moving<R>(rt: &R, cluster: &Cluster, listeners: &[Listener]) -> Result<(), Missed>
+pub(super) fn moving<R>(rt: &R, cluster: &Cluster, listeners: &[Listener]) -> Result<(), Fault>
 where
     R: AllocGlobal + Wait + Clock + Net<Stream = TcpStream>,
 {
@@ -65,11 +65,7 @@ where
 
 /// The subscriber gets each of four publications once, in order, if node 1 crashes between them and
 /// node 2 takes over. Returns the first step that fails.
-pub(super) fn taking_over<R>(
-    rt: &R,
-    cluster: &Cluster,
-    listeners: &[Listener],
-) -> Result<(), Missed>
+pub(super) fn taking_over<R>(rt: &R, cluster: &Cluster, listeners: &[Listener]) -> Result<(), Fault>
 where
     R: AllocGlobal + Wait + Clock + Net<Stream = TcpStream>,
 {
@@ -83,7 +79,7 @@ fn taking_over_by<R>(
     cluster: &Cluster,
     listeners: &[Listener],
     heard: &mut Heard,
-) -> Result<(), Missed>
+) -> Result<(), Fault>
 where
     R: AllocGlobal + Wait + Clock + Net<Stream = TcpStream>,
 {
@@ -108,7 +104,7 @@ fn begin<R>(
     cluster: &Cluster,
     listener: Option<&Listener>,
     heard: &mut Heard,
-) -> Result<(), Missed>
+) -> Result<(), Fault>
 where
     R: Wait + Clock + Net<Stream = TcpStream>,
 {
@@ -120,7 +116,7 @@ where
 }
 
 // The same of these two.
-fn begin_by<R>(rt: &R, cluster: &Cluster, pair: &mut Pair, heard: &mut Heard) -> Result<(), Missed>
+fn begin_by<R>(rt: &R, cluster: &Cluster, pair: &mut Pair, heard: &mut Heard) -> Result<(), Fault>
 where
     R: Wait + Clock,
 {

@@ -40,7 +40,7 @@ fn is_no_puback(alloc: Global, payload: &str, sent: &Awaits) -> bool {
 }
 
 // Returns the first check that fails for an entry that waits for PUBREC.
-fn missed_by(alloc: Global, sent: &Awaits) -> Option<&'static str> {
+fn first_fault(alloc: Global, sent: &Awaits) -> Option<&'static str> {
     if !has_equal_copy(sent) {
         Some("it equals its copy")
     } else if !is_no_pubrec(alloc, "y", sent) {
@@ -57,9 +57,9 @@ fn missed_by(alloc: Global, sent: &Awaits) -> Option<&'static str> {
 // A copy equals its original, and nothing that differs in a part.
 #[test]
 fn copies_are_equal(rt: HostRuntime) {
-    let missed = match publication(rt.alloc(), "x") {
-        Some(sent) => missed_by(rt.alloc(), &Awaits::Pubrec(sent)),
+    let fault = match publication(rt.alloc(), "x") {
+        Some(sent) => first_fault(rt.alloc(), &Awaits::Pubrec(sent)),
         None => Some("there is memory for a publication"),
     };
-    assert_eq!(rt; missed, None);
+    assert_eq!(rt; fault, None);
 }

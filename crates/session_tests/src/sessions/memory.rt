@@ -69,7 +69,7 @@ fn is_received(session: &mut Session) -> bool {
 }
 
 // Returns the first step that fails, in words.
-fn missed_step(alloc: Global, session: &mut Session) -> Option<&'static str> {
+fn first_fault(alloc: Global, session: &mut Session) -> Option<&'static str> {
     if !(0..3).all(|_| is_added(alloc, session) == Some(true)) {
         Some("three publications are added, each once")
     } else if !sends(alloc, session, &[New(1), New(2), New(3)]) {
@@ -92,5 +92,5 @@ fn missed_step(alloc: Global, session: &mut Session) -> Option<&'static str> {
 #[test]
 fn a_refused_session_is_unchanged_and_goes_on(rt: HostRuntime) {
     let mut session = Session::new(rt.alloc());
-    assert_eq!(rt; missed_step(rt.alloc(), &mut session), None);
+    assert_eq!(rt; first_fault(rt.alloc(), &mut session), None);
 }

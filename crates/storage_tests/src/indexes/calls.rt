@@ -22,7 +22,7 @@ pub(crate) enum Call<'a> {
 }
 
 // Returns the first call of a row whose answer differs from the wanted one.
-fn other_answer<I: SubIndex>(alloc: Global, index: &mut I, row: &[Call<'_>]) -> Option<usize> {
+fn first_fault_with<I: SubIndex>(alloc: Global, index: &mut I, row: &[Call<'_>]) -> Option<usize> {
     for (number, call) in row.iter().enumerate() {
         if !is_answered(alloc, index, *call) {
             return Some(number);
@@ -34,7 +34,7 @@ fn other_answer<I: SubIndex>(alloc: Global, index: &mut I, row: &[Call<'_>]) -> 
 /// Returns the first call of a row whose answer by a fresh index differs from the wanted one.
 pub(crate) fn first_fault<I: SubIndex>(alloc: Global, row: &[Call<'_>]) -> Option<usize> {
     let mut index = I::new(alloc);
-    other_answer(alloc, &mut index, row)
+    first_fault_with(alloc, &mut index, row)
 }
 
 // Says whether the index answers as expected, and with memory.

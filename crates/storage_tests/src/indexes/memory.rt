@@ -148,7 +148,7 @@ fn is_dropped<I: SubIndex>(alloc: Global, index: &mut I, text: &str) -> bool {
 
 // Checks that the index grants the wanted rows when all is set, and nothing when both clients are
 // dropped. Returns the first step that fails.
-fn missed_step<I: SubIndex>(alloc: Global, index: &mut I) -> Option<&'static str> {
+fn first_fault<I: SubIndex>(alloc: Global, index: &mut I) -> Option<&'static str> {
     if !all_are_set(alloc, index) {
         Some("each row is set")
     } else if !shows(alloc, index, &GRANTS) {
@@ -164,17 +164,17 @@ fn missed_step<I: SubIndex>(alloc: Global, index: &mut I) -> Option<&'static str
     }
 }
 
-fn missed_by<I: SubIndex>(alloc: Global) -> Option<&'static str> {
+fn first_fault_of_fresh<I: SubIndex>(alloc: Global) -> Option<&'static str> {
     let mut index = I::new(alloc);
-    missed_step(alloc, &mut index)
+    first_fault(alloc, &mut index)
 }
 
 #[test]
 fn a_refused_list_is_unchanged_and_goes_on(rt: HostRuntime) {
-    assert_eq!(rt; missed_by::<ListIndex>(rt.alloc()), None);
+    assert_eq!(rt; first_fault_of_fresh::<ListIndex>(rt.alloc()), None);
 }
 
 #[test]
 fn a_refused_tree_is_unchanged_and_goes_on(rt: HostRuntime) {
-    assert_eq!(rt; missed_by::<TreeIndex>(rt.alloc()), None);
+    assert_eq!(rt; first_fault_of_fresh::<TreeIndex>(rt.alloc()), None);
 }

@@ -107,7 +107,7 @@ fn called_alike(alloc: Global, both: &mut Both, numbers: &mut Numbers) -> Option
 }
 
 // Returns the first call that both do not answer alike. How many rows were granted is added up.
-fn first_difference(alloc: Global, both: &mut Both, rows: &mut usize) -> Option<u32> {
+fn first_fault(alloc: Global, both: &mut Both, rows: &mut usize) -> Option<u32> {
     let mut numbers = Numbers { state: 23 };
     for number in 0..CALLS {
         match called_alike(alloc, both, &mut numbers) {
@@ -125,13 +125,13 @@ fn called_in_turn(alloc: Global) -> (Option<u32>, usize) {
         list: ListIndex::new(alloc),
         tree: TreeIndex::new(alloc),
     };
-    let difference = first_difference(alloc, &mut both, &mut rows);
-    (difference, rows)
+    let fault = first_fault(alloc, &mut both, &mut rows);
+    (fault, rows)
 }
 
 #[test]
 fn list_and_tree_answer_many_calls_alike(rt: HostRuntime) {
-    let (difference, rows) = called_in_turn(rt.alloc());
-    assert_eq!(rt; difference, None);
+    let (fault, rows) = called_in_turn(rt.alloc());
+    assert_eq!(rt; fault, None);
     assert!(rt; rows > 5_000, "{rows}");
 }

@@ -120,7 +120,7 @@ const ROWS: &[&[Call<'static>]] = &[
 ];
 
 // Returns the first row that has a call whose answer differs from the wanted one, and that call.
-fn first_row<I: SubIndex>(alloc: Global, rows: &[&[Call<'_>]]) -> Option<(usize, usize)> {
+fn first_fault_of_rows<I: SubIndex>(alloc: Global, rows: &[&[Call<'_>]]) -> Option<(usize, usize)> {
     for (number, row) in rows.iter().enumerate() {
         if let Some(call) = first_fault::<I>(alloc, row) {
             return Some((number, call));
@@ -131,10 +131,10 @@ fn first_row<I: SubIndex>(alloc: Global, rows: &[&[Call<'_>]]) -> Option<(usize,
 
 #[test]
 fn the_list_answers_its_rows(rt: HostRuntime) {
-    assert_eq!(rt; first_row::<ListIndex>(rt.alloc(), ROWS), None);
+    assert_eq!(rt; first_fault_of_rows::<ListIndex>(rt.alloc(), ROWS), None);
 }
 
 #[test]
 fn the_tree_answers_its_rows(rt: HostRuntime) {
-    assert_eq!(rt; first_row::<TreeIndex>(rt.alloc(), ROWS), None);
+    assert_eq!(rt; first_fault_of_rows::<TreeIndex>(rt.alloc(), ROWS), None);
 }

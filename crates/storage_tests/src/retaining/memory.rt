@@ -46,7 +46,7 @@ fn finds(alloc: Global, store: &RetainedStore, text: &str, wanted: usize) -> boo
 }
 
 // Returns the first step that fails, in words.
-fn missed_step(alloc: Global, store: &mut RetainedStore) -> Option<&'static str> {
+fn first_fault(alloc: Global, store: &mut RetainedStore) -> Option<&'static str> {
     if !is_put(alloc, store, "t/1", "x", 1) {
         Some("t/1 is kept")
     } else if !is_put(alloc, store, "t/2", "y", 2) {
@@ -69,7 +69,7 @@ fn missed_step(alloc: Global, store: &mut RetainedStore) -> Option<&'static str>
 #[test]
 fn a_refused_store_is_unchanged_and_goes_on(rt: HostRuntime) {
     let mut store = RetainedStore::new(rt.alloc());
-    assert_eq!(rt; missed_step(rt.alloc(), &mut store), None);
+    assert_eq!(rt; first_fault(rt.alloc(), &mut store), None);
 }
 
 // Returns the text of a topic by its number; it tries a second time if the first try ran out of

@@ -29,7 +29,7 @@ fn is_text_before(alloc: Global, text: &Text, later: &str) -> bool {
 }
 
 // Returns the first check that fails for a text.
-fn missed_by_text(alloc: Global, made: &Text, row: Order<'_>) -> Option<&'static str> {
+fn first_fault_of_text(alloc: Global, made: &Text, row: Order<'_>) -> Option<&'static str> {
     let (text, later) = row;
     if !is_text_copied(made, text) {
         Some("it has an equal copy")
@@ -43,17 +43,17 @@ fn missed_by_text(alloc: Global, made: &Text, row: Order<'_>) -> Option<&'static
 }
 
 // Returns the first check that fails for a row, of which the first has to be a text.
-fn missed_text(alloc: Global, row: Order<'_>) -> Option<&'static str> {
+fn first_fault_of_texts(alloc: Global, row: Order<'_>) -> Option<&'static str> {
     let (text, _) = row;
     match Text::new(alloc, text) {
-        Ok(made) => missed_by_text(alloc, &made, row),
+        Ok(made) => first_fault_of_text(alloc, &made, row),
         Err(_) => Some("it is a text"),
     }
 }
 
 #[test]
 fn a_text_is_printed_copied_and_ordered(rt: HostRuntime) {
-    assert_eq!(rt; missed_text(rt.alloc(), ("a/B", "b")), None);
+    assert_eq!(rt; first_fault_of_texts(rt.alloc(), ("a/B", "b")), None);
 }
 
 fn is_name_copied(name: &TopicName) -> bool {
@@ -79,7 +79,7 @@ fn is_name_before(alloc: Global, name: &TopicName, later: &str) -> bool {
 }
 
 // Returns the first check that fails for a name.
-fn missed_by_name(alloc: Global, name: &TopicName, row: Order<'_>) -> Option<&'static str> {
+fn first_fault_of_name(alloc: Global, name: &TopicName, row: Order<'_>) -> Option<&'static str> {
     let (first, later) = row;
     if !is_name_printed(alloc, name, first) {
         Some("it is printed as it is")
@@ -91,17 +91,17 @@ fn missed_by_name(alloc: Global, name: &TopicName, row: Order<'_>) -> Option<&'s
 }
 
 // Returns the first check that fails for a row, of which the first has to be a name.
-fn missed_name(alloc: Global, row: Order<'_>) -> Option<&'static str> {
+fn first_fault_of_names(alloc: Global, row: Order<'_>) -> Option<&'static str> {
     let (first, _) = row;
     match TopicName::new(alloc, first) {
-        Ok(name) => missed_by_name(alloc, &name, row),
+        Ok(name) => first_fault_of_name(alloc, &name, row),
         Err(_) => Some("it is a Topic Name"),
     }
 }
 
 #[test]
 fn names_are_ordered_by_bytes(rt: HostRuntime) {
-    assert_eq!(rt; missed_name(rt.alloc(), ("B", "a")), None);
+    assert_eq!(rt; first_fault_of_names(rt.alloc(), ("B", "a")), None);
 }
 
 fn is_filter_copied(filter: &Filter) -> bool {
@@ -119,7 +119,7 @@ fn is_filter_printed(alloc: Global, filter: &Filter, wanted: &str) -> bool {
 }
 
 // Returns the first check that fails for a later filter.
-fn missed_by_later(
+fn first_fault_of_later(
     alloc: Global,
     first: &Filter,
     later: &Filter,
@@ -139,25 +139,25 @@ fn missed_by_later(
 }
 
 // Returns the first check that fails for the later text, which has to be a filter.
-fn missed_later(alloc: Global, first: &Filter, text: &str) -> Option<&'static str> {
+fn first_fault_of_later_text(alloc: Global, first: &Filter, text: &str) -> Option<&'static str> {
     match Filter::new(alloc, text) {
-        Ok(later) => missed_by_later(alloc, first, &later, text),
+        Ok(later) => first_fault_of_later(alloc, first, &later, text),
         Err(_) => Some("the later is a filter"),
     }
 }
 
 // Returns the first check that fails for a row, of which both have to be filters.
-fn missed_filter(alloc: Global, row: Order<'_>) -> Option<&'static str> {
+fn first_fault_of_filters(alloc: Global, row: Order<'_>) -> Option<&'static str> {
     let (first, later) = row;
     match Filter::new(alloc, first) {
-        Ok(first) => missed_later(alloc, &first, later),
+        Ok(first) => first_fault_of_later_text(alloc, &first, later),
         Err(_) => Some("the first is a filter"),
     }
 }
 
 #[test]
 fn filters_are_ordered_by_bytes(rt: HostRuntime) {
-    assert_eq!(rt; missed_filter(rt.alloc(), ("#", "+")), None);
+    assert_eq!(rt; first_fault_of_filters(rt.alloc(), ("#", "+")), None);
 }
 
 fn has_text(topic: &TopicName, wanted: Option<&str>) -> bool {
@@ -165,7 +165,7 @@ fn has_text(topic: &TopicName, wanted: Option<&str>) -> bool {
 }
 
 // Returns the check that fails for a filter that has to be the topic of this text, or none.
-fn missed_topic(filter: &Filter, wanted: Option<&str>) -> Option<&'static str> {
+fn first_fault_of_topic(filter: &Filter, wanted: Option<&str>) -> Option<&'static str> {
     match filter.as_topic() {
         Ok(Some(topic)) => {
             if has_text(&topic, wanted) {
@@ -186,9 +186,13 @@ fn missed_topic(filter: &Filter, wanted: Option<&str>) -> Option<&'static str> {
 }
 
 // Returns the check that fails for a text, which has to be a filter.
-fn missed_topic_of(alloc: Global, text: &str, wanted: Option<&str>) -> Option<&'static str> {
+fn first_fault_of_topic_text(
+    alloc: Global,
+    text: &str,
+    wanted: Option<&str>,
+) -> Option<&'static str> {
     match Filter::new(alloc, text) {
-        Ok(filter) => missed_topic(&filter, wanted),
+        Ok(filter) => first_fault_of_topic(&filter, wanted),
         Err(_) => Some("it is a filter"),
     }
 }
@@ -197,7 +201,11 @@ fn missed_topic_of(alloc: Global, text: &str, wanted: Option<&str>) -> Option<&'
 #[test]
 fn bare_filters_are_topics(rt: HostRuntime) {
     for (text, topic) in [("sport/tennis", Some("sport/tennis")), ("sport/#", None)] {
-        assert_eq!(rt; missed_topic_of(rt.alloc(), text, topic), None, "{text}");
+        assert_eq!(rt;
+            first_fault_of_topic_text(rt.alloc(), text, topic),
+            None,
+            "{text}"
+        );
     }
 }
 

@@ -25,7 +25,7 @@ fn is_filter(alloc: Global, text: &str) -> bool {
 }
 
 // Returns the first text that is no Topic Filter.
-fn first_no_filter<'a>(alloc: Global, texts: &[&'a str]) -> Option<&'a str> {
+fn first_fault_of_filters<'a>(alloc: Global, texts: &[&'a str]) -> Option<&'a str> {
     for text in texts {
         if !is_filter(alloc, text) {
             return Some(text);
@@ -36,7 +36,7 @@ fn first_no_filter<'a>(alloc: Global, texts: &[&'a str]) -> Option<&'a str> {
 
 #[test]
 fn filters_of_the_standard_are_taken(rt: HostRuntime) {
-    assert_eq!(rt; first_no_filter(rt.alloc(), FILTERS), None);
+    assert_eq!(rt; first_fault_of_filters(rt.alloc(), FILTERS), None);
 }
 
 const NO_FILTERS: &[&str] = &[

@@ -26,7 +26,7 @@ fn fault_of_topic(alloc: Global, part: &str, count: usize) -> Option<MalformedKi
 }
 
 // Returns the first row whose fault as a Topic Filter differs from the wanted one, with that fault.
-fn other_filter<'a>(alloc: Global, rows: &[Row<'a>]) -> Option<Row<'a>> {
+fn first_fault_of_filters<'a>(alloc: Global, rows: &[Row<'a>]) -> Option<Row<'a>> {
     for row in rows {
         let (part, count, wanted) = *row;
         let fault = fault_of_filter(alloc, part, count);
@@ -38,7 +38,7 @@ fn other_filter<'a>(alloc: Global, rows: &[Row<'a>]) -> Option<Row<'a>> {
 }
 
 // Returns the first row whose fault as a Topic Name differs from the wanted one, with that fault.
-fn other_topic<'a>(alloc: Global, rows: &[Row<'a>]) -> Option<Row<'a>> {
+fn first_fault_of_topics<'a>(alloc: Global, rows: &[Row<'a>]) -> Option<Row<'a>> {
     for row in rows {
         let (part, count, wanted) = *row;
         let fault = fault_of_topic(alloc, part, count);
@@ -61,8 +61,8 @@ const LONG_FILTERS: &[Row<'static>] = &[
 
 #[test]
 fn a_text_has_at_most_65535_bytes(rt: HostRuntime) {
-    assert_eq!(rt; other_topic(rt.alloc(), LONG_TOPICS), None);
-    assert_eq!(rt; other_filter(rt.alloc(), LONG_FILTERS), None);
+    assert_eq!(rt; first_fault_of_topics(rt.alloc(), LONG_TOPICS), None);
+    assert_eq!(rt; first_fault_of_filters(rt.alloc(), LONG_FILTERS), None);
 }
 
 /// A filter of 32 levels, and one of 33.
@@ -82,8 +82,8 @@ const DEEP_TOPICS: &[Row<'static>] = &[("/", 31, None), ("/", 32, Some(Malformed
 
 #[test]
 fn a_text_has_at_most_32_levels(rt: HostRuntime) {
-    assert_eq!(rt; other_filter(rt.alloc(), DEEP_FILTERS), None);
-    assert_eq!(rt; other_topic(rt.alloc(), DEEP_TOPICS), None);
+    assert_eq!(rt; first_fault_of_filters(rt.alloc(), DEEP_FILTERS), None);
+    assert_eq!(rt; first_fault_of_topics(rt.alloc(), DEEP_TOPICS), None);
 }
 
 #[test]

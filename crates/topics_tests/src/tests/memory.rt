@@ -66,10 +66,10 @@ const NO_TOPICS: &[(&str, MalformedKind)] = &[
 ];
 
 // A text, and its fault.
-type Other = (&'static str, Option<MalformedKind>);
+type Fault = (&'static str, Option<MalformedKind>);
 
 // Returns the first text whose fault as a Topic Filter differs from the wanted one.
-fn other_filter(alloc: Global) -> Option<Other> {
+fn first_fault_of_filters(alloc: Global) -> Option<Fault> {
     for (text, kind) in NO_FILTERS {
         let fault = filter_fault(alloc, text);
         if fault != Some(*kind) {
@@ -80,7 +80,7 @@ fn other_filter(alloc: Global) -> Option<Other> {
 }
 
 // Returns the first text whose fault as a Topic Name differs from the wanted one.
-fn other_topic(alloc: Global) -> Option<Other> {
+fn first_fault_of_topics(alloc: Global) -> Option<Fault> {
     for (text, kind) in NO_TOPICS {
         let fault = topic_fault(alloc, text);
         if fault != Some(*kind) {
@@ -92,6 +92,6 @@ fn other_topic(alloc: Global) -> Option<Other> {
 
 #[test]
 fn a_fault_comes_before_memory(rt: HostRuntime) {
-    assert_eq!(rt; other_filter(rt.alloc()), None);
-    assert_eq!(rt; other_topic(rt.alloc()), None);
+    assert_eq!(rt; first_fault_of_filters(rt.alloc()), None);
+    assert_eq!(rt; first_fault_of_topics(rt.alloc()), None);
 }

@@ -21,7 +21,7 @@ fn fault_of_publishing(
     written: &[&[u8]],
     ended: Result<(), UserClientError>,
     pauses: u32,
-) -> Option<Wrong> {
+) -> Option<Fault> {
     fault_within(alloc, qos, usize::MAX, connections, written, ended, pauses)
 }
 
@@ -34,17 +34,17 @@ fn fault_within(
     written: &[&[u8]],
     ended: Result<(), UserClientError>,
     pauses: u32,
-) -> Option<Wrong> {
+) -> Option<Fault> {
     let log = RefCell::new(Vec::new(alloc));
     let mut servers = Scripted::new(connections, room, &log);
     let end = publish(alloc, qos, &mut servers);
     if end != ended {
-        return Some(Wrong::End(end));
+        return Some(Fault::End(end));
     }
     if servers.pauses != pauses {
-        return Some(Wrong::Pauses(servers.pauses));
+        return Some(Fault::Pauses(servers.pauses));
     }
-    first_unwritten(log.into_inner().as_slice(), written)
+    first_fault_of_packets(log.into_inner().as_slice(), written)
 }
 
 #[test]

@@ -147,7 +147,7 @@ pub const SUBSCRIBE: &[u8] = &[0x82, 8, 0, 1, 0, 3, b't', b'/', b'#', 2];
 
 /// What differs from the wanted run.
 #[derive(Clone, Copy, Debug, PartialEq, Eq)]
-pub enum Wrong {
+pub enum Fault {
     /// How it ended.
     End(Result<(), UserClientError>),
     /// How often it waited.
@@ -159,17 +159,17 @@ pub enum Wrong {
 }
 
 /// Returns the first of these packets that is not written in these bytes, one after another.
-pub fn first_unwritten(bytes: &[u8], packets: &[&[u8]]) -> Option<Wrong> {
+pub fn first_fault_of_packets(bytes: &[u8], packets: &[&[u8]]) -> Option<Fault> {
     let mut rest = bytes;
     for (number, packet) in packets.iter().enumerate() {
         match rest.strip_prefix(*packet) {
             Some(after) => rest = after,
-            None => return Some(Wrong::Packet(number)),
+            None => return Some(Fault::Packet(number)),
         }
     }
     if rest.is_empty() {
         None
     } else {
-        Some(Wrong::Packet(packets.len()))
+        Some(Fault::Packet(packets.len()))
     }
 }

@@ -25,7 +25,7 @@ fn fault_of_hearing(
     connections: &[Pieces],
     printed: &[u8],
     written: &[&[u8]],
-) -> Option<Wrong> {
+) -> Option<Fault> {
     fault_within(alloc, count, usize::MAX, connections, printed, written)
 }
 
@@ -37,18 +37,18 @@ fn fault_within(
     connections: &[Pieces],
     printed: &[u8],
     written: &[&[u8]],
-) -> Option<Wrong> {
+) -> Option<Fault> {
     let log = RefCell::new(Vec::new(alloc));
     let mut servers = Scripted::new(connections, room, &log);
     let mut output = Vec::new(alloc);
     let ended = subscribe(alloc, count, &mut servers, &mut output);
     if ended != Ok(()) {
-        return Some(Wrong::End(ended));
+        return Some(Fault::End(ended));
     }
     if output.as_slice() != printed {
-        return Some(Wrong::Printed(output.len()));
+        return Some(Fault::Printed(output.len()));
     }
-    first_unwritten(log.into_inner().as_slice(), written)
+    first_fault_of_packets(log.into_inner().as_slice(), written)
 }
 
 #[test]

@@ -15,17 +15,17 @@ fn is_cut_once(world: &mut World, node: u8) -> bool {
 }
 
 // The step that fails, and what the world shows then.
-type Changed = (&'static str, Fault);
+type CutFault = (&'static str, Fault);
 
-// Returns the first row that does not hold if a node cuts its log after the row at this index, or
-// after each row for the index after the last one.
-fn first_changed(
+// A node cuts its log after the row at this index, or after each row for the index after the last
+// one. Returns the first row that fails.
+fn first_fault(
     alloc: Global,
     world: &mut World,
     rows: &'static [Row],
     at: usize,
     node: u8,
-) -> Option<Changed> {
+) -> Option<CutFault> {
     for (index, row) in rows.iter().enumerate() {
         if !is_right(alloc, world, row) {
             return Some(("the row holds", fault_at(alloc, world, index, row)));
@@ -41,17 +41,17 @@ fn first_changed(
 }
 
 // The same for a fresh world.
-fn changed_from_the_opening(
+fn first_fault_of_fresh(
     alloc: Global,
     rows: &'static [Row],
     at: usize,
     node: u8,
-) -> Option<Changed> {
+) -> Option<CutFault> {
     match opened(alloc, 2, &[1, 2]) {
         Some(mut world) => {
-            let changed = first_changed(alloc, &mut world, rows, at, node);
+            let fault = first_fault(alloc, &mut world, rows, at, node);
             drop(world);
-            changed
+            fault
         }
         None => Some(("a world opens", UNOPENED)),
     }
@@ -59,10 +59,10 @@ fn changed_from_the_opening(
 
 // Returns the first index after which a cut of a node changes what a row says, and the step that
 // fails.
-fn changed_by(alloc: Global, rows: &'static [Row], node: u8) -> Option<(usize, Changed)> {
+fn first_fault_of_cuts(alloc: Global, rows: &'static [Row], node: u8) -> Option<(usize, CutFault)> {
     for at in 0..rows.len().saturating_add(1) {
-        if let Some(changed) = changed_from_the_opening(alloc, rows, at, node) {
-            return Some((at, changed));
+        if let Some(fault) = first_fault_of_fresh(alloc, rows, at, node) {
+            return Some((at, fault));
         }
     }
     None
@@ -72,7 +72,15 @@ fn changed_by(alloc: Global, rows: &'static [Row], node: u8) -> Option<(usize, C
 #[test]
 fn cuts_change_nothing_else(rt: HostRuntime) {
     for node in [1, 2] {
-        assert_eq!(rt; changed_by(rt.alloc(), CRASHED, node), None, "{node}");
-        assert_eq!(rt; changed_by(rt.alloc(), STALE, node), None, "{node}");
+        assert_eq!(rt;
+            first_fault_of_cuts(rt.alloc(), CRASHED, node),
+            None,
+            "{node}"
+        );
+        assert_eq!(rt;
+            first_fault_of_cuts(rt.alloc(), STALE, node),
+            None,
+            "{node}"
+        );
     }
 }

@@ -88,7 +88,7 @@ fn is_free_of_pubrel(world: &World) -> bool {
 
 // Returns the first row that does not hold, or after which one waits, and what the world shows
 // then.
-fn first_pubrel(alloc: Global, world: &mut World) -> Option<(&'static str, Fault)> {
+fn first_fault(alloc: Global, world: &mut World) -> Option<(&'static str, Fault)> {
     for (at, row) in STALE.iter().enumerate() {
         if !is_right(alloc, world, row) {
             return Some(("the row does not hold", fault_at(alloc, world, at, row)));
@@ -101,10 +101,10 @@ fn first_pubrel(alloc: Global, world: &mut World) -> Option<(&'static str, Fault
 }
 
 // Returns the first such row of a fresh world.
-fn first_pubrel_from_the_opening(alloc: Global) -> Option<(&'static str, Fault)> {
+fn first_fault_of_fresh(alloc: Global) -> Option<(&'static str, Fault)> {
     match opened(alloc, 2, &[1, 2]) {
         Some(mut world) => {
-            let fault = first_pubrel(alloc, &mut world);
+            let fault = first_fault(alloc, &mut world);
             drop(world);
             fault
         }
@@ -114,5 +114,5 @@ fn first_pubrel_from_the_opening(alloc: Global) -> Option<(&'static str, Fault)>
 
 #[test]
 fn no_pubrel_is_ever_on_its_way_down(rt: HostRuntime) {
-    assert_eq!(rt; first_pubrel_from_the_opening(rt.alloc()), None);
+    assert_eq!(rt; first_fault_of_fresh(rt.alloc()), None);
 }

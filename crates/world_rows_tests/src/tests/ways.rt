@@ -28,7 +28,7 @@ const CLIENTS: &[&str] = &["a", "b", "z"];
 // to its end, and `Idle` is returned otherwise. Returns the first step that fails. Here and below a
 // world is lent by the one function that makes it, and goes by a call of `drop`, which is proved
 // once.
-fn missed_of(
+fn first_fault_of(
     alloc: Global,
     course: &Course,
     count: usize,
@@ -37,16 +37,16 @@ fn missed_of(
 ) -> Option<&'static str> {
     match begun(alloc, course) {
         Some(mut world) => {
-            let missed = missed_in(alloc, &mut world, course, count, members, client);
+            let step = first_fault_in(alloc, &mut world, course, count, members, client);
             drop(world);
-            missed
+            step
         }
         None => Some("a world opens"),
     }
 }
 
 // The same in a world in which nothing happened.
-fn missed_in(
+fn first_fault_in(
     alloc: Global,
     world: &mut World,
     course: &Course,
@@ -69,15 +69,15 @@ fn missed_in(
             } else if way.len() > members.len().saturating_mul(6).saturating_add(5) {
                 Some("the way has at most 6 events for each member, and 5")
             } else {
-                missed_by(alloc, course, rows, world, way.as_slice(), &name)
+                first_fault_by(alloc, course, rows, world, way.as_slice(), &name)
             }
         }
-        Err(error) => missed_without(error, may),
+        Err(error) => fault_without_way(error, may),
     }
 }
 
 // Returns the step that fails if no way out is returned.
-fn missed_without(error: EscapeError, may: bool) -> Option<&'static str> {
+fn fault_without_way(error: EscapeError, may: bool) -> Option<&'static str> {
     if may {
         Some("there is a way out")
     } else if error == EscapeError::Idle {
@@ -89,7 +89,7 @@ fn missed_without(error: EscapeError, may: bool) -> Option<&'static str> {
 
 // Goes a way out in one more world, after these rows of its course. The other world is there before
 // the way out. Returns the first step that fails.
-fn missed_by(
+fn first_fault_by(
     alloc: Global,
     course: &Course,
     rows: &[Row],
@@ -100,13 +100,13 @@ fn missed_by(
     let ballot = last_ballot(rows).saturating_add(1);
     match begun(alloc, course) {
         Some(mut world) => {
-            let missed = if all_hold(alloc, &mut world, rows) {
-                missed_at_end(before, &mut world, way, ballot, client)
+            let step = if all_hold(alloc, &mut world, rows) {
+                first_fault_at_end(before, &mut world, way, ballot, client)
             } else {
                 Some("the rows hold once more")
             };
             drop(world);
-            missed
+            step
         }
         None => Some("one more world opens"),
     }
@@ -114,7 +114,7 @@ fn missed_by(
 
 // Checks that each of the events happens, and that they lead to the promised end. Returns the first
 // step that fails.
-fn missed_at_end(
+fn first_fault_at_end(
     before: &World,
     world: &mut World,
     way: &[Event],
@@ -183,21 +183,21 @@ struct Fault {
     last: Option<&'static Row>,
     members: &'static [u8],
     client: &'static str,
-    missed: &'static str,
+    step: &'static str,
 }
 
 // Returns the first way out of a course that differs from the wanted one.
-fn fault_in(alloc: Global, course: &Course) -> Option<Fault> {
+fn first_fault(alloc: Global, course: &Course) -> Option<Fault> {
     for rows in 0..course.rows.len().saturating_add(1) {
         for members in LISTS {
             for client in CLIENTS {
-                if let Some(missed) = missed_of(alloc, course, rows, members, client) {
+                if let Some(step) = first_fault_of(alloc, course, rows, members, client) {
                     return Some(Fault {
                         rows,
                         last: course.rows.get(rows.wrapping_sub(1)),
                         members: *members,
                         client: *client,
-                        missed,
+                        step,
                     });
                 }
             }
@@ -335,6 +335,6 @@ fn nothing_leads_out_where_nobody_lives(rt: HostRuntime) {
 fn each_course_has_its_ways_out(rt: HostRuntime) {
     for course in COURSES {
         let name = course.name;
-        assert_eq!(rt; fault_in(rt.alloc(), course), None, "{name}");
+        assert_eq!(rt; first_fault(rt.alloc(), course), None, "{name}");
     }
 }

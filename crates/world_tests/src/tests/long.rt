@@ -74,7 +74,7 @@ fn all_took_each_once(alloc: Global, world: &World) -> bool {
 
 // Checks a world after the run, with many takeovers and many cuts. Returns the first step that
 // fails, in words.
-fn missed_in(alloc: Global, world: &mut World) -> Option<&'static str> {
+fn first_fault(alloc: Global, world: &mut World) -> Option<&'static str> {
     let mut course = Course::new();
     if !all_come(alloc, world, &mut course) {
         Some("all events come, two primaries crash, nothing is lost, the list grows")
@@ -92,12 +92,12 @@ fn missed_in(alloc: Global, world: &mut World) -> Option<&'static str> {
 }
 
 // Returns the first step that fails with the world that the run begins in.
-fn missed_from_the_opening(alloc: Global) -> Option<&'static str> {
+fn first_fault_from_the_opening(alloc: Global) -> Option<&'static str> {
     match opened_for(alloc, 3, &[1, 2, 3], &CLIENTS) {
         Some(mut world) => {
-            let missed = missed_in(alloc, &mut world);
+            let fault = first_fault(alloc, &mut world);
             drop(world);
-            missed
+            fault
         }
         None => Some("there is memory for the world"),
     }
@@ -108,5 +108,5 @@ fn missed_from_the_opening(alloc: Global) -> Option<&'static str> {
 // becomes shorter, and nothing is lost.
 #[test]
 fn whatever_happens_each_is_taken_in_once(rt: HostRuntime) {
-    assert_eq!(rt; missed_from_the_opening(rt.alloc()), None);
+    assert_eq!(rt; first_fault_from_the_opening(rt.alloc()), None);
 }

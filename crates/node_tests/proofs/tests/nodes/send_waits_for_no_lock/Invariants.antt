@@ -1,7 +1,7 @@
 use Rattle.node_tests.proofs.tests.nodes.send_waits_for_no_lock.Given as goal
 
-abbrev pub ghosts-first_other-J-Naming : goal.ghosts-first_other-J-Naming
-ghosts-first_other-J-Naming g a = record { inbox_of = λ _. a.start.inbox }
+abbrev pub ghosts-first_fault-J-Naming : goal.ghosts-first_fault-J-Naming
+ghosts-first_fault-J-Naming g a = record { inbox_of = λ _. a.start.inbox }
 
-abbrev pub ghosts-first_other-J-NodeNaming : goal.ghosts-first_other-J-NodeNaming
-ghosts-first_other-J-NodeNaming g a = record { first_of = λ _. a.start.core }
+abbrev pub ghosts-first_fault-J-NodeNaming : goal.ghosts-first_fault-J-NodeNaming
+ghosts-first_fault-J-NodeNaming g a = record { first_of = λ _. a.start.core }
