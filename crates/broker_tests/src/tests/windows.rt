@@ -103,8 +103,8 @@ fn came_for(alloc: Global, broker: &mut BrokerMachine, id: u8, sent: bool) -> Op
     }
 }
 
-// Returns the first of seventeen publications that is not routed so: the first `sent` of them are
-// sent at once, and no others.
+// Of seventeen publications the first `sent` are sent at once, and no others. Returns the first one
+// that fails.
 fn first_fault_of_seventeen(alloc: Global, broker: &mut BrokerMachine, sent: u8) -> Option<Fault> {
     for id in 1..=17 {
         if let Some(came) = came_for(alloc, broker, id, id <= sent) {

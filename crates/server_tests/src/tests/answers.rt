@@ -54,7 +54,7 @@ where
     silence_on(rt, start, &mut stream)
 }
 
-// Returns the first step that fails with a client with keep alive 1 on this stream.
+// Returns the first step that fails for a client with keep alive 1 on this stream.
 fn silence_on<R: Clock>(rt: &R, start: Instant, stream: &mut TcpStream) -> Result<(), Fault> {
     let mut sent = connect(b'a', false);
     sent[11] = 1;

@@ -59,7 +59,7 @@ fn logs_are_cut(rt: HostRuntime) {
     }
 }
 
-// Returns the first step of a row that fails with nodes of its own.
+// Returns the first step that fails in a row with nodes of its own.
 fn first_fault_with<R>(rt: &R, row: &Row) -> Result<(), Fault>
 where
     R: AllocGlobal + Threads + Wait + Clock + Sync,
@@ -73,7 +73,7 @@ where
     }
 }
 
-// Returns the first step of a row that fails with the nodes of these listeners.
+// Returns the first step that fails in a row with the nodes of these listeners.
 fn serve<R>(rt: &R, row: &Row, listeners: &[Listener]) -> Result<(), Fault>
 where
     R: AllocGlobal + Threads + Wait + Clock + Sync + Net<Stream = TcpStream>,

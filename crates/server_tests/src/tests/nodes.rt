@@ -24,7 +24,7 @@ where
     None
 }
 
-/// Returns the first step of a row that fails with nodes of its own, the members of ballot 1. Node
+/// Returns the first step that fails in a row with nodes of its own, the members of ballot 1. Node
 /// 1 is the primary.
 pub(super) fn first_fault_with<R>(rt: &R, members: &[u8], row: Row) -> Result<(), Fault>
 where
@@ -39,7 +39,7 @@ where
     }
 }
 
-// Returns the first step of a row that fails with the nodes of these listeners.
+// Returns the first step that fails in a row with the nodes of these listeners.
 fn serve<R>(rt: &R, members: &[u8], listeners: &[Listener], row: Row) -> Result<(), Fault>
 where
     R: AllocGlobal + Threads + Wait + Clock + Sync,

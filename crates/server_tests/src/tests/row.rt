@@ -44,7 +44,7 @@ pub(super) struct Table {
     pub(super) row: Row,
 }
 
-/// Returns the first step of a row that fails with the nodes of these listeners, in words.
+/// Returns the first step that fails in a row with the nodes of these listeners, in words.
 pub(super) fn first_fault<R>(
     rt: &R,
     cluster: &Cluster,
