@@ -28,14 +28,14 @@ abbrev pub is_entry_released : Entry → Bool
 is_entry_released entry = is_there (release_place entry)
   where
     is_there : Option ℕ → Bool
-    is_there (Some n) = true
+    is_there (Some place) = true
     is_there None = false
 
 -- the client accepted a prefix of the QoS 2 entries of its session, and each that is released is
 -- among them
-pub record AcceptedInOrder (limits : Limits) (s : Story) : Type 0 where
+pub record AcceptedInOrder (limits : Limits) (story : Story) : Type 0 where
   pub prefix : List Entry
   pub others : List Entry
-  pub is : two_entries (entries_of limits s.past s.keeper.client) ≡ prefix ++ others
-  pub accepted : accepted_on s.connections ≡ map publication_in prefix
+  pub is : two_entries (entries_of limits story.past story.keeper.client) ≡ prefix ++ others
+  pub accepted : accepted_on story.connections ≡ map publication_in prefix
   pub rest : Each (λ entry. is_entry_released entry ≡ false) others

@@ -16,34 +16,35 @@ use Rattle.exactly_once.specs.StoryCommands.{packet_count}
 
 -- the client's connection of this name, if it has one
 abbrev pub connection_named : ConnectionName → List ClientConnection → Option ClientConnection
-connection_named x (connection ∷ connections) =
-    if same_connection x connection.name then Some connection else connection_named x connections
-connection_named x [] = None
+connection_named name (connection ∷ connections) =
+    if same_connection name connection.name then Some connection
+    else connection_named name connections
+connection_named name [] = None
 
 -- whether it is this number
 abbrev pub is_this : ℕ → Option ℕ → Bool
-is_this k (Some j) = j == k
-is_this k None = false
+is_this number (Some other) = other == number
+is_this number None = false
 
 -- the number of the publication in a written packet, if it is one
 abbrev pub written_number : Option Written → Option ℕ
-written_number (Some w) = w.number
+written_number (Some written) = written.number
 written_number None = None
 
--- the number of the j-th packet that was written on a connection
+-- the number of the packet that was written at this index on a connection
 abbrev pub written_number_at : ℕ → Option ClientConnection → Option ℕ
-written_number_at j (Some connection) = written_number (slice_get connection.written j)
-written_number_at j None = None
+written_number_at index (Some connection) = written_number (slice_get connection.written index)
+written_number_at index None = None
 
 -- the publication, if the command is a PUBLISH that the client wrote on one of its connections
 abbrev pub carries : List ClientConnection → Command → Past → Option ℕ
-carries connections (commands.Packet x (packets.Publish p)) past =
-    written_number_at (packet_count x past) (connection_named x connections)
+carries connections (commands.Packet name (packets.Publish publish)) past =
+    written_number_at (packet_count name past) (connection_named name connections)
 carries connections _ past = None
 
 -- the number, if the publication is new at its place
 abbrev pub more_by : Bool → Option ℕ → List ℕ
-more_by true (Some k) = k ∷ []
+more_by true (Some number) = number ∷ []
 more_by _ _ = []
 
 -- the client's publications that are new in the list, by place
@@ -61,18 +62,18 @@ is_two qualities.ExactlyOnce = true
 
 -- the publication itself
 abbrev pub own_publication : Own → Publication
-own_publication (Own.Unsent k p id) = p
-own_publication (Own.Sent k p id) = p
-own_publication (Own.Released k p id) = p
-own_publication (Own.Done k p) = p
+own_publication (Own.Unsent number publication id) = publication
+own_publication (Own.Sent number publication id) = publication
+own_publication (Own.Released number publication id) = publication
+own_publication (Own.Done number publication) = publication
 
--- all that it published, in the order of its calls: that of number k is at k
+-- all that it published, in the order of its calls: each is at its number
 abbrev pub own_publications : List Own → List Publication
 own_publications = map own_publication
 
 -- the numbers of its QoS 2 publications, in the order of its calls
 abbrev pub own_qos2_numbers : List Own → List ℕ
-own_qos2_numbers (o ∷ own) =
-    if is_two (own_publication o).qos then number_in o ∷ own_qos2_numbers own
+own_qos2_numbers (first ∷ own) =
+    if is_two (own_publication first).qos then number_in first ∷ own_qos2_numbers own
     else own_qos2_numbers own
 own_qos2_numbers [] = []

@@ -27,7 +27,7 @@ pub record Handshake (V : Type 0) : Type 0 where
 
 -- the receiver's answer to a packet of the sender
 abbrev pub answer : {V : Type 0} → Forward V → Backward
-answer (Forward.Publish id v) = Backward.Pubrec id
+answer (Forward.Publish id value) = Backward.Pubrec id
 answer (Forward.Pubrel id) = Backward.Pubcomp id
 
 -- the sender's answer to a packet of the receiver
@@ -37,25 +37,31 @@ reply (Backward.Pubcomp id) = []
 
 -- the receiver accepts
 abbrev pub receiver_accepts : {V : Type 0} → ℕ → V → Bool → Handshake V → Transit V → Handshake V
-receiver_accepts id v true h l =
-    record { items = h.items; accepted = h.accepted; received = h.received; transit = l }
-receiver_accepts id v false h l =
+receiver_accepts id value true handshake transit =
     record {
-      items = h.items;
-      accepted = h.accepted ++ v ∷ [];
-      received = λ j. (j == id) || h.received j;
-      transit = l;
+      items = handshake.items;
+      accepted = handshake.accepted;
+      received = handshake.received;
+      transit = transit;
+    }
+receiver_accepts id value false handshake transit =
+    record {
+      items = handshake.items;
+      accepted = handshake.accepted ++ value ∷ [];
+      received = λ other. (other == id) || handshake.received other;
+      transit = transit;
     }
 
 -- the receiver takes a packet: it accepts a PUBLISH, or forgets a PUBREL's identifier
 abbrev pub receiver_takes : {V : Type 0} → Forward V → Handshake V → Transit V → Handshake V
-receiver_takes (Forward.Publish id v) h l = receiver_accepts id v (h.received id) h l
-receiver_takes (Forward.Pubrel id) h l =
+receiver_takes (Forward.Publish id value) handshake transit =
+    receiver_accepts id value (handshake.received id) handshake transit
+receiver_takes (Forward.Pubrel id) handshake transit =
     record {
-      items = h.items;
-      accepted = h.accepted;
-      received = λ j. not (j == id) && h.received j;
-      transit = l;
+      items = handshake.items;
+      accepted = handshake.accepted;
+      received = λ other. not (other == id) && handshake.received other;
+      transit = transit;
     }
 
 -- the sender receives an answer
@@ -65,14 +71,20 @@ sender_hears (Backward.Pubcomp id) items = map (finishing id) items
 
 -- a handshake with these items and this connection in place of its own
 abbrev pub with_items : {V : Type 0} → List (SenderItem V) → Transit V → Handshake V → Handshake V
-with_items items l h =
-    record { items = items; accepted = h.accepted; received = h.received; transit = l }
+with_items items transit handshake =
+    record {
+      items = items;
+      accepted = handshake.accepted;
+      received = handshake.received;
+      transit = transit;
+    }
 
 -- what the sender sends on its connection, if the receiver may still take it
 abbrev pub sender_sends : {V : Type 0} → Forward V → Transit V → Transit V
-sender_sends m (Transit.Joined f b) = Transit.Joined (f ++ m ∷ []) b
-sender_sends m (Transit.Behind b) = Transit.Behind b
-sender_sends m (Transit.Ahead f) = Transit.Ahead f
+sender_sends packet (Transit.Joined forward backward) =
+    Transit.Joined (forward ++ packet ∷ []) backward
+sender_sends packet (Transit.Behind backward) = Transit.Behind backward
+sender_sends packet (Transit.Ahead forward) = Transit.Ahead forward
 
 -- the PUBLISH of an item that was sent
 abbrev pub publishing : {V : Type 0} → ℕ × V → Forward V

@@ -6,26 +6,26 @@ use Rattle.exactly_once.specs.Handshake.{Forward, Backward, Transit, Handshake}
 
 -- an accepted item was sent, and until it is released the receiver knows its identifier
 abbrev pub IsOld : {V : Type 0} → (ℕ → Bool) → SenderItem V → Type 0
-IsOld received (SenderItem.Waits v) = ⊥
-IsOld received (SenderItem.Sent v id) = received id ≡ true
-IsOld received (SenderItem.Released v id) = Unit {0}
-IsOld received (SenderItem.Finished v) = Unit {0}
+IsOld received (SenderItem.Waits value) = ⊥
+IsOld received (SenderItem.Sent value id) = received id ≡ true
+IsOld received (SenderItem.Released value id) = Unit {0}
+IsOld received (SenderItem.Finished value) = Unit {0}
 
 -- any other waits, or is sent with an identifier that the receiver does not know
 abbrev pub IsNew : {V : Type 0} → (ℕ → Bool) → SenderItem V → Type 0
-IsNew received (SenderItem.Waits v) = Unit {0}
-IsNew received (SenderItem.Sent v id) = received id ≡ false
-IsNew received (SenderItem.Released v id) = ⊥
-IsNew received (SenderItem.Finished v) = ⊥
+IsNew received (SenderItem.Waits value) = Unit {0}
+IsNew received (SenderItem.Sent value id) = received id ≡ false
+IsNew received (SenderItem.Released value id) = ⊥
+IsNew received (SenderItem.Finished value) = ⊥
 
 -- the item was not sent yet
 abbrev pub IsUnsent : {V : Type 0} → SenderItem V → Type 0
-IsUnsent (SenderItem.Waits v) = Unit {0}
+IsUnsent (SenderItem.Waits value) = Unit {0}
 IsUnsent _ = ⊥
 
 -- after one that waits, all wait
 abbrev pub UnsentAreLast : {V : Type 0} → List (SenderItem V) → Type 0
-UnsentAreLast (SenderItem.Waits v ∷ items) = Each IsUnsent items
+UnsentAreLast (SenderItem.Waits value ∷ items) = Each IsUnsent items
 UnsentAreLast (_ ∷ items) = UnsentAreLast items
 UnsentAreLast [] = Unit {0}
 
@@ -33,13 +33,14 @@ UnsentAreLast [] = Unit {0}
 
 -- the PUBLISH packets in transit, each as its identifier and value
 abbrev pub publishes_in_transit : {V : Type 0} → List (Forward V) → List (ℕ × V)
-publishes_in_transit (Forward.Publish id v ∷ f) = (id, v) ∷ publishes_in_transit f
-publishes_in_transit (Forward.Pubrel id ∷ f) = publishes_in_transit f
+publishes_in_transit (Forward.Publish id value ∷ forward) =
+    (id, value) ∷ publishes_in_transit forward
+publishes_in_transit (Forward.Pubrel id ∷ forward) = publishes_in_transit forward
 publishes_in_transit [] = []
 
 -- the identifier of a packet from the sender
 abbrev pub forward_id : {V : Type 0} → Forward V → ℕ
-forward_id (Forward.Publish id v) = id
+forward_id (Forward.Publish id value) = id
 forward_id (Forward.Pubrel id) = id
 
 -- the identifier of a packet from the receiver
@@ -49,7 +50,7 @@ backward_id (Backward.Pubcomp id) = id
 
 -- a PUBREL is of a released item
 abbrev pub IsMeant : {V : Type 0} → List (SenderItem V) → Forward V → Type 0
-IsMeant old (Forward.Publish id v) = Unit {0}
+IsMeant old (Forward.Publish id value) = Unit {0}
 IsMeant old (Forward.Pubrel id) = has_released id old ≡ true
 
 -- a PUBREC is for an accepted item, and a PUBCOMP for one whose identifier the receiver forgot
@@ -63,41 +64,41 @@ IsSent items row = In row (sent items)
 
 -- what comes to the receiver: some that it has already, each with the value that was first sent,
 -- and then exactly these
-pub record ComesToReceiver {V : Type 0} (old : List (SenderItem V)) (f : List (Forward V))
+pub record ComesToReceiver {V : Type 0} (old : List (SenderItem V)) (forward : List (Forward V))
     (next : List (ℕ × V)) : Type 0 where
   pub again : List (ℕ × V)
-  pub is : publishes_in_transit f ≡ again ++ next
+  pub is : publishes_in_transit forward ≡ again ++ next
   pub known : Each (IsSent old) again
-  pub meant : Each (IsMeant old) f
+  pub meant : Each (IsMeant old) forward
 
 -- both sides: each new item that was sent comes, answers are due, identifiers differ
 pub record IsJoined {V : Type 0} (received : ℕ → Bool) (old new : List (SenderItem V))
-    (f : List (Forward V)) (b : List Backward)
-    : Type 0 where
-  pub comes : ComesToReceiver old f (sent new)
-  pub due : Each (IsDue received old) b
-  pub apart : IsDistinct (map forward_id f ++ map backward_id b)
+    (forward : List (Forward V)) (backward : List Backward) : Type 0 where
+  pub comes : ComesToReceiver old forward (sent new)
+  pub due : Each (IsDue received old) backward
+  pub apart : IsDistinct (map forward_id forward ++ map backward_id backward)
 
 -- only to the sender: answers are due, and identifiers differ
 pub record IsBehind {V : Type 0} (received : ℕ → Bool) (old : List (SenderItem V))
-    (b : List Backward) : Type 0 where
-  pub due : Each (IsDue received old) b
-  pub apart : IsDistinct (map backward_id b)
+    (backward : List Backward) : Type 0 where
+  pub due : Each (IsDue received old) backward
+  pub apart : IsDistinct (map backward_id backward)
 
 -- only to the receiver: of the new items that were sent, a prefix comes
-pub record IsAhead {V : Type 0} (old new : List (SenderItem V)) (f : List (Forward V))
+pub record IsAhead {V : Type 0} (old new : List (SenderItem V)) (forward : List (Forward V))
     : Type 0 where
   pub next : List (ℕ × V)
   pub more : List (ℕ × V)
-  pub comes : ComesToReceiver old f next
+  pub comes : ComesToReceiver old forward next
   pub prefix : sent new ≡ next ++ more
 
 -- what is in transit fits the items, by which sides are on the connection
 abbrev pub FitsTransit : {V : Type 0} → (ℕ → Bool) → List (SenderItem V) → List (SenderItem V) →
     Transit V → Type 0
-FitsTransit received old new (Transit.Joined f b) = IsJoined received old new f b
-FitsTransit received old new (Transit.Behind b) = IsBehind received old b
-FitsTransit received old new (Transit.Ahead f) = IsAhead old new f
+FitsTransit received old new (Transit.Joined forward backward) =
+    IsJoined received old new forward backward
+FitsTransit received old new (Transit.Behind backward) = IsBehind received old backward
+FitsTransit received old new (Transit.Ahead forward) = IsAhead old new forward
 
 -- the two sides, apart from what is in transit
 pub record AreSides {V : Type 0} (items : List (SenderItem V)) (accepted : List V)
@@ -111,8 +112,8 @@ pub record AreSides {V : Type 0} (items : List (SenderItem V)) (accepted : List 
   pub known : (id : ℕ) → received id ≡ true → has_id id (busy old) ≡ true
 
 -- the items are accepted ones, then new ones, and what is in transit fits them
-pub record IsGood {V : Type 0} (h : Handshake V) : Type 0 where
+pub record IsGood {V : Type 0} (handshake : Handshake V) : Type 0 where
   pub old : List (SenderItem V)
   pub new : List (SenderItem V)
-  pub sides : AreSides h.items h.accepted h.received old new
-  pub transit : FitsTransit h.received old new h.transit
+  pub sides : AreSides handshake.items handshake.accepted handshake.received old new
+  pub transit : FitsTransit handshake.received old new handshake.transit

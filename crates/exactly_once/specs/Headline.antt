@@ -30,76 +30,83 @@ use Rattle.exactly_once.specs.Acceptance.{AcceptedInOrder}
 
 -- one of the answers of this place is of this kind, to the place's own connection
 abbrev pub IsAnsweredBy : Limits → Place → Past → ConnectionName → Packet → Type 0
-IsAnsweredBy limits place below x packet = In (Send x packet) (answers_at limits place below)
+IsAnsweredBy limits place below connection packet =
+    In (Send connection packet) (answers_at limits place below)
 
--- how many of these entries come from places that carry publication k of the client
+-- how many of these entries come from places that carry the client's publication of this number
 abbrev pub made_by : List ClientConnection → ℕ → Past → List Entry → ℕ
-made_by connections k (place ∷ below) entries =
-    (if is_this k (carries connections place.command below)
+made_by connections number (place ∷ below) entries =
+    (if is_this number (carries connections place.command below)
     then length (filter (is_from_publish (length below)) entries) else 0)
-    + made_by connections k below entries
-made_by connections k [] entries = 0
+    + made_by connections number below entries
+made_by connections number [] entries = 0
 
--- publication k of the client is taken at this place, on one of its own connections
-pub record IsTakenAt (s : Story) (k : ℕ) (place : Place) (below : Past) : Type 0 where
-  pub stands : StandsAt s.past place below
-  pub carried : carries s.connections place.command below ≡ Some k
-  pub taken : place.mark ≡ Mark.Taken s.keeper.client
+-- the client's publication of this number is taken at this place, on one of its own connections
+pub record IsTakenAt (story : Story) (number : ℕ) (place : Place) (below : Past) : Type 0 where
+  pub stands : StandsAt story.past place below
+  pub carried : carries story.connections place.command below ≡ Some number
+  pub taken : place.mark ≡ Mark.Taken story.keeper.client
 
 -- the publisher's publications
-pub record PublishedOnce (limits : Limits) (s : Story) : Type 0 where
+pub record PublishedOnce (limits : Limits) (story : Story) : Type 0 where
   -- a place that carries one has its PUBLISH
-  pub carried : (place : Place) (below : Past) (x : ConnectionName) (p : Publish) (k : ℕ) →
-      StandsAt s.past place below →
-      carries s.connections place.command below ≡ Some k →
-      place.command ≡ commands.Packet x (packets.Publish p) →
-      slice_get (own_publications (all_own s.keeper)) k ≡ Some (publication_of p)
+  pub carried : (place : Place) (below : Past) (connection : ConnectionName) (publish : Publish)
+      (number : ℕ) →
+      StandsAt story.past place below →
+      carries story.connections place.command below ≡ Some number →
+      place.command ≡ commands.Packet connection (packets.Publish publish) →
+      slice_get (own_publications (all_own story.keeper)) number ≡ Some (publication_of publish)
   -- those at QoS 2 are new in the list in the order of the calls, each at most once
-  pub in_order : IsPrefixOf (new_numbers s.connections s.past) (own_qos2_numbers s.keeper.own)
+  pub in_order : IsPrefixOf (new_numbers story.connections story.past)
+      (own_qos2_numbers story.keeper.own)
   -- each that is new is taken at a place
-  pub taken : (k : ℕ) → In k (new_numbers s.connections s.past) →
-      (place : Place) × (below : Past) × IsTakenAt s k place below
+  pub taken : (number : ℕ) → In number (new_numbers story.connections story.past) →
+      (place : Place) × (below : Past) × IsTakenAt story number place below
   -- one that was answered is new
-  pub answered : (place : Place) (below : Past) (x : ConnectionName) (id k : ℕ) →
-      StandsAt s.past place below →
-      carries s.connections place.command below ≡ Some k →
-      IsAnsweredBy limits place below x (packets.Pubrec id) →
-      In k (new_numbers s.connections s.past)
+  pub answered : (place : Place) (below : Past) (connection : ConnectionName) (id number : ℕ) →
+      StandsAt story.past place below →
+      carries story.connections place.command below ≡ Some number →
+      IsAnsweredBy limits place below connection (packets.Pubrec id) →
+      In number (new_numbers story.connections story.past)
   -- each enters each session at most once: at any time a session is looked at, it has at most one
   -- entry of all the places that carry the publication
-  pub enters_once : (later earlier : Past) (d : Client) (k : ℕ) → s.past ≡ later ++ earlier →
-      In k (own_qos2_numbers (all_own s.keeper)) →
-      made_by s.connections k s.past (entries_of limits earlier d) ≤ 1
+  pub enters_once : (later earlier : Past) (receiver : Client) (number : ℕ) →
+      story.past ≡ later ++ earlier →
+      In number (own_qos2_numbers (all_own story.keeper)) →
+      made_by story.connections number story.past (entries_of limits earlier receiver) ≤ 1
   -- if a publication is taken, at any QoS, it enters exactly the sessions with an effective QoS
   -- over 0, once
-  pub enters : (place : Place) (below : Past) (x : ConnectionName) (p : Publish) (d : Client) →
-      StandsAt s.past place below →
-      place.command ≡ commands.Packet x (packets.Publish p) →
-      place.mark ≡ Mark.Taken s.keeper.client →
-      length (filter (is_from_publish (length below)) (entries_of limits (place ∷ below) d))
-      ≡ (if is_queued_at (effective_qos below d (publication_of p)) then 1 else 0)
+  pub enters : (place : Place) (below : Past) (connection : ConnectionName) (publish : Publish)
+      (receiver : Client) →
+      StandsAt story.past place below →
+      place.command ≡ commands.Packet connection (packets.Publish publish) →
+      place.mark ≡ Mark.Taken story.keeper.client →
+      length (filter (is_from_publish (length below)) (entries_of limits (place ∷ below) receiver))
+      ≡ (if is_queued_at (effective_qos below receiver (publication_of publish)) then 1 else 0)
   -- as it was published, at the effective QoS
-  pub enters_as : (place : Place) (below : Past) (x : ConnectionName) (p : Publish) (d : Client) →
-      StandsAt s.past place below →
-      place.command ≡ commands.Packet x (packets.Publish p) →
-      place.mark ≡ Mark.Taken s.keeper.client →
+  pub enters_as : (place : Place) (below : Past) (connection : ConnectionName) (publish : Publish)
+      (receiver : Client) →
+      StandsAt story.past place below →
+      place.command ≡ commands.Packet connection (packets.Publish publish) →
+      place.mark ≡ Mark.Taken story.keeper.client →
       map publication_in
-      (filter (is_from_publish (length below)) (entries_of limits (place ∷ below) d))
-      ≡ queued_at (publication_of p) (effective_qos below d (publication_of p))
+      (filter (is_from_publish (length below)) (entries_of limits (place ∷ below) receiver))
+      ≡ queued_at (publication_of publish) (effective_qos below receiver (publication_of publish))
   -- one at QoS 1 that was answered is taken at the place that is answered
-  pub acknowledged : (place : Place) (below : Past) (x : ConnectionName) (id k : ℕ) →
-      StandsAt s.past place below →
-      carries s.connections place.command below ≡ Some k →
-      IsAnsweredBy limits place below x (packets.Puback id) →
-      IsTakenAt s k place below
+  pub acknowledged : (place : Place) (below : Past) (connection : ConnectionName) (id number : ℕ) →
+      StandsAt story.past place below →
+      carries story.connections place.command below ≡ Some number →
+      IsAnsweredBy limits place below connection (packets.Puback id) →
+      IsTakenAt story number place below
 
 -- ---- the whole
 
 -- one story is exact: its client as a publisher, and as a subscriber
-pub record ExactlyOnce (limits : Limits) (s : Story) : Type 0 where
-  pub publishers : PublishedOnce limits s
-  pub subscribers : AcceptedInOrder limits s
+pub record ExactlyOnce (limits : Limits) (story : Story) : Type 0 where
+  pub publishers : PublishedOnce limits story
+  pub subscribers : AcceptedInOrder limits story
 
 -- every story is exact
 abbrev pub StoriesAreExact : Limits → Type 0
-StoriesAreExact limits = (c : Client) (s : Story) → StoryTrace limits c s → ExactlyOnce limits s
+StoriesAreExact limits =
+    (client : Client) (story : Story) → StoryTrace limits client story → ExactlyOnce limits story

@@ -12,56 +12,56 @@ pub data SenderItem (V : Type 0) : Type 0 where
 
 -- the publication of an item
 abbrev pub value_of : {V : Type 0} → SenderItem V → V
-value_of (SenderItem.Waits v) = v
-value_of (SenderItem.Sent v id) = v
-value_of (SenderItem.Released v id) = v
-value_of (SenderItem.Finished v) = v
+value_of (SenderItem.Waits value) = value
+value_of (SenderItem.Sent value id) = value
+value_of (SenderItem.Released value id) = value
+value_of (SenderItem.Finished value) = value
 
 -- identifiers in flight: those of sent and of released items
 abbrev pub busy : {V : Type 0} → List (SenderItem V) → List ℕ
-busy (SenderItem.Sent v id ∷ items) = id ∷ busy items
-busy (SenderItem.Released v id ∷ items) = id ∷ busy items
+busy (SenderItem.Sent value id ∷ items) = id ∷ busy items
+busy (SenderItem.Released value id ∷ items) = id ∷ busy items
 busy (_ ∷ items) = busy items
 busy [] = []
 
 -- the items that were sent and not released, each as its identifier and value
 abbrev pub sent : {V : Type 0} → List (SenderItem V) → List (ℕ × V)
-sent (SenderItem.Sent v id ∷ items) = (id, v) ∷ sent items
+sent (SenderItem.Sent value id ∷ items) = (id, value) ∷ sent items
 sent (_ ∷ items) = sent items
 sent [] = []
 
 -- whether an item with this identifier was sent and not released
 abbrev pub has_sent : {V : Type 0} → ℕ → List (SenderItem V) → Bool
-has_sent i (SenderItem.Sent v id ∷ items) = (i == id) || has_sent i items
-has_sent i (_ ∷ items) = has_sent i items
-has_sent i [] = false
+has_sent id (SenderItem.Sent value other ∷ items) = (id == other) || has_sent id items
+has_sent id (_ ∷ items) = has_sent id items
+has_sent id [] = false
 
 -- whether an item with this identifier is released and not finished
 abbrev pub has_released : {V : Type 0} → ℕ → List (SenderItem V) → Bool
-has_released i (SenderItem.Released v id ∷ items) = (i == id) || has_released i items
-has_released i (_ ∷ items) = has_released i items
-has_released i [] = false
+has_released id (SenderItem.Released value other ∷ items) = (id == other) || has_released id items
+has_released id (_ ∷ items) = has_released id items
+has_released id [] = false
 
 -- PUBREC releases, PUBCOMP finishes
 abbrev pub item_released : {V : Type 0} → ℕ → SenderItem V → SenderItem V
-item_released i (SenderItem.Sent v id) =
-    if i == id then SenderItem.Released v id else SenderItem.Sent v id
-item_released i item = item
+item_released id (SenderItem.Sent value other) =
+    if id == other then SenderItem.Released value other else SenderItem.Sent value other
+item_released id item = item
 
 -- an item after a PUBCOMP with this identifier
 abbrev pub finishing : {V : Type 0} → ℕ → SenderItem V → SenderItem V
-finishing i (SenderItem.Released v id) =
-    if i == id then SenderItem.Finished v else SenderItem.Released v id
-finishing i item = item
+finishing id (SenderItem.Released value other) =
+    if id == other then SenderItem.Finished value else SenderItem.Released value other
+finishing id item = item
 
 -- the first that waits starts
 abbrev pub start_first : {V : Type 0} → ℕ → List (SenderItem V) → List (SenderItem V)
-start_first id (SenderItem.Waits v ∷ items) = SenderItem.Sent v id ∷ items
+start_first id (SenderItem.Waits value ∷ items) = SenderItem.Sent value id ∷ items
 start_first id (item ∷ items) = item ∷ start_first id items
 start_first id [] = []
 
 -- the value of the first item that waits
 abbrev pub first_waiting : {V : Type 0} → List (SenderItem V) → Option V
-first_waiting (SenderItem.Waits v ∷ items) = Some v
+first_waiting (SenderItem.Waits value ∷ items) = Some value
 first_waiting (_ ∷ items) = first_waiting items
 first_waiting [] = None

@@ -23,23 +23,25 @@ use Rattle.exactly_once.specs.StoryTrace.{StoryTrace}
 -- the client's publications: those at QoS 2 become new in the list in the order of its calls, each
 -- at most once; those that were answered are there; each enters each session at most once
 abbrev pub PublishesOnce : Limits → Type 0
-PublishesOnce limits = (c : Client) (s : Story) → StoryTrace limits c s → PublishedOnce limits s
+PublishesOnce limits =
+    (client : Client) (story : Story) → StoryTrace limits client story → PublishedOnce limits story
 
 -- the client accepts a prefix of the QoS 2 entries of its session, in order, each once, and every
 -- one that was released
 abbrev pub AcceptsInOrder : Limits → Type 0
-AcceptsInOrder limits = (c : Client) (s : Story) → StoryTrace limits c s → AcceptedInOrder limits s
+AcceptsInOrder limits = (client : Client) (story : Story) → StoryTrace limits client story →
+    AcceptedInOrder limits story
 
 -- at the place where a publication of the client is taken, it enters exactly the sessions with an
 -- effective QoS of 1 or 2, once each
 abbrev pub StoriesEnter : Type 0
 StoriesEnter =
-    (limits : Limits) (s : Story) (place : Place) (below : Past) (x : ConnectionName) (p : Publish)
-    (d : Client) →
-    StandsAt s.past place below → place.command ≡ commands.Packet x (packets.Publish p) →
-    place.mark ≡ Mark.Taken s.keeper.client →
-    length (filter (is_from_publish (length below)) (entries_of limits (place ∷ below) d))
-    ≡ (if is_queued_at (effective_qos below d (publication_of p)) then 1 else 0)
+    (limits : Limits) (story : Story) (place : Place) (below : Past) (connection : ConnectionName)
+    (publish : Publish) (receiver : Client) → StandsAt story.past place below →
+    place.command ≡ commands.Packet connection (packets.Publish publish) →
+    place.mark ≡ Mark.Taken story.keeper.client →
+    length (filter (is_from_publish (length below)) (entries_of limits (place ∷ below) receiver))
+    ≡ (if is_queued_at (effective_qos below receiver (publication_of publish)) then 1 else 0)
 
 -- in this broker clients publish once (`PublishesOnce`)
 abbrev pub StoriesPublishOnce : Type 0

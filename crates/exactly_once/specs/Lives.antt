@@ -24,74 +24,81 @@ use Rattle.exactly_once.specs.Acceptance.{two_entries, is_entry_released}
 use Rattle.exactly_once.specs.InStep.{sessions_begun, entries_in, accepted_in}
 
 -- what may happen in a story of one session, and an Expel of the client at any time
-pub data Lived (limits : Limits) (c : Client) : Story → Type 0 where
-  opens : Lived limits c (no_story c)  -- nothing happened yet
+pub data Lived (limits : Limits) (client : Client) : Story → Type 0 where
+  opens : Lived limits client (no_story client)  -- nothing happened yet
   -- a step of one session
-  goes_on : {s t : Story} → Lived limits c s → StoryStep limits s t → Lived limits c t
+  goes_on : {s t : Story} → Lived limits client s → StoryStep limits s t → Lived limits client t
   -- an Expel of the client comes next in the list
-  is_expelled : {s : Story} → Lived limits c s →
-      Lived limits c (record s { past = place_of limits s.past (commands.Expel c) ∷ s.past })
+  is_expelled : {s : Story} → Lived limits client s →
+      Lived limits client
+      (record s { past = place_of limits s.past (commands.Expel client) ∷ s.past })
 
 -- of each of its sessions, by the place at which it began, the client accepted a prefix of the QoS
 -- 2 entries, and each that is released is among them
-pub record AcceptedInSession (limits : Limits) (s : Story) (start : ℕ) : Type 0 where
+pub record AcceptedInSession (limits : Limits) (story : Story) (start : ℕ) : Type 0 where
   pub prefix : List Entry
   pub others : List Entry
-  pub is : two_entries (entries_in limits s.past s.keeper.client start) ≡ prefix ++ others
-  pub accepted : accepted_in s.past s.keeper.client start s.connections ≡ map publication_in prefix
+  pub is : two_entries (entries_in limits story.past story.keeper.client start) ≡ prefix ++ others
+  pub accepted : accepted_in story.past story.keeper.client start story.connections
+      ≡ map publication_in prefix
   pub rest : Each (λ entry. is_entry_released entry ≡ false) others
 
 -- numbers that rise strictly
 abbrev pub NumbersRise : List ℕ → Type 0
-NumbersRise (n ∷ numbers) = Each (λ m. n < m) numbers × NumbersRise numbers
+NumbersRise (number ∷ numbers) = Each (λ later. number < later) numbers × NumbersRise numbers
 NumbersRise [] = Unit {0}
 
 -- the publisher's, over all its sessions: `PublishedOnce` but for `rises` and `in_order`
-pub record PublishedOverSessions (limits : Limits) (s : Story) : Type 0 where
+pub record PublishedOverSessions (limits : Limits) (story : Story) : Type 0 where
   -- a place that carries one has its PUBLISH
-  pub carried : (place : Place) (below : Past) (x : ConnectionName) (p : Publish) (k : ℕ) →
-      StandsAt s.past place below →
-      carries s.connections place.command below ≡ Some k →
-      place.command ≡ commands.Packet x (packets.Publish p) →
-      slice_get (own_publications (all_own s.keeper)) k ≡ Some (publication_of p)
+  pub carried : (place : Place) (below : Past) (connection : ConnectionName) (publish : Publish)
+      (number : ℕ) →
+      StandsAt story.past place below →
+      carries story.connections place.command below ≡ Some number →
+      place.command ≡ commands.Packet connection (packets.Publish publish) →
+      slice_get (own_publications (all_own story.keeper)) number ≡ Some (publication_of publish)
   -- those at QoS 2 are new in the list in the order of the calls, each at most once
-  pub rises : NumbersRise (new_numbers s.connections s.past)
+  pub rises : NumbersRise (new_numbers story.connections story.past)
   -- none is left out while the client has had one session
-  pub in_order : sessions_begun s.past s.keeper.client ≤ 1 →
-      IsPrefixOf (new_numbers s.connections s.past) (own_qos2_numbers (all_own s.keeper))
+  pub in_order : sessions_begun story.past story.keeper.client ≤ 1 →
+      IsPrefixOf (new_numbers story.connections story.past)
+      (own_qos2_numbers (all_own story.keeper))
   -- each that is new is taken at a place
-  pub taken : (k : ℕ) → In k (new_numbers s.connections s.past) →
-      (place : Place) × (below : Past) × IsTakenAt s k place below
+  pub taken : (number : ℕ) → In number (new_numbers story.connections story.past) →
+      (place : Place) × (below : Past) × IsTakenAt story number place below
   -- one that was answered is new
-  pub answered : (place : Place) (below : Past) (x : ConnectionName) (id k : ℕ) →
-      StandsAt s.past place below →
-      carries s.connections place.command below ≡ Some k →
-      IsAnsweredBy limits place below x (packets.Pubrec id) →
-      In k (new_numbers s.connections s.past)
+  pub answered : (place : Place) (below : Past) (connection : ConnectionName) (id number : ℕ) →
+      StandsAt story.past place below →
+      carries story.connections place.command below ≡ Some number →
+      IsAnsweredBy limits place below connection (packets.Pubrec id) →
+      In number (new_numbers story.connections story.past)
   -- each enters each session at most once: at any time a session is looked at, it has at most one
   -- entry of all the places that carry the publication
-  pub enters_once : (later earlier : Past) (d : Client) (k : ℕ) → s.past ≡ later ++ earlier →
-      In k (own_qos2_numbers (all_own s.keeper)) →
-      made_by s.connections k s.past (entries_of limits earlier d) ≤ 1
+  pub enters_once : (later earlier : Past) (receiver : Client) (number : ℕ) →
+      story.past ≡ later ++ earlier →
+      In number (own_qos2_numbers (all_own story.keeper)) →
+      made_by story.connections number story.past (entries_of limits earlier receiver) ≤ 1
   -- if a publication is taken, at any QoS, it enters exactly the sessions with an effective QoS
   -- over 0, once
-  pub enters : (place : Place) (below : Past) (x : ConnectionName) (p : Publish) (d : Client) →
-      StandsAt s.past place below →
-      place.command ≡ commands.Packet x (packets.Publish p) →
-      place.mark ≡ Mark.Taken s.keeper.client →
-      length (filter (is_from_publish (length below)) (entries_of limits (place ∷ below) d))
-      ≡ (if is_queued_at (effective_qos below d (publication_of p)) then 1 else 0)
+  pub enters : (place : Place) (below : Past) (connection : ConnectionName) (publish : Publish)
+      (receiver : Client) →
+      StandsAt story.past place below →
+      place.command ≡ commands.Packet connection (packets.Publish publish) →
+      place.mark ≡ Mark.Taken story.keeper.client →
+      length (filter (is_from_publish (length below)) (entries_of limits (place ∷ below) receiver))
+      ≡ (if is_queued_at (effective_qos below receiver (publication_of publish)) then 1 else 0)
   -- as it was published, at the effective QoS
-  pub enters_as : (place : Place) (below : Past) (x : ConnectionName) (p : Publish) (d : Client) →
-      StandsAt s.past place below →
-      place.command ≡ commands.Packet x (packets.Publish p) →
-      place.mark ≡ Mark.Taken s.keeper.client →
+  pub enters_as : (place : Place) (below : Past) (connection : ConnectionName) (publish : Publish)
+      (receiver : Client) →
+      StandsAt story.past place below →
+      place.command ≡ commands.Packet connection (packets.Publish publish) →
+      place.mark ≡ Mark.Taken story.keeper.client →
       map publication_in
-      (filter (is_from_publish (length below)) (entries_of limits (place ∷ below) d))
-      ≡ queued_at (publication_of p) (effective_qos below d (publication_of p))
+      (filter (is_from_publish (length below)) (entries_of limits (place ∷ below) receiver))
+      ≡ queued_at (publication_of publish) (effective_qos below receiver (publication_of publish))
   -- one at QoS 1 that was answered is taken at the place that is answered
-  pub acknowledged : (place : Place) (below : Past) (x : ConnectionName) (id k : ℕ) →
-      StandsAt s.past place below →
-      carries s.connections place.command below ≡ Some k →
-      IsAnsweredBy limits place below x (packets.Puback id) →
-      IsTakenAt s k place below
+  pub acknowledged : (place : Place) (below : Past) (connection : ConnectionName) (id number : ℕ) →
+      StandsAt story.past place below →
+      carries story.connections place.command below ≡ Some number →
+      IsAnsweredBy limits place below connection (packets.Puback id) →
+      IsTakenAt story number place below

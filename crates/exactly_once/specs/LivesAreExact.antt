@@ -8,21 +8,22 @@ use Rattle.exactly_once.specs.InStep.{IsInStep, starts_of, accepted_in}
 use Rattle.exactly_once.specs.Lives.{Lived, AcceptedInSession, PublishedOverSessions}
 
 -- what a client with several sessions is promised: as publisher, and in each session as subscriber
-pub record ExactlyOnceOverSessions (limits : Limits) (s : Story) : Type 0 where
-  pub publishers : PublishedOverSessions limits s
-  pub subscribers : (start : ℕ) → AcceptedInSession limits s start
+pub record ExactlyOnceOverSessions (limits : Limits) (story : Story) : Type 0 where
+  pub publishers : PublishedOverSessions limits story
+  pub subscribers : (start : ℕ) → AcceptedInSession limits story start
   -- all that it accepted, it accepted in its sessions, one after another
-  pub in_turn : accepted_on s.connections
-      ≡ flat_map (λ start. accepted_in s.past s.keeper.client start s.connections)
-      (starts_of s.past s.keeper.client)
+  pub in_turn : accepted_on story.connections
+      ≡ flat_map (λ start. accepted_in story.past story.keeper.client start story.connections)
+      (starts_of story.past story.keeper.client)
 
 -- as long as a client is in step, it publishes and accepts exactly once over its sessions
 abbrev pub LivesAreExact : Limits → Type 0
 LivesAreExact limits =
-    (c : Client) (s : Story) → Lived limits c s → IsInStep s → ExactlyOnceOverSessions limits s
+    (client : Client) (story : Story) → Lived limits client story → IsInStep story →
+    ExactlyOnceOverSessions limits story
 
 -- as long as a client is in step, it accepts in order in each of its sessions
 abbrev pub AcceptsInEachSession : Limits → Type 0
 AcceptsInEachSession limits =
-    (c : Client) (s : Story) → Lived limits c s → IsInStep s → (start : ℕ) →
-    AcceptedInSession limits s start
+    (client : Client) (story : Story) → Lived limits client story → IsInStep story → (start : ℕ) →
+    AcceptedInSession limits story start

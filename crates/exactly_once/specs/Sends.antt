@@ -9,12 +9,14 @@ use Rattle.broker_base.specs.broker_spec.declared.command.Output.TheVariants.{Se
 
 -- the packets to a connection, in order
 abbrev pub sends_to : ConnectionName → List Output → List Packet
-sends_to x (Send y packet ∷ answers) =
-    if same_connection x y then packet ∷ sends_to x answers else sends_to x answers
-sends_to x (Close y ∷ answers) = sends_to x answers
-sends_to x [] = []
+sends_to connection (Send other packet ∷ answers) =
+    if same_connection connection other then packet ∷ sends_to connection answers
+    else sends_to connection answers
+sends_to connection (Close other ∷ answers) = sends_to connection answers
+sends_to connection [] = []
 
 -- all that a connection is sent, place by place
 unfoldable pub put_to : Limits → Past → ConnectionName → List Packet
-put_to limits [] x = []
-put_to limits (place ∷ past) x = put_to limits past x ++ sends_to x (answers_at limits place past)
+put_to limits [] connection = []
+put_to limits (place ∷ past) connection =
+    put_to limits past connection ++ sends_to connection (answers_at limits place past)

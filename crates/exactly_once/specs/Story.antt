@@ -31,80 +31,85 @@ pub record Story : Type 0 where
 
 -- a client's story before anything has happened
 abbrev pub no_story : Client → Story
-no_story c = record { past = []; connections = []; keeper = new_keeper c }
+no_story client = record { past = []; connections = []; keeper = new_keeper client }
 
 -- ---- the client
 
 -- the story with another state of the client and of its newest connection
 abbrev pub with_side : Story → List ClientConnection → Side → Story
-with_side s others side =
-    record { past = s.past; connections = side.connection ∷ others; keeper = side.keeper }
+with_side story others side =
+    record { past = story.past; connections = side.connection ∷ others; keeper = side.keeper }
 
 -- ---- what may happen
 
 -- One step of a client's story. It allows more than a world does: any connection's next packet may
 -- come next in the list, and any client may be lost at any time.
-pub data StoryStep (limits : Limits) (s : Story) : Story → Type 0 where
+pub data StoryStep (limits : Limits) (story : Story) : Story → Type 0 where
   -- the next packet that the client wrote on one of its connections comes next in the list
-  takes : (i : ℕ) (connection : ClientConnection) (w : Written) →
-      slice_get s.connections i ≡ Some connection →
-      slice_get connection.written connection.taken ≡ Some w →
-      StoryStep limits s (record {
-        past = place_of limits s.past (command_of connection.name connection.taken w.packet)
-            ∷ s.past;
-        connections = with_one_counted i s.connections;
-        keeper = s.keeper;
+  takes : (index : ℕ) (connection : ClientConnection) (written : Written) →
+      slice_get story.connections index ≡ Some connection →
+      slice_get connection.written connection.taken ≡ Some written →
+      StoryStep limits story (record {
+        past = place_of limits story.past
+            (command_of connection.name connection.taken written.packet) ∷ story.past;
+        connections = with_one_counted index story.connections;
+        keeper = story.keeper;
       })
   -- a command that does not concern the client comes next, and no packet of its connections
-  others_take : (command : Command) → (names_client s.past s.keeper.client command → ⊥) →
-      any_named (is_packet_of command) s.connections ≡ false →
-      StoryStep limits s (record s { past = place_of limits s.past command ∷ s.past })
+  others_take : (command : Command) → (names_client story.past story.keeper.client command → ⊥) →
+      any_named (is_packet_of command) story.connections ≡ false →
+      StoryStep limits story
+      (record story { past = place_of limits story.past command ∷ story.past })
   -- the client handles the next packet that was sent on the connection that it holds
   receives : (connection : ClientConnection) (others : List ClientConnection) (packet : Packet) →
-      s.connections ≡ connection ∷ others → s.keeper.is_open ≡ true →
-      slice_get (put_to limits s.past connection.name) connection.handled ≡ Some packet →
-      StoryStep limits s
-      (with_side s others
-      (packet_handled packet (record { keeper = s.keeper; connection = connection })))
+      story.connections ≡ connection ∷ others → story.keeper.is_open ≡ true →
+      slice_get (put_to limits story.past connection.name) connection.handled ≡ Some packet →
+      StoryStep limits story
+      (with_side story others
+      (packet_handled packet (record { keeper = story.keeper; connection = connection })))
   -- it opens a connection with a name of which nothing is in the list or was sent
-  opens_anew : (x : ConnectionName) → any_named (same_connection x) s.connections ≡ false →
-      put_to limits s.past x ≡ [] → packet_count x s.past ≡ 0 →
-      StoryStep limits s (record {
-        past = s.past;
-        connections = new_connection s.keeper.client x ∷ s.connections;
-        keeper = record (lost s.keeper) { is_open = true };
+  opens_anew : (connection : ConnectionName) →
+      any_named (same_connection connection) story.connections ≡ false →
+      put_to limits story.past connection ≡ [] → packet_count connection story.past ≡ 0 →
+      StoryStep limits story (record {
+        past = story.past;
+        connections = new_connection story.keeper.client connection ∷ story.connections;
+        keeper = record (lost story.keeper) { is_open = true };
       })
   -- it loses its connection
-  loses : StoryStep limits s (record s { keeper = lost s.keeper })
+  loses : StoryStep limits story (record story { keeper = lost story.keeper })
   -- it ends its connection, with a DISCONNECT if it is online (MQTT 3.14)
-  disconnects : StoryStep limits s (record {
-    past = s.past;
-    connections = if s.keeper.is_online
-        then writes_first (plain packets.Disconnect ∷ []) s.connections else s.connections;
-    keeper = lost s.keeper;
+  disconnects : StoryStep limits story (record {
+    past = story.past;
+    connections = if story.keeper.is_online
+        then writes_first (plain packets.Disconnect ∷ []) story.connections else story.connections;
+    keeper = lost story.keeper;
   })
   -- it publishes; at QoS 0 only if it is online
-  publishes_one : (p : Publication) → (is_answered p.qos ≡ false → s.keeper.is_online ≡ true) →
-      StoryStep limits s (record {
-        past = s.past;
-        connections = writes_first (written_for p s.keeper) s.connections;
-        keeper = adds_own p s.keeper;
+  publishes_one : (publication : Publication) →
+      (is_answered publication.qos ≡ false → story.keeper.is_online ≡ true) →
+      StoryStep limits story (record {
+        past = story.past;
+        connections = writes_first (written_for publication story.keeper) story.connections;
+        keeper = adds_own publication story.keeper;
       })
   -- it subscribes, by the least identifier that is free (MQTT 3.8)
-  subscribes : (p : Subscribe) → s.keeper.is_online ≡ true →
-      p.id ≡ least_free (ids_in_use s.keeper) →
-      StoryStep limits s (record {
-        past = s.past;
-        connections = writes_first (plain (packets.Subscribe p) ∷ []) s.connections;
-        keeper = record s.keeper { requests = s.keeper.requests ++ requests.Subscribes p.id ∷ [] };
+  subscribes : (subscribe : Subscribe) → story.keeper.is_online ≡ true →
+      subscribe.id ≡ least_free (ids_in_use story.keeper) →
+      StoryStep limits story (record {
+        past = story.past;
+        connections = writes_first (plain (packets.Subscribe subscribe) ∷ []) story.connections;
+        keeper = record story.keeper {
+          requests = story.keeper.requests ++ requests.Subscribes subscribe.id ∷ [];
+        };
       })
   -- it unsubscribes, by the least identifier that is free (MQTT 3.10)
-  unsubscribes : (p : Unsubscribe) → s.keeper.is_online ≡ true →
-      p.id ≡ least_free (ids_in_use s.keeper) →
-      StoryStep limits s (record {
-        past = s.past;
-        connections = writes_first (plain (packets.Unsubscribe p) ∷ []) s.connections;
-        keeper = record s.keeper {
-          requests = s.keeper.requests ++ requests.Unsubscribes p.id ∷ [];
+  unsubscribes : (unsubscribe : Unsubscribe) → story.keeper.is_online ≡ true →
+      unsubscribe.id ≡ least_free (ids_in_use story.keeper) →
+      StoryStep limits story (record {
+        past = story.past;
+        connections = writes_first (plain (packets.Unsubscribe unsubscribe) ∷ []) story.connections;
+        keeper = record story.keeper {
+          requests = story.keeper.requests ++ requests.Unsubscribes unsubscribe.id ∷ [];
         };
       })

@@ -12,33 +12,37 @@ use Rattle.broker_base.specs.broker_spec.Past.{session_of}
 
 -- the first packet of a connection is a CONNECT and becomes a Connect; each later one a Packet
 abbrev pub command_of : ConnectionName → ℕ → Packet → Command
-command_of x zero (packets.Connect c) = commands.Connect x c.client c.clean
-command_of x taken packet = commands.Packet x packet
+command_of connection zero (packets.Connect connect) =
+    commands.Connect connection connect.client connect.clean
+command_of connection taken packet = commands.Packet connection packet
 
 -- the connection at this index of the list, one more packet of it taken
 abbrev pub with_one_counted : ℕ → List ClientConnection → List ClientConnection
-with_one_counted i [] = []
+with_one_counted index [] = []
 with_one_counted zero (connection ∷ connections) =
     record connection { taken = suc connection.taken } ∷ connections
-with_one_counted (suc i) (connection ∷ connections) = connection ∷ with_one_counted i connections
+with_one_counted (suc index) (connection ∷ connections) =
+    connection ∷ with_one_counted index connections
 
 -- a Connect of the client, and an Expel of it if it has a session
 abbrev pub names_client : Past → Client → Command → Type 0
-names_client past c (commands.Connect x d clean) = d ≡ c
-names_client past c (commands.Expel d) = (d ≡ c) × (is_some (session_of past c) ≡ true)
-names_client past c _ = ⊥
+names_client past client (commands.Connect connection other clean) = other ≡ client
+names_client past client (commands.Expel other) =
+    (other ≡ client) × (is_some (session_of past client) ≡ true)
+names_client past client _ = ⊥
 
 -- whether a command is a packet, or the Connect, of this connection
 abbrev pub is_packet_of : Command → ConnectionName → Bool
-is_packet_of (commands.Packet x packet) y = same_connection x y
-is_packet_of (commands.Connect x d clean) y = same_connection x y
-is_packet_of _ y = false
+is_packet_of (commands.Packet on packet) connection = same_connection on connection
+is_packet_of (commands.Connect on client clean) connection = same_connection on connection
+is_packet_of _ connection = false
 
 -- how many packets of a connection are in the list
 abbrev pub packet_count : ConnectionName → Past → ℕ
-packet_count x (place ∷ past) =
-    if is_packet_of place.command x then suc (packet_count x past) else packet_count x past
-packet_count x [] = 0
+packet_count connection (place ∷ past) =
+    if is_packet_of place.command connection then suc (packet_count connection past)
+    else packet_count connection past
+packet_count connection [] = 0
 
 -- whether the name of any of these connections passes a test
 abbrev pub any_named : (ConnectionName → Bool) → List ClientConnection → Bool

@@ -9,15 +9,15 @@ use Rattle.exactly_once.specs.Lives.{Lived}
 
 -- no command of the list expels the client
 abbrev pub IsUnexpelled : Client → Past → Type 0
-IsUnexpelled c = Each (λ (place : Place). expels place.command c ≡ false)
+IsUnexpelled client = Each (λ (place : Place). expels place.command client ≡ false)
 
 -- a client that no command expels has one session at most, and so it is in step
-pub record HasOneSession (s : Story) : Type 0 where
-  pub first : IsFirstSession s.past s.keeper.client
-  pub in_step : IsInStep s
+pub record HasOneSession (story : Story) : Type 0 where
+  pub first : IsFirstSession story.past story.keeper.client
+  pub in_step : IsInStep story
 
 -- each client that no command expels has one session at most, and is in step, with any limits
 abbrev pub UnexpelledLivesAreInStep : Type 0
 UnexpelledLivesAreInStep =
-    (limits : Limits) (c : Client) (s : Story) → Lived limits c s → IsUnexpelled c s.past →
-    HasOneSession s
+    (limits : Limits) (client : Client) (story : Story) → Lived limits client story →
+    IsUnexpelled client story.past → HasOneSession story
