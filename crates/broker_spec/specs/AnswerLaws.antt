@@ -13,21 +13,21 @@ use Rattle.broker_spec.specs.declared.command.Output.TheVariants.{Send, Close}
 
 -- the connection that an answer goes to
 abbrev pub goes_to : Output → ConnectionName
-goes_to (Send x packet) = x
-goes_to (Close x) = x
+goes_to (Send connection packet) = connection
+goes_to (Close connection) = connection
 
 -- the connection that a command names
 abbrev pub named_in : Command → Option ConnectionName
-named_in (commands.Connect x c clean) = Some x
-named_in (commands.Packet x packet) = Some x
-named_in (commands.Lost x) = Some x
+named_in (commands.Connect connection client clean) = Some connection
+named_in (commands.Packet connection packet) = Some connection
+named_in (commands.Lost connection) = Some connection
 named_in (commands.Start ballot) = None
-named_in (commands.Expel c) = None
+named_in (commands.Expel client) = None
 
 -- a PUBLISH or a Close, which a client may get because of another client's command
 abbrev pub is_unasked : Output → Bool
-is_unasked (Send x (packets.Publish p)) = true
-is_unasked (Close x) = true
+is_unasked (Send connection (packets.Publish publish)) = true
+is_unasked (Close connection) = true
 is_unasked _ = false
 
 -- an answer goes to the connection that the command names, or it is unasked, and goes to a client's
@@ -35,7 +35,7 @@ is_unasked _ = false
 abbrev pub IsAddressed : Past → Command → Output → Type 0
 IsAddressed past command answer =
     (named_in command ≡ Some (goes_to answer))
-    ⊎ (((c : Client) × (current_connection past c ≡ Some (goes_to answer)))
+    ⊎ (((client : Client) × (current_connection past client ≡ Some (goes_to answer)))
     × (is_unasked answer ≡ true))
 
 -- each answer is addressed (`IsAddressed`): CONNACK, PUBACK, PUBREC, PUBREL, PUBCOMP, SUBACK and

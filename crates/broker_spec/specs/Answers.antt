@@ -26,80 +26,90 @@ use Rattle.broker_spec.specs.declared.command.Output.TheVariants.{Send, Close}
 
 -- the connection that a client leaves, if it has one (MQTT 3.1.4)
 abbrev pub close_outputs : Option ConnectionName → List Output
-close_outputs (Some x) = Close x ∷ []
+close_outputs (Some connection) = Close connection ∷ []
 close_outputs None = []
 
 -- the answer to an accepted Connect: whether a session was kept (MQTT 3.2.2.2)
 abbrev pub welcome : ConnectionName → Bool → Output
-welcome x present = Send x (packets.Connack (connacks.Accepted present))
+welcome connection present = Send connection (packets.Connack (connacks.Accepted present))
 
 -- the answer to a Connect that would begin one session too many (MQTT 3.2.2.3)
 abbrev pub turned_away : ConnectionName → Output
-turned_away x = Send x (packets.Connack (connacks.Refused refusals.ServerUnavailable))
+turned_away connection =
+    Send connection (packets.Connack (connacks.Refused refusals.ServerUnavailable))
 
 -- the answer to a taken PUBLISH, by its QoS (MQTT 3.3.4)
 abbrev pub acknowledged : ConnectionName → Delivery → List Output
-acknowledged x deliveries.AtMostOnce = []
-acknowledged x (deliveries.AtLeastOnce dup id) = Send x (packets.Puback id) ∷ []
-acknowledged x (deliveries.ExactlyOnce dup id) = Send x (packets.Pubrec id) ∷ []
+acknowledged connection deliveries.AtMostOnce = []
+acknowledged connection (deliveries.AtLeastOnce dup id) = Send connection (packets.Puback id) ∷ []
+acknowledged connection (deliveries.ExactlyOnce dup id) = Send connection (packets.Pubrec id) ∷ []
 
 -- the answer to each filter of a SUBSCRIBE (MQTT 3.9.3)
 abbrev pub codes_of : List Subscription → List Bool → List SubackCode
-codes_of (s ∷ more) (granted ∷ others) =
-    (if granted then codes.Granted s.qos else codes.Failure) ∷ codes_of more others
+codes_of (subscription ∷ more) (granted ∷ others) =
+    (if granted then codes.Granted subscription.qos else codes.Failure) ∷ codes_of more others
 codes_of _ _ = []
 
 -- the answers to a packet that is no PUBLISH and no SUBSCRIBE, and ends nothing
 abbrev pub other_answers : Limits → Place → Past → ConnectionName → Client → Packet → List Output
-other_answers limits place past x c (packets.Unsubscribe u) = Send x (packets.Unsuback u.id) ∷ []
-other_answers limits place past x c (packets.Pubrel id) = Send x (packets.Pubcomp id) ∷ []
-other_answers limits place past x c packets.Pingreq = Send x packets.Pingresp ∷ []
-other_answers limits place past x c (packets.Pubrec id) =
-    if has_id id (released_below (suc (length past)) (entries_of limits (place ∷ past) c))
-    then Send x (packets.Pubrel id) ∷ [] else []
-other_answers limits place past x c (packets.Puback id) =
-    all_started x (length past) (entries_of limits (place ∷ past) c)
-other_answers limits place past x c (packets.Pubcomp id) =
-    all_started x (length past) (entries_of limits (place ∷ past) c)
-other_answers limits place past x c (packets.Connect connect) = []
-other_answers limits place past x c (packets.Connack connack) = []
-other_answers limits place past x c (packets.Publish p) = []
-other_answers limits place past x c (packets.Subscribe s) = []
-other_answers limits place past x c (packets.Suback suback) = []
-other_answers limits place past x c (packets.Unsuback id) = []
-other_answers limits place past x c packets.Pingresp = []
-other_answers limits place past x c packets.Disconnect = []
+other_answers limits place past connection client (packets.Unsubscribe unsubscribe) =
+    Send connection (packets.Unsuback unsubscribe.id) ∷ []
+other_answers limits place past connection client (packets.Pubrel id) =
+    Send connection (packets.Pubcomp id) ∷ []
+other_answers limits place past connection client packets.Pingreq =
+    Send connection packets.Pingresp ∷ []
+other_answers limits place past connection client (packets.Pubrec id) =
+    if has_id id (released_below (suc (length past)) (entries_of limits (place ∷ past) client))
+    then Send connection (packets.Pubrel id) ∷ [] else []
+other_answers limits place past connection client (packets.Puback id) =
+    all_started connection (length past) (entries_of limits (place ∷ past) client)
+other_answers limits place past connection client (packets.Pubcomp id) =
+    all_started connection (length past) (entries_of limits (place ∷ past) client)
+other_answers limits place past connection client (packets.Connect connect) = []
+other_answers limits place past connection client (packets.Connack connack) = []
+other_answers limits place past connection client (packets.Publish publish) = []
+other_answers limits place past connection client (packets.Subscribe subscribe) = []
+other_answers limits place past connection client (packets.Suback suback) = []
+other_answers limits place past connection client (packets.Unsuback id) = []
+other_answers limits place past connection client packets.Pingresp = []
+other_answers limits place past connection client packets.Disconnect = []
 
 -- the answers to a packet, by its mark
 abbrev pub packet_answers : Limits → Place → Past → ConnectionName → Packet → Mark → List Output
-packet_answers limits place past x (packets.Publish p) (Mark.Taken c) =
-    acknowledged x p.delivery ++ flat_map (deliveries_to limits place past) (clients past)
-packet_answers limits place past x (packets.Publish p) (Mark.Repeat c) = acknowledged x p.delivery
-packet_answers limits place past x (packets.Subscribe s) (Mark.Granted c which) =
-    Send x (packets.Suback (record { id = s.id; codes = codes_of s.filters which }))
-    ∷ deliveries_to limits place past c
-packet_answers limits place past x packet (Mark.Handled c) =
-    other_answers limits place past x c packet
-packet_answers limits place past x packet (Mark.Leaves c) = Close x ∷ []
-packet_answers limits place past x packet (Mark.Refused c) = Close x ∷ []
-packet_answers limits place past x packet _ = []
+packet_answers limits place past connection (packets.Publish publish) (Mark.Taken client) =
+    acknowledged connection publish.delivery
+    ++ flat_map (deliveries_to limits place past) (clients past)
+packet_answers limits place past connection (packets.Publish publish) (Mark.Repeat client) =
+    acknowledged connection publish.delivery
+packet_answers limits place past connection (packets.Subscribe subscribe)
+    (Mark.Granted client which) =
+    Send connection
+    (packets.Suback (record { id = subscribe.id; codes = codes_of subscribe.filters which }))
+    ∷ deliveries_to limits place past client
+packet_answers limits place past connection packet (Mark.Handled client) =
+    other_answers limits place past connection client packet
+packet_answers limits place past connection packet (Mark.Leaves client) = Close connection ∷ []
+packet_answers limits place past connection packet (Mark.Refused client) = Close connection ∷ []
+packet_answers limits place past connection packet _ = []
 
 -- the answers to a Connect, by its mark
 abbrev pub connect_answers : Limits → Place → Past → ConnectionName → Client → Mark → List Output
-connect_answers limits place past x c Mark.Accepted =
-    close_outputs (current_connection past c)
-    ++ welcome x (not (begins place past c))
-    ∷ resent_outputs x (length past) (entries_of limits (place ∷ past) c)
-connect_answers limits place past x c Mark.Full = turned_away x ∷ Close x ∷ []
-connect_answers limits place past x c _ = Close x ∷ []
+connect_answers limits place past connection client Mark.Accepted =
+    close_outputs (current_connection past client)
+    ++ welcome connection (not (begins place past client))
+    ∷ resent_outputs connection (length past) (entries_of limits (place ∷ past) client)
+connect_answers limits place past connection client Mark.Full =
+    turned_away connection ∷ Close connection ∷ []
+connect_answers limits place past connection client _ = Close connection ∷ []
 
 -- the answers to a command, by its mark: a Lost and a Start have none, and an expelled client's
 -- connection is closed
 abbrev pub answers_by : Limits → Place → Past → Command → Mark → List Output
-answers_by limits place past (commands.Packet x packet) mark =
-    packet_answers limits place past x packet mark
-answers_by limits place past (commands.Connect x c clean) mark =
-    connect_answers limits place past x c mark
-answers_by limits place past (commands.Lost x) mark = []
+answers_by limits place past (commands.Packet connection packet) mark =
+    packet_answers limits place past connection packet mark
+answers_by limits place past (commands.Connect connection client clean) mark =
+    connect_answers limits place past connection client mark
+answers_by limits place past (commands.Lost connection) mark = []
 answers_by limits place past (commands.Start ballot) mark = []
-answers_by limits place past (commands.Expel c) mark = close_outputs (current_connection past c)
+answers_by limits place past (commands.Expel client) mark =
+    close_outputs (current_connection past client)

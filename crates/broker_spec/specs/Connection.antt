@@ -23,4 +23,4 @@ IsConnectionName name = is_connection_name name ≡ true
 
 -- whether two names are equal
 abbrev pub same_connection : ConnectionName → ConnectionName → Bool
-same_connection x y = (x.ballot == y.ballot) && (x.count == y.count)
+same_connection name other = (name.ballot == other.ballot) && (name.count == other.count)

@@ -20,25 +20,26 @@ pub record StandsAt (past : Past) (place : Place) (below : Past) : Type 0 where
 
 -- whether a command is a Connect with this connection's name
 abbrev pub is_connect_of : ConnectionName → Command → Bool
-is_connect_of x (commands.Connect y c clean) = same_connection x y
-is_connect_of x _ = false
+is_connect_of connection (commands.Connect other client clean) = same_connection connection other
+is_connect_of connection _ = false
 
 -- how many Connects with this connection's name a past has
 abbrev pub connects_of : ConnectionName → Past → ℕ
-connects_of x (place ∷ past) = (if is_connect_of x place.command then 1 else 0) + connects_of x past
-connects_of x [] = 0
+connects_of connection (place ∷ past) =
+    (if is_connect_of connection place.command then 1 else 0) + connects_of connection past
+connects_of connection [] = 0
 
 -- A connection with one Connect, which was accepted and lies in a session of its client, is sent
 -- packets only at places of that session: no packet at a place outside of it.
 abbrev pub EndsWithTheSession : Limits → Past → Type 0
 EndsWithTheSession limits past =
-    (place opened : Place) (below earlier : Past) (x : ConnectionName) (packet : Packet)
-    (c : Client) (clean : Bool) (start : ℕ)
-    → connects_of x past ≤ 1 → StandsAt past place below → StandsAt past opened earlier
-    → In (Send x packet) (answers_at limits place below)
-    → accepts opened.command opened.mark c ≡ Some (x, clean)
-    → session_start (opened ∷ earlier) c ≡ Some start
-    → session_start (place ∷ below) c ≡ Some start
+    (place opened : Place) (below earlier : Past) (connection : ConnectionName) (packet : Packet)
+    (client : Client) (clean : Bool) (start : ℕ)
+    → connects_of connection past ≤ 1 → StandsAt past place below → StandsAt past opened earlier
+    → In (Send connection packet) (answers_at limits place below)
+    → accepts opened.command opened.mark client ≡ Some (connection, clean)
+    → session_start (opened ∷ earlier) client ≡ Some start
+    → session_start (place ∷ below) client ≡ Some start
 
 -- for every list of commands a connection is sent packets only at places of its session
 abbrev pub NothingAfterTheEnd : Type 0

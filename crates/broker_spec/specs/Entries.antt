@@ -20,9 +20,10 @@ use Rattle.broker_spec.specs.declared.command.Command.TheVariants as commands
 
 -- one copy of a publication, at this QoS and with RETAIN 0 (MQTT 3.3.1.3)
 abbrev pub copy_of : Publication → Option QoS → List Publication
-copy_of p (Some qos) =
-    record { retain = false; qos = qos; topic = p.topic; payload = p.payload } ∷ []
-copy_of p None = []
+copy_of publication (Some qos) =
+    record { retain = false; qos = qos; topic = publication.topic; payload = publication.payload }
+    ∷ []
+copy_of publication None = []
 
 -- a copy of a retained publication, with RETAIN 1, at the lower of its QoS and the QoS that is
 -- asked for
@@ -37,29 +38,32 @@ retained_copy asked row =
 
 -- the copies of retained publications that a filter brings, by topic (MQTT 3.8.4)
 abbrev pub copies_for : RetainedTopics → Subscription → List Publication
-copies_for content s = map (retained_copy s.qos) (matching_entries content s.filter)
+copies_for content subscription =
+    map (retained_copy subscription.qos) (matching_entries content subscription.filter)
 
 -- the copies that several filters bring, one filter after another
 abbrev pub copies_for_all : RetainedTopics → List Subscription → List Publication
-copies_for_all content (s ∷ more) = copies_for content s ++ copies_for_all content more
+copies_for_all content (subscription ∷ more) =
+    copies_for content subscription ++ copies_for_all content more
 copies_for_all content [] = []
 
 -- the copies that a command makes for a client's session, in order
 abbrev pub copies_by : Command → Mark → Past → Client → List Publication
-copies_by (commands.Packet x (packets.Publish p)) (Mark.Taken d) past c =
-    copy_of (publication_of p) (effective_qos past c (publication_of p))
-copies_by (commands.Packet x (packets.Subscribe s)) (Mark.Granted d which) past c =
-    if same_client d c
-    then copies_for_all (retained_publications past) (granted_of s.filters which) else []
-copies_by _ _ past c = []
+copies_by (commands.Packet connection (packets.Publish publish)) (Mark.Taken sender) past client =
+    copy_of (publication_of publish) (effective_qos past client (publication_of publish))
+copies_by (commands.Packet connection (packets.Subscribe subscribe)) (Mark.Granted sender which)
+    past client =
+    if same_client sender client
+    then copies_for_all (retained_publications past) (granted_of subscribe.filters which) else []
+copies_by _ _ past client = []
 
 -- the copies that a place makes for a client's session
 abbrev pub copies_at : Place → Past → Client → List Publication
-copies_at place past c = copies_by place.command place.mark past c
+copies_at place past client = copies_by place.command place.mark past client
 
 -- the copies at QoS 1 and 2, which are queued
 abbrev pub queued : List Publication → List Publication
-queued = filter (λ p. is_answered p.qos)
+queued = filter (λ publication. is_answered publication.qos)
 
 -- ---- entries
 
@@ -79,5 +83,5 @@ pub data Entry : Type 0 where
 
 -- whether an entry takes room: all do except the finished ones
 abbrev pub is_unfinished : Entry → Bool
-is_unfinished (Entry.Finished made p id start release finish) = false
+is_unfinished (Entry.Finished made publication id start release finish) = false
 is_unfinished _ = true

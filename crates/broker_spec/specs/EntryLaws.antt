@@ -23,71 +23,77 @@ use Rattle.broker_spec.specs.declared.command.Command.TheVariants as commands
 -- (MQTT 4.6)
 abbrev pub NothingWaitsInVain : Type 0
 NothingWaitsInVain =
-    (limits : Limits) (past : Past) (c : Client) (before after : List Entry) (made : ℕ)
-    (p : Publication)
-    → entries_of limits past c ≡ before ++ Entry.Waits made p ∷ after
-    → (current_connection past c ≡ None)
+    (limits : Limits) (past : Past) (client : Client) (before after : List Entry) (made : ℕ)
+    (publication : Publication)
+    → entries_of limits past client ≡ before ++ Entry.Waits made publication ∷ after
+    → (current_connection past client ≡ None)
     ⊎ (window_at limits past ≤ length (filter is_unfinished before))
 
 -- ---- how the list grows
 
--- One place later, at place n: an entry that waited still waits or starts here; one that started
+-- One place later, at this place: an entry that waited still waits or starts here; one that started
 -- stays so, is released or is finished here; a finished one stays. Identifier, publication and
 -- times stay as they were.
 abbrev pub EntryGoesOn : ℕ → Entry → Entry → Type 0
-EntryGoesOn n (Entry.Waits made p) later =
-    (later ≡ Entry.Waits made p) ⊎ ((id : ℕ) × (later ≡ Entry.Started made p id n))
-EntryGoesOn n (Entry.Started made p id start) later =
-    (later ≡ Entry.Started made p id start) ⊎ ((later ≡ Entry.Released made p id start n)
-    ⊎ (later ≡ Entry.Finished made p id start None n))
-EntryGoesOn n (Entry.Released made p id start release) later =
-    (later ≡ Entry.Released made p id start release)
-    ⊎ (later ≡ Entry.Finished made p id start (Some release) n)
-EntryGoesOn n (Entry.Finished made p id start release finish) later =
-    later ≡ Entry.Finished made p id start release finish
+EntryGoesOn place (Entry.Waits made publication) later =
+    (later ≡ Entry.Waits made publication)
+    ⊎ ((id : ℕ) × (later ≡ Entry.Started made publication id place))
+EntryGoesOn place (Entry.Started made publication id start) later =
+    (later ≡ Entry.Started made publication id start)
+    ⊎ ((later ≡ Entry.Released made publication id start place)
+    ⊎ (later ≡ Entry.Finished made publication id start None place))
+EntryGoesOn place (Entry.Released made publication id start release) later =
+    (later ≡ Entry.Released made publication id start release)
+    ⊎ (later ≡ Entry.Finished made publication id start (Some release) place)
+EntryGoesOn place (Entry.Finished made publication id start release finish) later =
+    later ≡ Entry.Finished made publication id start release finish
 
--- an entry that place n made: it waits, or started there
+-- an entry that this place made: it waits, or started there
 abbrev pub IsMadeAt : ℕ → Entry → Type 0
-IsMadeAt n (Entry.Waits made p) = made ≡ n
-IsMadeAt n (Entry.Started made p id start) = (made ≡ n) × (start ≡ n)
-IsMadeAt n _ = ⊥
+IsMadeAt place (Entry.Waits made publication) = made ≡ place
+IsMadeAt place (Entry.Started made publication id start) = (made ≡ place) × (start ≡ place)
+IsMadeAt place _ = ⊥
 
 -- the earlier entries keep their order and change as one place later (`EntryGoesOn`), and those
--- after them are made at place n
+-- after them are made at this place
 abbrev pub GrowsTo : ℕ → List Entry → List Entry → Type 0
-GrowsTo n (entry ∷ entries) (later ∷ others) = EntryGoesOn n entry later × GrowsTo n entries others
-GrowsTo n (entry ∷ entries) [] = ⊥
-GrowsTo n [] others = AllByRecursion (IsMadeAt n) others
+GrowsTo place (entry ∷ entries) (later ∷ others) =
+    EntryGoesOn place entry later × GrowsTo place entries others
+GrowsTo place (entry ∷ entries) [] = ⊥
+GrowsTo place [] others = AllByRecursion (IsMadeAt place) others
 
 -- while a session lasts its entries only grow, and an entry that has started stays started
 abbrev pub EntriesOnlyGrow : Type 0
 EntriesOnlyGrow =
-    (limits : Limits) (place : Place) (past : Past) (c : Client)
-    → is_some (session_of (place ∷ past) c) ≡ true → begins place past c ≡ false
-    → GrowsTo (length past) (entries_of limits past c) (entries_of limits (place ∷ past) c)
+    (limits : Limits) (place : Place) (past : Past) (client : Client)
+    → is_some (session_of (place ∷ past) client) ≡ true → begins place past client ≡ false
+    → GrowsTo (length past) (entries_of limits past client)
+    (entries_of limits (place ∷ past) client)
 
 -- the place of a taken PUBLISH of this client
 abbrev pub place_of_taken : ConnectionName → Publish → Client → Place
-place_of_taken x p d = record {
-  command = commands.Packet x (packets.Publish p);
-  mark = Mark.Taken d;
+place_of_taken connection publish publisher = record {
+  command = commands.Packet connection (packets.Publish publish);
+  mark = Mark.Taken publisher;
 }
 
 -- a taken PUBLISH gives a session one entry if its effective QoS is 1 or 2, and otherwise none
 -- (MQTT 3.3.5)
 abbrev pub TakenPublishAddsOne : Type 0
 TakenPublishAddsOne =
-    (limits : Limits) (past : Past) (x : ConnectionName) (p : Publish) (d c : Client)
-    → is_some (session_of (place_of_taken x p d ∷ past) c) ≡ true
-    → length (entries_of limits (place_of_taken x p d ∷ past) c)
-    ≡ length (entries_of limits past c)
-    + (if is_queued_at (effective_qos past c (publication_of p)) then 1 else 0)
+    (limits : Limits) (past : Past) (connection : ConnectionName) (publish : Publish)
+    (publisher receiver : Client)
+    → is_some (session_of (place_of_taken connection publish publisher ∷ past) receiver) ≡ true
+    → length (entries_of limits (place_of_taken connection publish publisher ∷ past) receiver)
+    ≡ length (entries_of limits past receiver)
+    + (if is_queued_at (effective_qos past receiver (publication_of publish)) then 1 else 0)
 
 -- at the place where it is taken, a publication enters exactly the sessions with an effective QoS
 -- of 1 or 2, once (MQTT 3.3.5)
 abbrev pub PublicationEnters : Type 0
 PublicationEnters =
-    (limits : Limits) (past : Past) (x : ConnectionName) (p : Publish) (d c : Client)
+    (limits : Limits) (past : Past) (connection : ConnectionName) (publish : Publish)
+    (publisher receiver : Client)
     → length (filter (is_from_publish (length past))
-    (entries_of limits (place_of_taken x p d ∷ past) c))
-    ≡ (if is_queued_at (effective_qos past c (publication_of p)) then 1 else 0)
+    (entries_of limits (place_of_taken connection publish publisher ∷ past) receiver))
+    ≡ (if is_queued_at (effective_qos past receiver (publication_of publish)) then 1 else 0)

@@ -12,7 +12,8 @@ use Rattle.retained.specs.lists.Lists.{IsDistinct}
 -- no two entries of a session that are in flight have the same identifier (MQTT 2.3.1)
 abbrev pub IdentifiersAreDistinct : Type 0
 IdentifiersAreDistinct =
-    (limits : Limits) (past : Past) (c : Client) → IsDistinct (busy_ids (entries_of limits past c))
+    (limits : Limits) (past : Past) (client : Client)
+    → IsDistinct (busy_ids (entries_of limits past client))
 
 -- the window never shrinks
 abbrev pub NeverShrinks : Limits → Type 0
@@ -26,27 +27,28 @@ IsInWindow window id = (1 ≤ id) × (id ≤ window)
 -- if the window never shrinks, the identifiers of what is in flight are 1 to the window
 abbrev pub IdentifiersAreInTheWindow : Type 0
 IdentifiersAreInTheWindow =
-    (limits : Limits) → NeverShrinks limits → (past : Past) (c : Client)
-    → AllByRecursion (IsInWindow (window_at limits past)) (busy_ids (entries_of limits past c))
+    (limits : Limits) → NeverShrinks limits → (past : Past) (client : Client)
+    → AllByRecursion (IsInWindow (window_at limits past)) (busy_ids (entries_of limits past client))
 
 -- in this broker the identifiers of what is in flight are 1 to 64
 abbrev pub IdentifiersAreTo64 : Type 0
 IdentifiersAreTo64 =
-    (past : Past) (c : Client)
-    → AllByRecursion (IsInWindow wide_window) (busy_ids (entries_of usual_limits past c))
+    (past : Past) (client : Client)
+    → AllByRecursion (IsInWindow wide_window) (busy_ids (entries_of usual_limits past client))
 
 -- an entry that waits
 abbrev pub IsWaitingEntry : Entry → Type 0
-IsWaitingEntry (Entry.Waits made p) = Unit {0}
+IsWaitingEntry (Entry.Waits made publication) = Unit {0}
 IsWaitingEntry _ = ⊥
 
 -- after an entry that waits, all wait
 abbrev pub WaitingAreLast : List Entry → Type 0
-WaitingAreLast (Entry.Waits made p ∷ entries) = AllByRecursion IsWaitingEntry entries
+WaitingAreLast (Entry.Waits made publication ∷ entries) = AllByRecursion IsWaitingEntry entries
 WaitingAreLast (_ ∷ entries) = WaitingAreLast entries
 WaitingAreLast [] = Unit {0}
 
 -- entries start in order (MQTT 4.6)
 abbrev pub StartedComeFirst : Type 0
 StartedComeFirst =
-    (limits : Limits) (past : Past) (c : Client) → WaitingAreLast (entries_of limits past c)
+    (limits : Limits) (past : Past) (client : Client)
+    → WaitingAreLast (entries_of limits past client)

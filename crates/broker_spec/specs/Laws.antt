@@ -22,41 +22,42 @@ use Rattle.broker_spec.specs.declared.command.Command.TheVariants as commands
 
 -- the place is no accepted Connect of the client, and does not end its connection
 abbrev pub KeepsConnection : Client → ConnectionName → Place → Type 0
-KeepsConnection c x place =
-    (accepts place.command place.mark c ≡ None) × (ends_any place c (Some x) ≡ false)
+KeepsConnection client connection place =
+    (accepts place.command place.mark client ≡ None)
+    × (ends_any place client (Some connection) ≡ false)
 
--- the client's last accepted Connect opened x, and no later place ended it
-pub record WasOpened (past : Past) (c : Client) (x : ConnectionName) : Type 0 where
+-- the client's last accepted Connect opened this connection, and no later place ended it
+pub record WasOpened (past : Past) (client : Client) (connection : ConnectionName) : Type 0 where
   pub later : Past
   pub place : Place
   pub earlier : Past
   pub clean : Bool
   pub is : past ≡ later ++ place ∷ earlier
-  pub opened : accepts place.command place.mark c ≡ Some (x, clean)
-  pub kept : AllByRecursion (KeepsConnection c x) later
+  pub opened : accepts place.command place.mark client ≡ Some (connection, clean)
+  pub kept : AllByRecursion (KeepsConnection client connection) later
 
 -- a client is served on the connection of its last accepted Connect, unless that was ended since
 -- (MQTT 3.1.4)
 abbrev pub CurrentIsLastAccepted : Type 0
 CurrentIsLastAccepted =
-    (past : Past) (c : Client) (x : ConnectionName) → (current_connection past c ≡ Some x)
-    ↔ WasOpened past c x
+    (past : Past) (client : Client) (connection : ConnectionName)
+    → (current_connection past client ≡ Some connection) ↔ WasOpened past client connection
 
 -- ---- received identifiers
 
 -- whether a delivery is at QoS 2 with this identifier
 abbrev pub brings : ℕ → Delivery → Bool
-brings id (deliveries.ExactlyOnce dup i) = id == i
+brings id (deliveries.ExactlyOnce dup other) = id == other
 brings id _ = false
 
 -- what a command does to an identifier: a taken PUBLISH at QoS 2 of the client, a PUBREL of it, or
 -- nothing
 abbrev pub says_of : Command → Mark → Client → ℕ → Option Bool
-says_of (commands.Packet x (packets.Publish p)) (Mark.Taken d) c id =
-    if same_client d c && brings id p.delivery then Some true else None
-says_of (commands.Packet x (packets.Pubrel i)) (Mark.Handled d) c id =
-    if same_client d c && (id == i) then Some false else None
-says_of _ _ c id = None
+says_of (commands.Packet connection (packets.Publish publish)) (Mark.Taken sender) client id =
+    if same_client sender client && brings id publish.delivery then Some true else None
+says_of (commands.Packet connection (packets.Pubrel other)) (Mark.Handled sender) client id =
+    if same_client sender client && (id == other) then Some false else None
+says_of _ _ client id = None
 
 -- the newer value, if there is one
 abbrev pub newer_of_two : {A : Type 0} → Option A → A → A
@@ -66,16 +67,17 @@ newer_of_two None older = older
 -- whether the last of the session's taken PUBLISHes at QoS 2 with this identifier, and of its
 -- PUBRELs, is a PUBLISH
 unfoldable pub ends_in_publish : Past → Client → ℕ → Bool
-ends_in_publish [] c id = false
-ends_in_publish (place ∷ past) c id =
-    in_session (session_of (place ∷ past) c) (begins place past c) false
-    (newer_of_two (says_of place.command place.mark c id) (ends_in_publish past c id))
+ends_in_publish [] client id = false
+ends_in_publish (place ∷ past) client id =
+    in_session (session_of (place ∷ past) client) (begins place past client) false
+    (newer_of_two (says_of place.command place.mark client id) (ends_in_publish past client id))
 
 -- a PUBLISH at QoS 2 is a repeat exactly if, of its session's taken PUBLISHes with its identifier
 -- and their PUBRELs, the last is a PUBLISH (MQTT 4.3.3)
 abbrev pub RepeatIsUnreleased : Type 0
 RepeatIsUnreleased =
-    (past : Past) (c : Client) (id : ℕ) → has_id id (received_of past c) ≡ ends_in_publish past c id
+    (past : Past) (client : Client) (id : ℕ)
+    → has_id id (received_of past client) ≡ ends_in_publish past client id
 
 -- ---- subscriptions
 
@@ -86,27 +88,33 @@ either None other = other
 
 -- the QoS of the last occurrence of a filter in a SUBSCRIBE
 abbrev pub last_qos : List ℕ → List Subscription → Option QoS
-last_qos f (s ∷ more) = either (last_qos f more) (if bytes_eq f s.filter then Some s.qos else None)
-last_qos f [] = None
+last_qos filter (subscription ∷ more) = either (last_qos filter more)
+    (if bytes_eq filter subscription.filter then Some subscription.qos else None)
+last_qos filter [] = None
 
 -- what a command does to a filter of the client: granted at a QoS, removed, or nothing
 abbrev pub word_on : Command → Mark → Client → List ℕ → Option (Option QoS)
-word_on (commands.Packet x (packets.Subscribe s)) (Mark.Granted d which) c f =
-    if same_client d c
-    then option_map (λ qos. Some qos) (last_qos f (granted_of s.filters which)) else None
-word_on (commands.Packet x (packets.Unsubscribe u)) (Mark.Handled d) c f =
-    if same_client d c && list_any (bytes_eq f) u.filters then Some None else None
-word_on _ _ c f = None
+word_on (commands.Packet connection (packets.Subscribe subscribe)) (Mark.Granted sender which)
+    client filter =
+    if same_client sender client
+    then option_map (λ qos. Some qos) (last_qos filter (granted_of subscribe.filters which))
+    else None
+word_on (commands.Packet connection (packets.Unsubscribe unsubscribe)) (Mark.Handled sender)
+    client filter =
+    if same_client sender client && list_any (bytes_eq filter) unsubscribe.filters
+    then Some None else None
+word_on _ _ client filter = None
 
 -- the QoS of a filter's last granting in the session, none if it was removed since
 unfoldable pub last_granting : Past → Client → List ℕ → Option QoS
-last_granting [] c f = None
-last_granting (place ∷ past) c f =
-    in_session (session_of (place ∷ past) c) (begins place past c) None
-    (newer_of_two (word_on place.command place.mark c f) (last_granting past c f))
+last_granting [] client filter = None
+last_granting (place ∷ past) client filter =
+    in_session (session_of (place ∷ past) client) (begins place past client) None
+    (newer_of_two (word_on place.command place.mark client filter)
+    (last_granting past client filter))
 
 -- a session's filters have the QoS of their last granting (MQTT 3.8.4, 3.10.4)
 abbrev pub FilterHasLastGranting : Type 0
 FilterHasLastGranting =
-    (past : Past) (c : Client) (f : List ℕ)
-    → qos_asked f (subscriptions_of past c) ≡ last_granting past c f
+    (past : Past) (client : Client) (filter : List ℕ)
+    → qos_asked filter (subscriptions_of past client) ≡ last_granting past client filter

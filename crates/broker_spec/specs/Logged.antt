@@ -9,8 +9,10 @@ use Rattle.broker_spec.specs.declared.command.Command.TheVariants as commands
 
 -- each part of a command is in its range
 abbrev pub IsBrokerCommand : Command → Type 0
-IsBrokerCommand (commands.Connect x c clean) = IsConnectionName x × (is_client c ≡ true)
-IsBrokerCommand (commands.Packet x packet) = IsConnectionName x × Fits packet × IsSized packet
-IsBrokerCommand (commands.Lost x) = IsConnectionName x
+IsBrokerCommand (commands.Connect connection client clean) =
+    IsConnectionName connection × (is_client client ≡ true)
+IsBrokerCommand (commands.Packet connection packet) =
+    IsConnectionName connection × Fits packet × IsSized packet
+IsBrokerCommand (commands.Lost connection) = IsConnectionName connection
 IsBrokerCommand (commands.Start ballot) = Unit {0}
-IsBrokerCommand (commands.Expel c) = is_client c ≡ true
+IsBrokerCommand (commands.Expel client) = is_client client ≡ true

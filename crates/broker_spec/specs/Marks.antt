@@ -30,13 +30,15 @@ is_queued_at None = false
 
 -- whether a client's session would have to queue the publication but is full
 abbrev pub lacks_room : Limits → Past → Publication → Client → Bool
-lacks_room limits past p c = is_queued_at (effective_qos past c p) && (room_of limits past c == 0)
+lacks_room limits past publication client =
+    is_queued_at (effective_qos past client publication) && (room_of limits past client == 0)
 
 -- a publication is refused as a whole if one session has no room for it, or if it cannot be
 -- retained
 abbrev pub is_refused : Limits → Past → Publication → Bool
-is_refused limits past p =
-    list_any (lacks_room limits past p) (clients past) || is_retained_over limits past p
+is_refused limits past publication =
+    list_any (lacks_room limits past publication) (clients past)
+    || is_retained_over limits past publication
 
 -- ---- filters of a SUBSCRIBE
 
@@ -64,24 +66,25 @@ grants limits content granted room [] = []
 -- taken. Packets that only a server sends, and a second CONNECT, are violations (MQTT-3.1.0-2,
 -- MQTT 4.8).
 abbrev pub packet_mark : Limits → Past → Client → Packet → Mark
-packet_mark limits past c (packets.Publish p) =
-    if is_repeat past c p.delivery then Mark.Repeat c else
-    if is_refused limits past (publication_of p) then Mark.Refused c else Mark.Taken c
-packet_mark limits past c (packets.Subscribe s) =
-    Mark.Granted c (grants limits (retained_publications past) (subscriptions_of past c)
-    (room_of limits past c) s.filters)
-packet_mark limits past c (packets.Connect connect) = Mark.Leaves c
-packet_mark limits past c (packets.Connack connack) = Mark.Leaves c
-packet_mark limits past c (packets.Suback suback) = Mark.Leaves c
-packet_mark limits past c (packets.Unsuback id) = Mark.Leaves c
-packet_mark limits past c packets.Pingresp = Mark.Leaves c
-packet_mark limits past c packets.Disconnect = Mark.Leaves c
-packet_mark limits past c (packets.Puback id) = Mark.Handled c
-packet_mark limits past c (packets.Pubrec id) = Mark.Handled c
-packet_mark limits past c (packets.Pubrel id) = Mark.Handled c
-packet_mark limits past c (packets.Pubcomp id) = Mark.Handled c
-packet_mark limits past c (packets.Unsubscribe u) = Mark.Handled c
-packet_mark limits past c packets.Pingreq = Mark.Handled c
+packet_mark limits past client (packets.Publish publish) =
+    if is_repeat past client publish.delivery then Mark.Repeat client else
+    if is_refused limits past (publication_of publish) then Mark.Refused client
+    else Mark.Taken client
+packet_mark limits past client (packets.Subscribe subscribe) =
+    Mark.Granted client (grants limits (retained_publications past) (subscriptions_of past client)
+    (room_of limits past client) subscribe.filters)
+packet_mark limits past client (packets.Connect connect) = Mark.Leaves client
+packet_mark limits past client (packets.Connack connack) = Mark.Leaves client
+packet_mark limits past client (packets.Suback suback) = Mark.Leaves client
+packet_mark limits past client (packets.Unsuback id) = Mark.Leaves client
+packet_mark limits past client packets.Pingresp = Mark.Leaves client
+packet_mark limits past client packets.Disconnect = Mark.Leaves client
+packet_mark limits past client (packets.Puback id) = Mark.Handled client
+packet_mark limits past client (packets.Pubrec id) = Mark.Handled client
+packet_mark limits past client (packets.Pubrel id) = Mark.Handled client
+packet_mark limits past client (packets.Pubcomp id) = Mark.Handled client
+packet_mark limits past client (packets.Unsubscribe unsubscribe) = Mark.Handled client
+packet_mark limits past client packets.Pingreq = Mark.Handled client
 
 -- a packet counts only on a current connection
 abbrev pub packet_mark_of : Limits → Past → Packet → Option Client → Mark
@@ -91,15 +94,17 @@ packet_mark_of limits past packet None = Mark.NoPart
 -- A Connect on a current connection is a violation. Any other is accepted if its client has a
 -- session or one more may begin.
 abbrev pub connect_mark : Limits → Past → Client → Option Client → Mark
-connect_mark limits past c (Some owner) = Mark.Leaves owner
-connect_mark limits past c None =
-    if is_some (session_of past c) || nat_lt (length (clients past)) limits.sessions
+connect_mark limits past client (Some owner) = Mark.Leaves owner
+connect_mark limits past client None =
+    if is_some (session_of past client) || nat_lt (length (clients past)) limits.sessions
     then Mark.Accepted else Mark.Full
 
 -- the mark of a command after these places
 abbrev pub mark_of : Limits → Past → Command → Mark
-mark_of limits past (commands.Packet x packet) = packet_mark_of limits past packet (owner_of past x)
-mark_of limits past (commands.Connect x c clean) = connect_mark limits past c (owner_of past x)
-mark_of limits past (commands.Lost x) = Mark.NoPart
+mark_of limits past (commands.Packet connection packet) =
+    packet_mark_of limits past packet (owner_of past connection)
+mark_of limits past (commands.Connect connection client clean) =
+    connect_mark limits past client (owner_of past connection)
+mark_of limits past (commands.Lost connection) = Mark.NoPart
 mark_of limits past (commands.Start ballot) = Mark.NoPart
-mark_of limits past (commands.Expel c) = Mark.NoPart
+mark_of limits past (commands.Expel client) = Mark.NoPart

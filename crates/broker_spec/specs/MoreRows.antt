@@ -20,10 +20,10 @@ held_two = subscribed_at qualities.ExactlyOnce ++ commands.Lost (nth 1) ∷ publ
 
 -- a sends x, y and z at QoS 2 on the nth connection
 abbrev pub publishes_xyz : ℕ → Bool → List Command
-publishes_xyz n dup =
-    gets n (publish (deliveries.ExactlyOnce dup 1) false (codes "x"))
-    ∷ gets n (publish (deliveries.ExactlyOnce dup 2) false (codes "y"))
-    ∷ gets n (publish (deliveries.ExactlyOnce dup 3) false (codes "z")) ∷ []
+publishes_xyz number dup =
+    gets number (publish (deliveries.ExactlyOnce dup 1) false (codes "x"))
+    ∷ gets number (publish (deliveries.ExactlyOnce dup 2) false (codes "y"))
+    ∷ gets number (publish (deliveries.ExactlyOnce dup 3) false (codes "z")) ∷ []
 
 -- b connects and completes two entries, and a connects again
 abbrev pub makes_room : List Command

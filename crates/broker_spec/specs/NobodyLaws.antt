@@ -20,26 +20,29 @@ IsSteady limits =
     → window_at limits (place ∷ past) ≡ window_at limits past
 
 -- a place changes nothing that is kept for a client
-pub record LeavesAsIs (limits : Limits) (place : Place) (past : Past) (c : Client) : Type 0 where
-  pub connection : current_connection (place ∷ past) c ≡ current_connection past c
-  pub session : session_of (place ∷ past) c ≡ session_of past c
-  pub subscriptions : subscriptions_of (place ∷ past) c ≡ subscriptions_of past c
-  pub received : received_of (place ∷ past) c ≡ received_of past c
-  pub entries : entries_of limits (place ∷ past) c ≡ entries_of limits past c
+pub record LeavesAsIs (limits : Limits) (place : Place) (past : Past)
+    (client : Client) : Type 0 where
+  pub connection : current_connection (place ∷ past) client ≡ current_connection past client
+  pub session : session_of (place ∷ past) client ≡ session_of past client
+  pub subscriptions : subscriptions_of (place ∷ past) client ≡ subscriptions_of past client
+  pub received : received_of (place ∷ past) client ≡ received_of past client
+  pub entries : entries_of limits (place ∷ past) client ≡ entries_of limits past client
 
 -- the packet's place
 abbrev pub packet_place : Limits → Past → ConnectionName → Packet → Place
-packet_place limits past x packet = place_of limits past (commands.Packet x packet)
+packet_place limits past connection packet =
+    place_of limits past (commands.Packet connection packet)
 
 -- a packet on a connection that is not current changes nothing and is not answered (MQTT 3.1.4)
 abbrev pub PacketOfNobodyIsNothing : Type 0
 PacketOfNobodyIsNothing =
-    (limits : Limits) (past : Past) (x : ConnectionName) (packet : Packet)
-    → IsSteady limits → owner_of past x ≡ None
-    → ((c : Client) → LeavesAsIs limits (packet_place limits past x packet) past c)
-    × (retained_publications (packet_place limits past x packet ∷ past)
+    (limits : Limits) (past : Past) (connection : ConnectionName) (packet : Packet)
+    → IsSteady limits → owner_of past connection ≡ None
+    → ((client : Client)
+    → LeavesAsIs limits (packet_place limits past connection packet) past client)
+    × (retained_publications (packet_place limits past connection packet ∷ past)
     ≡ retained_publications past)
-    × (answers_of limits past (commands.Packet x packet) ≡ [])
+    × (answers_of limits past (commands.Packet connection packet) ≡ [])
 
 -- the window of this broker is steady, and so is one that grows at a new ballot
 abbrev pub WindowIsSteady : Type 0

@@ -5,13 +5,13 @@ use Rattle.broker_spec.specs.Entries.{Entry}
 use Rattle.broker_spec.specs.Readings.{made_of, publication_in}
 use Rattle.broker_spec.specs.Times.{entries_of}
 
--- whether an entry is of the publication that was taken at place n: a copy of a retained
+-- whether an entry is of the publication that was taken at this place: a copy of a retained
 -- publication has RETAIN 1
 abbrev pub is_from_publish : ℕ → Entry → Bool
-is_from_publish n entry = (made_of entry == n) && not (publication_in entry).retain
+is_from_publish place entry = (made_of entry == place) && not (publication_in entry).retain
 
 -- a publication enters a session at most once
 abbrev pub EntersOnce : Type 0
 EntersOnce =
-    (limits : Limits) (past : Past) (c : Client) (n : ℕ)
-    → length (filter (is_from_publish n) (entries_of limits past c)) ≤ 1
+    (limits : Limits) (past : Past) (client : Client) (place : ℕ)
+    → length (filter (is_from_publish place) (entries_of limits past client)) ≤ 1

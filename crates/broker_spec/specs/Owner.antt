@@ -10,13 +10,15 @@ use Rattle.broker_spec.specs.declared.command.Command.TheVariants as commands
 
 -- inserts a client into a list, each client once, ordered by bytes
 abbrev pub insert_client : Client → List Client → List Client
-insert_client c (d ∷ others) =
-    match_ordering (by_bytes c d) (c ∷ d ∷ others) (d ∷ others) (d ∷ insert_client c others)
-insert_client c [] = c ∷ []
+insert_client client (first ∷ others) =
+    match_ordering (by_bytes client first) (client ∷ first ∷ others) (first ∷ others)
+    (first ∷ insert_client client others)
+insert_client client [] = client ∷ []
 
 -- adds the client, if the command is its accepted Connect
 abbrev pub named_by : Command → Mark → List Client → List Client
-named_by (commands.Connect x c clean) Mark.Accepted others = insert_client c others
+named_by (commands.Connect connection client clean) Mark.Accepted others =
+    insert_client client others
 named_by _ _ others = others
 
 -- the clients of accepted Connects, by bytes
@@ -26,19 +28,20 @@ named (place ∷ past) = named_by place.command place.mark (named past)
 
 -- the clients with a session, by bytes
 abbrev pub clients : Past → List Client
-clients past = filter (λ c. is_some (session_of past c)) (named past)
+clients past = filter (λ client. is_some (session_of past client)) (named past)
 
 -- the first client for which the test holds
 abbrev pub first_client : (Client → Bool) → List Client → Option Client
-first_client test (c ∷ others) = if test c then Some c else first_client test others
+first_client test (client ∷ others) = if test client then Some client else first_client test others
 first_client test [] = None
 
--- the client whose current connection x is
+-- the client whose current connection this is
 abbrev pub owner_of : Past → ConnectionName → Option Client
-owner_of past x =
-    first_client (λ c. any_connection (same_connection x) (current_connection past c))
+owner_of past connection =
+    first_client
+    (λ client. any_connection (same_connection connection) (current_connection past client))
     (clients past)
 
--- x is some client's current connection, so its packets count
+-- this is some client's current connection, so its packets count
 abbrev pub IsLive : Past → ConnectionName → Type 0
-IsLive past x = is_some (owner_of past x) ≡ true
+IsLive past connection = is_some (owner_of past connection) ≡ true

@@ -11,38 +11,39 @@ use Rattle.broker_spec.specs.declared.command.Command.TheVariants as commands
 
 -- the connection and the CleanSession flag of an accepted Connect of this client
 abbrev pub accepts : Command → Mark → Client → Option (ConnectionName × Bool)
-accepts (commands.Connect x d clean) Mark.Accepted c = only_if (same_client d c) (Some (x, clean))
-accepts _ _ c = None
+accepts (commands.Connect connection other clean) Mark.Accepted client =
+    only_if (same_client other client) (Some (connection, clean))
+accepts _ _ client = None
 
 -- whether a packet with this mark ends its connection
 abbrev pub is_leaving : Mark → Bool
-is_leaving (Mark.Leaves c) = true
-is_leaving (Mark.Refused c) = true
+is_leaving (Mark.Leaves client) = true
+is_leaving (Mark.Refused client) = true
 is_leaving _ = false
 
--- Whether a command ends connection x: a DISCONNECT, a violation or a refused PUBLISH on it, a
--- further Connect on it, its loss, or a new ballot.
+-- Whether a command ends this connection: a DISCONNECT, a violation or a refused PUBLISH on it,
+-- a further Connect on it, its loss, or a new ballot.
 abbrev pub ends : Command → Mark → ConnectionName → Bool
-ends (commands.Packet y packet) mark x = same_connection y x && is_leaving mark
-ends (commands.Connect y d clean) mark x = same_connection y x
-ends (commands.Lost y) mark x = same_connection y x
-ends (commands.Start ballot) mark x = true
-ends (commands.Expel d) mark x = false
+ends (commands.Packet on packet) mark connection = same_connection on connection && is_leaving mark
+ends (commands.Connect on client clean) mark connection = same_connection on connection
+ends (commands.Lost on) mark connection = same_connection on connection
+ends (commands.Start ballot) mark connection = true
+ends (commands.Expel client) mark connection = false
 
 -- whether a command ends the client's session, and its connection with it
 abbrev pub expels : Command → Client → Bool
-expels (commands.Expel d) c = same_client d c
-expels _ c = false
+expels (commands.Expel other) client = same_client other client
+expels _ client = false
 
 -- whether there is a connection for which the test holds
 abbrev pub any_connection : (ConnectionName → Bool) → Option ConnectionName → Bool
-any_connection test (Some x) = test x
+any_connection test (Some connection) = test connection
 any_connection test None = false
 
 -- whether a place ends this connection of the client, if there is one: an Expel of the client does
 abbrev pub ends_any : Place → Client → Option ConnectionName → Bool
-ends_any place c connection =
-    expels place.command c || any_connection (ends place.command place.mark) connection
+ends_any place client connection =
+    expels place.command client || any_connection (ends place.command place.mark) connection
 
 -- the new connection, or else the old one unless it has ended
 abbrev pub newest_connection : Option (ConnectionName × Bool) → Bool → Option ConnectionName →
@@ -52,10 +53,10 @@ newest_connection None over old = only_if (not over) old
 
 -- the connection on which a client is served: that of its last accepted Connect, unless ended since
 unfoldable pub current_connection : Past → Client → Option ConnectionName
-current_connection [] c = None
-current_connection (place ∷ past) c =
-    newest_connection (accepts place.command place.mark c)
-    (ends_any place c (current_connection past c)) (current_connection past c)
+current_connection [] client = None
+current_connection (place ∷ past) client =
+    newest_connection (accepts place.command place.mark client)
+    (ends_any place client (current_connection past client)) (current_connection past client)
 
 -- ---- sessions
 
@@ -69,10 +70,10 @@ newest_session None expelled over None = None
 
 -- the session of a client: its CleanSession flag, or none (MQTT 3.1.2.4)
 unfoldable pub session_of : Past → Client → Option Bool
-session_of [] c = None
-session_of (place ∷ past) c =
-    newest_session (accepts place.command place.mark c) (expels place.command c)
-    (ends_any place c (current_connection past c)) (session_of past c)
+session_of [] client = None
+session_of (place ∷ past) client =
+    newest_session (accepts place.command place.mark client) (expels place.command client)
+    (ends_any place client (current_connection past client)) (session_of past client)
 
 -- whether an accepted Connect with this flag begins a session: it is clean, finds none, or finds a
 -- clean one
@@ -87,13 +88,14 @@ is_beginning None old = false
 
 -- the place begins a session of the client
 abbrev pub begins : Place → Past → Client → Bool
-begins place past c = is_beginning (accepts place.command place.mark c) (session_of past c)
+begins place past client =
+    is_beginning (accepts place.command place.mark client) (session_of past client)
 
 -- the place ends the client's session: another begins, or none is left
 abbrev pub ends_session : Place → Past → Client → Bool
-ends_session place past c =
-    is_some (session_of past c)
-    && (begins place past c || not (is_some (session_of (place ∷ past) c)))
+ends_session place past client =
+    is_some (session_of past client)
+    && (begins place past client || not (is_some (session_of (place ∷ past) client)))
 
 -- The value that a session keeps, from the value below: nothing if there is no session, and the
 -- initial value if one begins.
@@ -104,16 +106,15 @@ in_session None beginning fresh kept = fresh
 
 -- the number of the place at which the client's session began
 unfoldable pub session_start : Past → Client → Option ℕ
-session_start [] c = None
-session_start (place ∷ past) c =
-    if begins place past c then Some (length past)
-    else only_if (is_some (session_of (place ∷ past) c)) (session_start past c)
+session_start [] client = None
+session_start (place ∷ past) client =
+    if begins place past client then Some (length past)
+    else only_if (is_some (session_of (place ∷ past) client)) (session_start past client)
 
--- the places numbered below n
+-- the places below the one with this number
 abbrev pub below : ℕ → Past → Past
-below n past = drop (length past - n) past
+below place past = drop (length past - place) past
 
--- place n lies in the session of this client that began at this place; the place that ends it is
--- outside
+-- this place lies in the client's session that began at `start`; the place that ends it is outside
 abbrev pub StandsIn : Past → ℕ → Client → ℕ → Type 0
-StandsIn past n c start = session_start (below (suc n) past) c ≡ Some start
+StandsIn past place client start = session_start (below (suc place) past) client ≡ Some start

@@ -15,7 +15,7 @@ by_bytes = slice_cmp nat_cmp
 
 -- whether two clients are equal
 abbrev pub same_client : Client → Client → Bool
-same_client c d = is_eq (by_bytes c d)
+same_client client other = is_eq (by_bytes client other)
 
 -- what a command did, decided by the places below it; the client is the one that the connection
 -- serves

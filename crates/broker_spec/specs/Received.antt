@@ -18,24 +18,24 @@ receives _ ids = ids
 
 -- a taken PUBLISH of the client adds its identifier, and a PUBREL removes it
 abbrev pub received_by : Command → Mark → Client → List ℕ → List ℕ
-received_by (commands.Packet x (packets.Publish p)) (Mark.Taken d) c ids =
-    if same_client d c then receives p.delivery ids else ids
-received_by (commands.Packet x (packets.Pubrel id)) (Mark.Handled d) c ids =
-    if same_client d c then without_id id ids else ids
-received_by _ _ c ids = ids
+received_by (commands.Packet connection (packets.Publish publish)) (Mark.Taken sender) client ids =
+    if same_client sender client then receives publish.delivery ids else ids
+received_by (commands.Packet connection (packets.Pubrel id)) (Mark.Handled sender) client ids =
+    if same_client sender client then without_id id ids else ids
+received_by _ _ client ids = ids
 
 -- The identifiers of a client's session whose last taken PUBLISH at QoS 2 has no PUBREL after it,
 -- in rising order.
 unfoldable pub received_of : Past → Client → List ℕ
-received_of [] c = []
-received_of (place ∷ past) c =
-    in_session (session_of (place ∷ past) c) (begins place past c) []
-    (received_by place.command place.mark c (received_of past c))
+received_of [] client = []
+received_of (place ∷ past) client =
+    in_session (session_of (place ∷ past) client) (begins place past client) []
+    (received_by place.command place.mark client (received_of past client))
 
 -- whether a delivery repeats one that the client's session took, whatever its DUP flag says
 abbrev pub is_repeat : Past → Client → Delivery → Bool
-is_repeat past c (deliveries.ExactlyOnce dup id) = has_id id (received_of past c)
-is_repeat past c _ = false
+is_repeat past client (deliveries.ExactlyOnce dup id) = has_id id (received_of past client)
+is_repeat past client _ = false
 
 -- a delivery at QoS 2
 abbrev pub is_exactly_once : Delivery → Bool
@@ -44,5 +44,6 @@ is_exactly_once _ = false
 
 -- whether a command brings a new publication: a PUBLISH at QoS 2 that is taken (MQTT 4.3.3)
 abbrev pub is_new : Command → Mark → Bool
-is_new (commands.Packet x (packets.Publish p)) (Mark.Taken c) = is_exactly_once p.delivery
+is_new (commands.Packet connection (packets.Publish publish)) (Mark.Taken client) =
+    is_exactly_once publish.delivery
 is_new _ _ = false

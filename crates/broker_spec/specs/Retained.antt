@@ -10,12 +10,14 @@ use Rattle.broker_spec.specs.declared.command.Command.TheVariants as commands
 
 -- a publication with RETAIN 1 replaces the topic's last one, or removes it if its payload is empty
 abbrev pub retains : Publication → RetainedTopics → RetainedTopics
-retains p content = if p.retain then after_put content p.topic p.qos p.payload else content
+retains publication content =
+    if publication.retain
+    then after_put content publication.topic publication.qos publication.payload else content
 
 -- a taken publication is retained
 abbrev pub retained_by : Command → Mark → RetainedTopics → RetainedTopics
-retained_by (commands.Packet x (packets.Publish p)) (Mark.Taken c) content =
-    retains (publication_of p) content
+retained_by (commands.Packet connection (packets.Publish publish)) (Mark.Taken client) content =
+    retains (publication_of publish) content
 retained_by _ _ content = content
 
 -- for each topic, ordered by bytes, the last taken publication with RETAIN 1, none if its payload
@@ -27,7 +29,7 @@ retained_publications (place ∷ past) =
 
 -- whether a publication would be retained on one topic more than the limit
 abbrev pub is_retained_over : Limits → Past → Publication → Bool
-is_retained_over limits past p =
-    p.retain && not (is_empty p.payload)
-    && is_none (publication_on p.topic (retained_publications past))
+is_retained_over limits past publication =
+    publication.retain && not (is_empty publication.payload)
+    && is_none (publication_on publication.topic (retained_publications past))
     && nat_le limits.retained (length (retained_publications past))

@@ -31,19 +31,19 @@ b = codes "b"
 
 -- the nth connection of ballot 1
 abbrev pub nth : ℕ → ConnectionName
-nth n = record { ballot = 1; count = n }
+nth number = record { ballot = 1; count = number }
 
 -- a client opens the nth connection, with CleanSession 0
 abbrev pub connect : ℕ → Client → Command
-connect n c = commands.Connect (nth n) c false
+connect number client = commands.Connect (nth number) client false
 
 -- a packet comes on the nth connection
 abbrev pub gets : ℕ → Packet → Command
-gets n packet = commands.Packet (nth n) packet
+gets number packet = commands.Packet (nth number) packet
 
 -- a packet is sent on the nth connection
 abbrev pub sends : ℕ → Packet → Output
-sends n packet = Send (nth n) packet
+sends number packet = Send (nth number) packet
 
 -- a CONNACK with code 0, with session present or not
 abbrev pub connack : Bool → Packet
@@ -86,7 +86,8 @@ publications many =
 
 -- what b is sent for `publications` on the nth connection, with these identifiers
 abbrev pub delivered : ℕ → Bool → List ℕ → List Output
-delivered n dup = map (λ id. sends n (publish (deliveries.AtLeastOnce dup id) false (codes "o")))
+delivered number dup =
+    map (λ id. sends number (publish (deliveries.AtLeastOnce dup id) false (codes "o")))
 
 -- limits of a row: this many unfinished entries of a session, this many in flight at once
 abbrev pub small : ℕ → ℕ → Limits

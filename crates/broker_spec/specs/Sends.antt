@@ -15,47 +15,52 @@ use Rattle.broker_spec.specs.declared.command.Output.TheVariants.{Send}
 
 -- a PUBLISH to the client
 abbrev pub publish_output : ConnectionName → Bool → ℕ → Publication → Output
-publish_output x dup id p = Send x (packets.Publish (publish_for dup id p))
+publish_output connection dup id publication =
+    Send connection (packets.Publish (publish_for dup id publication))
 
--- an entry that starts at place n is sent for the first time, with DUP 0 (MQTT 3.3.1.1)
+-- an entry that starts at this place is sent for the first time, with DUP 0 (MQTT 3.3.1.1)
 abbrev pub first_output : ConnectionName → ℕ → Entry → List Output
-first_output x n (Entry.Started made p id start) =
-    if start == n then publish_output x false id p ∷ [] else []
-first_output x n _ = []
+first_output connection place (Entry.Started made publication id start) =
+    if start == place then publish_output connection false id publication ∷ [] else []
+first_output connection place _ = []
 
--- all entries that start at place n, in order
+-- all entries that start at this place, in order
 abbrev pub all_started : ConnectionName → ℕ → List Entry → List Output
-all_started x n = flat_map (first_output x n)
+all_started connection place = flat_map (first_output connection place)
 
--- an entry that started below place n, and is not answered, is sent again with DUP 1 (MQTT 4.4)
+-- an entry that started below this place, and is not answered, is sent again with DUP 1 (MQTT 4.4)
 abbrev pub repeated_output : ConnectionName → ℕ → Entry → List Output
-repeated_output x n (Entry.Started made p id start) =
-    if start == n then [] else publish_output x true id p ∷ []
-repeated_output x n _ = []
+repeated_output connection place (Entry.Started made publication id start) =
+    if start == place then [] else publish_output connection true id publication ∷ []
+repeated_output connection place _ = []
 
--- What a client that comes back at place n is sent: PUBREL for what is released and not finished,
--- in the order of release; then what was sent before, in order; then what starts now (MQTT 4.4).
+-- What a client that comes back at this place is sent: PUBREL for what is released and not
+-- finished, in the order of release; then what was sent before, in order; then what starts now
+-- (MQTT 4.4).
 abbrev pub resent_outputs : ConnectionName → ℕ → List Entry → List Output
-resent_outputs x n entries =
-    map (λ id. Send x (packets.Pubrel id)) (released_below n entries)
-    ++ flat_map (repeated_output x n) entries ++ all_started x n entries
+resent_outputs connection place entries =
+    map (λ id. Send connection (packets.Pubrel id)) (released_below place entries)
+    ++ flat_map (repeated_output connection place) entries ++ all_started connection place entries
 
--- What a connection is sent for the copies that place n made, in order: each copy at QoS 0 at once,
--- and each other if its entry starts here. The entries are those that the place made, in order.
+-- What a connection is sent for the copies that this place made, in order: each copy at QoS 0 at
+-- once, and each other if its entry starts here. The entries are those that the place made, in
+-- order.
 abbrev pub copy_outputs : ConnectionName → ℕ → List Publication → List Entry → List Output
-copy_outputs x n (p ∷ copies) entries =
-    if is_answered p.qos
-    then all_started x n (take 1 entries) ++ copy_outputs x n copies (drop 1 entries)
-    else publish_output x false 0 p ∷ copy_outputs x n copies entries
-copy_outputs x n [] entries = []
+copy_outputs connection place (publication ∷ copies) entries =
+    if is_answered publication.qos
+    then all_started connection place (take 1 entries)
+    ++ copy_outputs connection place copies (drop 1 entries)
+    else publish_output connection false 0 publication
+    ∷ copy_outputs connection place copies entries
+copy_outputs connection place [] entries = []
 
 -- a client without a connection is sent nothing
 abbrev pub handed_to : Option ConnectionName → ℕ → List Publication → List Entry → List Output
-handed_to (Some x) n copies entries = copy_outputs x n copies entries
-handed_to None n copies entries = []
+handed_to (Some connection) place copies entries = copy_outputs connection place copies entries
+handed_to None place copies entries = []
 
 -- what a client is sent for the copies that a place makes for its session
 abbrev pub deliveries_to : Limits → Place → Past → Client → List Output
-deliveries_to limits place past c =
-    handed_to (current_connection past c) (length past) (copies_at place past c)
-    (made_at (length past) (entries_of limits (place ∷ past) c))
+deliveries_to limits place past client =
+    handed_to (current_connection past client) (length past) (copies_at place past client)
+    (made_at (length past) (entries_of limits (place ∷ past) client))

@@ -17,7 +17,7 @@ use Rattle.broker_spec.specs.declared.command.Command.TheVariants as commands
 
 -- a client opens the nth connection, with CleanSession 1
 abbrev pub connect_clean : ℕ → Client → Command
-connect_clean n c = commands.Connect (nth n) c true
+connect_clean number client = commands.Connect (nth number) client true
 
 -- after these commands the session of a is the one that began at this place
 abbrev pub SessionBegan : List Command → Option ℕ → Type 0

@@ -13,15 +13,15 @@ use Rattle.broker_spec.specs.Times.{entries_of, window_at}
 pub record MayStart (window id : ℕ) (before : List Entry) : Type 0 where
   pub room : length (busy_ids before) < window
   pub free : has_id id (busy_ids before) ≡ false
-  pub least : (j : ℕ) → 1 ≤ j → j < id → has_id j (busy_ids before) ≡ true
+  pub least : (smaller : ℕ) → 1 ≤ smaller → smaller < id → has_id smaller (busy_ids before) ≡ true
 
 -- an entry that starts at a place has a connection there, room in the window, and the least free
 -- identifier
 abbrev pub StartsWhereItMay : Type 0
 StartsWhereItMay =
-    (limits : Limits) (place : Place) (past : Past) (c : Client)
-    (before after : List Entry) (made : ℕ)
-    (p : Publication) (id : ℕ)
-    → entries_of limits (place ∷ past) c ≡ before ++ Entry.Started made p id (length past) ∷ after
-    → (is_some (current_connection (place ∷ past) c) ≡ true)
+    (limits : Limits) (place : Place) (past : Past) (client : Client)
+    (before after : List Entry) (made : ℕ) (publication : Publication) (id : ℕ)
+    → entries_of limits (place ∷ past) client
+    ≡ before ++ Entry.Started made publication id (length past) ∷ after
+    → (is_some (current_connection (place ∷ past) client) ≡ true)
     × MayStart (window_at limits (place ∷ past)) id before

@@ -16,38 +16,42 @@ use Rattle.broker_spec.specs.declared.command.Command.TheVariants as commands
 
 -- a filter of a SUBSCRIBE with the QoS that it asks for, as a session holds it
 abbrev pub as_granted : Subscription → GrantedFilter
-as_granted s = (s.filter, s.qos)
+as_granted subscription = (subscription.filter, subscription.qos)
 
 -- the QoS at which a session's list has exactly this filter
 abbrev pub qos_asked : List ℕ → List GrantedFilter → Option QoS
-qos_asked f (held ∷ more) = if bytes_eq f held.0 then Some held.1 else qos_asked f more
-qos_asked f [] = None
+qos_asked filter (held ∷ more) =
+    if bytes_eq filter held.0 then Some held.1 else qos_asked filter more
+qos_asked filter [] = None
 
 -- the elements of the list that are granted
 abbrev pub granted_of : {A : Type 0} → List A → List Bool → List A
-granted_of (a ∷ more) (granted ∷ others) =
-    if granted then a ∷ granted_of more others else granted_of more others
+granted_of (element ∷ more) (granted ∷ others) =
+    if granted then element ∷ granted_of more others else granted_of more others
 granted_of _ _ = []
 
 -- the subscriptions after a SUBSCRIBE or UNSUBSCRIBE of the client
 abbrev pub filters_after : Command → Mark → Client → List GrantedFilter → List GrantedFilter
-filters_after (commands.Packet x (packets.Subscribe s)) (Mark.Granted d which) c held =
-    if same_client d c
-    then with_subscriptions (map as_granted (granted_of s.filters which)) held else held
-filters_after (commands.Packet x (packets.Unsubscribe u)) (Mark.Handled d) c held =
-    if same_client d c then without_filters u.filters held else held
-filters_after _ _ c held = held
+filters_after (commands.Packet connection (packets.Subscribe subscribe)) (Mark.Granted sender which)
+    client held =
+    if same_client sender client
+    then with_subscriptions (map as_granted (granted_of subscribe.filters which)) held else held
+filters_after (commands.Packet connection (packets.Unsubscribe unsubscribe)) (Mark.Handled sender)
+    client held =
+    if same_client sender client then without_filters unsubscribe.filters held else held
+filters_after _ _ client held = held
 
 -- The subscriptions of a client's session: each filter with the QoS of its last granting, unless it
 -- was removed since; in the order in which they were first granted.
 unfoldable pub subscriptions_of : Past → Client → List GrantedFilter
-subscriptions_of [] c = []
-subscriptions_of (place ∷ past) c =
-    in_session (session_of (place ∷ past) c) (begins place past c) []
-    (filters_after place.command place.mark c (subscriptions_of past c))
+subscriptions_of [] client = []
+subscriptions_of (place ∷ past) client =
+    in_session (session_of (place ∷ past) client) (begins place past client) []
+    (filters_after place.command place.mark client (subscriptions_of past client))
 
 -- the QoS at which a client's session gets a publication, none if no filter of it matches (MQTT
 -- 3.3.5)
 abbrev pub effective_qos : Past → Client → Publication → Option QoS
-effective_qos past c p =
-    option_map (lower_qos p.qos) (granted_qos p.topic (subscriptions_of past c))
+effective_qos past client publication =
+    option_map (lower_qos publication.qos)
+    (granted_qos publication.topic (subscriptions_of past client))

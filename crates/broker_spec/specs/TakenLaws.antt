@@ -20,32 +20,44 @@ use Rattle.broker_spec.specs.declared.command.Command.TheVariants as commands
 
 -- whether a publication is taken, at any QoS
 abbrev pub takes_publication : Command → Mark → Bool
-takes_publication (commands.Packet x (packets.Publish p)) (Mark.Taken c) = true
+takes_publication (commands.Packet connection (packets.Publish publish)) (Mark.Taken client) = true
 takes_publication _ _ = false
 
 -- a publication as a session gets it at this QoS, if it is queued: its topic and payload, and
 -- RETAIN 0 (MQTT 3.3.1.3)
 abbrev pub queued_at : Publication → Option QoS → List Publication
-queued_at p (Some qualities.AtLeastOnce) =
-    record { retain = false; qos = qualities.AtLeastOnce; topic = p.topic; payload = p.payload }
+queued_at publication (Some qualities.AtLeastOnce) =
+    record {
+      retain = false;
+      qos = qualities.AtLeastOnce;
+      topic = publication.topic;
+      payload = publication.payload;
+    }
     ∷ []
-queued_at p (Some qualities.ExactlyOnce) =
-    record { retain = false; qos = qualities.ExactlyOnce; topic = p.topic; payload = p.payload }
+queued_at publication (Some qualities.ExactlyOnce) =
+    record {
+      retain = false;
+      qos = qualities.ExactlyOnce;
+      topic = publication.topic;
+      payload = publication.payload;
+    }
     ∷ []
-queued_at p _ = []
+queued_at publication _ = []
 
 -- at the place where it is taken a publication enters as it was published, at the effective QoS
 abbrev pub EntersAsPublished : Type 0
 EntersAsPublished =
-    (limits : Limits) (past : Past) (x : ConnectionName) (p : Publish) (d c : Client)
+    (limits : Limits) (past : Past) (connection : ConnectionName) (publish : Publish)
+    (publisher receiver : Client)
     → map publication_in
-    (filter (is_from_publish (length past)) (entries_of limits (place_of_taken x p d ∷ past) c))
-    ≡ queued_at (publication_of p) (effective_qos past c (publication_of p))
+    (filter (is_from_publish (length past))
+    (entries_of limits (place_of_taken connection publish publisher ∷ past) receiver))
+    ≡ queued_at (publication_of publish) (effective_qos past receiver (publication_of publish))
 
 -- no session has an entry from a place that takes no publication, such as a repeat or a refused one
 abbrev pub EntersWhereTaken : Type 0
 EntersWhereTaken =
-    (limits : Limits) (past : Past) (place : Place) (below : Past) (c : Client)
+    (limits : Limits) (past : Past) (place : Place) (below : Past) (client : Client)
     → StandsAt past place below
     → takes_publication place.command place.mark ≡ false
-    → length (filter (is_from_publish (length below)) (entries_of limits past c)) ≡ 0
+    → length (filter (is_from_publish (length below)) (entries_of limits past client)) ≡ 0

@@ -11,38 +11,43 @@ use Rattle.broker_spec.specs.Entries.{Entry, copies_at, queued, is_unfinished}
 use Rattle.broker_spec.specs.declared.command.Command.{Command}
 use Rattle.broker_spec.specs.declared.command.Command.TheVariants as commands
 
--- ---- what the client's answers do, at place n
+-- ---- what the client's answers do, at a place
 
 -- PUBACK finishes a QoS 1 entry with this identifier (MQTT 4.3.2)
 abbrev pub at_puback : ℕ → ℕ → Entry → Entry
-at_puback n i (Entry.Started made p id start) =
-    if (i == id) && is_acknowledged p.qos then Entry.Finished made p id start None n
-    else Entry.Started made p id start
-at_puback n i entry = entry
+at_puback place id (Entry.Started made publication other start) =
+    if (id == other) && is_acknowledged publication.qos
+    then Entry.Finished made publication other start None place
+    else Entry.Started made publication other start
+at_puback place id entry = entry
 
 -- PUBREC releases a QoS 2 entry (MQTT 4.3.3)
 abbrev pub at_pubrec : ℕ → ℕ → Entry → Entry
-at_pubrec n i (Entry.Started made p id start) =
-    if (i == id) && not (is_acknowledged p.qos) then Entry.Released made p id start n
-    else Entry.Started made p id start
-at_pubrec n i entry = entry
+at_pubrec place id (Entry.Started made publication other start) =
+    if (id == other) && not (is_acknowledged publication.qos)
+    then Entry.Released made publication other start place
+    else Entry.Started made publication other start
+at_pubrec place id entry = entry
 
 -- PUBCOMP finishes a released one (MQTT 4.3.3)
 abbrev pub at_pubcomp : ℕ → ℕ → Entry → Entry
-at_pubcomp n i (Entry.Released made p id start release) =
-    if i == id then Entry.Finished made p id start (Some release) n
-    else Entry.Released made p id start release
-at_pubcomp n i entry = entry
+at_pubcomp place id (Entry.Released made publication other start release) =
+    if id == other then Entry.Finished made publication other start (Some release) place
+    else Entry.Released made publication other start release
+at_pubcomp place id entry = entry
 
--- an answer of the client at place n
+-- an answer of the client at a place
 abbrev pub answered_by : Command → Mark → ℕ → Client → List Entry → List Entry
-answered_by (commands.Packet x (packets.Puback i)) (Mark.Handled d) n c entries =
-    if same_client d c then map (at_puback n i) entries else entries
-answered_by (commands.Packet x (packets.Pubrec i)) (Mark.Handled d) n c entries =
-    if same_client d c then map (at_pubrec n i) entries else entries
-answered_by (commands.Packet x (packets.Pubcomp i)) (Mark.Handled d) n c entries =
-    if same_client d c then map (at_pubcomp n i) entries else entries
-answered_by _ _ n c entries = entries
+answered_by (commands.Packet connection (packets.Puback id)) (Mark.Handled sender)
+    place client entries =
+    if same_client sender client then map (at_puback place id) entries else entries
+answered_by (commands.Packet connection (packets.Pubrec id)) (Mark.Handled sender)
+    place client entries =
+    if same_client sender client then map (at_pubrec place id) entries else entries
+answered_by (commands.Packet connection (packets.Pubcomp id)) (Mark.Handled sender)
+    place client entries =
+    if same_client sender client then map (at_pubcomp place id) entries else entries
+answered_by _ _ place client entries = entries
 
 -- ---- what starts
 
@@ -50,23 +55,23 @@ answered_by _ _ n c entries = entries
 -- starts if fewer than the window are unfinished before it, with the least identifier that none of
 -- them has; otherwise no later one starts (MQTT 4.6).
 abbrev pub start_all : ℕ → ℕ → List ℕ → List Entry → List Entry
-start_all window n busy (Entry.Waits made p ∷ entries) =
+start_all window place busy (Entry.Waits made publication ∷ entries) =
     if nat_lt (length busy) window
-    then Entry.Started made p (least_free busy) n
-    ∷ start_all window n (least_free busy ∷ busy) entries
-    else Entry.Waits made p ∷ entries
-start_all window n busy (Entry.Started made p id start ∷ entries) =
-    Entry.Started made p id start ∷ start_all window n (id ∷ busy) entries
-start_all window n busy (Entry.Released made p id start release ∷ entries) =
-    Entry.Released made p id start release ∷ start_all window n (id ∷ busy) entries
-start_all window n busy (Entry.Finished made p id start release finish ∷ entries) =
-    Entry.Finished made p id start release finish ∷ start_all window n busy entries
-start_all window n busy [] = []
+    then Entry.Started made publication (least_free busy) place
+    ∷ start_all window place (least_free busy ∷ busy) entries
+    else Entry.Waits made publication ∷ entries
+start_all window place busy (Entry.Started made publication id start ∷ entries) =
+    Entry.Started made publication id start ∷ start_all window place (id ∷ busy) entries
+start_all window place busy (Entry.Released made publication id start release ∷ entries) =
+    Entry.Released made publication id start release ∷ start_all window place (id ∷ busy) entries
+start_all window place busy (Entry.Finished made publication id start release finish ∷ entries) =
+    Entry.Finished made publication id start release finish ∷ start_all window place busy entries
+start_all window place busy [] = []
 
 -- entries start only while there is a current connection
 abbrev pub started : ℕ → ℕ → Option ConnectionName → List Entry → List Entry
-started window n (Some x) entries = start_all window n [] entries
-started window n None entries = entries
+started window place (Some connection) entries = start_all window place [] entries
+started window place None entries = entries
 
 -- ---- the entries
 
@@ -77,13 +82,15 @@ window_at limits past = limits.window past
 -- The entries of a client's session, in the order in which they were made. A place first applies
 -- the client's answer, then adds the entries that it makes, and then starts what may start.
 unfoldable pub entries_of : Limits → Past → Client → List Entry
-entries_of limits [] c = []
-entries_of limits (place ∷ past) c =
-    in_session (session_of (place ∷ past) c) (begins place past c) []
-    (started (window_at limits (place ∷ past)) (length past) (current_connection (place ∷ past) c)
-    (answered_by place.command place.mark (length past) c (entries_of limits past c)
-    ++ map (Entry.Waits (length past)) (queued (copies_at place past c))))
+entries_of limits [] client = []
+entries_of limits (place ∷ past) client =
+    in_session (session_of (place ∷ past) client) (begins place past client) []
+    (started (window_at limits (place ∷ past)) (length past)
+    (current_connection (place ∷ past) client)
+    (answered_by place.command place.mark (length past) client (entries_of limits past client)
+    ++ map (Entry.Waits (length past)) (queued (copies_at place past client))))
 
 -- how many more entries a client's session can hold
 abbrev pub room_of : Limits → Past → Client → ℕ
-room_of limits past c = limits.entries - length (filter is_unfinished (entries_of limits past c))
+room_of limits past client =
+    limits.entries - length (filter is_unfinished (entries_of limits past client))

@@ -11,12 +11,12 @@ narrow_window = 16
 
 -- whether a number is the narrow window or the wide one
 abbrev pub is_window_size : ℕ → Bool
-is_window_size n = (n == narrow_window) || (n == wide_window)
+is_window_size size = (size == narrow_window) || (size == wide_window)
 
 -- the number is the narrow window or the wide one
 abbrev pub IsWindowSize : ℕ → Type 0
-IsWindowSize n = IsTrue (is_window_size n)
+IsWindowSize size = IsTrue (is_window_size size)
 
 -- the window of this size, if there is one
 abbrev pub window_of : ℕ → Option ℕ
-window_of n = if is_window_size n then Some n else None
+window_of size = if is_window_size size then Some size else None
