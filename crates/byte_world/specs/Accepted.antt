@@ -6,12 +6,17 @@ use Rattle.node_group.specs.exactly_once.Carried.{is_two}
 
 -- what a client accepted, as a publication
 abbrev pub publication_accepted : Accepted → Publication
-publication_accepted a =
-    record { retain = a.retain; qos = a.qos; topic = a.topic; payload = a.payload }
+publication_accepted accepted =
+    record {
+      retain = accepted.retain;
+      qos = accepted.qos;
+      topic = accepted.topic;
+      payload = accepted.payload;
+    }
 
 -- whether a publication was accepted at QoS 2
 abbrev pub is_accepted_once : Accepted → Bool
-is_accepted_once a = is_two a.qos
+is_accepted_once accepted = is_two accepted.qos
 
 -- the oldest first
 abbrev pub accepted_once : List Accepted → List Publication

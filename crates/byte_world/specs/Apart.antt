@@ -10,16 +10,16 @@ use Rattle.node_group.specs.Group.{Group}
 use Rattle.node_group.specs.Steps.{GroupTrace, groups_on_trace}
 
 -- a node has a connection of this name, open or with bytes to hand over
-pub record HasName (x : ConnectionName) (g : Group) (n : ℕ) : Type 0 where
+pub record HasName (name : ConnectionName) (group : Group) (node : ℕ) : Type 0 where
   pub core : CoreState
-  pub stands : slice_get g.nodes n ≡ Some core
+  pub stands : slice_get group.nodes node ≡ Some core
   pub connection : Connection
-  pub listed : listed_named x core ≡ Some connection
+  pub listed : listed_named name core ≡ Some connection
 
 -- if nodes have connections of one name, at any times, they are one node
 abbrev pub NamesStayApart : Type 0
 NamesStayApart =
-    (nodes : ℕ) (config : Config) (g : Group) (went : GroupTrace nodes config g)
-    (x : ConnectionName) (e h : Group) (m n : ℕ) →
-    In e (groups_on_trace went) → In h (groups_on_trace went) → HasName x e m → HasName x h n → m
-    ≡ n
+    (nodes : ℕ) (config : Config) (group : Group) (went : GroupTrace nodes config group)
+    (name : ConnectionName) (first second : Group) (node other : ℕ) →
+    In first (groups_on_trace went) → In second (groups_on_trace went) →
+    HasName name first node → HasName name second other → node ≡ other

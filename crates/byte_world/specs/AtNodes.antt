@@ -13,28 +13,29 @@ use Rattle.byte_world.specs.World.{ClientPipes, HasPipe, Pipe, World}
 use Rattle.byte_world.specs.Steps.{Reached}
 
 -- a pipe leads to this port of the node
-pub record LeadsToPort (w : World) (n : ℕ) (port : Port) : Type 0 where
+pub record LeadsToPort (world : World) (node_index : ℕ) (port : Port) : Type 0 where
   pub i : ℕ
   pub c : ClientPipes
   pub j : ℕ
   pub connection : ClientConnection
   pub p : Pipe
-  pub has : HasPipe w i c j connection p
-  pub node : p.node ≡ n
+  pub has : HasPipe world i c j connection p
+  pub node : p.node ≡ node_index
   pub at : p.port.0 ≡ port.0
 
 -- whatever happened, a pipe leads to the port of each connection that a node lists, open or with
 -- bytes to hand over
 abbrev pub PortsHavePipes : Type 0
 PortsHavePipes =
-    (nodes : ℕ) (config : Config) (cs : List Client) (w : World) → Reached nodes config cs w →
-    (n : ℕ) (core : CoreState) (d : NodesEnd) →
-    slice_get w.group.nodes n ≡ Some core → In d core.connections → LeadsToPort w n d.port
+    (nodes : ℕ) (config : Config) (clients : List Client) (world : World) →
+    Reached nodes config clients world → (node : ℕ) (core : CoreState) (end : NodesEnd) →
+    slice_get world.group.nodes node ≡ Some core → In end core.connections →
+    LeadsToPort world node end.port
 
 -- A node's names are distinct and were given, the last one in a ballot that is not above the one
 -- that the node joined.
 abbrev pub NodesAreOrderly : Type 0
 NodesAreOrderly =
-    (nodes : ℕ) (config : Config) (cs : List Client) (w : World) → Reached nodes config cs w →
-    (n : ℕ) (core : CoreState) →
-    slice_get w.group.nodes n ≡ Some core → IsOrderly core
+    (nodes : ℕ) (config : Config) (clients : List Client) (world : World) →
+    Reached nodes config clients world → (node : ℕ) (core : CoreState) →
+    slice_get world.group.nodes node ≡ Some core → IsOrderly core

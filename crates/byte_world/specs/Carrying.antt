@@ -16,35 +16,37 @@ use Rattle.node_group.specs.Streams.{bytes_named, handed_in_run}
 
 -- the bytes that arrive on the connection of a name with a call
 abbrev pub coming_with : ConnectionName → NodeCall → CoreState → List ℕ
-coming_with x (takes (Bytes port piece now)) core = piece_on x piece (open_at port core)
-coming_with x _ core = []
+coming_with name (takes (Bytes port piece now)) core = piece_on name piece (open_at port core)
+coming_with name _ core = []
 
 -- the bytes that are handed over on the connection of a name with a call
 abbrev pub going_with : ConnectionName → NodeCall → CoreState → List ℕ
-going_with x (gives port) core = bytes_named x (listed_at port core)
-going_with x _ core = []
+going_with name (gives port) core = bytes_named name (listed_at port core)
+going_with name _ core = []
 
 -- the moves of a node carry just the bytes of its call
 abbrev pub CarriesItsBytes : {core : CoreState} {outcome : StepOutcome} → NodeCall →
     Runs core outcome → Type 0
 CarriesItsBytes {core = core} node_call run =
-    (x : ConnectionName) →
-    (bytes_on x run ≡ coming_with x node_call core)
-    × (handed_in_run x run ≡ going_with x node_call core)
+    (name : ConnectionName) →
+    (bytes_on name run ≡ coming_with name node_call core)
+    × (handed_in_run name run ≡ going_with name node_call core)
 
 -- a step carries just the bytes of its call; of a step with losses nothing is required here
-abbrev pub IsFaithful : {g h : Group} → GroupStep g h → Type 0
-IsFaithful (node_acts n core node_call outcome run at is first sent) = CarriesItsBytes node_call run
-IsFaithful (node_loses n core item outcome kept by at runs sent thinned) = Unit {0}
+abbrev pub IsFaithful : {before after : Group} → GroupStep before after → Type 0
+IsFaithful (node_acts node core node_call outcome run at is first sent) =
+    CarriesItsBytes node_call run
+IsFaithful (node_loses node core item outcome kept by at runs sent thinned) = Unit {0}
 IsFaithful (master_assigns config) = Unit {0}
 IsFaithful (master_hears from ballot sent) = Unit {0}
 IsFaithful (assigns_unheard config) = Unit {0}
 IsFaithful (answers_unheard from ballot sent) = Unit {0}
 
 -- the call that a node does in a step, with its index; none in a step of the master
-abbrev pub node_call_of : {g h : Group} → GroupStep g h → Option (ℕ × NodeCall)
-node_call_of (node_acts n core node_call outcome run at is first sent) = Some (n, node_call)
-node_call_of (node_loses n core item outcome kept by at runs sent thinned) = Some (n, takes item)
+abbrev pub node_call_of : {before after : Group} → GroupStep before after → Option (ℕ × NodeCall)
+node_call_of (node_acts node core node_call outcome run at is first sent) = Some (node, node_call)
+node_call_of (node_loses node core item outcome kept by at runs sent thinned) =
+    Some (node, takes item)
 node_call_of (master_assigns config) = None
 node_call_of (master_hears from ballot sent) = None
 node_call_of (assigns_unheard config) = None
@@ -53,19 +55,19 @@ node_call_of (answers_unheard from ballot sent) = None
 -- a call that has nothing to do with a client's connection, except that it may end it
 abbrev pub is_apart : Option (ℕ × NodeCall) → Bool
 is_apart None = true
-is_apart (Some (n, takes (Peer message))) = true
-is_apart (Some (n, takes (Tick now))) = true
-is_apart (Some (n, takes (Ended port))) = true
-is_apart (Some (n, takes (Expel client))) = true
-is_apart (Some (n, takes Cut)) = true
-is_apart (Some (n, takes Crash)) = true
-is_apart (Some (n, takes (Opened port now))) = false
-is_apart (Some (n, takes (Bytes port piece now))) = false
-is_apart (Some (n, gives port)) = false
+is_apart (Some (node, takes (Peer message))) = true
+is_apart (Some (node, takes (Tick now))) = true
+is_apart (Some (node, takes (Ended port))) = true
+is_apart (Some (node, takes (Expel client))) = true
+is_apart (Some (node, takes Cut)) = true
+is_apart (Some (node, takes Crash)) = true
+is_apart (Some (node, takes (Opened port now))) = false
+is_apart (Some (node, takes (Bytes port piece now))) = false
+is_apart (Some (node, gives port)) = false
 
 -- a step of the group with this call, in which just the bytes of the call are carried
-pub record DoesCall (g : Group) (node_call : Option (ℕ × NodeCall)) : Type 0 where
+pub record DoesCall (group : Group) (node_call : Option (ℕ × NodeCall)) : Type 0 where
   pub after : Group
-  pub step : GroupStep g after
+  pub step : GroupStep group after
   pub is : node_call_of step ≡ node_call
   pub faithful : IsFaithful step

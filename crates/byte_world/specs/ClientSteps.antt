@@ -14,32 +14,32 @@ use Rattle.byte_world.specs.World.{ClientPipes, Pipe, newly_written, packets_of,
 
 -- what may happen to a client when it calls does not depend on the list of commands
 abbrev pub story_alone : ClientPipes → Story
-story_alone c = record { past = []; connections = c.connections; keeper = c.keeper }
+story_alone client = record { past = []; connections = client.connections; keeper = client.keeper }
 
 -- a client opens a connection of this name, to a port of a node: its CONNECT is in transit
 abbrev pub after_connecting : ConnectionName → ℕ → Port → ClientPipes → ClientPipes
-after_connecting x n port c =
+after_connecting name node port client =
     record {
-      keeper = record (lost c.keeper) { is_open = true };
-      connections = new_connection c.keeper.client x ∷ c.connections;
+      keeper = record (lost client.keeper) { is_open = true };
+      connections = new_connection client.keeper.client name ∷ client.connections;
       pipes = record {
-        node = n;
+        node = node;
         port = port;
-        up = spelled (packets_of (new_connection c.keeper.client x).written);
+        up = spelled (packets_of (new_connection client.keeper.client name).written);
         down = [];
         came = record { bytes = []; failed = false };
-      } ∷ c.pipes;
+      } ∷ client.pipes;
     }
 
 -- the client after a packet that its newest connection's cutter gave
 abbrev pub after_packet : List ClientConnection → List Pipe → Pipe → Stream → Side → ClientPipes →
     ClientPipes
-after_packet others pipes p left side c =
+after_packet others pipes pipe left side client =
     record {
       keeper = side.keeper;
       connections = side.connection ∷ others;
-      pipes = sent_up (newly_written c.connections (side.connection ∷ others))
-          (record p { came = left } ∷ pipes);
+      pipes = sent_up (newly_written client.connections (side.connection ∷ others))
+          (record pipe { came = left } ∷ pipes);
     }
 
 -- all that clients write can be spelled

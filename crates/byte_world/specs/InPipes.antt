@@ -24,28 +24,30 @@ use Rattle.byte_world.specs.Steps.{Reached}
 -- The packets that its client handled, spelled, with the bytes that came to it after them and those
 -- in transit to it, are a prefix of the spelled answers to it, and no fault was found in them.
 pub record IsInOrder (agreed : List Command) (connection : ClientConnection)
-    (p : Pipe) : Type 0 where
+    (pipe : Pipe) : Type 0 where
   pub up : IsPrefixOf (packets_in_list connection.name agreed)
       (packet_commands_from connection.name 0 (packets_of connection.written))
   pub handled : List Packet
   pub counted : length handled ≡ connection.handled
   pub whole : Each IsPacket handled
-  pub down : IsPrefixOf (spelled handled ++ (p.came.bytes ++ p.down))
+  pub down : IsPrefixOf (spelled handled ++ (pipe.came.bytes ++ pipe.down))
       (answers_to connection.name agreed)
-  pub sound : p.came.failed ≡ false
+  pub sound : pipe.came.failed ≡ false
 
 -- each connection of each client is in order, by the list on which the nodes agree at the end of
 -- the group's steps on the way to the world
-pub record PipesAreInOrder {nodes : ℕ} {config : Config} {cs : List Client} {w : World}
-    (trail : Reached nodes config cs w) : Type 0 where
-  pub of : HasPast config w.group (groups_on_trace (trace_of trail)) (all_proposed (trace_of trail))
+pub record PipesAreInOrder {nodes : ℕ} {config : Config} {clients : List Client} {world : World}
+    (trail : Reached nodes config clients world) : Type 0 where
+  pub of : HasPast config world.group (groups_on_trace (trace_of trail))
+      (all_proposed (trace_of trail))
   pub each : (agreed : List Command) →
-      IsAgreed config (moment_of_nodes w.group ∷ of.earlier) agreed →
-      (i : ℕ) (c : ClientPipes) (j : ℕ) (connection : ClientConnection) (p : Pipe) →
-      HasPipe w i c j connection p → IsInOrder agreed connection p
+      IsAgreed config (moment_of_nodes world.group ∷ of.earlier) agreed →
+      (index : ℕ) (client : ClientPipes) (nth : ℕ) (connection : ClientConnection)
+      (pipe : Pipe) → HasPipe world index client nth connection pipe →
+      IsInOrder agreed connection pipe
 
 -- in each world that can be reached the connections of each client are in order
 abbrev pub PipesCarryInOrder : Type 0
 PipesCarryInOrder =
-    (nodes : ℕ) (config : Config) (cs : List Client) (w : World)
-    (trail : Reached nodes config cs w) → PipesAreInOrder trail
+    (nodes : ℕ) (config : Config) (clients : List Client) (world : World)
+    (trail : Reached nodes config clients world) → PipesAreInOrder trail

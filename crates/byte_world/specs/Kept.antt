@@ -20,28 +20,30 @@ use Rattle.byte_world.specs.World.{World}
 -- none of these commands is a Connect that asks for a clean session
 abbrev pub NoneIsClean : List Command → Type 0
 NoneIsClean list =
-    (x : ConnectionName) (c : Client) (clean : Bool) → In (commands.Connect x c clean) list →
+    (name : ConnectionName) (client : Client) (clean : Bool) →
+    In (commands.Connect name client clean) list →
     clean ≡ false
 
 -- no list that is agreed at the end of the group's steps on the way to the world has a Connect that
 -- asks for a clean session
-pub record AsksForNoneClean {nodes : ℕ} {config : Config} {cs : List Client} {w : World}
-    (trail : Reached nodes config cs w) : Type 0 where
-  pub of : HasPast config w.group (groups_on_trace (trace_of trail)) (all_proposed (trace_of trail))
+pub record AsksForNoneClean {nodes : ℕ} {config : Config} {clients : List Client} {world : World}
+    (trail : Reached nodes config clients world) : Type 0 where
+  pub of : HasPast config world.group (groups_on_trace (trace_of trail))
+      (all_proposed (trace_of trail))
   pub none : (agreed : List Command) →
-      IsAgreed config (moment_of_nodes w.group ∷ of.earlier) agreed →
+      IsAgreed config (moment_of_nodes world.group ∷ of.earlier) agreed →
       NoneIsClean agreed
 
 -- in each world that can be reached no agreed list asks for a clean session
 abbrev pub NoConnectIsClean : Type 0
 NoConnectIsClean =
-    (nodes : ℕ) (config : Config) (cs : List Client) (w : World)
-    (trail : Reached nodes config cs w) → AsksForNoneClean trail
+    (nodes : ℕ) (config : Config) (clients : List Client) (world : World)
+    (trail : Reached nodes config clients world) → AsksForNoneClean trail
 
 -- if no Connect of a list asks for a clean session, no session that a client has after any prefix
 -- of the list is clean
 abbrev pub NoSessionIsClean : Type 0
 NoSessionIsClean =
     (list : List Command) → NoneIsClean list → (front : List Command) → IsPrefixOf front list →
-    (c : Client) (clean : Bool) →
-    session_of (past_of usual_limits front) c ≡ Some clean → clean ≡ false
+    (client : Client) (clean : Bool) →
+    session_of (past_of usual_limits front) client ≡ Some clean → clean ≡ false

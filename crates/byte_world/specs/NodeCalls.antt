@@ -19,11 +19,11 @@ use Rattle.byte_world.specs.Steps.{CarriesItsBytes, DoesCall}
 -- what a node takes from others was sent to it, and the bytes to which it cuts its log thaw to its
 -- machine
 abbrev pub NodeCallWasSent : Group → ℕ → CoreState → NodeCall → Type 0
-NodeCallWasSent g n core (takes (Peer message)) = In (n + 1, message) g.sent
-NodeCallWasSent g n core (takes Cut) =
+NodeCallWasSent group node core (takes (Peer message)) = In (node + 1, message) group.sent
+NodeCallWasSent group node core (takes Cut) =
     can_cut (replica_of core) ≡ true →
     rules.thawed (rules.frozen (replica_of core).machine) ≡ Some (replica_of core).machine
-NodeCallWasSent g n core _ = Unit {0}
+NodeCallWasSent group node core _ = Unit {0}
 
 -- the record of places after a call: a cut adds what the log that is cut has applied
 abbrev pub recorded_after : List Command → CoreState → NodeCall → List Command
@@ -33,11 +33,11 @@ recorded_after archive core _ = archive
 
 -- moves in which a node's replica first receives what was sent, just the bytes of the call are
 -- carried, and just a cut is recorded
-pub record RunsAs (g : Group) (n : ℕ) (node_call : NodeCall) (core : CoreState)
+pub record RunsAs (group : Group) (node : ℕ) (node_call : NodeCall) (core : CoreState)
     (outcome : StepOutcome) : Type 0 where
   pub run : Runs core outcome
   pub first : HearsAtFirst run
-  pub sent : AllWasSent g n run
+  pub sent : AllWasSent group node run
   pub bytes : CarriesItsBytes node_call run
   pub records : (archive : List Command) →
       recorded_in archive run ≡ recorded_after archive core node_call
@@ -45,21 +45,23 @@ pub record RunsAs (g : Group) (n : ℕ) (node_call : NodeCall) (core : CoreState
 -- each call of a node, in any state of the node, is done by moves that carry just its bytes
 abbrev pub NodeCallsCarryTheirBytes : Type 0
 NodeCallsCarryTheirBytes =
-    (g : Group) (n : ℕ) (node_call : NodeCall) (core : CoreState) →
-    NodeCallWasSent g n core node_call → RunsAs g n node_call core (done node_call core)
+    (group : Group) (node : ℕ) (node_call : NodeCall) (core : CoreState) →
+    NodeCallWasSent group node core node_call →
+    RunsAs group node node_call core (done node_call core)
 
 -- a step of a group with this call of a node, after which the node is as its own outcome says,
 -- and the record as the call leaves it; the only other change are the outputs of the node
-pub record DoesNodeCall (g : Group) (n : ℕ) (node_call : NodeCall) (core : CoreState) : Type 0 where
-  pub does : DoesCall g (Some (n, node_call))
+pub record DoesNodeCall (group : Group) (node : ℕ) (node_call : NodeCall)
+    (core : CoreState) : Type 0 where
+  pub does : DoesCall group (Some (node, node_call))
   pub given : List (Effect Command Output)
   pub is : does.after
-      ≡ group_after_outcome (with_record g (recorded_after g.archive core node_call)) n
+      ≡ group_after_outcome (with_record group (recorded_after group.archive core node_call)) node
       (done node_call core) given
 
 -- in any group, a node can do each call
 abbrev pub GroupsDoEachNodeCall : Type 0
 GroupsDoEachNodeCall =
-    (g : Group) (n : ℕ) (node_call : NodeCall) (core : CoreState) →
-    slice_get g.nodes n ≡ Some core → NodeCallWasSent g n core node_call →
-    DoesNodeCall g n node_call core
+    (group : Group) (node : ℕ) (node_call : NodeCall) (core : CoreState) →
+    slice_get group.nodes node ≡ Some core → NodeCallWasSent group node core node_call →
+    DoesNodeCall group node node_call core

@@ -28,69 +28,79 @@ use Rattle.byte_world.specs.World.{ClientPipes, HasPipe, Pipe, World, after_writ
 
 -- Any of these may happen, or not, at any time: so bytes, messages and connections may come late,
 -- or never. Bytes on one connection do not overtake each other.
-pub data WorldStep (w : World) : World → Type 0 where
+pub data WorldStep (world : World) : World → Type 0 where
   -- the nodes and the master move by themselves: messages come late, again or never, a node ticks
   -- or crashes, a stream ends at its node, an administrator asks for a configuration
-  group_goes : (node_call : Option (ℕ × NodeCall)) (d : DoesCall w.group node_call) →
-      is_apart node_call ≡ true → WorldStep w (record w { group = d.after })
+  group_goes : (node_call : Option (ℕ × NodeCall)) (done : DoesCall world.group node_call) →
+      is_apart node_call ≡ true → WorldStep world (record world { group = done.after })
   -- a client calls, or loses its connection
-  calls : (i : ℕ) (c : ClientPipes) (t : Story) (h : StoryStep usual_limits (story_alone c) t) →
-      slice_get w.clients i ≡ Some c → is_call h ≡ true →
-      WritesCanBeSpelled c.connections t.connections →
-      WorldStep w (with_client i (after_writing t.keeper t.connections c) w)
+  calls : (index : ℕ) (client : ClientPipes) (after : Story)
+      (step : StoryStep usual_limits (story_alone client) after) →
+      slice_get world.clients index ≡ Some client → is_call step ≡ true →
+      WritesCanBeSpelled client.connections after.connections →
+      WorldStep world
+      (with_client index (after_writing after.keeper after.connections client) world)
   -- a client opens a connection to a node, at a port that was never used there, and the node takes
   -- it
-  connects : (i n : ℕ) (c : ClientPipes) (port : Port) (now : ℕ)
-      (d : DoesCall w.group (Some (n, takes (Opened port now)))) (core : CoreState)
+  connects : (index node : ℕ) (client : ClientPipes) (port : Port) (now : ℕ)
+      (done : DoesCall world.group (Some (node, takes (Opened port now)))) (core : CoreState)
       (end : NodesEnd) →
-      slice_get w.clients i ≡ Some c → is_used n port w.clients ≡ false →
-      slice_get d.after.nodes n ≡ Some core → listed_at port core ≡ Some end →
+      slice_get world.clients index ≡ Some client → is_used node port world.clients ≡ false →
+      slice_get done.after.nodes node ≡ Some core → listed_at port core ≡ Some end →
       IsPacket (packets.Connect
-      (record { client = c.keeper.client; clean = false; keep_alive = 0 })) →
-      WorldStep w (with_client i (after_connecting end.name n port c)
-      (record w { group = d.after }))
+      (record { client = client.keeper.client; clean = false; keep_alive = 0 })) →
+      WorldStep world (with_client index (after_connecting end.name node port client)
+      (record world { group = done.after }))
   -- the node does not take it, because memory ran out, and then the client has none
-  is_taken_back : (n : ℕ) (port : Port) (now : ℕ)
-      (d : DoesCall w.group (Some (n, takes (Opened port now)))) (core : CoreState) →
-      is_used n port w.clients ≡ false →
-      slice_get d.after.nodes n ≡ Some core → listed_at port core ≡ None →
-      WorldStep w (record w { group = d.after })
+  is_taken_back : (node : ℕ) (port : Port) (now : ℕ)
+      (done : DoesCall world.group (Some (node, takes (Opened port now)))) (core : CoreState) →
+      is_used node port world.clients ≡ false →
+      slice_get done.after.nodes node ≡ Some core → listed_at port core ≡ None →
+      WorldStep world (record world { group = done.after })
   -- a prefix of the bytes in transit reaches the node
-  comes_up : (i j : ℕ) (c : ClientPipes) (connection : ClientConnection) (p : Pipe)
-      (piece rest : List ℕ)
-      (now : ℕ) (d : DoesCall w.group (Some (p.node, takes (Bytes p.port piece now)))) →
-      HasPipe w i c j connection p → p.up ≡ piece ++ rest →
-      WorldStep w
-      (with_client i (with_pipe j (record p { up = rest }) c) (record w { group = d.after }))
+  comes_up : (index nth : ℕ) (client : ClientPipes) (connection : ClientConnection) (pipe : Pipe)
+      (piece rest : List ℕ) (now : ℕ)
+      (done : DoesCall world.group (Some (pipe.node, takes (Bytes pipe.port piece now)))) →
+      HasPipe world index client nth connection pipe → pipe.up ≡ piece ++ rest →
+      WorldStep world
+      (with_client index (with_pipe nth (record pipe { up = rest }) client)
+      (record world { group = done.after }))
   -- a node hands over what it queued
-  goes_down : (i j : ℕ) (c : ClientPipes) (connection : ClientConnection) (p : Pipe)
-      (d : DoesCall w.group (Some (p.node, gives p.port))) → HasPipe w i c j connection p →
-      WorldStep w (with_client i
-      (with_pipe j (record p { down = p.down ++ goes_down_in connection.name d.step }) c)
-      (record w { group = d.after }))
+  goes_down : (index nth : ℕ) (client : ClientPipes) (connection : ClientConnection) (pipe : Pipe)
+      (done : DoesCall world.group (Some (pipe.node, gives pipe.port))) →
+      HasPipe world index client nth connection pipe →
+      WorldStep world (with_client index
+      (with_pipe nth
+      (record pipe { down = pipe.down ++ goes_down_in connection.name done.step }) client)
+      (record world { group = done.after }))
   -- a prefix of the bytes in transit reaches the client
-  arrives : (i j : ℕ) (c : ClientPipes) (connection : ClientConnection) (p : Pipe)
+  arrives : (index nth : ℕ) (client : ClientPipes) (connection : ClientConnection) (pipe : Pipe)
       (piece rest : List ℕ) →
-      HasPipe w i c j connection p → p.down ≡ piece ++ rest →
-      WorldStep w (with_client i
-      (with_pipe j
-      (record p { down = rest; came = record p.came { bytes = p.came.bytes ++ piece } }) c) w)
+      HasPipe world index client nth connection pipe → pipe.down ≡ piece ++ rest →
+      WorldStep world (with_client index
+      (with_pipe nth
+      (record pipe { down = rest; came = record pipe.came { bytes = pipe.came.bytes ++ piece } })
+      client) world)
   -- a client handles the next packet that came whole on the connection that it holds
-  handles : (i : ℕ) (c : ClientPipes) (connection : ClientConnection)
-      (others : List ClientConnection)
-      (p : Pipe) (pipes : List Pipe) (packet : Packet) (left : Stream) →
-      slice_get w.clients i ≡ Some c → c.connections ≡ connection ∷ others → c.pipes ≡ p ∷ pipes →
-      c.keeper.is_open ≡ true → Takes p.came (Ok (Some packet)) left →
-      WritesCanBeSpelled c.connections
-      ((packet_handled packet (record { keeper = c.keeper; connection = connection })).connection
-      ∷ others) →
-      WorldStep w (with_client i
-      (after_packet others pipes p left
-      (packet_handled packet (record { keeper = c.keeper; connection = connection })) c) w)
+  handles : (index : ℕ) (client : ClientPipes) (connection : ClientConnection)
+      (others : List ClientConnection) (pipe : Pipe) (pipes : List Pipe) (packet : Packet)
+      (left : Stream) →
+      slice_get world.clients index ≡ Some client → client.connections ≡ connection ∷ others →
+      client.pipes ≡ pipe ∷ pipes → client.keeper.is_open ≡ true →
+      Takes pipe.came (Ok (Some packet)) left →
+      WritesCanBeSpelled client.connections
+      ((packet_handled packet
+      (record { keeper = client.keeper; connection = connection })).connection ∷ others) →
+      WorldStep world (with_client index
+      (after_packet others pipes pipe left
+      (packet_handled packet (record { keeper = client.keeper; connection = connection })) client)
+      world)
 
 -- the worlds that are reached with this many nodes, a configuration at first, and these clients
-pub data Reached (nodes : ℕ) (config : Config) (cs : List Client) : World → Type 0 where
+pub data Reached (nodes : ℕ) (config : Config) (clients : List Client) : World → Type 0 where
   -- the world opens
-  begins : can_open nodes config ≡ true → Reached nodes config cs (opening nodes config cs)
+  begins : can_open nodes config ≡ true →
+      Reached nodes config clients (opening nodes config clients)
   -- one more step
-  goes_on : {v w : World} → Reached nodes config cs v → WorldStep v w → Reached nodes config cs w
+  goes_on : {v w : World} → Reached nodes config clients v → WorldStep v w →
+      Reached nodes config clients w

@@ -35,42 +35,43 @@ pub record World : Type 0 where
 
 -- a client that has no connection yet
 abbrev pub new_client : Client → ClientPipes
-new_client c = record { keeper = new_keeper c; connections = []; pipes = [] }
+new_client client = record { keeper = new_keeper client; connections = []; pipes = [] }
 
 -- a group as it opens, and clients without connections
 abbrev pub opening : ℕ → Config → List Client → World
-opening nodes config cs = record { group = opening_group nodes config; clients = map new_client cs }
+opening nodes config clients =
+    record { group = opening_group nodes config; clients = map new_client clients }
 
 -- ---- places
 
--- the j-th connection of the i-th client, and its pipe
-pub record HasPipe (w : World) (i : ℕ) (c : ClientPipes) (j : ℕ)
-    (client_connection : ClientConnection) (p : Pipe) : Type 0 where
-  pub client : slice_get w.clients i ≡ Some c
-  pub connection : slice_get c.connections j ≡ Some client_connection
-  pub pipe : slice_get c.pipes j ≡ Some p
+-- the nth connection of the client at an index, and its pipe
+pub record HasPipe (world : World) (index : ℕ) (client_pipes : ClientPipes) (nth : ℕ)
+    (client_connection : ClientConnection) (connection_pipe : Pipe) : Type 0 where
+  pub client : slice_get world.clients index ≡ Some client_pipes
+  pub connection : slice_get client_pipes.connections nth ≡ Some client_connection
+  pub pipe : slice_get client_pipes.pipes nth ≡ Some connection_pipe
 
--- whether a pipe leads to this port of node n
+-- whether a pipe leads to this port of this node
 abbrev pub leads_to : ℕ → Port → Pipe → Bool
-leads_to n port p = (p.node == n) && (p.port.0 == port.0)
+leads_to node port pipe = (pipe.node == node) && (pipe.port.0 == port.0)
 
--- whether any client's connection leads to this port of node n
+-- whether any client's connection leads to this port of this node
 abbrev pub is_used : ℕ → Port → List ClientPipes → Bool
-is_used n port = list_any (λ (c : ClientPipes). list_any (leads_to n port) c.pipes)
+is_used node port = list_any (λ (client : ClientPipes). list_any (leads_to node port) client.pipes)
 
 -- ---- changes
 
 -- the world with this client at an index
 abbrev pub with_client : ℕ → ClientPipes → World → World
-with_client i c w = record w { clients = set w.clients i c }
+with_client index client world = record world { clients = set world.clients index client }
 
 -- the client with this pipe at an index
 abbrev pub with_pipe : ℕ → Pipe → ClientPipes → ClientPipes
-with_pipe j p c = record c { pipes = set c.pipes j p }
+with_pipe index pipe client = record client { pipes = set client.pipes index pipe }
 
 -- the packets that were written, without the numbers of their publications
 abbrev pub packets_of : List Written → List Packet
-packets_of written = map (λ (w : Written). w.packet) written
+packets_of written = map (λ (one : Written). one.packet) written
 
 -- the packets that were written on the newest connection between these connections and those
 abbrev pub newly_written : List ClientConnection → List ClientConnection → List Packet
@@ -80,15 +81,15 @@ newly_written _ _ = []
 
 -- the bytes of these packets go into the pipe of the newest connection
 abbrev pub sent_up : List Packet → List Pipe → List Pipe
-sent_up packets (p ∷ pipes) = record p { up = p.up ++ spelled packets } ∷ pipes
+sent_up packets (pipe ∷ pipes) = record pipe { up = pipe.up ++ spelled packets } ∷ pipes
 sent_up packets [] = []
 
 -- the client with another keeper and these connections, what was written on the newest one in
 -- transit
 abbrev pub after_writing : Keeper → List ClientConnection → ClientPipes → ClientPipes
-after_writing keeper connections c =
+after_writing keeper connections client =
     record {
       keeper = keeper;
       connections = connections;
-      pipes = sent_up (newly_written c.connections connections) c.pipes;
+      pipes = sent_up (newly_written client.connections connections) client.pipes;
     }
