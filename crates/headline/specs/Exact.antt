@@ -31,13 +31,18 @@ use Rattle.headline.specs.Promise.{Promise}
 
 -- one client's story, by the list on which the nodes agree
 abbrev pub story_of : List Command → ClientPipes → Story
-story_of agreed c =
-    record { past = past_of usual_limits agreed; connections = c.connections; keeper = c.keeper }
+story_of agreed client =
+    record {
+      past = past_of usual_limits agreed;
+      connections = client.connections;
+      keeper = client.keeper;
+    }
 
 -- what a client is promised over its sessions, as long as it is in step
 abbrev pub IsExactInStep : List Command → ClientPipes → Type 0
-IsExactInStep agreed c =
-    IsInStep (story_of agreed c) → ExactlyOnceOverSessions usual_limits (story_of agreed c)
+IsExactInStep agreed client =
+    IsInStep (story_of agreed client) →
+    ExactlyOnceOverSessions usual_limits (story_of agreed client)
 
 -- a client that no Expel names has one session at most, which lasts once it began, so it is in step
 abbrev pub IsInOneSession : List Command → ClientPipes → Type 0

@@ -17,41 +17,47 @@ use Rattle.packet_world.specs.Steps.{Reached}
 
 -- the commands that a connection's written packets become
 abbrev pub commands_from : ConnectionName → ℕ → List Written → List Command
-commands_from x n (w ∷ more) = command_of x n w.packet ∷ commands_from x (suc n) more
-commands_from x n [] = []
+commands_from name count (written ∷ more) =
+    command_of name count written.packet ∷ commands_from name (suc count) more
+commands_from name count [] = []
 
 -- A connection's commands in the agreed list are a prefix of what its client wrote, in order. What
 -- its node sent is a prefix of the answers to it, and its client handled a prefix of that.
 pub record PipeInOrder (agreed : List Command) (connection : ClientConnection)
-    (e : End) : Type 0 where
+    (end : End) : Type 0 where
   pub up : IsPrefixOf (filter (λ command. is_packet_of command connection.name) agreed)
       (commands_from connection.name 0 connection.written)
-  pub down : IsPrefixOf e.put (put_to usual_limits (past_of usual_limits agreed) connection.name)
-  pub handled : connection.handled ≤ length e.put
+  pub down : IsPrefixOf end.put (put_to usual_limits (past_of usual_limits agreed) connection.name)
+  pub handled : connection.handled ≤ length end.put
 
 -- `PipeInOrder` of each connection of a client and the node's end of it
 abbrev pub PipesInOrder : List Command → List ClientConnection → List End → Type 0
-PipesInOrder agreed (connection ∷ connections) (e ∷ ends) =
-    PipeInOrder agreed connection e × PipesInOrder agreed connections ends
+PipesInOrder agreed (connection ∷ connections) (end ∷ ends) =
+    PipeInOrder agreed connection end × PipesInOrder agreed connections ends
 PipesInOrder agreed [] [] = Unit {0}
 PipesInOrder agreed _ _ = ⊥
 
 -- what a client is promised over its sessions, as long as it is in step
 abbrev pub IsExactInStep : List Command → ClientEnds → Type 0
-IsExactInStep agreed c =
-    IsInStep (story_of agreed c) → ExactlyOnceOverSessions usual_limits (story_of agreed c)
+IsExactInStep agreed client =
+    IsInStep (story_of agreed client) →
+    ExactlyOnceOverSessions usual_limits (story_of agreed client)
 
 -- what is promised in a world: for its connections, its clients, and ended sessions
-pub record WorldIsExact (w : World) : Type 0 where
+pub record WorldIsExact (world : World) : Type 0 where
   -- connections carry packets in order, both ways
-  pub pipes : Each (λ (c : ClientEnds). PipesInOrder w.agreed c.connections c.ends) w.clients
+  pub pipes : Each
+      (λ (client : ClientEnds). PipesInOrder world.agreed client.connections client.ends)
+      world.clients
   -- the publications of each client that is in step are published once, and it accepts in order in
   -- each of its sessions
-  pub clients : Each (IsExactInStep w.agreed) w.clients
+  pub clients : Each (IsExactInStep world.agreed) world.clients
   -- an ended session gets nothing more, since each connection has a name of its own
-  pub names : (x : ConnectionName) → connects_of x (past_of usual_limits w.agreed) ≤ 1
-  pub sessions : EndsWithTheSession usual_limits (past_of usual_limits w.agreed)
+  pub names : (name : ConnectionName) → connects_of name (past_of usual_limits world.agreed) ≤ 1
+  pub sessions : EndsWithTheSession usual_limits (past_of usual_limits world.agreed)
 
 -- each world that clients with identifiers of their own reach is exact
 abbrev pub WorldsAreExact : Type 0
-WorldsAreExact = (cs : List Client) (w : World) → ClientsAreApart cs → Reached cs w → WorldIsExact w
+WorldsAreExact =
+    (clients : List Client) (world : World) → ClientsAreApart clients → Reached clients world →
+    WorldIsExact world

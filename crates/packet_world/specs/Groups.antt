@@ -23,27 +23,27 @@ use Rattle.packet_world.specs.Served.{IsOfPipe, ServesWorld}
 -- its end has read.
 pub record ReadsAt {rules : Rules State Command Output} {config : Config}
     {past : List (Moment State Command Output)} (came : Moments rules config past)
-    (connection : ClientConnection) (e : End) : Type 0 where
+    (connection : ClientConnection) (end : End) : Type 0 where
   pub node : ℕ
   pub moment : Moment State Command Output
   pub among : In moment past
   pub primary : IsPrimary moment.world node connection.name.ballot
   pub taken : filter (λ command. is_packet_of command connection.name)
       (commands_of (taken_at node came))
-      ≡ commands_from connection.name 0 (take e.read connection.written)
+      ≡ commands_from connection.name 0 (take end.read connection.written)
 
 -- The premise about the nodes: they take commands of a connection only in the ballot of its name,
 -- for each connection the packets that its end has read, in order, and nothing of others.
 pub record TakesAsRead {rules : Rules State Command Output} {config : Config}
     {past : List (Moment State Command Output)} (came : Moments rules config past)
-    (w : World) : Type 0 where
-  pub ballots : (row : ℕ × Command) → In row (taken_of came) → (x : ConnectionName) →
-      is_packet_of row.1 x ≡ true → row.0 ≡ x.ballot
-  pub ends : (i j : ℕ) (c : ClientEnds) (connection : ClientConnection) (e : End) →
-      HasPipe w i c j connection e →
-      ReadsAt came connection e
+    (world : World) : Type 0 where
+  pub ballots : (row : ℕ × Command) → In row (taken_of came) → (name : ConnectionName) →
+      is_packet_of row.1 name ≡ true → row.0 ≡ name.ballot
+  pub ends : (index nth : ℕ) (client : ClientEnds) (connection : ClientConnection)
+      (end : End) → HasPipe world index client nth connection end →
+      ReadsAt came connection end
   pub known : (row : ℕ × Command) → In row (taken_of came) → is_of_connection row.1 ≡ true →
-      IsOfPipe w row.1
+      IsOfPipe world row.1
 
 -- If nodes take what their ends read (`TakesAsRead`), what is agreed at one moment is served by
 -- what is agreed at the next: it has grown, and has of each connection a prefix of the packets that
@@ -52,7 +52,7 @@ abbrev pub GroupsServe : Type 0
 GroupsServe =
     (rules : Rules State Command Output) →
     ((ballot : ℕ) → is_of_connection (rules.start_of ballot) ≡ false) →
-    (config : Config) (a : Moment State Command Output) (past : List (Moment State Command Output))
-    (w : World) (later : List Command) →
-    (came : Moments rules config (a ∷ past)) → IsAgreed config past w.agreed →
-    IsAgreed config (a ∷ past) later → TakesAsRead came w → ServesWorld w later
+    (config : Config) (moment : Moment State Command Output)
+    (past : List (Moment State Command Output)) (world : World) (later : List Command) →
+    (came : Moments rules config (moment ∷ past)) → IsAgreed config past world.agreed →
+    IsAgreed config (moment ∷ past) later → TakesAsRead came world → ServesWorld world later

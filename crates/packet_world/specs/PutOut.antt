@@ -43,37 +43,42 @@ outputs_alone given = map (λ (row : ℕ × Output). row.1) given
 -- the end of a connection whose node has applied the list up to a place and output this, of which
 -- it sent what is for the connection
 abbrev pub end_given : ConnectionName → ℕ → List (ℕ × Output) → End → End
-end_given x past given e = record e { seen = past; put = e.put ++ sends_to x (outputs_alone given) }
+end_given name past given end =
+    record end { seen = past; put = end.put ++ sends_to name (outputs_alone given) }
 
 -- The outputs of the machine at the next places of the agreed list, none left out, may be sent on
 -- an open end: the world reaches a state that has them.
 abbrev pub GivenIsPutOut : Type 0
 GivenIsPutOut =
-    (cs : List Client) (w : World) (i j : ℕ) (c : ClientEnds) (connection : ClientConnection)
-    (e : End)
-    (past : ℕ) → Reached cs w → HasPipe w i c j connection e →
-    e.is_open ≡ true → e.seen ≤ past → past ≤ length w.agreed →
-    Reached cs (with_client i
-    (record c {
-      ends = set c.ends j
+    (clients : List Client) (world : World) (index nth : ℕ) (client : ClientEnds)
+    (connection : ClientConnection) (end : End) (past : ℕ) →
+    Reached clients world → HasPipe world index client nth connection end →
+    end.is_open ≡ true → end.seen ≤ past → past ≤ length world.agreed →
+    Reached clients (with_client index
+    (record client {
+      ends = set client.ends nth
           (end_given connection.name past
-          (outputs (outputs_between broker_rules w.agreed e.seen past)) e);
-    }) w)
+          (outputs (outputs_between broker_rules world.agreed end.seen past)) end);
+    }) world)
 
 -- All outputs of a node of a group between two moments of a ballot that it leads may be sent on an
 -- open end that has what the node output before.
 abbrev pub GroupsPutOut : Type 0
 GroupsPutOut =
-    (config : Config) (a b : Moment State Command Output)
+    (config : Config) (first last : Moment State Command Output)
     (past later : List (Moment State Command Output))
-    (came : Moments broker_rules config (a ∷ past)) (more : Moments broker_rules config (b ∷ later))
-    (n ballot : ℕ) → LeadsOn n ballot came b later more →
-    (old new : ReplicaState State Command) → slice_get a.world.nodes n ≡ Some old →
-    slice_get b.world.nodes n ≡ Some new →
-    (given : List (ℕ × Output)) → given_of n more ≡ given_of n came ++ given →
-    (cs : List Client) (w : World) → Reached cs w → IsAgreed config (b ∷ later) w.agreed →
-    (i j : ℕ) (c : ClientEnds) (connection : ClientConnection) (e : End) →
-    HasPipe w i c j connection e →
-    e.is_open ≡ true → e.seen ≡ old.committed →
-    Reached cs (with_client i
-    (record c { ends = set c.ends j (end_given connection.name new.committed given e) }) w)
+    (came : Moments broker_rules config (first ∷ past))
+    (more : Moments broker_rules config (last ∷ later))
+    (node ballot : ℕ) → LeadsOn node ballot came last later more →
+    (old new : ReplicaState State Command) → slice_get first.world.nodes node ≡ Some old →
+    slice_get last.world.nodes node ≡ Some new →
+    (given : List (ℕ × Output)) → given_of node more ≡ given_of node came ++ given →
+    (clients : List Client) (world : World) → Reached clients world →
+    IsAgreed config (last ∷ later) world.agreed →
+    (index nth : ℕ) (client : ClientEnds) (connection : ClientConnection) (end : End) →
+    HasPipe world index client nth connection end →
+    end.is_open ≡ true → end.seen ≡ old.committed →
+    Reached clients (with_client index
+    (record client {
+      ends = set client.ends nth (end_given connection.name new.committed given end);
+    }) world)

@@ -9,7 +9,7 @@ use Rattle.packet_world.specs.Steps.{Reached}
 
 -- what a client accepted at QoS 2, on all of its connections
 abbrev pub accepted_by : ClientEnds → List Publication
-accepted_by c = accepted_on c.connections
+accepted_by client = accepted_on client.connections
 
 -- a world reaches the list of the worked example, and what was published once is accepted once
 pub record AcceptsOnce : Type 0 where

@@ -11,43 +11,44 @@ use Rattle.packet_world.specs.Steps.{HasPipe, Reached, is_of_connection}
 use Rattle.packet_world.specs.Exact.{commands_from}
 
 -- a command is of a connection that is there
-pub record IsOfPipe (w : World) (command : Command) : Type 0 where
+pub record IsOfPipe (world : World) (command : Command) : Type 0 where
   pub i : ℕ
   pub j : ℕ
   pub client : ClientEnds
   pub connection : ClientConnection
   pub end : End
-  pub pipe : HasPipe w i client j connection end
+  pub pipe : HasPipe world i client j connection end
   pub named : is_packet_of command connection.name ≡ true
 
 -- The list only grew; for each connection it has a prefix of the packets that the node read and
 -- proposed, in order; and it has packets only of connections of the world.
-pub record ServesWorld (w : World) (later : List Command) : Type 0 where
-  pub grows : IsPrefixOf w.agreed later
-  pub order : (i j : ℕ) (c : ClientEnds) (connection : ClientConnection) (e : End) →
-      HasPipe w i c j connection e →
+pub record ServesWorld (world : World) (later : List Command) : Type 0 where
+  pub grows : IsPrefixOf world.agreed later
+  pub order : (index nth : ℕ) (client : ClientEnds) (connection : ClientConnection)
+      (end : End) → HasPipe world index client nth connection end →
       IsPrefixOf (filter (λ command. is_packet_of command connection.name) later)
-      (commands_from connection.name 0 (take e.read connection.written))
+      (commands_from connection.name 0 (take end.read connection.written))
   pub known : (command : Command) → In command later → is_of_connection command ≡ true →
-      IsOfPipe w command
+      IsOfPipe world command
 
 -- a client, except how much of what it wrote is in the list
 abbrev pub untaken : ClientEnds → ClientEnds
-untaken c =
-    record c {
+untaken client =
+    record client {
       connections = map (λ (connection : ClientConnection). record connection { taken = 0 })
-          c.connections;
+          client.connections;
     }
 
 -- The world comes to this list, command by command, and all else stays as it is.
-pub record CommandsLeadTo (cs : List Client) (w : World) (later : List Command) : Type 0 where
+pub record CommandsLeadTo (identifiers : List Client) (world : World)
+    (later : List Command) : Type 0 where
   pub after : World
-  pub reached : Reached cs after
+  pub reached : Reached identifiers after
   pub agreed : after.agreed ≡ later
-  pub clients : map untaken after.clients ≡ map untaken w.clients
+  pub clients : map untaken after.clients ≡ map untaken world.clients
 
 -- each reachable world comes to each list by which it is served
 abbrev pub WorldsAreServed : Type 0
 WorldsAreServed =
-    (cs : List Client) (w : World) (later : List Command) → ClientsAreApart cs → Reached cs w →
-    ServesWorld w later → CommandsLeadTo cs w later
+    (clients : List Client) (world : World) (later : List Command) → ClientsAreApart clients →
+    Reached clients world → ServesWorld world later → CommandsLeadTo clients world later

@@ -31,7 +31,7 @@ pub record ClientEnds : Type 0 where
 
 -- a client that has no connection yet
 abbrev pub new_client : Client → ClientEnds
-new_client c = record { keeper = new_keeper c; connections = []; ends = [] }
+new_client client = record { keeper = new_keeper client; connections = []; ends = [] }
 
 -- the list on which the nodes agree, and the clients with both ends of their connections
 pub record World : Type 0 where
@@ -40,22 +40,28 @@ pub record World : Type 0 where
 
 -- nothing is agreed, and no client has a connection
 abbrev pub opening : List Client → World
-opening cs = record { agreed = []; clients = map new_client cs }
+opening clients = record { agreed = []; clients = map new_client clients }
 
 -- no two are equal
 abbrev pub ClientsAreApart : List Client → Type 0
-ClientsAreApart (c ∷ cs) = Each (λ d. c ≡ d → ⊥) cs × ClientsAreApart cs
+ClientsAreApart (client ∷ clients) =
+    Each (λ other. client ≡ other → ⊥) clients × ClientsAreApart clients
 ClientsAreApart [] = Unit {0}
 
 -- the story of one client of the world
 abbrev pub story_of : List Command → ClientEnds → Story
-story_of agreed c =
-    record { past = past_of usual_limits agreed; connections = c.connections; keeper = c.keeper }
+story_of agreed client =
+    record {
+      past = past_of usual_limits agreed;
+      connections = client.connections;
+      keeper = client.keeper;
+    }
 
 -- no connection ever had this name
 abbrev pub IsFresh : ConnectionName → List ClientEnds → Type 0
-IsFresh x = Each (λ (c : ClientEnds). any_named (same_connection x) c.connections ≡ false)
+IsFresh name =
+    Each (λ (client : ClientEnds). any_named (same_connection name) client.connections ≡ false)
 
 -- the client at this index is changed
 abbrev pub with_client : ℕ → ClientEnds → World → World
-with_client i c w = record w { clients = set w.clients i c }
+with_client index client world = record world { clients = set world.clients index client }
