@@ -7,24 +7,28 @@ use Rattle.whole.specs.lists.Lists.{In, IsPrefixOf}
 use Rattle.agreement.specs.MasterState.{MasterState}
 
 -- the nodes agree on a list
-pub record Agrees {S C O : Type 0} (rules : Rules S C O) (m : MasterState) (w : GroupWorld S C O)
-    (xs : List C) : Type 0 where
+pub record Agrees {S C O : Type 0} (rules : Rules S C O) (master : MasterState)
+    (world : GroupWorld S C O) (list : List C) : Type 0 where
   -- what is applied anywhere is a prefix of it
-  pub applied : (n : ℕ) (r : ReplicaState S C) → slice_get w.nodes n ≡ Some r →
-      IsPrefixOf (take r.committed r.log) xs
+  pub applied : (node : ℕ) (replica : ReplicaState S C) →
+      slice_get world.nodes node ≡ Some replica →
+      IsPrefixOf (take replica.committed replica.log) list
   -- each member of the active configuration holds it
-  pub held : (n : ℕ) (r : ReplicaState S C) → slice_get w.nodes n ≡ Some r →
-      In (n + 1) m.members → IsPrefixOf xs r.log
+  pub held : (node : ℕ) (replica : ReplicaState S C) → slice_get world.nodes node ≡ Some replica →
+      In (node + 1) master.members → IsPrefixOf list replica.log
   -- of two logs that were installed in one ballot one is a prefix of the other
-  pub fronts : (n k : ℕ) (r s : ReplicaState S C) → slice_get w.nodes n ≡ Some r →
-      slice_get w.nodes k ≡ Some s →
-      r.held_in ≡ s.held_in → IsPrefixOf r.log s.log ⊎ IsPrefixOf s.log r.log
+  pub fronts : (first second : ℕ) (first_replica second_replica : ReplicaState S C) →
+      slice_get world.nodes first ≡ Some first_replica →
+      slice_get world.nodes second ≡ Some second_replica →
+      first_replica.held_in ≡ second_replica.held_in →
+      IsPrefixOf first_replica.log second_replica.log
+      ⊎ IsPrefixOf second_replica.log first_replica.log
 
 -- some member of the active ballot is a node whose log begins with the agreed list
-pub record Holds {S C O : Type 0} (m : MasterState) (w : GroupWorld S C O)
-    (xs : List C) : Type 0 where
+pub record Holds {S C O : Type 0} (master : MasterState) (world : GroupWorld S C O)
+    (list : List C) : Type 0 where
   pub node : ℕ
   pub replica : ReplicaState S C
-  pub stands : slice_get w.nodes node ≡ Some replica
-  pub member : In (node + 1) m.members
-  pub held : IsPrefixOf xs replica.log
+  pub stands : slice_get world.nodes node ≡ Some replica
+  pub member : In (node + 1) master.members
+  pub held : IsPrefixOf list replica.log

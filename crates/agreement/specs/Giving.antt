@@ -14,55 +14,56 @@ use Rattle.agreement.specs.Steps.MayHappen.{node_takes, node_stops, master_assig
 use Rattle.agreement.specs.Steps.MayHappen.{assignment_lost, answer_lost}
 use Rattle.agreement.specs.World.{GroupWorld, outputs}
 
--- the outputs of the node at index n in a step, each with its place in the list
-abbrev pub given_in : {S C O : Type 0} {rules : Rules S C O} {m : MasterState}
-    {w : GroupWorld S C O}
-    {k : MasterState} {v : GroupWorld S C O} → ℕ → MayHappen rules m w k v → List (ℕ × O)
-given_in n (node_takes i r input {new = new} {given = given} stands runs may loses) =
-    if i == n then outputs given else []
-given_in n (node_stops i r stands) = []
-given_in n (master_assigns config) = []
-given_in n (master_hears from b sent) = []
-given_in n (assignment_lost config) = []
-given_in n (answer_lost from b sent) = []
+-- the outputs of the node at this index in a step, each with its place in the list
+abbrev pub given_in : {S C O : Type 0} {rules : Rules S C O} {master : MasterState}
+    {world : GroupWorld S C O} {next_master : MasterState} {next_world : GroupWorld S C O} → ℕ →
+    MayHappen rules master world next_master next_world → List (ℕ × O)
+given_in node (node_takes other replica input {new = new} {given = given} stands runs may loses) =
+    if other == node then outputs given else []
+given_in node (node_stops other replica stands) = []
+given_in node (master_assigns config) = []
+given_in node (master_hears from ballot sent) = []
+given_in node (assignment_lost config) = []
+given_in node (answer_lost from ballot sent) = []
 
 -- all that it gave in a past, in order
 abbrev pub given_of : {S C O : Type 0} {rules : Rules S C O} {config : Config}
     {past : List (Moment S C O)} → ℕ → Moments rules config past → List (ℕ × O)
-given_of n (began nodes lawful is) = []
-given_of n (went_on came step) = given_of n came ++ given_in n step
-given_of n (learned came learns) = given_of n came
+given_of node (began nodes lawful is) = []
+given_of node (went_on came step) = given_of node came ++ given_in node step
+given_of node (learned came learns) = given_of node came
 
 -- the place from which a node's outputs start: how far it has applied its log, if it is the active
 -- primary; one that becomes it applies its whole log first, and outputs nothing for that
 abbrev pub gives_from : {S C : Type 0} → ReplicaState S C → ℕ
-gives_from r = if is_active r.role then r.committed else length r.log
+gives_from replica = if is_active replica.role then replica.committed else length replica.log
 
 -- what a node gave while it became another: nothing if it is no active primary, and otherwise the
 -- machine's answers at the places of the list from there on to where it has applied it now
 pub record GivesNext {S C O : Type 0} (rules : Rules S C O) (old new : ReplicaState S C)
-    (xs : List C) (given : List (ℕ × O)) : Type 0 where
+    (list : List C) (given : List (ℕ × O)) : Type 0 where
   pub idle : is_active new.role ≡ false → given ≡ []
   pub rising : is_active new.role ≡ true → gives_from old ≤ new.committed
-  pub inside : new.committed ≤ length xs
+  pub inside : new.committed ≤ length list
   pub next : is_active new.role ≡ true →
-      given ≡ outputs (outputs_between rules xs (gives_from old) new.committed)
+      given ≡ outputs (outputs_between rules list (gives_from old) new.committed)
 
--- a past continues from a moment, by steps and by nodes that learn, and the node at index n is the
+-- a past continues from a moment, by steps and by nodes that learn, and the node at an index is the
 -- active primary of a ballot at that moment and at each later one
-pub data LeadsOn {S C O : Type 0} {rules : Rules S C O} {config : Config} (n ballot : ℕ)
-    {a : Moment S C O} {past : List (Moment S C O)} (came : Moments rules config (a ∷ past)) :
-    (b : Moment S C O) (later : List (Moment S C O)) → Moments rules config (b ∷ later) →
+pub data LeadsOn {S C O : Type 0} {rules : Rules S C O} {config : Config} (node ballot : ℕ)
+    {moment : Moment S C O} {past : List (Moment S C O)}
+    (came : Moments rules config (moment ∷ past)) :
+    (last : Moment S C O) (later : List (Moment S C O)) → Moments rules config (last ∷ later) →
     Type 0 where
   -- it is so at the moment itself
-  leads_there : IsPrimary a.world n ballot → LeadsOn n ballot came a past came
+  leads_there : IsPrimary moment.world node ballot → LeadsOn node ballot came moment past came
   -- it is so after one more step
   leads_still : {b c : Moment S C O} {later : List (Moment S C O)}
-      {more : Moments rules config (b ∷ later)} → LeadsOn n ballot came b later more →
-      (step : MayHappen rules b.master b.world c.master c.world) → IsPrimary c.world n ballot →
-      LeadsOn n ballot came c (b ∷ later) (went_on more step)
+      {more : Moments rules config (b ∷ later)} → LeadsOn node ballot came b later more →
+      (step : MayHappen rules b.master b.world c.master c.world) → IsPrimary c.world node ballot →
+      LeadsOn node ballot came c (b ∷ later) (went_on more step)
   -- it is so after a node learned something
   leads_beside : {b c : Moment S C O} {later : List (Moment S C O)}
-      {more : Moments rules config (b ∷ later)} → LeadsOn n ballot came b later more →
-      (learns : Learns rules (b ∷ later) b c) → IsPrimary c.world n ballot →
-      LeadsOn n ballot came c (b ∷ later) (learned more learns)
+      {more : Moments rules config (b ∷ later)} → LeadsOn node ballot came b later more →
+      (learns : Learns rules (b ∷ later) b c) → IsPrimary c.world node ballot →
+      LeadsOn node ballot came c (b ∷ later) (learned more learns)

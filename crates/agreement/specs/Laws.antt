@@ -21,91 +21,98 @@ use Rattle.agreement.specs.World.{GroupWorld, log_of, outputs}
 -- there is an agreed list at each moment
 abbrev pub HasAgreed : {S C O : Type 0} → Rules S C O → Type 0
 HasAgreed {S} {C} {O} rules =
-    (config : Config) (a : Moment S C O) (past : List (Moment S C O)) →
-    Moments rules config (a ∷ past) → (xs : List C) × IsAgreed config (a ∷ past) xs
+    (config : Config) (moment : Moment S C O) (past : List (Moment S C O)) →
+    Moments rules config (moment ∷ past) →
+    (agreed : List C) × IsAgreed config (moment ∷ past) agreed
 
 -- the nodes agree on each agreed list, a member of the active ballot holds it, and what left is its
 -- answers in order
 abbrev pub NodesAgree : {S C O : Type 0} → Rules S C O → Type 0
 NodesAgree {S} {C} {O} rules =
-    (config : Config) (a : Moment S C O) (past : List (Moment S C O)) (xs : List C) →
-    Moments rules config (a ∷ past) → IsAgreed config (a ∷ past) xs →
-    Agrees rules a.master a.world xs × Holds a.master a.world xs
-    × LeftInOrder rules (a ∷ past) a.world xs
+    (config : Config) (moment : Moment S C O) (past : List (Moment S C O)) (agreed : List C) →
+    Moments rules config (moment ∷ past) → IsAgreed config (moment ∷ past) agreed →
+    Agrees rules moment.master moment.world agreed × Holds moment.master moment.world agreed
+    × LeftInOrder rules (moment ∷ past) moment.world agreed
 
 -- what is agreed begins what is agreed at the next moment
 abbrev pub AgreedGrows : {S C O : Type 0} → Rules S C O → Type 0
 AgreedGrows {S} {C} {O} rules =
-    (config : Config) (a : Moment S C O) (past : List (Moment S C O)) (xs ys : List C) →
-    IsAgreed config past xs → IsAgreed config (a ∷ past) ys → IsPrefixOf xs ys
+    (config : Config) (moment : Moment S C O) (past : List (Moment S C O)) (agreed later : List C) →
+    IsAgreed config past agreed → IsAgreed config (moment ∷ past) later → IsPrefixOf agreed later
 
 -- the machine of each node that runs is the replay of the places that it applied
 abbrev pub MachinesReplay : {S C O : Type 0} → Rules S C O → Type 0
 MachinesReplay {S} {C} {O} rules =
-    (config : Config) (a : Moment S C O) (past : List (Moment S C O)) →
-    Moments rules config (a ∷ past) → AreReplays rules a.world
+    (config : Config) (moment : Moment S C O) (past : List (Moment S C O)) →
+    Moments rules config (moment ∷ past) → AreReplays rules moment.world
 
 -- of the commands that were taken only in one ballot, each log has a prefix in the order of
 -- proposing
 abbrev pub KeepsTheOrder : {S C O : Type 0} → Rules S C O → Type 0
 KeepsTheOrder {S} {C} {O} rules =
-    (config : Config) (a : Moment S C O) (past : List (Moment S C O)) →
-    (came : Moments rules config (a ∷ past)) →
+    (config : Config) (moment : Moment S C O) (past : List (Moment S C O)) →
+    (came : Moments rules config (moment ∷ past)) →
     IsPartOf (taken_of came) (proposals_of came)
     × ((names : C → Bool) (ballot : ℕ) → IsOfBallot rules.start_of names ballot (taken_of came) →
-    (n : ℕ) (r : ReplicaState S C) → slice_get a.world.nodes n ≡ Some r →
-    IsPrefixOf (filter names r.log) (filter names (commands_of (taken_of came))))
+    (node : ℕ) (replica : ReplicaState S C) → slice_get moment.world.nodes node ≡ Some replica →
+    IsPrefixOf (filter names replica.log) (filter names (commands_of (taken_of came))))
 
 -- what a node takes in a step is at once at the end of its log; everything that is taken is taken
 -- by some node; and a proposal that is not taken changes no log
-pub record StandsAtOnce {S C O : Type 0} {rules : Rules S C O} {m : MasterState}
-    {w : GroupWorld S C O}
-    {k : MasterState} {v : GroupWorld S C O} (step : MayHappen rules m w k v) : Type 0 where
-  pub stands : (n : ℕ) (row : ℕ × C) → In row (takes_at n step) → IsTaken w v n row
-  pub somewhere : (row : ℕ × C) → In row (taken_in step) → (n : ℕ) × In row (takes_at n step)
+pub record StandsAtOnce {S C O : Type 0} {rules : Rules S C O} {master : MasterState}
+    {world : GroupWorld S C O} {next_master : MasterState} {next_world : GroupWorld S C O}
+    (step : MayHappen rules master world next_master next_world) : Type 0 where
+  pub stands : (node : ℕ) (row : ℕ × C) → In row (takes_at node step) →
+      IsTaken world next_world node row
+  pub somewhere : (row : ℕ × C) → In row (taken_in step) → (node : ℕ) × In row (takes_at node step)
   pub refused : taken_in step ≡ [] → (row : ℕ × C) → In row (proposal_of step) →
-      (n : ℕ) → log_of (slice_get v.nodes n) ≡ log_of (slice_get w.nodes n)
+      (node : ℕ) → log_of (slice_get next_world.nodes node) ≡ log_of (slice_get world.nodes node)
 
 -- in each step, what is taken stands at the end of a log at once (`StandsAtOnce`)
 abbrev pub TakenStandAtOnce : {S C O : Type 0} → Rules S C O → Type 0
 TakenStandAtOnce {S} {C} {O} rules =
-    (m : MasterState) (w : GroupWorld S C O) (k : MasterState) (v : GroupWorld S C O) →
-    (step : MayHappen rules m w k v) → StandsAtOnce step
+    (master : MasterState) (world : GroupWorld S C O)
+    (next_master : MasterState) (next_world : GroupWorld S C O) →
+    (step : MayHappen rules master world next_master next_world) → StandsAtOnce step
 
 -- a ballot has one active primary at most, over all moments of a past
 abbrev pub OnePrimaryABallot : {S C O : Type 0} → Rules S C O → Type 0
 OnePrimaryABallot {S} {C} {O} rules =
-    (config : Config) (a : Moment S C O) (past : List (Moment S C O)) →
-    Moments rules config (a ∷ past) →
-    (c d : Moment S C O) (m n ballot : ℕ) → In c (a ∷ past) → In d (a ∷ past) →
-    IsPrimary c.world m ballot → IsPrimary d.world n ballot → m ≡ n
+    (config : Config) (moment : Moment S C O) (past : List (Moment S C O)) →
+    Moments rules config (moment ∷ past) →
+    (first second : Moment S C O) (node other ballot : ℕ) →
+    In first (moment ∷ past) → In second (moment ∷ past) →
+    IsPrimary first.world node ballot → IsPrimary second.world other ballot → node ≡ other
 
 -- what was taken in a ballot was taken by the one node that was its active primary
 abbrev pub OneNodeTakesABallot : {S C O : Type 0} → Rules S C O → Type 0
 OneNodeTakesABallot {S} {C} {O} rules =
-    (config : Config) (a : Moment S C O) (past : List (Moment S C O)) →
-    (came : Moments rules config (a ∷ past)) →
-    (c : Moment S C O) (n ballot : ℕ) → In c (a ∷ past) → IsPrimary c.world n ballot →
-    rows_in ballot (taken_of came) ≡ rows_in ballot (taken_at n came)
+    (config : Config) (moment : Moment S C O) (past : List (Moment S C O)) →
+    (came : Moments rules config (moment ∷ past)) →
+    (earlier : Moment S C O) (node ballot : ℕ) → In earlier (moment ∷ past) →
+    IsPrimary earlier.world node ballot →
+    rows_in ballot (taken_of came) ≡ rows_in ballot (taken_at node came)
 
 -- the outputs of a node in a step are the answers at the next places of the agreed list
 abbrev pub AnswersAtTheNextPlaces : {S C O : Type 0} → Rules S C O → Type 0
 AnswersAtTheNextPlaces {S} {C} {O} rules =
-    (config : Config) (a b : Moment S C O) (past : List (Moment S C O)) (xs : List C) →
-    Moments rules config (a ∷ past) → IsAgreed config (b ∷ a ∷ past) xs →
-    (step : MayHappen rules a.master a.world b.master b.world) →
-    (n : ℕ) (old new : ReplicaState S C) → slice_get a.world.nodes n ≡ Some old →
-    slice_get b.world.nodes n ≡ Some new → GivesNext rules old new xs (given_in n step)
+    (config : Config) (moment next : Moment S C O) (past : List (Moment S C O)) (agreed : List C) →
+    Moments rules config (moment ∷ past) → IsAgreed config (next ∷ moment ∷ past) agreed →
+    (step : MayHappen rules moment.master moment.world next.master next.world) →
+    (node : ℕ) (old new : ReplicaState S C) → slice_get moment.world.nodes node ≡ Some old →
+    slice_get next.world.nodes node ≡ Some new → GivesNext rules old new agreed (given_in node step)
 
 -- Between two moments of a ballot that it leads a node outputs the answers at all places of the
 -- agreed list that it applied between them: none is left out, and none comes twice.
 abbrev pub AnswersWhileItLeads : {S C O : Type 0} → Rules S C O → Type 0
 AnswersWhileItLeads {S} {C} {O} rules =
-    (config : Config) (a b : Moment S C O) (past later : List (Moment S C O)) (xs : List C) →
-    (came : Moments rules config (a ∷ past)) (more : Moments rules config (b ∷ later)) →
-    IsAgreed config (b ∷ later) xs → (n ballot : ℕ) → LeadsOn n ballot came b later more →
-    (old new : ReplicaState S C) → slice_get a.world.nodes n ≡ Some old →
-    slice_get b.world.nodes n ≡ Some new →
-    (old.committed ≤ new.committed) × (new.committed ≤ length xs)
-    × (given_of n more
-    ≡ given_of n came ++ outputs (outputs_between rules xs old.committed new.committed))
+    (config : Config) (first last : Moment S C O) (past later : List (Moment S C O))
+    (agreed : List C) →
+    (came : Moments rules config (first ∷ past)) (more : Moments rules config (last ∷ later)) →
+    IsAgreed config (last ∷ later) agreed → (node ballot : ℕ) →
+    LeadsOn node ballot came last later more →
+    (old new : ReplicaState S C) → slice_get first.world.nodes node ≡ Some old →
+    slice_get last.world.nodes node ≡ Some new →
+    (old.committed ≤ new.committed) × (new.committed ≤ length agreed)
+    × (given_of node more
+    ≡ given_of node came ++ outputs (outputs_between rules agreed old.committed new.committed))

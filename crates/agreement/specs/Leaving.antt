@@ -17,16 +17,20 @@ pub record Segment : Type 0 where
 -- the one that left first
 abbrev pub AreInOrder : List Segment → Type 0
 AreInOrder segments =
-    (i j : ℕ) (s t : Segment) → slice_get segments i ≡ Some s → slice_get segments j ≡ Some t →
-    (s.ballot < t.ballot) ⊎ ((s.ballot ≡ t.ballot) × (i < j)) → s.past ≤ t.first
+    (index other_index : ℕ) (segment other : Segment) →
+    slice_get segments index ≡ Some segment → slice_get segments other_index ≡ Some other →
+    (segment.ballot < other.ballot) ⊎ ((segment.ballot ≡ other.ballot) × (index < other_index)) →
+    segment.past ≤ other.first
 
 -- the outputs that left are the machine's answers at segments of a list, each output in a ballot
 -- that was active. No two share a place, and as long as only one ballot was active the places rise
 -- as they left. The primary of an earlier ballot may output late what it had not yet output.
 pub record LeftInOrder {S C O : Type 0} (rules : Rules S C O) (past : List (Moment S C O))
-    (w : GroupWorld S C O) (xs : List C) : Type 0 where
+    (world : GroupWorld S C O) (list : List C) : Type 0 where
   pub segments : List Segment
-  pub left : w.left ≡ flat_map (λ s. outputs (outputs_between rules xs s.first s.past)) segments
-  pub inside : (s : Segment) → In s segments → (s.first < s.past) × (s.past ≤ length xs)
-  pub given : (s : Segment) → In s segments → WasActive past s.ballot
+  pub left : world.left ≡ flat_map
+      (λ segment. outputs (outputs_between rules list segment.first segment.past)) segments
+  pub inside : (segment : Segment) → In segment segments →
+      (segment.first < segment.past) × (segment.past ≤ length list)
+  pub given : (segment : Segment) → In segment segments → WasActive past segment.ballot
   pub in_order : AreInOrder segments

@@ -26,39 +26,40 @@ pub record MasterOutcome (C : Type 0) : Type 0 where
 
 -- the master after an Assign: the next ballot waits, and one that waited is superseded
 abbrev pub assigning : MasterState → Config → MasterState
-assigning m config = record m { waiting = Some (m.given + 1, config); given = m.given + 1 }
+assigning master config =
+    record master { waiting = Some (master.given + 1, config); given = master.given + 1 }
 
 -- the master after an Activate: the ballot that waits becomes the active one
 abbrev pub activating : MasterState → ℕ → Option (ℕ × Config) → MasterState
-activating m ballot None = m
-activating m ballot (Some (waiting, config)) =
+activating master ballot None = master
+activating master ballot (Some (waiting, config)) =
     if ballot == waiting
-    then record m { active = ballot; members = config.members; waiting = None }
-    else m
+    then record master { active = ballot; members = config.members; waiting = None }
+    else master
 
 -- whether a ballot is active then: it waited, or was active before. Any other was superseded.
 abbrev pub is_granted : MasterState → ℕ → Option (ℕ × Config) → Bool
-is_granted m ballot None = ballot == m.active
-is_granted m ballot (Some (waiting, config)) =
-    if ballot == waiting then true else ballot == m.active
+is_granted master ballot None = ballot == master.active
+is_granted master ballot (Some (waiting, config)) =
+    if ballot == waiting then true else ballot == master.active
 
 -- Assign: a message to the primary with the ballot
 abbrev pub assigned : (C : Type 0) → MasterState → Config → MasterOutcome C
-assigned C m config =
+assigned C master config =
     record {
-      state = assigning m config;
+      state = assigning master config;
       receiver = config.primary;
-      body = NewBallot (m.given + 1) config.members m.active m.members;
+      body = NewBallot (master.given + 1) config.members master.active master.members;
     }
 
 -- Activate(ballot) from a node, which is answered
 abbrev pub activated : (C : Type 0) →
     MasterState → ℕ → ℕ → Option (ℕ × Config) → MasterOutcome C
-activated C m ballot from waiting =
+activated C master ballot from waiting =
     record {
-      state = activating m ballot waiting;
+      state = activating master ballot waiting;
       receiver = from;
-      body = if is_granted m ballot waiting then Activated ballot else Superseded ballot;
+      body = if is_granted master ballot waiting then Activated ballot else Superseded ballot;
     }
 
 -- why the master refuses an Assign
@@ -69,12 +70,12 @@ pub data AssignRefusal : Type 0 where
 -- members that no ballot may have are refused, and after the last ballot any configuration; the
 -- members are tested first. Which nodes there are the master does not know.
 abbrev pub refusal : MasterState → Config → Option AssignRefusal
-refusal m config =
+refusal master config =
     if is_lawful config.members config.primary
-    then if nat_le max_ballot m.given then Some ballots_spent else None
+    then if nat_le max_ballot master.given then Some ballots_spent else None
     else Some bad_members
 
 -- the master after an Assign: if it is refused, nothing changes
 abbrev pub master_after : MasterState → Config → Option AssignRefusal → MasterState
-master_after m config (Some why) = m
-master_after m config None = assigning m config
+master_after master config (Some why) = master
+master_after master config None = assigning master config

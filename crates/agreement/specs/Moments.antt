@@ -26,10 +26,10 @@ opening_moment rules nodes config =
 -- earlier moment, and has no output for them. At that moment the other node was in no higher ballot
 -- than this node is in now. To take over a snapshot in place of the commands is such a step.
 pub record Learns {S C O : Type 0} (rules : Rules S C O) (past : List (Moment S C O))
-    (a b : Moment S C O) : Type 0 where
+    (moment next : Moment S C O) : Type 0 where
   pub node : ℕ
   pub replica : ReplicaState S C
-  pub stands : slice_get a.world.nodes node ≡ Some replica
+  pub stands : slice_get moment.world.nodes node ≡ Some replica
   pub runs : replica.stopped ≡ false
   pub passive : is_active replica.role ≡ false
   -- it applies its log up to here
@@ -45,71 +45,76 @@ pub record Learns {S C O : Type 0} (rules : Rules S C O) (past : List (Moment S 
   pub joined : teacher.joined ≤ replica.joined
   pub applied : places ≤ teacher.committed
   pub same : take places teacher.log ≡ take places replica.log
-  pub becomes : b ≡ record a { world = moved a.world node (applied_to rules replica places) [] }
+  pub becomes : next
+      ≡ record moment { world = moved moment.world node (applied_to rules replica places) [] }
 
 -- the moments that were, the present one first -- history: no field keeps it
 pub data Moments {S C O : Type 0} (rules : Rules S C O) (config : Config) :
     List (Moment S C O) → Type 0 where
   -- the group opens with a configuration
-  began : {a : Moment S C O} (nodes : ℕ) → can_open nodes config ≡ true →
-      a ≡ opening_moment rules nodes config → Moments rules config (a ∷ [])
+  began : {moment : Moment S C O} (nodes : ℕ) → can_open nodes config ≡ true →
+      moment ≡ opening_moment rules nodes config → Moments rules config (moment ∷ [])
   -- one more step
-  went_on : {a b : Moment S C O} {past : List (Moment S C O)} → Moments rules config (a ∷ past) →
-      MayHappen rules a.master a.world b.master b.world → Moments rules config (b ∷ a ∷ past)
+  went_on : {moment next : Moment S C O} {past : List (Moment S C O)} →
+      Moments rules config (moment ∷ past) →
+      MayHappen rules moment.master moment.world next.master next.world →
+      Moments rules config (next ∷ moment ∷ past)
   -- a node learns something without a step of its own
-  learned : {a b : Moment S C O} {past : List (Moment S C O)} → Moments rules config (a ∷ past) →
-      Learns rules (a ∷ past) a b → Moments rules config (b ∷ a ∷ past)
+  learned : {moment next : Moment S C O} {past : List (Moment S C O)} →
+      Moments rules config (moment ∷ past) → Learns rules (moment ∷ past) moment next →
+      Moments rules config (next ∷ moment ∷ past)
 
 -- the configuration of a ballot: that of the opening for ballot 1, and otherwise the one with which
 -- the master let the ballot wait
 pub data HasConfig {S C O : Type 0} (config : Config) (past : List (Moment S C O)) (ballot : ℕ)
-    (c : Config) : Type 0 where
+    (configuration : Config) : Type 0 where
   -- ballot 1 has the first configuration
-  opened_with : ballot ≡ 1 → c ≡ config → HasConfig config past ballot c
+  opened_with : ballot ≡ 1 → configuration ≡ config → HasConfig config past ballot configuration
   -- the master gave the ballot to this configuration
-  was_assigned : (a : Moment S C O) → In a past → a.master.waiting ≡ Some (ballot, c) →
-      HasConfig config past ballot c
+  was_assigned : (moment : Moment S C O) → In moment past →
+      moment.master.waiting ≡ Some (ballot, configuration) →
+      HasConfig config past ballot configuration
 
 -- a ballot was the active one
 abbrev pub WasActive : {S C O : Type 0} → List (Moment S C O) → ℕ → Type 0
 WasActive {S} {C} {O} past ballot =
-    (a : Moment S C O) × In a past × (a.master.active ≡ ballot)
+    (moment : Moment S C O) × In moment past × (moment.master.active ≡ ballot)
 
 -- a member acknowledged a length in a ballot
 abbrev pub ToldLength : {S C O : Type 0} → GroupWorld S C O → ℕ → ℕ → ℕ → Type 0
-ToldLength w member ballot held =
+ToldLength world member ballot held =
     (receiver : ℕ)
-    × (In (receiver, record { from = member; body = Held ballot held }) w.sent
-    ⊎ In (receiver, record { from = member; body = Installed ballot held }) w.sent)
+    × (In (receiver, record { from = member; body = Held ballot held }) world.sent
+    ⊎ In (receiver, record { from = member; body = Installed ballot held }) world.sent)
 
--- node n + 1 has acknowledged a list in a ballot: the primary by holding it as its log there,
--- another member by a message with its length, from a log of which it is a prefix. While a node
--- holds its log in one ballot the log only grows, so it had that prefix already when the message
--- was sent.
-pub data HasTold {S C O : Type 0} (config : Config) (past : List (Moment S C O)) (ballot n : ℕ)
-    (xs : List C) : Type 0 where
+-- The node at this index has acknowledged a list in a ballot: the primary by holding it as its log
+-- there, another member by a message with its length, from a log of which it is a prefix. While a
+-- node holds its log in one ballot the log only grows, so it had that prefix when it sent that.
+pub data HasTold {S C O : Type 0} (config : Config) (past : List (Moment S C O)) (ballot node : ℕ)
+    (list : List C) : Type 0 where
   -- the primary holds the list as its log
-  told_as_log : (a : Moment S C O) (r : ReplicaState S C) (c : Config) → In a past →
-      slice_get a.world.nodes n ≡ Some r → r.held_in ≡ ballot →
-      HasConfig config past ballot c → c.primary ≡ n + 1 → r.log ≡ xs →
-      HasTold config past ballot n xs
+  told_as_log : (moment : Moment S C O) (replica : ReplicaState S C) (configuration : Config) →
+      In moment past → slice_get moment.world.nodes node ≡ Some replica →
+      replica.held_in ≡ ballot → HasConfig config past ballot configuration →
+      configuration.primary ≡ node + 1 → replica.log ≡ list → HasTold config past ballot node list
   -- a member said how much of its log it holds
-  told_by_message : (a : Moment S C O) (r : ReplicaState S C) → In a past →
-      slice_get a.world.nodes n ≡ Some r → r.held_in ≡ ballot →
-      ToldLength a.world (n + 1) ballot (length xs) → IsPrefixOf xs r.log →
-      HasTold config past ballot n xs
+  told_by_message : (moment : Moment S C O) (replica : ReplicaState S C) → In moment past →
+      slice_get moment.world.nodes node ≡ Some replica → replica.held_in ≡ ballot →
+      ToldLength moment.world (node + 1) ballot (length list) → IsPrefixOf list replica.log →
+      HasTold config past ballot node list
 
 -- each member of a ballot has acknowledged the list, or a list of which it is a prefix; a member
 -- that acknowledged nothing has not acknowledged the empty list
 abbrev pub IsChosen : {S C O : Type 0} → Config → List (Moment S C O) → ℕ → List C → Type 0
-IsChosen {S} {C} {O} config past ballot xs =
-    (c : Config) × HasConfig config past ballot c
-    × ((n : ℕ) → In (n + 1) c.members →
-    (told : List C) × HasTold config past ballot n told × IsPrefixOf xs told)
+IsChosen {S} {C} {O} config past ballot list =
+    (configuration : Config) × HasConfig config past ballot configuration
+    × ((node : ℕ) → In (node + 1) configuration.members →
+    (told : List C) × HasTold config past ballot node told × IsPrefixOf list told)
 
 -- the agreed list: the longest that is chosen in a ballot that was active, or empty if none is
 pub record IsAgreed {S C O : Type 0} (config : Config) (past : List (Moment S C O))
-    (xs : List C) : Type 0 where
-  pub chosen : (xs ≡ []) ⊎ ((b : ℕ) × WasActive past b × IsChosen config past b xs)
-  pub longest : (b : ℕ) (ys : List C) → WasActive past b → IsChosen config past b ys →
-      IsPrefixOf ys xs
+    (list : List C) : Type 0 where
+  pub chosen : (list ≡ [])
+      ⊎ ((ballot : ℕ) × WasActive past ballot × IsChosen config past ballot list)
+  pub longest : (ballot : ℕ) (other : List C) → WasActive past ballot →
+      IsChosen config past ballot other → IsPrefixOf other list

@@ -4,8 +4,8 @@ use Rattle.whole.specs.Replica.{ReplicaState, is_active}
 use Rattle.agreement.specs.World.{GroupWorld}
 
 -- the node at an index is the active primary of a ballot, which it has joined
-pub record IsPrimary {S C O : Type 0} (w : GroupWorld S C O) (n ballot : ℕ) : Type 0 where
+pub record IsPrimary {S C O : Type 0} (world : GroupWorld S C O) (node ballot : ℕ) : Type 0 where
   pub replica : ReplicaState S C
-  pub stands : slice_get w.nodes n ≡ Some replica
+  pub stands : slice_get world.nodes node ≡ Some replica
   pub active : is_active replica.role ≡ true
   pub joined : replica.joined ≡ ballot

@@ -18,20 +18,20 @@ use Rattle.agreement.specs.World.{GroupWorld}
 
 -- the proposal that a node is given, with the ballot that it has joined
 abbrev pub proposal_by : {S C : Type 0} → ReplicaState S C → Input C → List (ℕ × C)
-proposal_by r (Receives message) = []
-proposal_by r (Proposes command) = (r.joined, command) ∷ []
-proposal_by r Ticks = []
+proposal_by replica (Receives message) = []
+proposal_by replica (Proposes command) = (replica.joined, command) ∷ []
+proposal_by replica Ticks = []
 
 -- the proposal of a step, if it has one
-abbrev pub proposal_of : {S C O : Type 0} {rules : Rules S C O} {m : MasterState}
-    {w : GroupWorld S C O} {k : MasterState} {v : GroupWorld S C O} → MayHappen rules m w k v →
-    List (ℕ × C)
-proposal_of (node_takes n r input stands runs may loses) = proposal_by r input
-proposal_of (node_stops n r stands) = []
+abbrev pub proposal_of : {S C O : Type 0} {rules : Rules S C O} {master : MasterState}
+    {world : GroupWorld S C O} {next_master : MasterState} {next_world : GroupWorld S C O} →
+    MayHappen rules master world next_master next_world → List (ℕ × C)
+proposal_of (node_takes node replica input stands runs may loses) = proposal_by replica input
+proposal_of (node_stops node replica stands) = []
 proposal_of (master_assigns config) = []
-proposal_of (master_hears from b sent) = []
+proposal_of (master_hears from ballot sent) = []
 proposal_of (assignment_lost config) = []
-proposal_of (answer_lost from b sent) = []
+proposal_of (answer_lost from ballot sent) = []
 
 -- all proposals of a past, in order
 abbrev pub proposals_of : {S C O : Type 0} {rules : Rules S C O} {config : Config}
@@ -46,16 +46,16 @@ taken_by old new input =
     if nat_lt (length old.log) (length new.log) then proposal_by old input else []
 
 -- what is taken in a step
-abbrev pub taken_in : {S C O : Type 0} {rules : Rules S C O} {m : MasterState}
-    {w : GroupWorld S C O}
-    {k : MasterState} {v : GroupWorld S C O} → MayHappen rules m w k v → List (ℕ × C)
-taken_in (node_takes n r input {new = new} {given = given} stands runs may loses) =
-    taken_by r new input
-taken_in (node_stops n r stands) = []
+abbrev pub taken_in : {S C O : Type 0} {rules : Rules S C O} {master : MasterState}
+    {world : GroupWorld S C O} {next_master : MasterState} {next_world : GroupWorld S C O} →
+    MayHappen rules master world next_master next_world → List (ℕ × C)
+taken_in (node_takes node replica input {new = new} {given = given} stands runs may loses) =
+    taken_by replica new input
+taken_in (node_stops node replica stands) = []
 taken_in (master_assigns config) = []
-taken_in (master_hears from b sent) = []
+taken_in (master_hears from ballot sent) = []
 taken_in (assignment_lost config) = []
-taken_in (answer_lost from b sent) = []
+taken_in (answer_lost from ballot sent) = []
 
 -- all that was taken in a past, in order
 abbrev pub taken_of : {S C O : Type 0} {rules : Rules S C O} {config : Config}
@@ -64,36 +64,37 @@ taken_of (began nodes lawful is) = []
 taken_of (went_on came step) = taken_of came ++ taken_in step
 taken_of (learned came learns) = taken_of came
 
--- what the node at index n took in a step
-abbrev pub takes_at : {S C O : Type 0} {rules : Rules S C O} {m : MasterState}
-    {w : GroupWorld S C O}
-    {k : MasterState} {v : GroupWorld S C O} → ℕ → MayHappen rules m w k v → List (ℕ × C)
-takes_at n (node_takes i r input {new = new} {given = given} stands runs may loses) =
-    if i == n then taken_by r new input else []
-takes_at n (node_stops i r stands) = []
-takes_at n (master_assigns config) = []
-takes_at n (master_hears from b sent) = []
-takes_at n (assignment_lost config) = []
-takes_at n (answer_lost from b sent) = []
+-- what the node at this index took in a step
+abbrev pub takes_at : {S C O : Type 0} {rules : Rules S C O} {master : MasterState}
+    {world : GroupWorld S C O} {next_master : MasterState} {next_world : GroupWorld S C O} → ℕ →
+    MayHappen rules master world next_master next_world → List (ℕ × C)
+takes_at node (node_takes other replica input {new = new} {given = given} stands runs may loses) =
+    if other == node then taken_by replica new input else []
+takes_at node (node_stops other replica stands) = []
+takes_at node (master_assigns config) = []
+takes_at node (master_hears from ballot sent) = []
+takes_at node (assignment_lost config) = []
+takes_at node (answer_lost from ballot sent) = []
 
--- what the node at index n took in a past
+-- what the node at this index took in a past
 abbrev pub taken_at : {S C O : Type 0} {rules : Rules S C O} {config : Config}
     {past : List (Moment S C O)} → ℕ → Moments rules config past → List (ℕ × C)
-taken_at n (began nodes lawful is) = []
-taken_at n (went_on came step) = taken_at n came ++ takes_at n step
-taken_at n (learned came learns) = taken_at n came
+taken_at node (began nodes lawful is) = []
+taken_at node (went_on came step) = taken_at node came ++ takes_at node step
+taken_at node (learned came learns) = taken_at node came
 
 -- the rows of one ballot
 abbrev pub rows_in : {C : Type 0} → ℕ → List (ℕ × C) → List (ℕ × C)
 rows_in {C} ballot rows = filter (λ (row : ℕ × C). row.0 == ballot) rows
 
--- the node at index n took a proposal in a step: it ran, and was the active primary of the ballot
--- that the row names; after the step its log is what it was, with the command at its end
-pub record IsTaken {S C O : Type 0} (w v : GroupWorld S C O) (n : ℕ) (row : ℕ × C) : Type 0 where
-  pub primary : IsPrimary w n row.0
+-- the node at this index took a proposal in a step: it ran, and was the active primary of the
+-- ballot that the row names; after the step its log is what it was, with the command at its end
+pub record IsTaken {S C O : Type 0} (world next_world : GroupWorld S C O) (node : ℕ)
+    (row : ℕ × C) : Type 0 where
+  pub primary : IsPrimary world node row.0
   pub runs : primary.replica.stopped ≡ false
   pub after : ReplicaState S C
-  pub stands : slice_get v.nodes n ≡ Some after
+  pub stands : slice_get next_world.nodes node ≡ Some after
   pub log : after.log ≡ primary.replica.log ++ row.1 ∷ []
 
 -- some of a list, in order
@@ -113,5 +114,5 @@ commands_of (row ∷ rows) = row.1 ∷ commands_of rows
 -- commands that the test holds for are proposed in this ballot alone, and no ballot's start is one
 pub record IsOfBallot {C : Type 0} (start_of : ℕ → C) (names : C → Bool) (ballot : ℕ)
     (proposals : List (ℕ × C)) : Type 0 where
-  pub starts : (b : ℕ) → names (start_of b) ≡ false
+  pub starts : (other : ℕ) → names (start_of other) ≡ false
   pub only : (row : ℕ × C) → In row proposals → names row.1 ≡ true → row.0 ≡ ballot

@@ -6,10 +6,10 @@ use Rattle.agreement.specs.World.{GroupWorld}
 
 -- the machine of one replica is the replay of the places that it applied
 abbrev pub IsReplay : {S C O : Type 0} → Rules S C O → ReplicaState S C → Type 0
-IsReplay rules r = r.machine ≡ replay rules (take r.committed r.log)
+IsReplay rules replica = replica.machine ≡ replay rules (take replica.committed replica.log)
 
 -- the machine of each replica that has not stopped is the replay of the places that it applied
 abbrev pub AreReplays : {S C O : Type 0} → Rules S C O → GroupWorld S C O → Type 0
-AreReplays {S} {C} rules w =
-    (n : ℕ) (r : ReplicaState S C) → slice_get w.nodes n ≡ Some r → r.stopped ≡ false →
-    IsReplay rules r
+AreReplays {S} {C} rules world =
+    (node : ℕ) (replica : ReplicaState S C) → slice_get world.nodes node ≡ Some replica →
+    replica.stopped ≡ false → IsReplay rules replica

@@ -27,8 +27,8 @@ can_open nodes config =
 -- the nodes as they open
 abbrev pub opening_nodes : {S C O : Type 0} → Rules S C O → ℕ → Config → List (ReplicaState S C)
 opening_nodes rules zero config = []
-opening_nodes rules (suc n) config =
-    opening_nodes rules n config ++ opening rules (n + 1) config ∷ []
+opening_nodes rules (suc count) config =
+    opening_nodes rules count config ++ opening rules (count + 1) config ∷ []
 
 -- the world in which nothing was sent
 abbrev pub opening_world : {S C O : Type 0} → Rules S C O → ℕ → Config → GroupWorld S C O
@@ -50,14 +50,14 @@ outputs (Out place output ∷ effects) = (place, output) ∷ outputs effects
 -- a world after the node at an index changed and returned effects
 abbrev pub moved : {S C O : Type 0} →
     GroupWorld S C O → ℕ → ReplicaState S C → List (Effect C O) → GroupWorld S C O
-moved w n new given =
+moved world node new given =
     record {
-      nodes = slice_set w.nodes n new;
-      sent = w.sent ++ messages given;
-      left = w.left ++ outputs given;
+      nodes = slice_set world.nodes node new;
+      sent = world.sent ++ messages given;
+      left = world.left ++ outputs given;
     }
 
 -- the log of a node, if the node exists
 abbrev pub log_of : {S C : Type 0} → Option (ReplicaState S C) → List C
 log_of None = []
-log_of (Some r) = r.log
+log_of (Some replica) = replica.log

@@ -55,8 +55,11 @@ group_after_outcome g n outcome given =
 
 -- after a message of the master
 abbrev pub told_by_master : Group → MasterOutcome Command → Group
-told_by_master g o =
-    record g { sent = g.sent ++ (o.receiver, record { from = master; body = o.body }) ∷ [] }
+told_by_master group outcome =
+    record group {
+      sent = group.sent
+          ++ (outcome.receiver, record { from = master; body = outcome.body }) ∷ [];
+    }
 
 -- the group with another state of the master
 abbrev pub with_master : Group → MasterState → Group

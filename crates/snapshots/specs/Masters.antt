@@ -15,19 +15,19 @@ pub record MasterOutcome (C : Type 0) : Type 0 where
 
 -- Assign: a message to the primary with the ballot
 abbrev pub assigned : (C : Type 0) → MasterState → Config → MasterOutcome C
-assigned C m config =
+assigned C master config =
     record {
-      state = assigning m config;
+      state = assigning master config;
       receiver = config.primary;
-      body = NewBallot (m.given + 1) config.members m.active m.members;
+      body = NewBallot (master.given + 1) config.members master.active master.members;
     }
 
 -- Activate(ballot) from a node, which is answered
 abbrev pub activated : (C : Type 0) →
     MasterState → ℕ → ℕ → Option (ℕ × Config) → MasterOutcome C
-activated C m ballot from waiting =
+activated C master ballot from waiting =
     record {
-      state = activating m ballot waiting;
+      state = activating master ballot waiting;
       receiver = from;
-      body = if is_granted m ballot waiting then Activated ballot else Superseded ballot;
+      body = if is_granted master ballot waiting then Activated ballot else Superseded ballot;
     }

@@ -21,8 +21,8 @@ whole_moment a = record { master = a.master; world = whole_world a.world }
 -- the nodes as they open: no log has a place
 abbrev pub opening_nodes : {S C O : Type 0} → Rules S C O → ℕ → Config → List (ReplicaState S C)
 opening_nodes rules zero config = []
-opening_nodes rules (suc n) config =
-    opening_nodes rules n config ++ opening rules (n + 1) config ∷ []
+opening_nodes rules (suc count) config =
+    opening_nodes rules count config ++ opening rules (count + 1) config ∷ []
 
 -- the world as it opens: nothing was sent
 abbrev pub opening_world : {S C O : Type 0} → Rules S C O → ℕ → Config → CutGroupWorld S C O

@@ -18,9 +18,9 @@ use Rattle.snapshots.specs.World.NodeGoes.{takes, stops, cuts}
 
 -- the proposal that a node is given, with the ballot that it has joined
 abbrev pub proposal_by : {S C : Type 0} → ReplicaState S C → Input C → List (ℕ × C)
-proposal_by r (Receives message) = []
-proposal_by r (Proposes command) = (r.joined, command) ∷ []
-proposal_by r Ticks = []
+proposal_by replica (Receives message) = []
+proposal_by replica (Proposes command) = (replica.joined, command) ∷ []
+proposal_by replica Ticks = []
 
 -- what a node takes of an input: its log has more places after the step
 abbrev pub taken_by : {S C : Type 0} → ReplicaState S C → ReplicaState S C → Input C → List (ℕ × C)

@@ -14,8 +14,11 @@ use Rattle.snapshots.specs.World.{NodeGoes, CutGroupWorld}
 -- the world once the master has sent a message: it comes after those that were sent before
 abbrev pub sends_from_master : {S C O : Type 0} → CutGroupWorld S C O → MasterOutcome C →
     CutGroupWorld S C O
-sends_from_master w o =
-    record w { sent = w.sent ++ (o.receiver, record { from = master; body = o.body }) ∷ [] }
+sends_from_master world outcome =
+    record world {
+      sent = world.sent
+          ++ (outcome.receiver, record { from = master; body = outcome.body }) ∷ [];
+    }
 
 -- the world after an Assign: if it is not refused, the primary is sent the ballot
 abbrev pub world_after : {S C O : Type 0} →

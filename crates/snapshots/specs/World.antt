@@ -66,9 +66,9 @@ recorded archive r = archive ++ drop (length archive) (take r.committed (whole_l
 
 -- a node takes a message that was sent to it
 abbrev pub MayTake : {S C O : Type 0} → CutGroupWorld S C O → ℕ → Input C → Type 0
-MayTake w n (Receives message) = In (n + 1, message) w.sent
-MayTake w n (Proposes command) = Unit {0}
-MayTake w n Ticks = Unit {0}
+MayTake world node (Receives message) = In (node + 1, message) world.sent
+MayTake world node (Proposes command) = Unit {0}
+MayTake world node Ticks = Unit {0}
 
 -- what may happen to a node; a machine that is cut comes back from its bytes
 pub data NodeGoes {S C O : Type 0} (rules : Rules S C O)
