@@ -21,7 +21,7 @@ use Rattle.ballot_base.specs.Activating.{on_activated}
 use Rattle.ballot_base.proofs.ChangeRows.{on_activated-adds}
 use Rattle.ballot_base.proofs.StepRows.{added-commits, added-log, commit-stopped}
 use Rattle.ballot_base.specs.Sends.{Sends}
-use Rattle.ballot.specs.Inside.{BecomesActive, WentOrLost}
+use Rattle.ballot.specs.Inside.{ActivationOrLost, PlainStepOrLost}
 use Rattle.ballot.proofs.MessagesTaken.{went_sent, went_ignored, went_halted}
 use Rattle.ballot_base.proofs.SendsJoin.{Sends-then}
 
@@ -46,9 +46,9 @@ activated_loud rules r b quiet =
 -- the start found no memory
 pub activated_lost : {S C O : Type 0} (rules : Rules S C O) (old new : CountedReplica S C) (b : ℕ) (before : List (Effect C O)) →
     may_begin old.state b ≡ true → new.state ≡ old.state → new.losses ≡ one_more old.losses →
-    WentOrLost rules old (on_activated rules old.state b) new before before
+    PlainStepOrLost rules old (on_activated rules old.state b) new before before
 activated_lost {S = S} {C = C} {O = O} rules old new b before may state losses =
-    subst (λ (o : Outcome S C O). WentOrLost rules old o new before before) (sym (on_activated-adds rules old.state b may))
+    subst (λ (o : Outcome S C O). PlainStepOrLost rules old o new before before) (sym (on_activated-adds rules old.state b may))
     (went_ignored old _ new before before state losses refl (activated_loud rules old.state b))
 
 -- a place could not be applied
@@ -57,7 +57,7 @@ pub activated_halted : {S C O : Type 0} (rules : Rules S C O) (old grown stopped
     grown ≡ record old { state = record old.state { log = pushed old.state.log (rules.start_of b) } } →
     stopped ≡ record grown { state = halted rules grown.state } →
     new ≡ record { state = record stopped.state { log = popped stopped.state.log }; losses = one_more stopped.losses } →
-    WentOrLost rules old (on_activated rules old.state b) new before before
+    PlainStepOrLost rules old (on_activated rules old.state b) new before before
 activated_halted {S = S} {C = C} {O = O} rules old grown stopped new b before may p h n =
     let z : CountedReplica S C = record old { state = halted rules (record old.state { log = pushed old.state.log (rules.start_of b) }) } in
     let same : stopped ≡ z = h ∙ ap (λ (y : CountedReplica S C). let x : CountedReplica S C = record y { state = halted rules y.state } in x) p in
@@ -65,7 +65,7 @@ activated_halted {S = S} {C = C} {O = O} rules old grown stopped new b before ma
     n ∙ ap (λ (y : CountedReplica S C). let x : CountedReplica S C = record { state = record y.state { log = popped y.state.log }; losses = one_more y.losses } in x) same
     ∙ ap (λ us. let x : CountedReplica S C = record { state = halted rules (record old.state { log = us }); losses = one_more old.losses } in x)
     (popped_pushed old.state.log (rules.start_of b)) in
-    subst (λ (o : Outcome S C O). WentOrLost rules old o new before before) (sym (on_activated-adds rules old.state b may))
+    subst (λ (o : Outcome S C O). PlainStepOrLost rules old o new before before) (sym (on_activated-adds rules old.state b may))
     (went_halted old _ new before before (ap (λ (y : CountedReplica S C). y.state) is) (ap (λ (y : CountedReplica S C). y.losses) is) refl
     (activated_loud rules old.state b))
 
@@ -113,11 +113,11 @@ Begun rules active new committed waiting before after old = (after ≡ before) �
 pub activated_begun : {S C O T E : Type 0} (rules : Rules S C O) (result : Result T E) (old active new : CountedReplica S C) (b committed : ℕ)
     (waiting : List Progress) (before after : List (Effect C O)) →
     may_begin old.state b ≡ true → active ≡ begun_of rules old b → committed ≡ old.state.committed → waiting ≡ old.state.progress →
-    MatchResult result (λ _. BecomesActive rules active new before after) (λ _. Begun rules active new committed waiting before after old) →
-    WentOrLost rules old (on_activated rules old.state b) new before after
+    MatchResult result (λ _. ActivationOrLost rules active new before after) (λ _. Begun rules active new committed waiting before after old) →
+    PlainStepOrLost rules old (on_activated rules old.state b) new before after
 activated_begun {S = S} {C = C} {O = O} rules (Ok x) old active new b committed waiting before after may a m w begins =
-    let y : BecomesActive rules (begun_of rules old b) new before after = subst (λ (z : CountedReplica S C). BecomesActive rules z new before after) a begins in
-    subst (λ (o : Outcome S C O). WentOrLost rules old o new before after) (sym (on_activated-adds rules old.state b may
+    let y : ActivationOrLost rules (begun_of rules old b) new before after = subst (λ (z : CountedReplica S C). ActivationOrLost rules z new before after) a begins in
+    subst (λ (o : Outcome S C O). PlainStepOrLost rules old o new before after) (sym (on_activated-adds rules old.state b may
     ∙ added-commits rules (active_of rules old.state) (rules.start_of b)))
     (went_sent old _ new before after y.whole (y.sends old.state.log (rules.start_of b) refl) y.state y.counted)
 activated_begun {S = S} {C = C} {O = O} rules (Err x) old active new b committed waiting before after may a m w (same, n) =
@@ -152,7 +152,7 @@ activated_begun {S = S} {C = C} {O = O} rules (Err x) old active new b committed
       state = record old.state { role = q; stopped = true; machine = rules.opening };
       losses = one_more old.losses;
     } in x) (sym role) in
-    subst (λ (o : Outcome S C O). WentOrLost rules old o new before after) (sym (on_activated-adds rules old.state b may))
+    subst (λ (o : Outcome S C O). PlainStepOrLost rules old o new before after) (sym (on_activated-adds rules old.state b may))
     (went_halted old _ new before after (ap (λ (y : CountedReplica S C). y.state) is) (ap (λ (y : CountedReplica S C). y.losses) is) same
     (activated_loud rules old.state b))
 
@@ -160,7 +160,7 @@ activated_begun {S = S} {C = C} {O = O} rules (Err x) old active new b committed
 pub begun_runs : {S C O T E : Type 0} (rules : Rules S C O) (result : Result T E) (old active new : CountedReplica S C) (b committed : ℕ)
     (waiting : List Progress) (before after : List (Effect C O)) →
     active ≡ begun_of rules old b → old.state.stopped ≡ false →
-    MatchResult result (λ _. BecomesActive rules active new before after) (λ _. Begun rules active new committed waiting before after old) →
+    MatchResult result (λ _. ActivationOrLost rules active new before after) (λ _. Begun rules active new committed waiting before after old) →
     OnOk result (new.state.stopped ≡ false) × OnErr result ((new.state.stopped ≡ true) × (after ≡ before))
 begun_runs {S = S} {C = C} {O = O} rules (Ok x) old active new b committed waiting before after a running begins =
     (ap (λ (r : ReplicaState S C). r.stopped) begins.state ∙ commit-stopped rules active.state ∙ ap (λ (z : CountedReplica S C). z.state.stopped) a ∙ running, tt)

@@ -20,13 +20,13 @@ use Rattle.ballot_base.specs.Changing.{waits_for, lacks, on_new_ballot, on_join,
 use Rattle.ballot_base.specs.Activating.{activates, on_installed, on_superseded}
 use Rattle.ballot_base.proofs.ChangeRows.{on_new_ballot-joins, on_join-answers, on_state-takes, on_install-takes, on_install-answers, on_installed-counts, on_superseded-leaves}
 use Rattle.ballot_base.specs.Sends.{Sends}
-use Rattle.ballot.specs.Inside.{HeardOrLost, SendsCounted, WentOrLost}
+use Rattle.ballot.specs.Inside.{MessagesOrLost, PlainStepOrLost, ReadingStepOrLost}
 use Rattle.ballot.proofs.MessagesTaken.{went_sent, went_lost}
 
 -- a replica that took a row's state and then sent its messages did the row
 pub went_said : {S C O : Type 0} {rules : Rules S C O} {unread : Bool} (old mid : CountedReplica S C) (o : Outcome S C O) (new : CountedReplica S C)
-    (before after : List (Effect C O)) → mid ≡ record { state = o.state; losses = old.losses } → SendsCounted mid o.effects new before after →
-    HeardOrLost rules old o unread new before after
+    (before after : List (Effect C O)) → mid ≡ record { state = o.state; losses = old.losses } → MessagesOrLost mid o.effects new before after →
+    ReadingStepOrLost rules old o unread new before after
 went_said {S = S} {C = C} old mid o new before after e said =
     went_sent old o new before after said.whole said.sends
     (ap (λ (z : CountedReplica S C). z.state) said.counted ∙ ap (λ (z : CountedReplica S C). z.state) e)
@@ -47,9 +47,9 @@ pub new_ballot_taken : {S C : Type 0} (O : Type 0) {rules : Rules S C O} (old ne
       lacking = lacking;
       progress = progress;
     } → new.losses ≡ cond sent old.losses (one_more old.losses) →
-    WentOrLost rules old (on_new_ballot O old.state ballot members previous previous_members) new before after
+    PlainStepOrLost rules old (on_new_ballot O old.state ballot members previous previous_members) new before after
 new_ballot_taken {S = S} {C = C} O {rules = rules} old new ballot members previous previous_members receivers lacking progress before after sent low r l p sends state losses =
-    subst (λ (o : Outcome S C O). WentOrLost rules old o new before after)
+    subst (λ (o : Outcome S C O). PlainStepOrLost rules old o new before after)
     (sym (on_new_ballot-joins O old.state ballot members previous previous_members low))
     (went_sent old _ new before after sent
     (subst (λ ms. Sends before after (message_to_each O old.state.id (Join ballot previous) ms) sent) r sends)
@@ -80,9 +80,9 @@ pub join_answered : {S C : Type 0} (O : Type 0) {rules : Rules S C O} (old mid n
     Sends before after (message_to O old.state.id (State ballot log) from ∷ []) sent →
     mid ≡ record old { state = cond (nat_lt old.state.joined ballot) (record old.state { joined = ballot; role = Backup }) old.state } →
     new.state ≡ mid.state → new.losses ≡ cond sent mid.losses (one_more mid.losses) →
-    WentOrLost rules old (on_join O old.state from ballot previous) new before after
+    PlainStepOrLost rules old (on_join O old.state from ballot previous) new before after
 join_answered {S = S} {C = C} O {rules = rules} old mid new from ballot previous log before after sent may l sends m state losses =
-    subst (λ (o : Outcome S C O). WentOrLost rules old o new before after) (sym (on_join-answers O old.state from ballot previous may))
+    subst (λ (o : Outcome S C O). PlainStepOrLost rules old o new before after) (sym (on_join-answers O old.state from ballot previous may))
     (went_sent old _ new before after sent
     (subst (λ us. Sends before after (message_to O old.state.id (State ballot us) from ∷ []) sent) l sends)
     (state ∙ ap (λ (z : CountedReplica S C). z.state) m)
@@ -101,12 +101,12 @@ pub state_taken : {S C O : Type 0} {rules : Rules S C O} (old took mid new : Cou
     mid ≡ record took { state = record took.state { held_in = ballot; role = Installing; lacking = lacking } } →
     Sends before after (installs O mid.state mid.state.lacking) sent →
     new.state ≡ mid.state → new.losses ≡ cond sent mid.losses (one_more mid.losses) →
-    HeardOrLost rules old (on_state rules old.state ballot log) unread new before after
+    ReadingStepOrLost rules old (on_state rules old.state ballot log) unread new before after
 state_taken {S = S} {C = C} {O = O} {rules = rules} old took mid new ballot log unread lacking before after sent waits is losses l m sends state count =
     let all : CountedReplica S C = record took { state = record took.state { held_in = ballot; role = Installing; lacking = others old.state.id old.state.members } } in
     let same : mid ≡ all =
     m ∙ ap (λ ms. let z : CountedReplica S C = record took { state = record took.state { held_in = ballot; role = Installing; lacking = ms } } in z) l in
-    subst (λ (o : Outcome S C O). HeardOrLost rules old o unread new before after) (sym (on_state-takes rules old.state took.state ballot log waits is))
+    subst (λ (o : Outcome S C O). ReadingStepOrLost rules old o unread new before after) (sym (on_state-takes rules old.state took.state ballot log waits is))
     (went_sent old _ new before after sent
     (subst (λ (z : CountedReplica S C). Sends before after (installs O z.state z.state.lacking) sent) same sends)
     (state ∙ ap (λ (z : CountedReplica S C). z.state) same)
@@ -115,7 +115,7 @@ state_taken {S = S} {C = C} {O = O} {rules = rules} old took mid new ballot log 
 -- State that counts as lost: there was no memory, or its snapshot does not thaw
 pub state_lost : {S C O : Type 0} {rules : Rules S C O} (old new : CountedReplica S C) (ballot : ℕ) (log : Log C) (before : List (Effect C O)) →
     waits_for old.state ballot (places log) ≡ true → new.state ≡ old.state → new.losses ≡ one_more old.losses →
-    HeardOrLost rules old (on_state rules old.state ballot log) (waits_for old.state ballot (places log) && reads_none rules old.state log) new before before
+    ReadingStepOrLost rules old (on_state rules old.state ballot log) (waits_for old.state ballot (places log) && reads_none rules old.state log) new before before
 state_lost {S = S} {C = C} {O = O} {rules = rules} old new ballot log before waits state losses =
     went_lost old (on_state rules old.state ballot log) new before before state losses refl (λ quiet. by_log quiet (read_or_none rules old.state log))
   where
@@ -158,21 +158,21 @@ pub install_taken : {S C O : Type 0} {rules : Rules S C O} (old took mid new : C
     lacks old.state ballot held ≡ true → held ≡ places log → taken rules old.state log ≡ Some took.state → took.losses ≡ old.losses →
     took.state.id ≡ old.state.id →
     mid ≡ record took { state = record took.state { joined = ballot; held_in = ballot; role = Backup } } →
-    SendsCounted mid (message_to O mid.state.id (Installed ballot held) from ∷ []) new before after →
-    HeardOrLost rules old (on_install rules old.state from ballot log) unread new before after
+    MessagesOrLost mid (message_to O mid.state.id (Installed ballot held) from ∷ []) new before after →
+    ReadingStepOrLost rules old (on_install rules old.state from ballot log) unread new before after
 install_taken {S = S} {C = C} {O = O} {rules = rules} old took mid new from ballot held log unread before after may h is losses id m said =
     let may' = subst (λ k. lacks old.state ballot k ≡ true) h may in
     let same : mid ≡ record { state = record took.state { joined = ballot; held_in = ballot; role = Backup }; losses = old.losses } =
     m ∙ ap (λ n. let z : CountedReplica S C = record { state = record took.state { joined = ballot; held_in = ballot; role = Backup }; losses = n } in z) losses in
     let named : mid.state.id ≡ old.state.id = ap (λ (z : CountedReplica S C). z.state.id) same ∙ id in
-    subst (λ (o : Outcome S C O). HeardOrLost rules old o unread new before after) (sym (on_install-takes rules old.state took.state from ballot log may' is))
+    subst (λ (o : Outcome S C O). ReadingStepOrLost rules old o unread new before after) (sym (on_install-takes rules old.state took.state from ballot log may' is))
     (went_said old mid _ new before after same
-    (subst (λ k. SendsCounted mid (message_to O old.state.id (Installed ballot k) from ∷ []) new before after) h
-    (subst (λ k. SendsCounted mid (message_to O k (Installed ballot held) from ∷ []) new before after) named said)))
+    (subst (λ k. MessagesOrLost mid (message_to O old.state.id (Installed ballot k) from ∷ []) new before after) h
+    (subst (λ k. MessagesOrLost mid (message_to O k (Installed ballot held) from ∷ []) new before after) named said)))
 
 pub install_lost : {S C O : Type 0} {rules : Rules S C O} (old new : CountedReplica S C) (from ballot held : ℕ) (log : Log C) (before : List (Effect C O)) →
     lacks old.state ballot held ≡ true → held ≡ places log → new.state ≡ old.state → new.losses ≡ one_more old.losses →
-    HeardOrLost rules old (on_install rules old.state from ballot log) (lacks old.state ballot (places log) && reads_none rules old.state log) new before before
+    ReadingStepOrLost rules old (on_install rules old.state from ballot log) (lacks old.state ballot (places log) && reads_none rules old.state log) new before before
 install_lost {S = S} {C = C} {O = O} {rules = rules} old new from ballot held log before may h state losses =
     went_lost old (on_install rules old.state from ballot log) new before before state losses refl (λ quiet. by_log quiet (read_or_none rules old.state log))
   where
@@ -190,13 +190,13 @@ install_lost {S = S} {C = C} {O = O} {rules = rules} old new from ballot held lo
 pub install_answered : {S C O : Type 0} {rules : Rules S C O} (old new : CountedReplica S C) (from ballot held : ℕ) (log : Log C) (unread : Bool)
     (before after : List (Effect C O)) →
     lacks old.state ballot held ≡ false → (old.state.joined == ballot && old.state.held_in == ballot) ≡ true → held ≡ places log →
-    SendsCounted old (message_to O old.state.id (Installed ballot held) from ∷ []) new before after →
-    HeardOrLost rules old (on_install rules old.state from ballot log) unread new before after
+    MessagesOrLost old (message_to O old.state.id (Installed ballot held) from ∷ []) new before after →
+    ReadingStepOrLost rules old (on_install rules old.state from ballot log) unread new before after
 install_answered {S = S} {C = C} {O = O} {rules = rules} old new from ballot held log unread before after other here h said =
     let off = subst (λ k. lacks old.state ballot k ≡ false) h other in
-    subst (λ (o : Outcome S C O). HeardOrLost rules old o unread new before after) (sym (on_install-answers rules old.state from ballot log off here))
+    subst (λ (o : Outcome S C O). ReadingStepOrLost rules old o unread new before after) (sym (on_install-answers rules old.state from ballot log off here))
     (went_said old old _ new before after refl
-    (subst (λ k. SendsCounted old (message_to O old.state.id (Installed ballot k) from ∷ []) new before after) h said))
+    (subst (λ k. MessagesOrLost old (message_to O old.state.id (Installed ballot k) from ∷ []) new before after) h said))
 
 -- Installed of a member that lacked the log: others lack it, or it was the last
 pub installed_noted : {S C : Type 0} (O : Type 0) {rules : Rules S C O} (old new : CountedReplica S C) (from ballot : ℕ) (lacking : List ℕ)
@@ -204,16 +204,16 @@ pub installed_noted : {S C : Type 0} (O : Type 0) {rules : Rules S C O} (old new
     ((old.state.joined == ballot && is_installing old.state.role) && list_any (λ member. member == from) old.state.lacking) ≡ true →
     lacking ≡ others from old.state.lacking → (lacking ≡ [] → ⊥) →
     new ≡ record old { state = record old.state { lacking = lacking } } →
-    WentOrLost rules old (on_installed O old.state from ballot) new out out
+    PlainStepOrLost rules old (on_installed O old.state from ballot) new out out
 installed_noted {S = S} {C = C} O {rules = rules} old new from ballot lacking out may l some n =
     let none = λ (e : others from old.state.lacking ≡ []). some (l ∙ e) in
     let same : new ≡ record old { state = record old.state { lacking = others from old.state.lacking } } =
     n ∙ ap (λ ms. let z : CountedReplica S C = record old { state = record old.state { lacking = ms } } in z) l in
-    subst (λ (o : Outcome S C O). WentOrLost rules old o new out out) (sym (on_installed-counts O old.state from ballot may))
+    subst (λ (o : Outcome S C O). PlainStepOrLost rules old o new out out) (sym (on_installed-counts O old.state from ballot may))
     (by_others (others from old.state.lacking) none same)
   where
     by_others : (ms : List ℕ) → (ms ≡ [] → ⊥) → new ≡ record old { state = record old.state { lacking = ms } } →
-        WentOrLost rules old (record {
+        PlainStepOrLost rules old (record {
           state = record old.state { lacking = ms };
           effects = activates O (record old.state { lacking = ms }) ms;
         }) new out out
@@ -229,18 +229,18 @@ pub installed_last : {S C : Type 0} (O : Type 0) {rules : Rules S C O} (old mid 
     ((old.state.joined == ballot && is_installing old.state.role) && list_any (λ member. member == from) old.state.lacking) ≡ true →
     lacking ≡ others from old.state.lacking → lacking ≡ [] → joined ≡ old.state.joined →
     mid ≡ record old { state = record old.state { lacking = lacking } } →
-    SendsCounted mid (message_to O mid.state.id (Activate joined) master ∷ []) new before after →
-    WentOrLost rules old (on_installed O old.state from ballot) new before after
+    MessagesOrLost mid (message_to O mid.state.id (Activate joined) master ∷ []) new before after →
+    PlainStepOrLost rules old (on_installed O old.state from ballot) new before after
 installed_last {S = S} {C = C} O {rules = rules} old mid new from ballot joined lacking before after may l none j m said =
     let same : mid ≡ record old { state = record old.state { lacking = others from old.state.lacking } } =
     m ∙ ap (λ ms. let z : CountedReplica S C = record old { state = record old.state { lacking = ms } } in z) l in
-    subst (λ (o : Outcome S C O). WentOrLost rules old o new before after) (sym (on_installed-counts O old.state from ballot may))
+    subst (λ (o : Outcome S C O). PlainStepOrLost rules old o new before after) (sym (on_installed-counts O old.state from ballot may))
     (went_said old mid _ new before after same
-    (subst (λ (es : List (Effect C O)). SendsCounted mid es new before after) (by_none (others from old.state.lacking) (sym l ∙ none)) here))
+    (subst (λ (es : List (Effect C O)). MessagesOrLost mid es new before after) (by_none (others from old.state.lacking) (sym l ∙ none)) here))
   where
-    here : SendsCounted mid (message_to O old.state.id (Activate old.state.joined) master ∷ []) new before after
-    here = subst (λ k. SendsCounted mid (message_to O old.state.id (Activate k) master ∷ []) new before after) j
-        (subst (λ (z : CountedReplica S C). SendsCounted mid (message_to O z.state.id (Activate joined) master ∷ []) new before after) m said)
+    here : MessagesOrLost mid (message_to O old.state.id (Activate old.state.joined) master ∷ []) new before after
+    here = subst (λ k. MessagesOrLost mid (message_to O old.state.id (Activate k) master ∷ []) new before after) j
+        (subst (λ (z : CountedReplica S C). MessagesOrLost mid (message_to O z.state.id (Activate joined) master ∷ []) new before after) m said)
 
     by_none : (ms : List ℕ) → ms ≡ [] →
         message_to O old.state.id (Activate old.state.joined) master ∷ [] ≡ activates O (record old.state { lacking = ms }) ms
@@ -251,9 +251,9 @@ installed_last {S = S} {C = C} O {rules = rules} old mid new from ballot joined 
 pub superseded_left : {S C : Type 0} (O : Type 0) {rules : Rules S C O} (old new : CountedReplica S C) (ballot : ℕ) →
     (old.state.joined == ballot && is_installing old.state.role) ≡ true →
     new ≡ record old { state = record old.state { role = Backup } } →
-    WentOrLost rules old (on_superseded O old.state ballot) new [] []
+    PlainStepOrLost rules old (on_superseded O old.state ballot) new [] []
 superseded_left {S = S} {C = C} O {rules = rules} old new ballot here n =
-    subst (λ (o : Outcome S C O). WentOrLost rules old o new [] []) (sym (on_superseded-leaves O old.state ballot here))
+    subst (λ (o : Outcome S C O). PlainStepOrLost rules old o new [] []) (sym (on_superseded-leaves O old.state ballot here))
     (record {
       given = [];
       appended = refl;

@@ -6,7 +6,7 @@ use Rattle.ballot_base.specs.declared.message.Effect.{Effect}
 use Rattle.ballot_base.specs.declared.status.Progress.{Progress}
 use Rattle.ballot_base.specs.Replica.{ReplicaState, CountedReplica}
 use Rattle.ballot_base.specs.Logs.{Log, part, places, pushed}
-use Rattle.ballot_base.specs.Losses.{DoneOrLost, one_more}
+use Rattle.ballot_base.specs.Losses.{StepMessagesOrLost, one_more}
 use Rattle.ballot_base.specs.Sending.{Outcome, message_to_followed}
 use Rattle.ballot_base.specs.Applying.{outputs_from, outputs_to}
 use Rattle.ballot_base.specs.Serving.{least, commit_at, added}
@@ -73,7 +73,7 @@ pub add_done : {S C O : Type 0} (rules : Rules S C O) (old grown after new : Cou
     after ≡ record { state = (commit_at rules grown.state held).state; losses = grown.losses } →
     Sends mid later (commit_at rules grown.state held).effects told →
     new.state ≡ after.state → new.losses ≡ cond (sent && told) after.losses (one_more after.losses) →
-    DoneOrLost old (added rules old.state command) new start later
+    StepMessagesOrLost old (added rules old.state command) new start later
 add_done {S = S} {C = C} {O = O} rules old grown after new command log progress long held sent told start mid later
     appends l p0 n0 m h0 a commits kept n =
     let p : grown ≡ record { state = record old.state { log = pushed old.state.log command }; losses = old.losses } =
@@ -92,7 +92,7 @@ add_done {S = S} {C = C} {O = O} rules old grown after new command log progress 
     ∙ ap (λ (z : Outcome S C O). z.state) same in
     let losses : after.losses ≡ old.losses =
     ap (λ (z : CountedReplica S C). z.losses) a ∙ ap (λ (z : CountedReplica S C). z.losses) p in
-    subst (λ (z : Outcome S C O). DoneOrLost old z new start later) (sym (added-is rules old.state command))
+    subst (λ (z : Outcome S C O). StepMessagesOrLost old z new start later) (sym (added-is rules old.state command))
     (record {
       given = all.given;
       appended = all.appended;

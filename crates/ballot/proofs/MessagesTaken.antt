@@ -9,7 +9,7 @@ use Rattle.ballot_base.specs.declared.status.Progress.{Progress}
 use Rattle.ballot_base.specs.Replica.{ReplicaState, CountedReplica}
 use Rattle.ballot_base.specs.Logs.{Log, part, places, pushed}
 use Rattle.ballot_base.proofs.LongerLogs.{places_pushed}
-use Rattle.ballot_base.specs.Losses.{SteppedOrLost, StepsOrLost, Loses, SendsAndAddsNothing, halted, one_more}
+use Rattle.ballot_base.specs.Losses.{AppendedStepOrLost, ReplicaStepOrLost, Loses, SendsAndAddsNothing, halted, one_more}
 use Rattle.ballot_base.specs.Sending.{Outcome, nothing_done, message_to}
 use Rattle.ballot_base.specs.Applying.{applied_to}
 use Rattle.ballot_base.specs.Serving.{least, raised, follows, leads, extended, commit_at, on_append, on_held, on_commit}
@@ -17,24 +17,24 @@ use Rattle.ballot_base.proofs.AppliesInOrder.{part_none}
 use Rattle.ballot_base.proofs.StepRows.{commit_at-goes}
 use Rattle.ballot_base.proofs.MessageRows.{commit_at-raised, progress_raised, on_append-takes, on_held-raises, on_commit-takes}
 use Rattle.ballot_base.specs.Sends.{Sends}
-use Rattle.ballot.specs.Inside.{HeardOrLost, SendsCounted, WentOrLost}
+use Rattle.ballot.specs.Inside.{MessagesOrLost, PlainStepOrLost, ReadingStepOrLost}
 use Rattle.ballot_base.specs.lists.Lists.{IsPrefixOf}
 
 -- such a step is one with losses that was counted
 pub went_stepped : {S C O : Type 0} {rules : Rules S C O} {old : CountedReplica S C} {o : Outcome S C O} {unread : Bool} {new : CountedReplica S C} {before later : List (Effect C O)} →
-    HeardOrLost rules old o unread new before later → SteppedOrLost rules old o new before later
+    ReadingStepOrLost rules old o unread new before later → AppendedStepOrLost rules old o new before later
 went_stepped {rules = rules} {old = old} {o = o} {unread = unread} {new = new} w =
     record { given = w.given; appended = w.appended; steps = by_way w.way }
   where
     by_way : ((new.state ≡ o.state) × (w.given ≡ o.effects) × (new.losses ≡ old.losses))
         ⊎ (Loses rules old.state o new.state w.given × (new.losses ≡ one_more old.losses) × (SendsAndAddsNothing old.state o → unread ≡ true)) →
-        StepsOrLost rules old o new w.given
+        ReplicaStepOrLost rules old o new w.given
     by_way (inl e) = inl e
     by_way (inr e) = inr (e.0, e.1)
 
 -- a quiet step is done exactly, if no snapshot has to be read
 pub went_quiet : {S C O : Type 0} {rules : Rules S C O} {old : CountedReplica S C} {o : Outcome S C O} {unread : Bool} {new : CountedReplica S C} {before later : List (Effect C O)} →
-    HeardOrLost rules old o unread new before later → SendsAndAddsNothing old.state o → unread ≡ false → new ≡ record { state = o.state; losses = old.losses }
+    ReadingStepOrLost rules old o unread new before later → SendsAndAddsNothing old.state o → unread ≡ false → new ≡ record { state = o.state; losses = old.losses }
 went_quiet {S = S} {C = C} {rules = rules} {old = old} {o = o} {unread = unread} {new = new} w quiet read = by_way w.way
   where
     by_way : ((new.state ≡ o.state) × (w.given ≡ o.effects) × (new.losses ≡ old.losses))
@@ -47,7 +47,7 @@ went_quiet {S = S} {C = C} {rules = rules} {old = old} {o = o} {unread = unread}
 
 -- the row changes nothing, and nothing was done
 pub went_same : {S C O : Type 0} {rules : Rules S C O} {unread : Bool} (old : CountedReplica S C) (o : Outcome S C O) (out : List (Effect C O)) →
-    o ≡ nothing_done O old.state → HeardOrLost rules old o unread old out out
+    o ≡ nothing_done O old.state → ReadingStepOrLost rules old o unread old out out
 went_same {S = S} {C = C} {O = O} {rules = rules} old o out e =
     record {
       given = [];
@@ -58,7 +58,7 @@ went_same {S = S} {C = C} {O = O} {rules = rules} old o out e =
 -- the row was done, except messages that were lost
 pub went_sent : {S C O : Type 0} {rules : Rules S C O} {unread : Bool} (old : CountedReplica S C) (o : Outcome S C O) (new : CountedReplica S C) (before later : List (Effect C O))
     (whole : Bool) → Sends before later o.effects whole → new.state ≡ o.state →
-    new.losses ≡ cond whole old.losses (one_more old.losses) → HeardOrLost rules old o unread new before later
+    new.losses ≡ cond whole old.losses (one_more old.losses) → ReadingStepOrLost rules old o unread new before later
 went_sent {S = S} {C = C} {O = O} {rules = rules} {unread = unread} old o new before later whole sent state losses =
     record {
       given = sent.given;
@@ -76,7 +76,7 @@ went_sent {S = S} {C = C} {O = O} {rules = rules} {unread = unread} old o new be
 -- nothing was done: there was no memory, or a snapshot does not thaw
 pub went_lost : {S C O : Type 0} {rules : Rules S C O} {unread : Bool} (old : CountedReplica S C) (o : Outcome S C O) (new : CountedReplica S C) (before later : List (Effect C O)) →
     new.state ≡ old.state → new.losses ≡ one_more old.losses → later ≡ before → (SendsAndAddsNothing old.state o → unread ≡ true) →
-    HeardOrLost rules old o unread new before later
+    ReadingStepOrLost rules old o unread new before later
 went_lost old o new before later state losses same busy =
     record {
       given = [];
@@ -86,13 +86,13 @@ went_lost old o new before later state losses same busy =
 
 pub went_ignored : {S C O : Type 0} {rules : Rules S C O} {unread : Bool} (old : CountedReplica S C) (o : Outcome S C O) (new : CountedReplica S C) (before later : List (Effect C O)) →
     new.state ≡ old.state → new.losses ≡ one_more old.losses → later ≡ before → (SendsAndAddsNothing old.state o → ⊥) →
-    HeardOrLost rules old o unread new before later
+    ReadingStepOrLost rules old o unread new before later
 went_ignored old o new before later state losses same busy = went_lost old o new before later state losses same (λ quiet. absurd (busy quiet))
 
 -- the replica stopped, because memory ran out
 pub went_halted : {S C O : Type 0} {rules : Rules S C O} {unread : Bool} (old : CountedReplica S C) (o : Outcome S C O) (new : CountedReplica S C) (before later : List (Effect C O)) →
     new.state ≡ halted rules old.state → new.losses ≡ one_more old.losses → later ≡ before → (SendsAndAddsNothing old.state o → ⊥) →
-    HeardOrLost rules old o unread new before later
+    ReadingStepOrLost rules old o unread new before later
 went_halted old o new before later state losses same busy =
     record {
       given = [];
@@ -102,7 +102,7 @@ went_halted old o new before later state losses same busy =
 
 -- if nothing was handed out, nothing was
 pub went_silent : {S C O : Type 0} {rules : Rules S C O} {old : CountedReplica S C} {o : Outcome S C O} {new : CountedReplica S C} (out : List (Effect C O)) →
-    WentOrLost rules old o new [] [] → WentOrLost rules old o new out out
+    PlainStepOrLost rules old o new [] [] → PlainStepOrLost rules old o new out out
 went_silent out w =
     record { given = w.given; appended = sym (ap (λ xs. out ++ xs) (sym w.appended) ∙ append-nil out); way = w.way }
 
@@ -117,8 +117,8 @@ pub append_taken : {S C : Type 0} (O : Type 0) {rules : Rules S C O} (old mid ne
     follows old.state ballot ≡ true → place ≤ places old.state.log → log ≡ extended place command old.state.log →
     long ≡ places log →
     mid ≡ record old { state = record old.state { log = log } } →
-    SendsCounted mid (message_to O mid.state.id (Held ballot long) from ∷ []) new before later →
-    WentOrLost rules old (on_append O old.state from ballot place command) new before later
+    MessagesOrLost mid (message_to O mid.state.id (Held ballot long) from ∷ []) new before later →
+    PlainStepOrLost rules old (on_append O old.state from ballot place command) new before later
 append_taken {S = S} {C = C} O {rules = rules} old mid new from ballot place command log long before later follower within e n m said =
     let row = on_append-takes O old.state from ballot place command follower within in
     let named : mid.state.id ≡ old.state.id = ap (λ (z : CountedReplica S C). z.state.id) m in
@@ -129,7 +129,7 @@ append_taken {S = S} {C = C} O {rules = rules} old mid new from ballot place com
     let losses : new.losses ≡ cond said.whole old.losses (one_more old.losses) =
     ap (λ (z : CountedReplica S C). z.losses) said.counted
     ∙ ap (λ (z : CountedReplica S C). cond said.whole z.losses (one_more z.losses)) m in
-    subst (λ (o : Outcome S C O). WentOrLost rules old o new before later) (sym row)
+    subst (λ (o : Outcome S C O). PlainStepOrLost rules old o new before later) (sym row)
     (went_sent old _ new before later said.whole
     (subst (λ k. Sends before later (message_to O old.state.id (Held ballot k) from ∷ []) said.whole) (n ∙ ap places e) sends)
     (state ∙ ap (λ xs. let r : ReplicaState S C = record old.state { log = xs } in r) e) losses)
@@ -139,11 +139,11 @@ pub append_lost : {S C : Type 0} (O : Type 0) {rules : Rules S C O} (old new : C
     (before : List (Effect C O)) →
     follows old.state ballot ≡ true → place ≡ places old.state.log →
     new.state ≡ old.state → new.losses ≡ one_more old.losses →
-    WentOrLost rules old (on_append O old.state from ballot place command) new before before
+    PlainStepOrLost rules old (on_append O old.state from ballot place command) new before before
 append_lost {S = S} {C = C} O {rules = rules} old new from ballot place command before follower next state losses =
     let row = on_append-takes O old.state from ballot place command follower (omega (arith, next)) in
     let added : extended place command old.state.log ≡ pushed old.state.log command = rw (eq-eqb place (places old.state.log) next) refl in
-    subst (λ (o : Outcome S C O). WentOrLost rules old o new before before) (sym row)
+    subst (λ (o : Outcome S C O). PlainStepOrLost rules old o new before before) (sym row)
     (went_ignored old _ new before before state losses refl (λ quiet. longer old.state.log _ command added quiet.same_log))
 
 -- Held that raises a progress, and commits what all hold then
@@ -154,7 +154,7 @@ pub held_taken : {S C O : Type 0} (rules : Rules S C O) (old after new : Counted
     Sends before later (commit_at rules old.state n).effects told →
     progress' ≡ raised from held after.state.progress →
     new.state ≡ record after.state { progress = progress' } → new.losses ≡ cond told after.losses (one_more after.losses) →
-    WentOrLost rules old (on_held rules old.state from ballot held) new before later
+    PlainStepOrLost rules old (on_held rules old.state from ballot held) new before later
 held_taken {S = S} {C = C} {O = O} rules old after new from ballot held n progress progress' long before later told leader m l h a sends m' state losses =
     let n' : n ≡ least (places old.state.log) (raised from held old.state.progress) =
     h ∙ ap (λ k. least k (raised from held progress)) l ∙ ap (λ xs. least (places old.state.log) (raised from held xs)) m in
@@ -163,7 +163,7 @@ held_taken {S = S} {C = C} {O = O} rules old after new from ballot held n progre
     ∙ ap (commit_at rules (record old.state { progress = raised from held old.state.progress })) (sym n')
     ∙ commit_at-raised rules old.state from held n in
     let after_state : after.state ≡ (commit_at rules old.state n).state = ap (λ (z : CountedReplica S C). z.state) a in
-    subst (λ (o : Outcome S C O). WentOrLost rules old o new before later) (sym row)
+    subst (λ (o : Outcome S C O). PlainStepOrLost rules old o new before later) (sym row)
     (went_sent old _ new before later told sends
     (state ∙ ap (λ xs. let r : ReplicaState S C = record after.state { progress = xs } in r) m'
     ∙ ap (λ (r : ReplicaState S C). let z : ReplicaState S C = record r { progress = raised from held r.progress } in z) after_state)
@@ -175,7 +175,7 @@ pub held_halted : {S C O : Type 0} (rules : Rules S C O) (old after new : Counte
     leads old.state ballot ≡ true → progress ≡ old.state.progress → long ≡ places old.state.log → n ≡ least long (raised from held progress) →
     old.state.committed < n → after ≡ record { state = halted rules old.state; losses = old.losses } →
     new.state ≡ after.state → new.losses ≡ one_more after.losses → later ≡ before →
-    WentOrLost rules old (on_held rules old.state from ballot held) new before later
+    PlainStepOrLost rules old (on_held rules old.state from ballot held) new before later
 held_halted {S = S} {C = C} {O = O} rules old after new from ballot held n progress long before later leader m l h above a state losses same =
     let n' : n ≡ least (places old.state.log) (raised from held old.state.progress) =
     h ∙ ap (λ k. least k (raised from held progress)) l ∙ ap (λ xs. least (places old.state.log) (raised from held xs)) m in
@@ -185,7 +185,7 @@ held_halted {S = S} {C = C} {O = O} rules old after new from ballot held n progr
     ∙ commit_at-raised rules old.state from held n in
     let goes : (commit_at rules old.state n).state.committed ≡ n =
     ap (λ (o : Outcome S C O). o.state.committed) (commit_at-goes rules old.state n above) in
-    subst (λ (o : Outcome S C O). WentOrLost rules old o new before later) (sym row)
+    subst (λ (o : Outcome S C O). PlainStepOrLost rules old o new before later) (sym row)
     (went_halted old _ new before later
     (state ∙ ap (λ (z : CountedReplica S C). z.state) a)
     (losses ∙ ap (λ (z : CountedReplica S C). one_more z.losses) a) same
@@ -209,11 +209,11 @@ pub commit_taken : {S C O : Type 0} (rules : Rules S C O) (old new : CountedRepl
     follows old.state ballot ≡ true → held ≤ places old.state.log → old.state.committed < held →
     new.state ≡ record old.state { committed = held; machine = machine } →
     machine ≡ replay_from rules old.state.machine (part old.state.log old.state.committed held) → new.losses ≡ old.losses →
-    WentOrLost rules old (on_commit rules old.state ballot held) new [] []
+    PlainStepOrLost rules old (on_commit rules old.state ballot held) new [] []
 commit_taken {S = S} {C = C} {O = O} rules old new ballot held machine follower within above state done losses =
     let e : held ≡ max old.state.committed held = omega arith in
     let row = on_commit-takes rules old.state ballot held follower within in
-    subst (λ (o : Outcome S C O). WentOrLost rules old o new [] []) (sym row)
+    subst (λ (o : Outcome S C O). PlainStepOrLost rules old o new [] []) (sym row)
     (record {
       given = [];
       appended = refl;
@@ -229,10 +229,10 @@ commit_taken {S = S} {C = C} {O = O} rules old new ballot held machine follower 
 pub commit_halted : {S C O : Type 0} (rules : Rules S C O) (old new : CountedReplica S C) (ballot held : ℕ) →
     follows old.state ballot ≡ true → held ≤ places old.state.log → old.state.committed < held →
     new.state ≡ halted rules old.state → new.losses ≡ one_more old.losses →
-    WentOrLost rules old (on_commit rules old.state ballot held) new [] []
+    PlainStepOrLost rules old (on_commit rules old.state ballot held) new [] []
 commit_halted {S = S} {C = C} {O = O} rules old new ballot held follower within above state losses =
     let row = on_commit-takes rules old.state ballot held follower within in
-    subst (λ (o : Outcome S C O). WentOrLost rules old o new [] []) (sym row)
+    subst (λ (o : Outcome S C O). PlainStepOrLost rules old o new [] []) (sym row)
     (went_halted old _ new [] [] state losses refl
     (λ quiet. let e : max old.state.committed held ≡ old.state.committed = quiet.same_committed in omega (arith, e)))
 

@@ -6,7 +6,7 @@ use Rattle.ballot_base.specs.declared.message.Effect.{Effect}
 use Rattle.machine.specs.Machine.{Rules}
 use Rattle.ballot_base.specs.Replica.{ReplicaState, CountedReplica, is_active}
 use Rattle.ballot_base.specs.Logs.{places}
-use Rattle.ballot_base.specs.Losses.{DoneOrLost, SteppedOrLost, StepsOrLost, one_more}
+use Rattle.ballot_base.specs.Losses.{AppendedStepOrLost, ReplicaStepOrLost, StepMessagesOrLost, one_more}
 use Rattle.ballot_base.specs.Sending.{Outcome, nothing_done}
 use Rattle.ballot_base.specs.Serving.{added, max_places, proposed}
 use Rattle.ballot_base.proofs.StepRows.{proposed-adds}
@@ -16,7 +16,7 @@ use Rattle.ballot.specs.Inside.{Lacks}
 
 -- what a step leaves as it is was done
 pub stays_step : {S C O : Type 0} (rules : Rules S C O) (old : CountedReplica S C) (o : Outcome S C O) (out : List (Effect C O)) →
-    o ≡ nothing_done O old.state → SteppedOrLost rules old o old out out
+    o ≡ nothing_done O old.state → AppendedStepOrLost rules old o old out out
 stays_step {S = S} {C = C} {O = O} rules old o out e =
     record {
       given = [];
@@ -26,7 +26,7 @@ stays_step {S = S} {C = C} {O = O} rules old o out e =
 
 -- a step that was done with messages missing is one with losses
 pub done_steps : {S C O : Type 0} {rules : Rules S C O} {old : CountedReplica S C} {o : Outcome S C O} {new : CountedReplica S C} {before after : List (Effect C O)} →
-    DoneOrLost old o new before after → SteppedOrLost rules old o new before after
+    StepMessagesOrLost old o new before after → AppendedStepOrLost rules old o new before after
 done_steps {S = S} {C = C} {rules = rules} {old = old} {o = o} {new = new} d =
     record {
       given = d.given;
@@ -35,15 +35,15 @@ done_steps {S = S} {C = C} {rules = rules} {old = old} {o = o} {new = new} d =
     }
   where
     by_count : ((d.given ≡ o.effects) × (new.losses ≡ old.losses)) ⊎ (new.losses ≡ one_more old.losses) →
-        StepsOrLost rules old o new d.given
+        ReplicaStepOrLost rules old o new d.given
     by_count (inl e) = inl (d.state, e.0, e.1)
     by_count (inr e) = inr (inl (d.state, d.thinned), e)
 
 -- each answer of a proposal is that of a step
 pub answered_steps : {S C O T : Type 0} {rules : Rules S C O} (result : Result T ProposeError) {old : CountedReplica S C} {o : Outcome S C O}
     {new : CountedReplica S C} {before after : List (Effect C O)} →
-    MatchResult result (λ _. DoneOrLost old o new before after) (λ e. Lacks rules e old new) →
-    OnErr result (after ≡ before) → SteppedOrLost rules old o new before after
+    MatchResult result (λ _. StepMessagesOrLost old o new before after) (λ e. Lacks rules e old new) →
+    OnErr result (after ≡ before) → AppendedStepOrLost rules old o new before after
 answered_steps (Ok x) d same = done_steps d
 answered_steps (Err NotActive) d same = absurd d
 answered_steps (Err LogFull) d same = absurd d
@@ -64,16 +64,16 @@ answered_steps {S = S} {C = C} (Err Halted) {old = old} {new = new} {before = be
 pub answered_proposed : {S C O T : Type 0} (rules : Rules S C O) (old : CountedReplica S C) (command : C)
     (result : Result T ProposeError) (new : CountedReplica S C) (before after : List (Effect C O)) →
     is_active old.state.role ≡ true → places old.state.log < max_places →
-    MatchResult result (λ _. DoneOrLost old (added rules old.state command) new before after) (λ e. Lacks rules e old new) →
-    OnErr result (after ≡ before) → SteppedOrLost rules old (proposed rules old.state command) new before after
+    MatchResult result (λ _. StepMessagesOrLost old (added rules old.state command) new before after) (λ e. Lacks rules e old new) →
+    OnErr result (after ≡ before) → AppendedStepOrLost rules old (proposed rules old.state command) new before after
 answered_proposed {S = S} {C = C} {O = O} rules old command result new before after active room d same =
-    subst (λ (o : Outcome S C O). SteppedOrLost rules old o new before after)
+    subst (λ (o : Outcome S C O). AppendedStepOrLost rules old o new before after)
     (sym (proposed-adds rules old.state command active room)) (answered_steps result d same)
 
 -- the replica stopped exactly if Halted is answered
 pub answered_halted : {S C O T : Type 0} (rules : Rules S C O) (result : Result T ProposeError) (old : CountedReplica S C) (o : Outcome S C O)
     (new : CountedReplica S C) (before after : List (Effect C O)) →
-    MatchResult result (λ _. DoneOrLost old o new before after) (λ e. Lacks rules e old new) →
+    MatchResult result (λ _. StepMessagesOrLost old o new before after) (λ e. Lacks rules e old new) →
     old.state.stopped ≡ false → o.state.stopped ≡ old.state.stopped →
     (IsErrOf result Halted → new.state.stopped ≡ true) × (new.state.stopped ≡ true → IsErrOf result Halted)
 answered_halted {S = S} {C = C} rules (Ok x) old o new before after d running kept =

@@ -15,7 +15,7 @@ use Rattle.ballot_base.specs.Protocol.{replica_step, ticked}
 use Rattle.ballot_base.specs.Protocol.Input.{Ticks}
 use Rattle.ballot_base.proofs.MessageRows.{on_tick_active-is}
 use Rattle.ballot_base.specs.Sends.{Sends}
-use Rattle.ballot.specs.Inside.{WentOrLost}
+use Rattle.ballot.specs.Inside.{PlainStepOrLost}
 use Rattle.ballot_base.proofs.SendsJoin.{Sends-nothing, Sends-then}
 use Rattle.ballot.proofs.MessagesTaken.{went_sent, went_quiet}
 
@@ -30,13 +30,13 @@ ticked-state {S = S} {C = C} O r Active = ap (λ (o : Outcome S C O). o.state) (
 pub tick_taken : {S C O : Type 0} (rules : Rules S C O) (old new : CountedReplica S C) (before after : List (Effect C O)) (whole : Bool) →
     Sends before after (ticked O old.state old.state.role).effects whole →
     new.state ≡ old.state → new.losses ≡ cond whole old.losses (one_more old.losses) →
-    WentOrLost rules old (replica_step rules old.state Ticks) new before after
+    PlainStepOrLost rules old (replica_step rules old.state Ticks) new before after
 tick_taken {O = O} rules old new before after whole sends state losses =
     went_sent old _ new before after whole sends (state ∙ sym (ticked-state O old.state old.state.role)) losses
 
 -- a tick that sends nothing leaves the replica whole
 pub tick_quiet : {S C O : Type 0} (rules : Rules S C O) (old new : CountedReplica S C) (before after : List (Effect C O)) →
-    WentOrLost rules old (replica_step rules old.state Ticks) new before after →
+    PlainStepOrLost rules old (replica_step rules old.state Ticks) new before after →
     SendsAndAddsNothing old.state (replica_step rules old.state Ticks) → new ≡ old
 tick_quiet {S = S} {C = C} {O = O} rules old new before after went quiet =
     went_quiet went quiet refl

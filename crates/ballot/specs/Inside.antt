@@ -13,7 +13,7 @@ use Rattle.ballot_errors.specs.declared.error.ProposeError.{ProposeError}
 use Rattle.ballot_errors.specs.declared.error.ProposeError.TheVariants.{NotActive, LogFull, Memory, Halted}
 
 -- a replica sent messages, and counted it if some were lost
-pub record SendsCounted {S C O : Type 0} (old : CountedReplica S C) (wanted : List (Effect C O))
+pub record MessagesOrLost {S C O : Type 0} (old : CountedReplica S C) (wanted : List (Effect C O))
     (new : CountedReplica S C) (before after : List (Effect C O)) : Type 0 where
   pub whole : Bool
   pub sends : Sends before after wanted whole
@@ -22,7 +22,7 @@ pub record SendsCounted {S C O : Type 0} (old : CountedReplica S C) (wanted : Li
 
 -- the step was done, or one with losses that were counted, and only if there was something to lose:
 -- a message, a place, or a snapshot that has to be read and does not thaw
-pub record HeardOrLost {S C O : Type 0} (rules : Rules S C O) (old : CountedReplica S C)
+pub record ReadingStepOrLost {S C O : Type 0} (rules : Rules S C O) (old : CountedReplica S C)
     (outcome : Outcome S C O)
     (unread : Bool) (new : CountedReplica S C) (before after : List (Effect C O)) : Type 0 where
   pub given : List (Effect C O)
@@ -33,9 +33,10 @@ pub record HeardOrLost {S C O : Type 0} (rules : Rules S C O) (old : CountedRepl
       × (SendsAndAddsNothing old.state outcome → unread ≡ true))
 
 -- the step was done, or one with losses that were counted, when no snapshot has to be read
-abbrev pub WentOrLost : {S C O : Type 0} → Rules S C O → CountedReplica S C → Outcome S C O →
+abbrev pub PlainStepOrLost : {S C O : Type 0} → Rules S C O → CountedReplica S C → Outcome S C O →
     CountedReplica S C → List (Effect C O) → List (Effect C O) → Type 0
-WentOrLost rules old outcome new before after = HeardOrLost rules old outcome false new before after
+PlainStepOrLost rules old outcome new before after =
+    ReadingStepOrLost rules old outcome false new before after
 
 -- what is left by a proposal for which there was no memory
 abbrev pub Lacks : {S C O : Type 0} →
@@ -48,7 +49,7 @@ Lacks rules Halted old new =
 
 -- a primary that has become active sends the others the last place of its log, and commits what all
 -- hold; messages that were lost are counted
-pub record BecomesActive {S C O : Type 0} (rules : Rules S C O) (old new : CountedReplica S C)
+pub record ActivationOrLost {S C O : Type 0} (rules : Rules S C O) (old new : CountedReplica S C)
     (before after : List (Effect C O)) : Type 0 where
   pub whole : Bool
   pub state : new.state ≡ (commit rules old.state).state

@@ -7,7 +7,7 @@ ghost use Rattle.ballot.specs.Inside.{Lacks};
 ghost use Rattle.ballot_base.specs.lists.Lists.{IsPrefixOf};
 ghost use Rattle.ballot_base.specs.LawfulConfig.{is_lawful};
 ghost use Rattle.ballot_base.specs.Logs.{places};
-ghost use Rattle.ballot_base.specs.Losses.{SteppedOrLost, DoneOrLost, halted, one_more};
+ghost use Rattle.ballot_base.specs.Losses.{AppendedStepOrLost, StepMessagesOrLost, halted, one_more};
 ghost use Rattle.ballot_base.specs.Replica.{is_active, opening, opening_member, others};
 ghost use Rattle.ballot_base.specs.Replica.{progress_at, status_of};
 ghost use Rattle.ballot_base.specs.Sending.{message_to_followed};
@@ -242,10 +242,10 @@ impl<M: Machine> Replica<M> {
     ) -> Result<(), ProposeError>
         // The protocol's step, or one in which memory ran out and that was counted.
         ensures step { self.old.state.stopped ≡ false →
-            SteppedOrLost M.rules self.old (proposed M.rules self.old.state command)
+            AppendedStepOrLost M.rules self.old (proposed M.rules self.old.state command)
             self.new out.old.items out.new.items }
         ensures done { OnOk result
-            (DoneOrLost self.old (added M.rules self.old.state command)
+            (StepMessagesOrLost self.old (added M.rules self.old.state command)
             self.new out.old.items out.new.items) }
 
         // When each refusal comes; only running out of memory may happen at any time.
@@ -286,7 +286,7 @@ impl<M: Machine> Replica<M> {
     ) -> Result<(), ProposeError>
         requires { self.old.state.stopped ≡ false }
         ensures outcome { MatchResult result
-            (λ _. DoneOrLost self.old (added M.rules self.old.state command)
+            (λ _. StepMessagesOrLost self.old (added M.rules self.old.state command)
             self.new out.old.items out.new.items)
             (λ error. Lacks M.rules error self.old self.new) }
         ensures err { OnErr result (out.new.items ≡ out.old.items) }

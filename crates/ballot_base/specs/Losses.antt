@@ -37,15 +37,15 @@ greatest_count = 2 ^ 64 - 1
 abbrev pub one_more : ℕ → ℕ
 one_more losses = min (losses + 1) greatest_count
 
--- the step itself, or a step with losses that was counted
-abbrev pub StepsOrLost : {S C O : Type 0} → Rules S C O →
+-- the step was done exactly, or with losses that were counted
+abbrev pub ReplicaStepOrLost : {S C O : Type 0} → Rules S C O →
     CountedReplica S C → Outcome S C O → CountedReplica S C → List (Effect C O) → Type 0
-StepsOrLost rules old outcome new given =
+ReplicaStepOrLost rules old outcome new given =
     ((new.state ≡ outcome.state) × (given ≡ outcome.effects) × (new.losses ≡ old.losses))
     ⊎ (Loses rules old.state outcome new.state given × (new.losses ≡ one_more old.losses))
 
 -- the step was done, perhaps with messages missing, which was counted
-pub record DoneOrLost {S C O : Type 0} (old : CountedReplica S C) (outcome : Outcome S C O)
+pub record StepMessagesOrLost {S C O : Type 0} (old : CountedReplica S C) (outcome : Outcome S C O)
     (new : CountedReplica S C)
     (before after : List (Effect C O)) : Type 0 where
   pub given : List (Effect C O)
@@ -62,10 +62,11 @@ pub record SendsAndAddsNothing {S C O : Type 0} (old : ReplicaState S C) (outcom
   pub same_log : outcome.state.log ≡ old.log
   pub same_committed : outcome.state.committed ≡ old.committed
 
--- a call's effects were appended to what was there, and they are those of the step
-pub record SteppedOrLost {S C O : Type 0} (rules : Rules S C O) (old : CountedReplica S C)
+-- the step was done exactly, or with losses that were counted, and its effects were appended to
+-- what was there
+pub record AppendedStepOrLost {S C O : Type 0} (rules : Rules S C O) (old : CountedReplica S C)
     (outcome : Outcome S C O) (new : CountedReplica S C)
     (before after : List (Effect C O)) : Type 0 where
   pub given : List (Effect C O)
   pub appended : after ≡ before ++ given
-  pub steps : StepsOrLost rules old outcome new given
+  pub steps : ReplicaStepOrLost rules old outcome new given

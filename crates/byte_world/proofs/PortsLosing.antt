@@ -16,7 +16,7 @@ use Rattle.node_group.specs.lists.Lists.{Each}
 use Rattle.node_group.proofs.of_lists.OfEach.{each_then}
 use Rattle.node_group.specs.node_core.declared.Connection.{Connection}
 use Rattle.node_group.specs.node_core.declared.item.Item.{Item}
-use Rattle.node_group.specs.node_core.LossyStep.Cuts.{nothing_to_cut, cuts_log, forgets_cut}
+use Rattle.node_group.specs.node_core.LossyStep.LogCutOrLost.{nothing_to_cut, cuts_log, forgets_cut}
 use Rattle.node_group.specs.node_core.declared.item.Item.TheVariants.{Peer, Tick, Opened, Bytes, Ended, Expel, Cut, Crash}
 use Rattle.node_group.specs.node_core.declared.Port.{Port}
 use Rattle.node_group.specs.node_connections.Connections.{has_failed, is_at}

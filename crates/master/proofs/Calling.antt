@@ -5,7 +5,7 @@ use Rattle.std.proofs.lemmas.List.{length-append}
 use Rattle.machine.specs.Machine.{Rules}
 use Rattle.ballot.specs.ballot_base.declared.message.Effect.{Effect}
 use Rattle.ballot.specs.ballot_base.Logs.{places}
-use Rattle.ballot.specs.ballot_base.Losses.{SendsAndAddsNothing, Loses, SteppedOrLost, StepsOrLost, Thinned, one_more}
+use Rattle.ballot.specs.ballot_base.Losses.{SendsAndAddsNothing, Loses, AppendedStepOrLost, ReplicaStepOrLost, Thinned, one_more}
 use Rattle.ballot.specs.ballot_base.Losses.Thinned.{none, keeps, loses}
 use Rattle.ballot.specs.ballot_base.Protocol.{Input, replica_step}
 use Rattle.ballot.specs.ballot_base.Protocol.Input.{Proposes, Ticks}
@@ -15,18 +15,18 @@ use Rattle.ballot.specs.ballot_base.Serving.{max_places, proposed}
 use Rattle.ballot.proofs.of_ballot_base.StepRows.{added-log, proposed-adds, proposed-full, proposed-not_active}
 use Rattle.ballot.proofs.of_ballot_base.ThinnedEffects.{Thinned-same}
 use Rattle.ballot.proofs.TicksTaken.{ticked-state}
-use Rattle.master.specs.Inside.Losing.{IsRead, TookIn}
+use Rattle.master.specs.Inside.Losing.{InputStepOrLost, IsRead}
 
 -- an exact step is one in which nothing was lost
 loses_of : {S C O : Type 0} (rules : Rules S C O) {old : CountedReplica S C} {o : Outcome S C O} {new : CountedReplica S C} {given : List (Effect C O)} →
-    StepsOrLost rules old o new given → Loses rules old.state o new.state given
+    ReplicaStepOrLost rules old o new given → Loses rules old.state o new.state given
 loses_of {S = S} {C = C} {O = O} rules {o = o} {given = given} (inl e) =
     inl (e.0, subst (λ (us : List (Effect C O)). Thinned us o.effects) (sym e.1) (Thinned-same o.effects))
 loses_of rules (inr e) = e.0
 
 -- a step that was not counted is exact, below the greatest count
 exact_of : {S C O : Type 0} (rules : Rules S C O) {old : CountedReplica S C} {o : Outcome S C O} {new : CountedReplica S C} {given : List (Effect C O)} →
-    StepsOrLost rules old o new given → new.losses ≡ old.losses → old.losses < 2 ^ 64 - 1 → (new.state ≡ o.state) × (given ≡ o.effects)
+    ReplicaStepOrLost rules old o new given → new.losses ≡ old.losses → old.losses < 2 ^ 64 - 1 → (new.state ≡ o.state) × (given ≡ o.effects)
 exact_of rules (inl e) same below = (e.0, e.1)
 exact_of rules {old = old} (inr e) same below = let f : old.losses ≡ min (old.losses + 1) (2 ^ 64 - 1) = sym same ∙ e.1 in absurd (omega (arith, f, below))
 
@@ -38,13 +38,13 @@ thinned_nothing e (loses t) = cc
 
 -- no more than one loss was counted
 counts_of : {S C O : Type 0} (rules : Rules S C O) {old : CountedReplica S C} {o : Outcome S C O} {new : CountedReplica S C} {given : List (Effect C O)} →
-    StepsOrLost rules old o new given → (new.losses ≡ old.losses) ⊎ (new.losses ≡ one_more old.losses)
+    ReplicaStepOrLost rules old o new given → (new.losses ≡ old.losses) ⊎ (new.losses ≡ one_more old.losses)
 counts_of rules (inl e) = inl e.2
 counts_of rules (inr e) = inr e.1
 
 -- if nothing is to be handed out, nothing was
 given_nothing : {S C O : Type 0} (rules : Rules S C O) {old : CountedReplica S C} {o : Outcome S C O} {new : CountedReplica S C} {given : List (Effect C O)} →
-    o.effects ≡ [] → StepsOrLost rules old o new given → given ≡ o.effects
+    o.effects ≡ [] → ReplicaStepOrLost rules old o new given → given ≡ o.effects
 given_nothing rules empty (inl e) = e.1
 given_nothing rules empty (inr (inl (a, t), c)) = thinned_nothing empty t ∙ sym empty
 given_nothing rules empty (inr (inr (inl (a, t)), c)) = t ∙ sym empty
@@ -54,13 +54,13 @@ given_nothing rules empty (inr (inr (inr (a, t)), c)) = t ∙ sym empty
 -- is and applies nothing, it has none
 pub record Called {S C O : Type 0} (rules : Rules S C O) (old : CountedReplica S C) (input : Input C) (new : CountedReplica S C)
     (before after : List (Effect C O)) : Type 0 where
-  pub stepped : SteppedOrLost rules old (replica_step rules old.state input) new before after
+  pub stepped : AppendedStepOrLost rules old (replica_step rules old.state input) new before after
   pub quiet : SendsAndAddsNothing old.state (replica_step rules old.state input) → IsRead rules old.state input →
       new ≡ record old { state = (replica_step rules old.state input).state }
 
 -- a tick changes no replica
 pub ticks_called : {S C O : Type 0} (rules : Rules S C O) (old new : CountedReplica S C) (before after : List (Effect C O)) →
-    SteppedOrLost rules old (replica_step rules old.state Ticks) new before after → (SendsAndAddsNothing old.state (replica_step rules old.state Ticks) → new ≡ old) →
+    AppendedStepOrLost rules old (replica_step rules old.state Ticks) new before after → (SendsAndAddsNothing old.state (replica_step rules old.state Ticks) → new ≡ old) →
     Called rules old Ticks new before after
 ticks_called {S = S} {C = C} {O = O} rules old new before after s still =
     record {
@@ -80,7 +80,7 @@ proposal_busy {S = S} {C = C} {O = O} rules r command active room quiet =
 
 -- so one that does not is refused
 pub proposes_called : {S C O : Type 0} (rules : Rules S C O) (old new : CountedReplica S C) (command : C) (before after : List (Effect C O)) →
-    SteppedOrLost rules old (proposed rules old.state command) new before after → (is_active old.state.role ≡ false → new ≡ old) →
+    AppendedStepOrLost rules old (proposed rules old.state command) new before after → (is_active old.state.role ≡ false → new ≡ old) →
     (is_active old.state.role ≡ true → max_places ≤ places old.state.log → new ≡ old) → Called rules old (Proposes command) new before after
 proposes_called {S = S} {C = C} {O = O} rules old new command before after s idle full =
     record { stepped = s; quiet = λ q r. by_role (cases_Bool (is_active old.state.role)) (cases_lt (places old.state.log) max_places) q }
@@ -105,7 +105,7 @@ called_as {S = S} {C = C} {O = O} rules old new new' i i' before after after' e 
 
 pub took_in : {S C O : Type 0} {rules : Rules S C O} {old : CountedReplica S C} {input : Input C} {new : CountedReplica S C} {before after : List (Effect C O)}
     (whole : Bool) → Called rules old input new before after → (whole ≡ true → (new.losses ≡ old.losses) × (old.losses < 2 ^ 64 - 1)) →
-    (new.losses ≡ old.losses → old.losses < 2 ^ 64 - 1 → whole ≡ true) → TookIn rules old input new before after whole
+    (new.losses ≡ old.losses → old.losses < 2 ^ 64 - 1 → whole ≡ true) → InputStepOrLost rules old input new before after whole
 took_in {S = S} {C = C} {rules = rules} whole c same told =
     record {
       given = c.stepped.given;

@@ -29,10 +29,10 @@ use Rattle.master.specs.Outcomes.EventOutcome.{by_node, by_cut, by_master, unhee
 use Rattle.master.specs.Group.{GroupState}
 use Rattle.master.specs.Exact.{takes, hears, comes, gives, event_outcome, moment_after_event, group_step}
 use Rattle.master.specs.Outcomes.{NodeOutcome, EventOutcome, running, can_take, outcome_of_taking, stopping, cut_outcome, outcome_of_cutting}
-use Rattle.master.specs.Steps.{Freezes, Happens, StepsBy, GroupLosesNothing}
+use Rattle.master.specs.Steps.{Freezes, Happens, GroupEventOrLost, GroupLosesNothing}
 use Rattle.master.specs.Steps.Happens.{nothing_happens, node_goes, master_goes}
 use Rattle.master.specs.Inside.{RunsAt, asks_for}
-use Rattle.master.specs.Inside.Losing.{MasterTook, TookCut, TookStep}
+use Rattle.master.specs.Inside.Losing.{GroupCutOrLost, GroupMasterStepOrLost, GroupNodeStepOrLost}
 
 -- the outcome for a node that runs
 pub takes_turn : {S C O : Type 0} (rules : Rules S C O) (w : CutGroupWorld S C O) (node at : ℕ) (input : Input C) (x : RunsAt w.nodes node at) →
@@ -83,7 +83,7 @@ some_idle a b = let e = sym a ∙ b in cc
 
 -- an outcome for a node is the step of its event
 pub steps_turn : {S C O : Type 0} (rules : Rules S C O) (old new : GroupState S C O) (event : Event C) (t : NodeOutcome S C O) →
-    event_outcome rules old.moment event ≡ Some (by_node t) → TookStep rules old t new → StepsBy rules old event new
+    event_outcome rules old.moment event ≡ Some (by_node t) → GroupNodeStepOrLost rules old t new → GroupEventOrLost rules old event new
 steps_turn {S = S} {C = C} {O = O} rules old new event t e took =
     record { way = by_way took.way; freezes = inl (freezes_as rules (sym e) tt) }
   where
@@ -102,7 +102,7 @@ steps_turn {S = S} {C = C} {O = O} rules old new event t e took =
 
 -- and the same for one of the master
 pub steps_master : {S C O : Type 0} (rules : Rules S C O) (old new : GroupState S C O) (event : Event C) (o : MasterOutcome C) →
-    event_outcome rules old.moment event ≡ Some (by_master o) → MasterTook old o new → StepsBy rules old event new
+    event_outcome rules old.moment event ≡ Some (by_master o) → GroupMasterStepOrLost old o new → GroupEventOrLost rules old event new
 steps_master {S = S} {C = C} {O = O} rules old new event o e took =
     record { way = by_way took.way; freezes = inl (freezes_as rules (sym e) tt) }
   where
@@ -115,34 +115,34 @@ steps_master {S = S} {C = C} {O = O} rules old new event o e took =
 
 -- nothing happened, because memory ran out
 pub steps_lost : {S C O : Type 0} (rules : Rules S C O) (old new : GroupState S C O) (event : Event C) →
-    new ≡ record old { losses = one_more old.losses } → StepsBy rules old event new
+    new ≡ record old { losses = one_more old.losses } → GroupEventOrLost rules old event new
 steps_lost {S = S} {C = C} {O = O} rules old new event e =
-    subst (λ (v : GroupState S C O). StepsBy rules old event v) (sym e)
+    subst (λ (v : GroupState S C O). GroupEventOrLost rules old event v) (sym e)
     (record { way = inr (nothing_happens, refl); freezes = inr refl })
 
 -- and the same for a cut
 pub steps_cut : {S C O : Type 0} (rules : Rules S C O) (old new : GroupState S C O) (event : Event C) (t : NodeOutcome S C O) →
-    event_outcome rules old.moment event ≡ Some (by_cut t) → TookCut rules old t new → StepsBy rules old event new
+    event_outcome rules old.moment event ≡ Some (by_cut t) → GroupCutOrLost rules old t new → GroupEventOrLost rules old event new
 steps_cut {S = S} {C = C} {O = O} rules old new event t e took = by_way took.way
   where
     by_way : ((new.moment ≡ moment_after_event old.moment (Some (by_cut t))) × (new.losses ≡ old.losses) × Freezes rules (Some (by_cut t)))
-        ⊎ (new ≡ record old { losses = one_more old.losses }) → StepsBy rules old event new
+        ⊎ (new ≡ record old { losses = one_more old.losses }) → GroupEventOrLost rules old event new
     by_way (inl (a, b, c)) =
         record { way = inl (a ∙ ap (moment_after_event old.moment) (sym e), b); freezes = inl (freezes_as rules (sym e) c) }
     by_way (inr lost) = steps_lost rules old new event lost
 
 -- an event that does nothing
 pub steps_idle : {S C O : Type 0} (rules : Rules S C O) (old : GroupState S C O) (event : Event C) →
-    event_outcome rules old.moment event ≡ None → StepsBy rules old event old
+    event_outcome rules old.moment event ≡ None → GroupEventOrLost rules old event old
 steps_idle rules old event e = record { way = inl (sym (ap (moment_after_event old.moment) e), refl); freezes = inr refl }
 
 pub steps_unheeded : {S C O : Type 0} (rules : Rules S C O) (old : GroupState S C O) (event : Event C) →
-    event_outcome rules old.moment event ≡ Some unheeded → StepsBy rules old event old
+    event_outcome rules old.moment event ≡ Some unheeded → GroupEventOrLost rules old event old
 steps_unheeded rules old event e = record { way = inl (sym (ap (moment_after_event old.moment) e), refl); freezes = inr refl }
 
 -- a count that did not rise lost nothing
 pub steps_exactly : {S C O : Type 0} (rules : Rules S C O) (old new : GroupState S C O) (event : Event C) →
-    StepsBy rules old event new → GroupLosesNothing old new → new.moment ≡ group_step rules event old.moment
+    GroupEventOrLost rules old event new → GroupLosesNothing old new → new.moment ≡ group_step rules event old.moment
 steps_exactly rules old new event s exact = by_way s.way
   where
     by_way : ((new.moment ≡ group_step rules event old.moment) × (new.losses ≡ old.losses))

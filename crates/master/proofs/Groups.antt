@@ -37,7 +37,7 @@ use Rattle.snapshots.specs.Masters.{MasterOutcome}
 use Rattle.master.specs.declared.activation.Activation.{Activation}
 use Rattle.master.specs.declared.activation.Activation.TheVariants.{Activated as Granted, Superseded as Refused}
 use Rattle.master.specs.Inside.{HasCounted, IsGroup, ToldIn, activation_answer, least_but_one, next_least, moment_of, world_of}
-use Rattle.master.specs.Inside.Losing.{MasterTook, TookCut, TookStep}
+use Rattle.master.specs.Inside.Losing.{GroupCutOrLost, GroupMasterStepOrLost, GroupNodeStepOrLost}
 use Rattle.master.specs.Exact.{moment_after_event}
 use Rattle.master.specs.Outcomes.{cut_outcome}
 use Rattle.master.specs.Outcomes.EventOutcome.{by_cut}
@@ -303,7 +303,7 @@ pub master_took : {S C O : Type 0} (archive : List C) (m k : MasterState) (nodes
     (o : MasterOutcome C) → k ≡ o.state →
     ((world_of archive nodes more left ≡ sends_from_master (world_of archive nodes sent left) o) × (counted ≡ losses))
     ⊎ ((world_of archive nodes more left ≡ world_of archive nodes sent left) × (counted ≡ one_more losses)) →
-    MasterTook (record { moment = moment_of archive m nodes sent left; losses = losses }) o (record { moment = moment_of archive k nodes more left; losses = counted })
+    GroupMasterStepOrLost (record { moment = moment_of archive m nodes sent left; losses = losses }) o (record { moment = moment_of archive k nodes more left; losses = counted })
 master_took {S = S} {C = C} {O = O} archive m k nodes sent more left losses counted o is (inl (e, f)) =
     record {
       way = inl (
@@ -346,7 +346,7 @@ turned told next told' next' before moment_after_event stays turns = by_ballot (
 pub group_turns : {S C O : Type 0} (rules : Rules S C O) (a v : Moment S C O) (told next told' next' : ToldIn) (old new : GroupState S C O) (input : Input C)
     (n from : ℕ) (r : ReplicaState S C) (more : List (Effect C O)) (sent : List (ℕ × Message C)) → IsGroup rules a told next → old.moment ≡ a → new.moment ≡ v →
     slice_get a.world.nodes n ≡ Some r → r.stopped ≡ false → MayTake a.world n input →
-    TookStep rules old (record { index = n; before = r; outcome = replica_step rules r input }) new →
+    GroupNodeStepOrLost rules old (record { index = n; before = r; outcome = replica_step rules r input }) new →
     v.world.sent ≡ sent → from ≡ length a.world.sent → sent ≡ a.world.sent ++ messages more →
     told'.ballot ≡ told.ballot → (HasCounted (take from sent) told → HasCounted sent told') →
     next'.ballot ≡ next.ballot → (HasCounted (take from sent) next → HasCounted sent next') → IsGroup rules v told' next'
@@ -388,7 +388,7 @@ more_than n xs ys more now is grown at =
 pub group_stops : {S C O : Type 0} (rules : Rules S C O) (a v : Moment S C O) (told next : ToldIn) (old new : GroupState S C O)
     (n : ℕ) (r : ReplicaState S C) → IsGroup rules a told next → old.moment ≡ a → new.moment ≡ v →
     slice_get a.world.nodes n ≡ Some r → r.stopped ≡ false →
-    TookStep rules old (record { index = n; before = r; outcome = record { state = halted rules r; effects = [] } }) new →
+    GroupNodeStepOrLost rules old (record { index = n; before = r; outcome = record { state = halted rules r; effects = [] } }) new →
     v.world.sent ≡ a.world.sent → IsGroup rules v told next
 group_stops {S = S} {C = C} {O = O} rules a v told next old new n r g is_old is_new stands going took sent_is =
     group_goes rules a v told next told next g
@@ -417,9 +417,9 @@ pub took_as_seen : {S C O : Type 0} (archive : List C) (m k : MasterState) (node
     k ≡ (o m).state →
     ((world_of archive nodes more left ≡ sends_from_master (world_of archive nodes sent left) (o m)) × (counted ≡ losses))
     ⊎ ((world_of archive nodes more left ≡ world_of archive nodes sent left) × (counted ≡ one_more losses)) →
-    MasterTook seen (o seen.moment.master) (record { moment = moment_of archive k nodes more left; losses = counted })
+    GroupMasterStepOrLost seen (o seen.moment.master) (record { moment = moment_of archive k nodes more left; losses = counted })
 took_as_seen {S = S} {C = C} {O = O} archive m k nodes sent more left losses counted o seen is state way =
-    subst (λ (z : GroupState S C O). MasterTook z (o z.moment.master) (record { moment = moment_of archive k nodes more left; losses = counted })) is
+    subst (λ (z : GroupState S C O). GroupMasterStepOrLost z (o z.moment.master) (record { moment = moment_of archive k nodes more left; losses = counted })) is
     (master_took archive m k nodes sent more left losses counted (o m) state way)
 
 -- the same if a ballot was given
@@ -428,7 +428,7 @@ pub took_given : {S C O : Type 0} (archive : List C) (m k : MasterState) (nodes 
     k ≡ assigning m config →
     ((world_of archive nodes more left ≡ sends_from_master (world_of archive nodes sent left) (assigned C m config)) × (counted ≡ losses))
     ⊎ ((world_of archive nodes more left ≡ world_of archive nodes sent left) × (counted ≡ one_more losses)) →
-    MasterTook seen (assigned C seen.moment.master config) (record { moment = moment_of archive k nodes more left; losses = counted })
+    GroupMasterStepOrLost seen (assigned C seen.moment.master config) (record { moment = moment_of archive k nodes more left; losses = counted })
 took_given {S = S} {C = C} {O = O} archive m k nodes sent more left losses counted config seen is state way =
     took_as_seen archive m k nodes sent more left losses counted (λ x. assigned C x config) seen is state way
 
@@ -473,7 +473,7 @@ in_whole xs i m past j = subst (λ us. In m us) (sym (take_all i xs past)) j
 -- a node cut its log, or memory ran out for that
 pub group_cuts : {S C O : Type 0} (rules : Rules S C O) (a v : Moment S C O) (told next : ToldIn) (old new : GroupState S C O)
     (n : ℕ) (r : ReplicaState S C) → IsGroup rules a told next → old.moment ≡ a → new.moment ≡ v →
-    slice_get a.world.nodes n ≡ Some r → can_cut r ≡ true → TookCut rules old (cut_outcome rules n r) new → v.world.sent ≡ a.world.sent →
+    slice_get a.world.nodes n ≡ Some r → can_cut r ≡ true → GroupCutOrLost rules old (cut_outcome rules n r) new → v.world.sent ≡ a.world.sent →
     IsGroup rules v told next
 group_cuts {S = S} {C = C} {O = O} rules a v told next old new n r g is_old is_new stands can took sent_is = by_way took.way
   where

@@ -31,7 +31,7 @@ use Rattle.master.specs.Group.{GroupState}
 use Rattle.master.specs.Exact.{takes, hears, comes, comes_to, gives, event_outcome, moment_after_event, group_step}
 use Rattle.master.specs.Outcomes.{NodeOutcome, EventOutcome, running, unless_stopped, can_take, outcome_of_taking, stopping, cut_outcome, outcome_of_cutting}
 use Rattle.master.specs.Outcomes.EventOutcome.{by_node, by_cut, by_master, unheeded}
-use Rattle.master.specs.Steps.{Freezes, Happens, StepsBy}
+use Rattle.master.specs.Steps.{Freezes, GroupEventOrLost, Happens}
 use Rattle.master.specs.Steps.Happens.{nothing_happens, node_goes, master_goes}
 use Rattle.ballot.specs.ballot_base.Losses.{one_more}
 
@@ -366,7 +366,7 @@ exactly_may rules a e (Some (by_master o)) is f = master_may rules a o (master_t
 exactly_may rules a e (Some unheeded) is f = nothing_may rules a
 
 -- so each step of a group may happen
-pub step_may : {S C O : Type 0} (rules : Rules S C O) (old new : GroupState S C O) (e : Event C) → StepsBy rules old e new →
+pub step_may : {S C O : Type 0} (rules : Rules S C O) (old new : GroupState S C O) (e : Event C) → GroupEventOrLost rules old e new →
     MayGo rules old.moment new.moment
 step_may {S = S} {C = C} {O = O} rules old new e s = by_frozen s.freezes
   where

@@ -10,7 +10,7 @@ use Rattle.ballot.specs.ballot_base.Losses.{one_more}
 use Rattle.ballot.specs.ballot_base.Protocol.{Input}
 use Rattle.ballot.specs.ballot_base.Replica.{CountedReplica, ReplicaState}
 use Rattle.master.specs.Inside.{CountsAtMost}
-use Rattle.master.specs.Inside.Losing.{TookIn}
+use Rattle.master.specs.Inside.Losing.{InputStepOrLost}
 
 -- a count that no loss raised
 pub quiet_count : (whole kept : Bool) (losses counted old : ℕ) → counted ≡ cond (whole && kept) losses (one_more losses) → kept ≡ true → old ≤ losses →
@@ -25,7 +25,7 @@ quiet_count false kept losses counted old e all low high told = by_count (cases_
 
 -- what a replica counted, the group counted
 pub count_covers : {S C O : Type 0} {rules : Rules S C O} {old : CountedReplica S C} {input : Input C} {new : CountedReplica S C}
-    {before after : List (Effect C O)} (whole kept : Bool) (losses counted : ℕ) → TookIn rules old input new before after whole →
+    {before after : List (Effect C O)} (whole kept : Bool) (losses counted : ℕ) → InputStepOrLost rules old input new before after whole →
     counted ≡ cond (whole && kept) losses (one_more losses) → old.losses ≤ losses → losses ≤ 2 ^ 64 - 1 → (new.losses ≤ counted) × (losses ≤ counted)
 count_covers {old = old} {new = new} true true losses counted t e low high =
     let same = (t.exact refl).2 in (omega (arith, same, e, low), omega (arith, e))

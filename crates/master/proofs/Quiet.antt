@@ -27,8 +27,8 @@ use Rattle.master.specs.Outcomes.{NodeOutcome, EventOutcome, can_take}
 use Rattle.master.specs.Outcomes.EventOutcome.{by_node, by_cut, by_master, unheeded}
 use Rattle.master.specs.Copying.{has_numbers_alone}
 use Rattle.master.specs.Inside.{RunsAt}
-use Rattle.master.specs.Inside.Losing.{TookStep}
-use Rattle.master.specs.Steps.{StepsBy, GroupTakesNoMemory, done_exactly}
+use Rattle.master.specs.Inside.Losing.{GroupNodeStepOrLost}
+use Rattle.master.specs.Steps.{GroupEventOrLost, GroupTakesNoMemory, done_exactly}
 use Rattle.master.specs.Steps.GroupTakesNoMemory.{comes_to_nobody, goes_unheeded, sends_and_adds_nothing, stops_a_node}
 use Rattle.master.proofs.Calling.{proposal_busy}
 use Rattle.master.proofs.Counting.{delivers_turn, some_idle, stops_turn, takes_turn}
@@ -70,7 +70,7 @@ exactly_nothing {S = S} {C = C} {O = O} rules old event n r o e stands nothing =
 
 -- what is done exactly by doing nothing is a step
 pub steps_exactly_done : {S C O : Type 0} (rules : Rules S C O) (old : GroupState S C O) (event : Event C) →
-    old ≡ done_exactly rules old event → StepsBy rules old event old
+    old ≡ done_exactly rules old event → GroupEventOrLost rules old event old
 steps_exactly_done {S = S} {C = C} {O = O} rules old event e =
     record { way = inl (ap (λ (z : GroupState S C O). z.moment) e, ap (λ (z : GroupState S C O). z.losses) e); freezes = inr refl }
 
@@ -87,7 +87,7 @@ node_needs {S = S} {C = C} {O = O} rules a event t e stops quiet (sends_and_adds
 
 -- a step that is quiet was done exactly
 pub turn_quiet : {S C O : Type 0} (rules : Rules S C O) (old new : GroupState S C O) (event : Event C) (t : NodeOutcome S C O) →
-    event_outcome rules old.moment event ≡ Some (by_node t) → TookStep rules old t new → SendsAndAddsNothing t.before t.outcome → new ≡ done_exactly rules old event
+    event_outcome rules old.moment event ≡ Some (by_node t) → GroupNodeStepOrLost rules old t new → SendsAndAddsNothing t.before t.outcome → new ≡ done_exactly rules old event
 turn_quiet {S = S} {C = C} {O = O} rules old new event t e took quiet =
     let z = took.quiet quiet in
     ap (λ (a : Moment S C O). let g : GroupState S C O = record { moment = a; losses = new.losses } in g)
@@ -160,7 +160,7 @@ message_passed {S = S} {C = C} {O = O} rules old k at x found y seen heeds same 
 -- one that is taken
 pub message_taken : {S C O : Type 0} (rules : Rules S C O) (old new : GroupState S C O) (k at : ℕ) (x : ℕ × Message C) (m : Message C) →
     slice_get old.moment.world.sent k ≡ Some x → m ≡ x.1 → (y : RunsAt old.moment.world.nodes x.0 at) →
-    TookStep rules old (record { index = at; before = y.replica; outcome = replica_step rules y.replica (Receives m) }) new →
+    GroupNodeStepOrLost rules old (record { index = at; before = y.replica; outcome = replica_step rules y.replica (Receives m) }) new →
     GroupTakesNoMemory rules old.moment (Deliver k) → new ≡ done_exactly rules old (Deliver k)
 message_taken rules old new k at x m found same y took =
     let goes = delivers_turn rules old.moment k at x m found same y in

@@ -14,21 +14,21 @@ use Rattle.snapshots.proofs.PastsAgree.{agreed_grows, has_agreed, nodes_agree}
 use Rattle.master.specs.declared.event.Event.{Event}
 use Rattle.master.specs.Group.{GroupState}
 use Rattle.master.specs.Exact.{group_step, group_run}
-use Rattle.master.specs.Steps.{Happens, GroupRun, StepsBy, GroupLosesNothing}
-use Rattle.master.specs.Steps.GroupRun.{ends, goes_on}
+use Rattle.master.specs.Steps.{Happens, GroupRunOrLost, GroupEventOrLost, GroupLosesNothing}
+use Rattle.master.specs.Steps.GroupRunOrLost.{ends, goes_on}
 use Rattle.master.specs.Agreement.{AgreesAfter}
 use Rattle.master.proofs.Counting.{steps_exactly}
 use Rattle.master.proofs.Happening.{step_may}
 
 -- what is seen of a group after some events
 pub record Ran {S C O : Type 0} (rules : Rules S C O) (old : GroupState S C O) (events : List (Event C)) (new : GroupState S C O) : Type 0 where
-  pub ran : GroupRun rules old events new
+  pub ran : GroupRunOrLost rules old events new
   pub counts : old.losses ≤ 2 ^ 64 - 1 → (old.losses ≤ new.losses) × (new.losses ≤ 2 ^ 64 - 1)
   pub exact : GroupLosesNothing old new → new.moment ≡ group_run rules events old.moment
 
 -- one event more
 run_more : {S C O : Type 0} {rules : Rules S C O} {w v u : GroupState S C O} {events : List (Event C)} {e : Event C} →
-    GroupRun rules w events v → StepsBy rules v e u → GroupRun rules w (events ++ e ∷ []) u
+    GroupRunOrLost rules w events v → GroupEventOrLost rules v e u → GroupRunOrLost rules w (events ++ e ∷ []) u
 run_more ends s = goes_on s ends
 run_more (goes_on t r) s = goes_on t (run_more r s)
 
@@ -37,7 +37,7 @@ group_run-more : {S C O : Type 0} (rules : Rules S C O) (events : List (Event C)
 group_run-more rules [] e w = refl
 group_run-more rules (x ∷ events) e w = group_run-more rules events e (group_step rules x w)
 
-counted : {S C O : Type 0} (rules : Rules S C O) (old new : GroupState S C O) (e : Event C) → StepsBy rules old e new →
+counted : {S C O : Type 0} (rules : Rules S C O) (old new : GroupState S C O) (e : Event C) → GroupEventOrLost rules old e new →
     (new.losses ≡ old.losses) ⊎ (new.losses ≡ one_more old.losses)
 counted {S = S} {C = C} {O = O} rules old new e s = by_way s.way
   where
@@ -52,7 +52,7 @@ ran_none rules old =
 
 -- the next of a list of events
 pub ran_next : {S C O : Type 0} (rules : Rules S C O) (old now new : GroupState S C O) (events : List (Event C)) (i : ℕ) (e : Event C) → i < length events →
-    e ≡ get_or events i e → Ran rules old (take i events) now → StepsBy rules now e new → Ran rules old (take (i + 1) events) new
+    e ≡ get_or events i e → Ran rules old (take i events) now → GroupEventOrLost rules now e new → Ran rules old (take (i + 1) events) new
 ran_next {S = S} {C = C} rules old now new events i e below read r s =
     subst (λ (es : List (Event C)). Ran rules old es new)
     (sym (take_more events i e below ∙ ap (λ (x : Event C). take i events ++ x ∷ []) (sym read)))
@@ -93,7 +93,7 @@ one_agreed {S = S} {C = C} {O = O} config past xs ys x y = by_chosen x.chosen
     by_chosen (inr (b, active, chosen)) = y.longest b xs active chosen
 
 went : {S C O : Type 0} (rules : Rules S C O) (config : Config) (w v : GroupState S C O) (past : List (Moment S C O)) (events : List (Event C)) →
-    Moments rules config (w.moment ∷ past) → GroupRun rules w events v → Went rules config (w.moment ∷ past) v.moment
+    Moments rules config (w.moment ∷ past) → GroupRunOrLost rules w events v → Went rules config (w.moment ∷ past) v.moment
 went rules config w v past events came ends =
     record { earlier = past; between = []; goes_on = refl; came = came; grown = λ xs ys before after. one_agreed config (map whole_moment (w.moment ∷ past)) xs ys before after }
 went {S = S} {C = C} {O = O} rules config w v past events came (goes_on {next = u} {e = e} {events = rest} s r) =
@@ -110,7 +110,7 @@ went {S = S} {C = C} {O = O} rules config w v past events came (goes_on {next = 
 
 -- so the nodes agree after a run
 pub agrees_after : {S C O : Type 0} (rules : Rules S C O) (config : Config) (first last : GroupState S C O) (past : List (Moment S C O)) (events : List (Event C)) →
-    Moments rules config (first.moment ∷ past) → GroupRun rules first events last → AgreesAfter rules config (first.moment ∷ past) last.moment
+    Moments rules config (first.moment ∷ past) → GroupRunOrLost rules first events last → AgreesAfter rules config (first.moment ∷ past) last.moment
 agrees_after {S = S} {C = C} rules config first last past events came r =
     let q = went rules config first last past events came r in
     let xs = has_agreed rules config last.moment q.earlier q.came in
@@ -131,5 +131,5 @@ agrees_after {S = S} {C = C} rules config first last past events came r =
 
 -- and after one event
 pub agrees_next : {S C O : Type 0} (rules : Rules S C O) (config : Config) (first last : GroupState S C O) (past : List (Moment S C O)) (event : Event C) →
-    Moments rules config (first.moment ∷ past) → StepsBy rules first event last → AgreesAfter rules config (first.moment ∷ past) last.moment
+    Moments rules config (first.moment ∷ past) → GroupEventOrLost rules first event last → AgreesAfter rules config (first.moment ∷ past) last.moment
 agrees_next rules config first last past event came s = agrees_after rules config first last past (event ∷ []) came (goes_on s ends)

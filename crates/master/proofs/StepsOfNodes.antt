@@ -24,7 +24,7 @@ use Rattle.master.proofs.Archived.{recorded_by}
 use Rattle.master.proofs.Calling.{thinned_nothing}
 use Rattle.master.proofs.LossesCounted.{quiet_count}
 use Rattle.master.specs.Inside.{RunsAt, moment_of, world_of}
-use Rattle.master.specs.Inside.Losing.{IsRead, TookCut, TookIn, Parted, TookStep}
+use Rattle.master.specs.Inside.Losing.{IsRead, GroupCutOrLost, InputStepOrLost, Parted, GroupNodeStepOrLost}
 
 -- messages that are missing of messages that are missing
 thinned_then : {C O : Type 0} {xs ys zs : List (Effect C O)} → Thinned xs ys → Thinned ys zs → Thinned xs zs
@@ -69,9 +69,9 @@ count_is false second losses counted e = inr e
 pub took_turn : {S C O : Type 0} {rules : Rules S C O} (archive : List C) (m : MasterState) (nodes : List (CountedReplica S C)) (sent more : List (ℕ × Message C)) (left after parted : List (Effect C O))
     (losses counted n from : ℕ) (old new : CountedReplica S C) (input : Input C) (r : ReplicaState S C) (whole kept : Bool) →
     n < length nodes → old ≡ get_or nodes n old → slice_get (map (λ (z : CountedReplica S C). z.state) nodes) n ≡ Some r → from ≡ length left →
-    TookIn rules old input new left after whole → Parted (drop from after) (take from after) parted sent more kept →
+    InputStepOrLost rules old input new left after whole → Parted (drop from after) (take from after) parted sent more kept →
     counted ≡ cond (whole && kept) losses (one_more losses) → IsRead rules r input → old.losses ≤ losses → losses ≤ 2 ^ 64 - 1 →
-    TookStep rules (record { moment = moment_of archive m nodes sent left; losses = losses })
+    GroupNodeStepOrLost rules (record { moment = moment_of archive m nodes sent left; losses = losses })
     (record { index = n; before = r; outcome = replica_step rules r input })
     (record { moment = moment_of archive m (set nodes n new) more parted; losses = counted })
 took_turn {S = S} {C = C} {O = O} {rules = rules} archive m nodes sent more left after parted losses counted n from old new input r whole kept below read stands at t p count reads low high =
@@ -160,7 +160,7 @@ going_of {S = S} {C = C} nodes n old r read stands going =
 pub crash_turn : {S C O : Type 0} (rules : Rules S C O) (archive : List C) (m : MasterState) (nodes : List (CountedReplica S C)) (sent : List (ℕ × Message C)) (left : List (Effect C O))
     (losses n : ℕ) (old new : CountedReplica S C) (r : ReplicaState S C) →
     old ≡ get_or nodes n old → slice_get (map (λ (z : CountedReplica S C). z.state) nodes) n ≡ Some r → new.state ≡ halted rules old.state →
-    TookStep rules (record { moment = moment_of archive m nodes sent left; losses = losses })
+    GroupNodeStepOrLost rules (record { moment = moment_of archive m nodes sent left; losses = losses })
     (record { index = n; before = r; outcome = record { state = halted rules r; effects = [] } })
     (record { moment = moment_of archive m (set nodes n new) sent left; losses = losses })
 crash_turn {S = S} {C = C} {O = O} rules archive m nodes sent left losses n old new r read stands stopped =
@@ -235,7 +235,7 @@ pub cut_done : {S C O : Type 0} (rules : Rules S C O) (archive more : List C) (m
     (left : List (Effect C O)) (losses n : ℕ) (old new : CountedReplica S C) (r : ReplicaState S C) →
     old ≡ get_or nodes n old → slice_get (map (λ (z : CountedReplica S C). z.state) nodes) n ≡ Some r → new.state ≡ cut rules old.state →
     more ≡ recorded archive old.state → rules.thawed (rules.frozen old.state.machine) ≡ Some old.state.machine →
-    TookCut rules (record { moment = moment_of archive m nodes sent left; losses = losses }) (cut_outcome rules n r)
+    GroupCutOrLost rules (record { moment = moment_of archive m nodes sent left; losses = losses }) (cut_outcome rules n r)
     (record { moment = moment_of more m (set nodes n new) sent left; losses = losses })
 cut_done {S = S} {C = C} {O = O} rules archive more m nodes sent left losses n old new r read stands is grown thaws =
     record {
@@ -256,7 +256,7 @@ cut_done {S = S} {C = C} {O = O} rules archive more m nodes sent left losses n o
 pub cut_lost : {S C O : Type 0} (rules : Rules S C O) (archive more : List C) (m : MasterState) (nodes later : List (CountedReplica S C)) (sent : List (ℕ × Message C))
     (left : List (Effect C O)) (losses counted : ℕ) (t : NodeOutcome S C O) → more ≡ archive →
     map (λ (z : CountedReplica S C). z.state) later ≡ map (λ (z : CountedReplica S C). z.state) nodes → counted ≡ one_more losses →
-    TookCut rules (record { moment = moment_of archive m nodes sent left; losses = losses }) t
+    GroupCutOrLost rules (record { moment = moment_of archive m nodes sent left; losses = losses }) t
     (record { moment = moment_of more m later sent left; losses = counted })
 cut_lost {S = S} {C = C} {O = O} rules archive more m nodes later sent left losses counted t kept same count =
     record {
@@ -280,7 +280,7 @@ pub cut_read : {S C O : Type 0} (rules : Rules S C O) (archive more rest : List 
     base ≡ read.state.log.base → status ≡ status_of read.state → rest ≡ read.state.log.rest →
     more ≡ archive ++ drop (length archive - base) (take (status.committed - base) rest) →
     new ≡ record old { state = cut rules old.state } → rules.thawed (rules.frozen old.state.machine) ≡ Some old.state.machine →
-    TookCut rules (record { moment = moment_of archive m nodes sent left; losses = losses }) (cut_outcome rules n r)
+    GroupCutOrLost rules (record { moment = moment_of archive m nodes sent left; losses = losses }) (cut_outcome rules n r)
     (record { moment = moment_of more m (set nodes n new) sent left; losses = losses })
 cut_read {S = S} {C = C} {O = O} rules archive more rest m nodes sent left losses n base read old new status r within seen there stands based told kept added done thaws =
     cut_done rules archive more m nodes sent left losses n old new r there stands (ap (λ (z : CountedReplica S C). z.state) done)

@@ -63,7 +63,7 @@ Freezes rules (Some unheeded) = Unit {0}
 
 -- the step of an event, or one with losses that was counted; if a log was cut, its snapshot can be
 -- read
-pub record StepsBy {S C O : Type 0} (rules : Rules S C O) (old : GroupState S C O)
+pub record GroupEventOrLost {S C O : Type 0} (rules : Rules S C O) (old : GroupState S C O)
     (event : Event C) (new : GroupState S C O) : Type 0 where
   pub way : ((new.moment ≡ group_step rules event old.moment) × (new.losses ≡ old.losses))
       ⊎ (Happens rules old.moment event new.moment × (new.losses ≡ one_more old.losses))
@@ -71,14 +71,14 @@ pub record StepsBy {S C O : Type 0} (rules : Rules S C O) (old : GroupState S C 
 
 -- events one after another, each done exactly or with losses that were counted: no loss excuses
 -- another event
-pub data GroupRun {S C O : Type 0} (rules : Rules S C O) :
+pub data GroupRunOrLost {S C O : Type 0} (rules : Rules S C O) :
     GroupState S C O → List (Event C) → GroupState S C O → Type 0 where
   -- no event
-  ends : {first : GroupState S C O} → GroupRun rules first [] first
+  ends : {first : GroupState S C O} → GroupRunOrLost rules first [] first
   -- one event, exact or with a loss that is counted, and others after it
   goes_on : {first next last : GroupState S C O} {e : Event C} {events : List (Event C)} →
-      StepsBy rules first e next → GroupRun rules next events last →
-      GroupRun rules first (e ∷ events) last
+      GroupEventOrLost rules first e next → GroupRunOrLost rules next events last →
+      GroupRunOrLost rules first (e ∷ events) last
 
 -- the count is exact as long as it is below its greatest number
 abbrev pub GroupLosesNothing : {S C O : Type 0} → GroupState S C O → GroupState S C O → Type 0

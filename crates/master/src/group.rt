@@ -17,8 +17,8 @@ ghost use Rattle.master.specs.Copying.{has_numbers_alone};
 ghost use Rattle.master.specs.Exact.{event_outcome, group_step, group_run};
 ghost use Rattle.master.specs.Outcomes.{running};
 ghost use Rattle.master.specs.Inside.{HoldsAt, IsShort, RunsAt, held_by};
-ghost use Rattle.master.specs.Inside.Losing.{TookStep, input_of};
-ghost use Rattle.master.specs.Steps.{GroupRun, StepsBy, GroupTakesNoMemory, GroupLosesNothing, done_exactly};
+ghost use Rattle.master.specs.Inside.Losing.{GroupNodeStepOrLost, input_of};
+ghost use Rattle.master.specs.Steps.{GroupRunOrLost, GroupEventOrLost, GroupTakesNoMemory, GroupLosesNothing, done_exactly};
 
 use crate::event::{Event, Idle};
 use crate::inputs::{Input, counted, part, step_replica};
@@ -126,7 +126,7 @@ impl<M: Machine> Group<M> {
     /// Lets one event happen. [`Idle`] comes for what cannot happen now, and changes nothing. If
     /// memory runs out, messages are lost, nothing happens, or the node stops.
     pub fn step(&mut self, event: &Event<M::Command>) -> Result<(), Idle>
-        ensures step { StepsBy M.rules self.old event.now self.new }
+        ensures step { GroupEventOrLost M.rules self.old event.now self.new }
         ensures exact { GroupLosesNothing self.old self.new →
             self.new.moment ≡ group_step M.rules event.now self.old.moment }
         ensures idle { IsErr result ↔ (event_outcome M.rules self.old.moment event.now ≡ None) }
@@ -153,7 +153,7 @@ impl<M: Machine> Group<M> {
     /// Lets events happen one after another. Idle ones are skipped.
     pub fn run(&mut self, events: &[Event<M::Command>])
         // Each event is done exactly, or with losses that are counted for it.
-        ensures run { GroupRun M.rules self.old events.now self.new }
+        ensures run { GroupRunOrLost M.rules self.old events.now self.new }
         ensures exact { GroupLosesNothing self.old self.new →
             self.new.moment ≡ group_run M.rules events.now self.old.moment }
         // Whatever led to this group, the nodes agree after the events, the outputs that left are
@@ -274,7 +274,7 @@ impl<M: Machine> Group<M> {
         requires may { MayTake self.old.moment.world at (input_of input) }
         ensures { (replica : ReplicaState M M.Command) →
             slice_get self.old.moment.world.nodes at ≡ Some replica →
-            TookStep M.rules self.old (record {
+            GroupNodeStepOrLost M.rules self.old (record {
               index = at;
               before = replica;
               outcome = replica_step M.rules replica (input_of input);

@@ -5,7 +5,7 @@ ghost use Rattle.std.specs.Prelude.{◌&&◌, if◌then◌else◌};
 ghost use Rattle.ballot.specs.ballot_base.Losses.{one_more};
 ghost use Rattle.std.specs.Bool.{OnTrue, OnFalse};
 ghost use Rattle.snapshots.specs.World.{messages};
-ghost use Rattle.master.specs.Inside.Losing.{Parted, TookIn, input_of, is_message};
+ghost use Rattle.master.specs.Inside.Losing.{InputStepOrLost, Parted, input_of, is_message};
 
 use ballot::{Effect, Message, Replica};
 use machine::Machine;
@@ -28,7 +28,7 @@ pub fn step_replica<M: Machine>(
     out: &mut Vec<Effect<M::Command, M::Output>>,
 ) -> bool
     requires { replica.old.state.stopped ≡ false }
-    ensures { TookIn M.rules replica.old (input_of input) replica.new
+    ensures { InputStepOrLost M.rules replica.old (input_of input) replica.new
         out.old.items out.new.items result }
 {
     let before = replica.losses();

@@ -10,7 +10,7 @@ use Rattle.node_core.specs.declared.item.Item.{Item}
 use Rattle.node_core.specs.declared.Port.{Port}
 use Rattle.node_core.specs.Core.{CountedCore}
 use Rattle.node_core.specs.Handing.{hands_over}
-use Rattle.node_core.specs.Losses.{NodeStepped}
+use Rattle.node_core.specs.Losses.{ItemStepOrLost}
 use Rattle.node.specs.State.{Replays}
 use Rattle.node.specs.State.Replays.{opens, steps, hands}
 
@@ -25,7 +25,7 @@ opened first_of taker core none is =
 pub stepped : (first_of : ℕ → CountedCore) (old new : Taker Item) (taken : ℕ × Item) (core next : CountedCore)
     (before after : List (Effect Command Output))
     → new ≡ record old { taken = old.taken ++ taken ∷ [] }
-    → Replays (first_of old.inbox) old.taken core → NodeStepped core taken.1 next before after
+    → Replays (first_of old.inbox) old.taken core → ItemStepOrLost core taken.1 next before after
     → Replays (first_of new.inbox) new.taken next
 stepped first_of old new taken core next before after is replays step =
     subst (λ (t : Taker Item). Replays (first_of t.inbox) t.taken next) (sym is)

@@ -8,7 +8,7 @@ use Rattle.node_core.specs.declared.item.Item.{Item}
 use Rattle.node_core.specs.declared.Port.{Port}
 use Rattle.node_core.specs.Core.{CountedCore, opening_core}
 use Rattle.node_core.specs.Handing.{hands_over}
-use Rattle.node_core.specs.Losses.{NodeStepped}
+use Rattle.node_core.specs.Losses.{ItemStepOrLost}
 
 -- A chain from the first state of a node: one step for each item, in order, each with the lane from
 -- which it came. In between, queued bytes may have been handed over.
@@ -18,7 +18,7 @@ pub data Replays (first : CountedCore) : List (ℕ × Item) → CountedCore → 
   -- one more item is taken
   steps : {history : List (ℕ × Item)} {core : CountedCore}
       (taken : ℕ × Item) (next : CountedCore) (before after : List (Effect Command Output))
-      → Replays first history core → NodeStepped core taken.1 next before after
+      → Replays first history core → ItemStepOrLost core taken.1 next before after
       → Replays first (history ++ taken ∷ []) next
   -- queued bytes of a port are handed over
   hands : {history : List (ℕ × Item)} {core : CountedCore} (port : Port)
@@ -41,7 +41,7 @@ pub record TakesOne (old new : Seen) (before after : List (Effect Command Output
   pub lane : ℕ
   pub item : Item
   pub taken : new.taker ≡ record old.taker { taken = old.taker.taken ++ (lane, item) ∷ [] }
-  pub stepped : NodeStepped old.node item new.node before after
+  pub stepped : ItemStepOrLost old.node item new.node before after
 
 -- the node of a number for which none was chosen
 abbrev pub no_core : CountedCore

@@ -5,7 +5,7 @@ use Rattle.broker_spec.specs.declared.command.Command.{Command}
 use Rattle.broker_spec.specs.declared.command.Output.{Output}
 use Rattle.ballot.specs.ballot_base.declared.message.Effect.{Effect}
 use Rattle.node_core.specs.Core.{CoreState}
-use Rattle.node_core.specs.Inside.{RanOrLost}
+use Rattle.node_core.specs.Inside.{StepPartOrLost}
 use Rattle.node_core.specs.Lossy.{Account, Repeated, Then, both_accounts, without_effects}
 
 -- ---- accounts
@@ -34,19 +34,19 @@ joined_again a b c =
 
 -- nothing was given
 pub ran_without_effects : (Did : CoreState → Account → Type 0) (old new : CoreState) (x : List (Effect Command Output)) →
-    Did old (without_effects new) → RanOrLost Did old new x x
+    Did old (without_effects new) → StepPartOrLost Did old new x x
 ran_without_effects Did old new x runs =
     record { did = without_effects new; runs = runs; core = refl; appended = sym (append-nil x) }
 
 -- another word for what was done
 pub ran_as : (P Q : CoreState → Account → Type 0) (a b c : CoreState) (x y : List (Effect Command Output)) →
-    ((did : Account) → P b did → Q a did) → RanOrLost P b c x y → RanOrLost Q a c x y
+    ((did : Account) → P b did → Q a did) → StepPartOrLost P b c x y → StepPartOrLost Q a c x y
 ran_as P Q a b c x y says ran =
     record { did = ran.did; runs = says ran.did ran.runs; core = ran.core; appended = ran.appended }
 
 -- one thing and then another
 pub ran_then : (P Q : CoreState → Account → Type 0) (a b c : CoreState) (x y z : List (Effect Command Output)) →
-    RanOrLost P a b x y → RanOrLost Q b c y z → RanOrLost (Then P Q) a c x z
+    StepPartOrLost P a b x y → StepPartOrLost Q b c y z → StepPartOrLost (Then P Q) a c x z
 ran_then P Q a b c x y z one two =
     record {
       did = both_accounts one.did two.did;
@@ -94,11 +94,11 @@ module _ (Next : CoreState → Account → Type 0) where
       (subst (λ (d : Account). Repeated (suc (m + n)) Next core d) (joined_nothing did)
       (one_more (m + n) core did (without_effects did.core) (no_more n m core did done idle) idle))
 
-  pub ran_none : (core : CoreState) (x : List (Effect Command Output)) → RanOrLost (Repeated 0 Next) core core x x
+  pub ran_none : (core : CoreState) (x : List (Effect Command Output)) → StepPartOrLost (Repeated 0 Next) core core x x
   ran_none core x = ran_without_effects (Repeated 0 Next) core core x refl
 
   pub ran_more : (n : ℕ) (a b c : CoreState) (x y z : List (Effect Command Output)) →
-      RanOrLost (Repeated n Next) a b x y → RanOrLost Next b c y z → RanOrLost (Repeated (suc n) Next) a c x z
+      StepPartOrLost (Repeated n Next) a b x y → StepPartOrLost Next b c y z → StepPartOrLost (Repeated (suc n) Next) a c x z
   ran_more n a b c x y z one two =
       record {
         did = both_accounts one.did two.did;
@@ -110,7 +110,7 @@ module _ (Next : CoreState → Account → Type 0) where
 
   -- the next would do nothing
   pub ran_enough : (n all : ℕ) (a b : CoreState) (x y : List (Effect Command Output)) → n ≤ all →
-      RanOrLost (Repeated n Next) a b x y → Next b (without_effects b) → RanOrLost (Repeated all Next) a b x y
+      StepPartOrLost (Repeated n Next) a b x y → Next b (without_effects b) → StepPartOrLost (Repeated all Next) a b x y
   ran_enough n all a b x y few one idle =
       let rest : ℕ = all - n in
       let is : rest + n ≡ all = omega (arith, few) in

@@ -10,13 +10,13 @@ use Rattle.ballot.specs.ballot_base.Logs.{places}
 use Rattle.ballot.specs.ballot_errors.declared.error.ProposeError.{ProposeError}
 use Rattle.ballot.specs.ballot_errors.declared.error.ProposeError.TheVariants.{NotActive, LogFull, Memory, Halted}
 use Rattle.ballot.specs.ballot_base.declared.message.Effect.{Effect}
-use Rattle.ballot.specs.ballot_base.Losses.{DoneOrLost, SteppedOrLost, StepsOrLost, halted, one_more}
+use Rattle.ballot.specs.ballot_base.Losses.{AppendedStepOrLost, ReplicaStepOrLost, StepMessagesOrLost, halted, one_more}
 use Rattle.ballot.specs.ballot_base.Protocol.{Input, replica_step}
 use Rattle.ballot.specs.ballot_base.Replica.{CountedReplica, ReplicaState, is_active}
 use Rattle.ballot.specs.ballot_base.Sending.{Outcome, nothing_done}
 use Rattle.ballot.specs.ballot_base.Serving.{added, max_places, proposed}
 use Rattle.node_core.specs.Core.{CoreState, rules, serves}
-use Rattle.node_core.specs.Inside.{StepsReplicaOrLoses, Answered, HandledAll, ProposedBy, RanOrLost}
+use Rattle.node_core.specs.Inside.{NodeReplicaStepOrLost, Answered, HandledAll, ProposedBy, StepPartOrLost}
 use Rattle.node_core.specs.Lossy.{Account, HandlesAll, Drives, without_effects}
 use Rattle.node_core.specs.LossyProposals.{ProposesCommand}
 use Rattle.node_core.specs.LossyProposals.Declines.{no_room, forgets, stops}
@@ -35,16 +35,16 @@ heard_running input r e = ap (λ (b : Bool). if b then nothing_done Output r els
 
 pub acts_heard : (input : Input Command) (old : CoreState) (new : CountedReplica State Command) (before later : List (Effect Command Output)) →
     before ≡ [] →
-    (old.replica.state.stopped ≡ false → SteppedOrLost rules old.replica (replica_step rules old.replica.state input) new before later) →
+    (old.replica.state.stopped ≡ false → AppendedStepOrLost rules old.replica (replica_step rules old.replica.state input) new before later) →
     (old.replica.state.stopped ≡ true → (new ≡ old.replica) × (later ≡ before)) →
-    StepsReplicaOrLoses (outcome_of_input input old.replica.state) old (record old { replica = new }) later
+    NodeReplicaStepOrLost (outcome_of_input input old.replica.state) old (record old { replica = new }) later
 acts_heard input old new before later none step stays =
     record { replica = new; core = refl; steps = by (old.replica.state.stopped) refl }
   where
-    by : (b : Bool) → old.replica.state.stopped ≡ b → StepsOrLost rules old.replica (outcome_of_input input old.replica.state) new later
+    by : (b : Bool) → old.replica.state.stopped ≡ b → ReplicaStepOrLost rules old.replica (outcome_of_input input old.replica.state) new later
     by true e =
         let same = stays e in
-        subst (λ (o : Outcome State Command Output). StepsOrLost rules old.replica o new later) (heard_stopped input old.replica.state e)
+        subst (λ (o : Outcome State Command Output). ReplicaStepOrLost rules old.replica o new later) (heard_stopped input old.replica.state e)
         (inl (
           ap (λ (r : CountedReplica State Command). r.state) same.0,
           same.1 ∙ none,
@@ -53,11 +53,11 @@ acts_heard input old new before later none step stays =
     by false e =
         let did = step e in
         let given : did.given ≡ later = sym (did.appended ∙ ap (λ (l : List (Effect Command Output)). l ++ did.given) none) in
-        subst (λ (o : Outcome State Command Output). StepsOrLost rules old.replica o new later) (heard_running input old.replica.state e)
-        (subst (λ (l : List (Effect Command Output)). StepsOrLost rules old.replica (replica_step rules old.replica.state input) new l) given did.steps)
+        subst (λ (o : Outcome State Command Output). ReplicaStepOrLost rules old.replica o new later) (heard_running input old.replica.state e)
+        (subst (λ (l : List (Effect Command Output)). ReplicaStepOrLost rules old.replica (replica_step rules old.replica.state input) new l) given did.steps)
 
 pub drives_all : (input : Input Command) (a b c : CoreState) (given x y : List (Effect Command Output)) →
-    StepsReplicaOrLoses (outcome_of_input input a.replica.state) a b given → HandledAll given b c x y → RanOrLost (Drives input) a c x y
+    NodeReplicaStepOrLost (outcome_of_input input a.replica.state) a b given → HandledAll given b c x y → StepPartOrLost (Drives input) a c x y
 drives_all input a b c given x y acts delivered =
     record {
       did = record { core = c; given = given; messages = delivered.messages };
@@ -73,11 +73,11 @@ drives_all input a b c given x y acts delivered =
 -- the same as the code has it: the node was changed no more after it
 pub acts_kept : (input : Input Command) (old : CoreState) (new : CountedReplica State Command) (before later : List (Effect Command Output))
     (after : CoreState) → before ≡ [] →
-    (old.replica.state.stopped ≡ false → SteppedOrLost rules old.replica (replica_step rules old.replica.state input) new before later) →
+    (old.replica.state.stopped ≡ false → AppendedStepOrLost rules old.replica (replica_step rules old.replica.state input) new before later) →
     (old.replica.state.stopped ≡ true → (new ≡ old.replica) × (later ≡ before)) → after ≡ record old { replica = new } →
-    StepsReplicaOrLoses (outcome_of_input input old.replica.state) old after later
+    NodeReplicaStepOrLost (outcome_of_input input old.replica.state) old after later
 acts_kept input old new before later after none step stays kept =
-    subst (λ (k : CoreState). StepsReplicaOrLoses (outcome_of_input input old.replica.state) old k later) (sym kept)
+    subst (λ (k : CoreState). NodeReplicaStepOrLost (outcome_of_input input old.replica.state) old k later) (sym kept)
     (acts_heard input old new before later none step stays)
 
 -- a replica that has stopped hands nothing out
@@ -111,7 +111,7 @@ full_in old serving over = sym (has_room_by old false serving (sym (le-ltb (plac
 -- a replica that is stopped after a proposal found no memory
 stopped_by : (old : CountedReplica State Command) (command : Command) (new : CountedReplica State Command) (given : List (Effect Command Output)) →
     is_active old.state.role ≡ true → old.state.stopped ≡ false → new.state.stopped ≡ true →
-    StepsOrLost rules old (proposed rules old.state command) new given →
+    ReplicaStepOrLost rules old (proposed rules old.state command) new given →
     (new.state ≡ halted rules old.state) × (new.losses ≡ one_more old.losses)
 stopped_by old command new given active running stopped (inl exact) =
     let kept = proposed-stopped old.state command active in
@@ -128,8 +128,8 @@ stopped_by old command new given active running stopped (inr (inr (inr halts), c
 
 pub answered : (result : Result (Unit {0}) ProposeError) (old : CoreState) (new : CountedReplica State Command) (command : Command)
     (before later : List (Effect Command Output)) → before ≡ [] → serves old ≡ true →
-    SteppedOrLost rules old.replica (proposed rules old.replica.state command) new before later →
-    OnOk result (DoneOrLost old.replica (added rules old.replica.state command) new before later) →
+    AppendedStepOrLost rules old.replica (proposed rules old.replica.state command) new before later →
+    OnOk result (StepMessagesOrLost old.replica (added rules old.replica.state command) new before later) →
     (IsErrOf result Halted → new.state.stopped ≡ true) →
     (IsErrOf result NotActive → (old.replica.state.stopped ≡ false) × (is_active old.replica.state.role ≡ false)) →
     (IsErrOf result LogFull → max_places ≤ places old.replica.state.log) →
@@ -143,7 +143,7 @@ answered (Ok x) old new command before later none serving step done halts inacti
       room = room_in old serving (λ over. (let e = is_full over in absurd cc));
       replica = new;
       core = refl;
-      done = subst (λ (l : List (Effect Command Output)). DoneOrLost old.replica (added rules old.replica.state command) new l later) none done;
+      done = subst (λ (l : List (Effect Command Output)). StepMessagesOrLost old.replica (added rules old.replica.state command) new l later) none done;
     }
 answered (Err NotActive) old new command before later none serving step done halts inactive full is_full memory same err =
     let active = active_in old serving in
@@ -168,8 +168,8 @@ answered (Err Halted) old new command before later none serving step done halts 
 
 pub answered_kept : (result : Result (Unit {0}) ProposeError) (old : CoreState) (new : CountedReplica State Command) (command : Command)
     (before later : List (Effect Command Output)) (after : CoreState) → before ≡ [] → serves old ≡ true →
-    SteppedOrLost rules old.replica (proposed rules old.replica.state command) new before later →
-    OnOk result (DoneOrLost old.replica (added rules old.replica.state command) new before later) →
+    AppendedStepOrLost rules old.replica (proposed rules old.replica.state command) new before later →
+    OnOk result (StepMessagesOrLost old.replica (added rules old.replica.state command) new before later) →
     (IsErrOf result Halted → new.state.stopped ≡ true) →
     (IsErrOf result NotActive → (old.replica.state.stopped ≡ false) × (is_active old.replica.state.role ≡ false)) →
     (IsErrOf result LogFull → max_places ≤ places old.replica.state.log) →
@@ -184,7 +184,7 @@ answered_kept result old new command before later after none serving step done h
 
 -- with what it gave
 pub proposed_all : (taken : Bool) (command : Command) (a b c : CoreState) (given x y : List (Effect Command Output)) →
-    Answered taken command a b given → HandledAll given b c x y → RanOrLost (ProposedBy taken command) a c x y
+    Answered taken command a b given → HandledAll given b c x y → StepPartOrLost (ProposedBy taken command) a c x y
 proposed_all true command a b c given x y took delivered =
     record {
       did = record { core = c; given = given; messages = delivered.messages };
@@ -208,7 +208,7 @@ proposed_all false command a b c given x y declined delivered =
 
 -- it was not put to the replica
 pub proposed_not : (command : Command) (core : CoreState) (x : List (Effect Command Output)) → serves core ≡ false →
-    RanOrLost (ProposedBy false command) core core x x
+    StepPartOrLost (ProposedBy false command) core core x x
 proposed_not command core x idle =
     ran_without_effects (ProposedBy false command) core core x (no_room (rw idle refl) refl)
 

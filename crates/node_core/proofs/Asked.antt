@@ -9,7 +9,7 @@ use Rattle.ballot.specs.ballot_base.Logs.{places}
 use Rattle.ballot.specs.ballot_errors.declared.error.ProposeError.{ProposeError}
 use Rattle.ballot.specs.ballot_errors.declared.error.ProposeError.TheVariants.{NotActive, LogFull, Memory, Halted}
 use Rattle.ballot.specs.ballot_base.declared.message.Effect.{Effect}
-use Rattle.ballot.specs.ballot_base.Losses.{SteppedOrLost, StepsOrLost, one_more}
+use Rattle.ballot.specs.ballot_base.Losses.{AppendedStepOrLost, ReplicaStepOrLost, one_more}
 use Rattle.ballot.specs.ballot_base.Replica.{CountedReplica, ReplicaState, is_active}
 use Rattle.ballot.specs.ballot_base.Sending.{Outcome}
 use Rattle.ballot.specs.ballot_base.Serving.{max_places, proposed}
@@ -47,7 +47,7 @@ no_loss old new more same below = omega arith
 pub room_answered : (result : Result (Unit {0}) ProposeError) (old new : CountedReplica State Command) (command : Command)
     (before after : List (Effect Command Output)) →
     is_active old.state.role ≡ true → old.state.stopped ≡ false →
-    SteppedOrLost rules old (proposed rules old.state command) new before after →
+    AppendedStepOrLost rules old (proposed rules old.state command) new before after →
     (IsErrOf result Halted → new.state.stopped ≡ true) →
     (IsErrOf result NotActive → (old.state.stopped ≡ false) × (is_active old.state.role ≡ false)) →
     (IsErrOf result LogFull → max_places ≤ places old.state.log) →
@@ -71,7 +71,7 @@ room_answered (Err Memory) old new command before after active running stepped h
 room_answered (Err Halted) old new command before after active running stepped halted inactive full is_full memory same below =
     absurd (by_steps stepped.steps)
   where
-    by_steps : StepsOrLost rules old (proposed rules old.state command) new stepped.given → ⊥
+    by_steps : ReplicaStepOrLost rules old (proposed rules old.state command) new stepped.given → ⊥
     by_steps (inl exact) =
         let kept = proposed-stopped old.state command active in
         let now = ap (λ (z : ReplicaState State Command). z.stopped) exact.0 in

@@ -9,8 +9,8 @@ use Rattle.ballot.specs.ballot_base.Replica.{CountedReplica, ReplicaState}
 use Rattle.node_core.specs.Core.{CoreState, rules}
 use Rattle.node_core.specs.Inside.{DoesExactly, RunningStep}
 use Rattle.node_core.specs.Lossy.{without_effects}
-use Rattle.node_core.specs.LossyStep.{Cuts}
-use Rattle.node_core.specs.LossyStep.Cuts.{nothing_to_cut, cuts_log, forgets_cut}
+use Rattle.node_core.specs.LossyStep.{LogCutOrLost}
+use Rattle.node_core.specs.LossyStep.LogCutOrLost.{nothing_to_cut, cuts_log, forgets_cut}
 use Rattle.node_core.specs.Step.{cuts}
 
 -- what a cut of the replica left, by its answer
@@ -22,7 +22,7 @@ pub record ReplicaCut (core : CoreState) (new : CountedReplica State Command) (r
   pub idle : can_cut core.replica.state ≡ false → (result ≡ false) × (new ≡ core.replica)
 
 pub cut_runs : (core : CoreState) (new : CountedReplica State Command) (result : Bool) → ReplicaCut core new result →
-    Cuts core (without_effects (record core { replica = new }))
+    LogCutOrLost core (without_effects (record core { replica = new }))
 cut_runs core new true r = cuts_log (r.done refl).0 (r.thaws refl) (ap (λ (x : CountedReplica State Command). without_effects (record core { replica = x })) (r.done refl).1)
 cut_runs core new false r = by_need (cases_Bool (can_cut core.replica.state))
   where
@@ -31,7 +31,7 @@ cut_runs core new false r = by_need (cases_Bool (can_cut core.replica.state))
         ap (λ (s : ReplicaState State Command). let z : CountedReplica State Command = record { state = s; losses = new.losses } in z) (r.same refl)
         ∙ ap (λ k. let z : CountedReplica State Command = record { state = core.replica.state; losses = k } in z) (r.counts refl can)
 
-    by_need : (can_cut core.replica.state ≡ true) ⊎ (can_cut core.replica.state ≡ false) → Cuts core (without_effects (record core { replica = new }))
+    by_need : (can_cut core.replica.state ≡ true) ⊎ (can_cut core.replica.state ≡ false) → LogCutOrLost core (without_effects (record core { replica = new }))
     by_need (inl can) = forgets_cut can (ap (λ (x : CountedReplica State Command). without_effects (record core { replica = x })) (lost can))
     by_need (inr cannot) = nothing_to_cut cannot (ap (λ (x : CountedReplica State Command). without_effects (record core { replica = x })) (r.idle cannot).1)
 

@@ -20,7 +20,7 @@ use Rattle.node_connections.specs.ConnectionChanges.{noted_proposed, closed_conn
 use Rattle.node_core.specs.Core.{CoreState}
 use Rattle.node_connections.specs.Fronts.{FrontNeedsMemory, HasNoPacket}
 use Rattle.node_connections.specs.Fronts.{TakesFront}
-use Rattle.node_core.specs.Inside.{TakesPacket, RanOrLost, ReportsLost}
+use Rattle.node_core.specs.Inside.{TakesPacket, StepPartOrLost, ReportsLost}
 use Rattle.node_core.specs.Lossy.{without_effects}
 use Rattle.node_core.specs.LossyReading.{TakesFirstPacket, ProposesConnect, EndsConnection, MayEnd, ReadsNext, ProposesPacket}
 use Rattle.node_core.specs.LossyReading.EndsConnection.{none_open}
@@ -31,34 +31,34 @@ use Rattle.node_core.proofs.EndsRun.{ran_lost, ran_none_open}
 use Rattle.node_core.proofs.Fronts.{becomes_itself, becomes_same}
 
 -- a connection ends
-ends_there : (now : ℕ) (port : Port) (a r : CoreState) (x y : List (Effect Command Output)) → MayEnd (open_at port a) → RanOrLost (EndsConnection port) a r x y →
-    RanOrLost (ReadsNext now port) a r x y
+ends_there : (now : ℕ) (port : Port) (a r : CoreState) (x y : List (Effect Command Output)) → MayEnd (open_at port a) → StepPartOrLost (EndsConnection port) a r x y →
+    StepPartOrLost (ReadsNext now port) a r x y
 ends_there now port a r x y may ran = ran_as (EndsConnection port) (ReadsNext now port) a a r x y (λ did runs. ends may runs) ran
 
 none_ends : (port : Port) (core : CoreState) → open_at port core ≡ None → MayEnd (open_at port core)
 none_ends port core none = subst (λ (o : Option Connection). MayEnd o) (sym none) tt
 
 pub ran_nothing_open : (now : ℕ) (port : Port) (core : CoreState) (x : List (Effect Command Output)) → open_at port core ≡ None →
-    RanOrLost (ReadsNext now port) core core x x
+    StepPartOrLost (ReadsNext now port) core core x x
 ran_nothing_open now port core x e = ends_there now port core core x x (none_ends port core e) (ran_none_open port core x e)
 
 -- less than a packet
 pub ran_waits : (now : ℕ) (port : Port) (c new : Connection) (a b : CoreState) (x : List (Effect Command Output)) →
-    open_at port a ≡ Some c → TakesFront now c fronts.More new → b ≡ changes port (λ _. new) a → RanOrLost (ReadsNext now port) a b x x
+    open_at port a ≡ Some c → TakesFront now c fronts.More new → b ≡ changes port (λ _. new) a → StepPartOrLost (ReadsNext now port) a b x x
 ran_waits now port c new a b x found did is =
     ran_without_effects (ReadsNext now port) a b x (waits c found did.0 (ap without_effects (is ∙ becomes_itself port a c new found did.1)))
 
 -- a packet
 pub ran_packet : (now : ℕ) (port : Port) (c new : Connection) (packet : Packet) (a b r : CoreState) (x y : List (Effect Command Output)) →
     open_at port a ≡ Some c → TakesFront now c (fronts.Packet packet) new → b ≡ changes port (λ _. new) a →
-    RanOrLost (TakesPacket (is_first c.stage) port c.name packet) b r x y → RanOrLost (ReadsNext now port) a r x y
+    StepPartOrLost (TakesPacket (is_first c.stage) port c.name packet) b r x y → StepPartOrLost (ReadsNext now port) a r x y
 ran_packet now port c new packet a b r x y found did is ran = by (is_first c.stage) refl ran
   where
     left : b ≡ changes port (left_with now did.0) a
     left = is ∙ becomes_same port a c new (left_with now did.0) found did.3
 
-    by : (f : Bool) → is_first c.stage ≡ f → RanOrLost (TakesPacket f port c.name packet) b r x y →
-        RanOrLost (ReadsNext now port) a r x y
+    by : (f : Bool) → is_first c.stage ≡ f → StepPartOrLost (TakesPacket f port c.name packet) b r x y →
+        StepPartOrLost (ReadsNext now port) a r x y
     by true e begun =
         ran_as (TakesPacket true port c.name packet) (ReadsNext now port) a b r x y
         (λ done runs. first c packet did.0 found e did.1 (subst (λ (k : CoreState). TakesFirstPacket port c.name packet k done) left runs)) begun
@@ -68,18 +68,18 @@ ran_packet now port c new packet a b r x y found did is ran = by (is_first c.sta
 
 -- it is the first of its connection
 pub ran_later : (awaits : Bool) (port : Port) (name : ConnectionName) (packet : Packet) (a b : CoreState) (x y : List (Effect Command Output)) →
-    awaits ≡ false → RanOrLost (ProposesPacket port name packet) a b x y → RanOrLost (TakesPacket awaits port name packet) a b x y
+    awaits ≡ false → StepPartOrLost (ProposesPacket port name packet) a b x y → StepPartOrLost (TakesPacket awaits port name packet) a b x y
 ran_later awaits port name packet a b x y is ran =
-    subst (λ (f : Bool). RanOrLost (TakesPacket f port name packet) a b x y) (sym is)
+    subst (λ (f : Bool). StepPartOrLost (TakesPacket f port name packet) a b x y) (sym is)
     (ran_as (ProposesPacket port name packet) (TakesPacket false port name packet) a a b x y (λ did runs. runs) ran)
 
 pub ran_connects : (awaits : Bool) (port : Port) (name : ConnectionName) (connect : Connect) (packet : Packet) (a b r : CoreState)
     (x y : List (Effect Command Output)) → awaits ≡ true → packet ≡ packets.Connect connect →
-    b ≡ changes port (noted_proposed connect.keep_alive) a → RanOrLost (ProposesConnect port name connect) b r x y →
-    RanOrLost (TakesPacket awaits port name packet) a r x y
+    b ≡ changes port (noted_proposed connect.keep_alive) a → StepPartOrLost (ProposesConnect port name connect) b r x y →
+    StepPartOrLost (TakesPacket awaits port name packet) a r x y
 ran_connects awaits port name connect packet a b r x y is connects left ran =
-    subst (λ (f : Bool). RanOrLost (TakesPacket f port name packet) a r x y) (sym is)
-    (subst (λ (p : Packet). RanOrLost (TakesPacket true port name p) a r x y) (sym connects)
+    subst (λ (f : Bool). StepPartOrLost (TakesPacket f port name packet) a r x y) (sym is)
+    (subst (λ (p : Packet). StepPartOrLost (TakesPacket true port name p) a r x y) (sym connects)
     (ran_as (ProposesConnect port name connect) (TakesPacket true port name (packets.Connect connect)) a b r x y
     (λ did runs. subst (λ (k : CoreState). ProposesConnect port name connect k did) left runs) ran))
 
@@ -90,16 +90,16 @@ other_begins port name _ a b other shut = ap without_effects shut
 
 pub ran_other : (awaits : Bool) (port : Port) (name : ConnectionName) (packet : Packet) (a b : CoreState)
     (x : List (Effect Command Output)) → awaits ≡ true → ((connect : Connect) → packet ≡ packets.Connect connect → ⊥) →
-    b ≡ changes port closed_connection a → RanOrLost (TakesPacket awaits port name packet) a b x x
+    b ≡ changes port closed_connection a → StepPartOrLost (TakesPacket awaits port name packet) a b x x
 ran_other awaits port name packet a b x is other shut =
-    subst (λ (f : Bool). RanOrLost (TakesPacket f port name packet) a b x x) (sym is)
+    subst (λ (f : Bool). StepPartOrLost (TakesPacket f port name packet) a b x x) (sym is)
     (ran_without_effects (TakesPacket true port name packet) a b x (other_begins port name packet a b other shut))
 
 -- ---- no packet, or no memory
 
 closed_there : (now : ℕ) (port : Port) (c new : Connection) (a b r : CoreState) (x y : List (Effect Command Output)) →
     open_at port a ≡ Some c → HasNoPacket c ⊎ FrontNeedsMemory c → new ≡ closed_connection c → b ≡ changes port (λ _. new) a →
-    RanOrLost (ReportsLost (is_proposed c.stage) c.name) b r x y → RanOrLost (ReadsNext now port) a r x y
+    StepPartOrLost (ReportsLost (is_proposed c.stage) c.name) b r x y → StepPartOrLost (ReadsNext now port) a r x y
 closed_there now port c new a b r x y found may shut is ran =
     ends_there now port a r x y (subst (λ (o : Option Connection). MayEnd o) (sym found) may) (ran_lost port c a b r x y found (is ∙ becomes_same port a c new closed_connection found shut) ran)
 
@@ -111,20 +111,20 @@ first_not_proposed Failed e = absurd cc
 
 refused_there : (now : ℕ) (port : Port) (c new : Connection) (code : RefusalCode) (a b r : CoreState) (x y : List (Effect Command Output)) →
     open_at port a ≡ Some c → TakesFront now c (fronts.Refused code) new → b ≡ changes port (λ _. new) a →
-    RanOrLost (ReportsLost (is_proposed c.stage) c.name) b r x y → RanOrLost (ReadsNext now port) a r x y
+    StepPartOrLost (ReportsLost (is_proposed c.stage) c.name) b r x y → StepPartOrLost (ReadsNext now port) a r x y
 refused_there now port c new code a b r x y found did is ran = by (is_first c.stage) refl did.1
   where
-    by : (f : Bool) → is_first c.stage ≡ f → new ≡ (if f then connect_refused code c else closed_connection c) → RanOrLost (ReadsNext now port) a r x y
+    by : (f : Bool) → is_first c.stage ≡ f → new ≡ (if f then connect_refused code c else closed_connection c) → StepPartOrLost (ReadsNext now port) a r x y
     by true e answered =
         ran_as (ReportsLost false c.name) (ReadsNext now port) a b r x y
         (λ done runs. refuses c code found e did.0 (runs ∙ ap without_effects (is ∙ becomes_same port a c new (connect_refused code) found answered)))
-        (subst (λ (p : Bool). RanOrLost (ReportsLost p c.name) b r x y) (first_not_proposed c.stage e) ran)
+        (subst (λ (p : Bool). StepPartOrLost (ReportsLost p c.name) b r x y) (first_not_proposed c.stage e) ran)
     by false e shut = closed_there now port c new a b r x y found (inl (inr (e, (code, did.0)))) shut is ran
 
 pub ran_gone : (now : ℕ) (port : Port) (c new : Connection) (front : Front) (a b r : CoreState) (x y : List (Effect Command Output)) →
     open_at port a ≡ Some c → TakesFront now c front new →
     ((code : RefusalCode) × (front ≡ fronts.Refused code)) ⊎ (front ≡ fronts.Fault) → b ≡ changes port (λ _. new) a →
-    RanOrLost (ReportsLost (is_proposed c.stage) c.name) b r x y → RanOrLost (ReadsNext now port) a r x y
+    StepPartOrLost (ReportsLost (is_proposed c.stage) c.name) b r x y → StepPartOrLost (ReadsNext now port) a r x y
 ran_gone now port c new front a b r x y found did (inl (code, e)) is ran =
     refused_there now port c new code a b r x y found (subst (λ (f : Front). TakesFront now c f new) e did) is ran
 ran_gone now port c new front a b r x y found did (inr e) is ran =
@@ -133,7 +133,7 @@ ran_gone now port c new front a b r x y found did (inr e) is ran =
 
 pub ran_out_of_memory : (now : ℕ) (port : Port) (c new : Connection) (a b r : CoreState) (x y : List (Effect Command Output)) →
     open_at port a ≡ Some c → TakesFront now c fronts.OutOfMemory new → b ≡ changes port (λ _. new) a →
-    RanOrLost (ReportsLost (is_proposed c.stage) c.name) b r x y → RanOrLost (ReadsNext now port) a r x y
+    StepPartOrLost (ReportsLost (is_proposed c.stage) c.name) b r x y → StepPartOrLost (ReadsNext now port) a r x y
 ran_out_of_memory now port c new a b r x y found did is ran =
     closed_there now port c new a b r x y found (inr did.0) did.1 is ran
 

@@ -22,12 +22,12 @@ use Rattle.node_connections.specs.ConnectionChanges.{noted_proposed, closed_conn
 use Rattle.node_core.specs.Core.{CoreState, serves}
 use Rattle.node_core.specs.Failing.{closes_failed}
 use Rattle.node_core.specs.Going.{AGapIsClosed, AreNamedApart, EachGoesOn, GoOn, ConnectionGoesOn, OpensAtMostOne}
-use Rattle.node_core.specs.Lossy.{Account, Drives, ReplicaSteps, Repeated, TakesCommand, Then, without_effects}
+use Rattle.node_core.specs.Lossy.{Account, Drives, HandledStepOrLost, Repeated, TakesCommand, Then, without_effects}
 use Rattle.node_core.specs.LossyProposals.{Declines, ProposesCommand}
 use Rattle.node_core.specs.LossyProposals.Declines.{no_room, forgets, stops}
-use Rattle.node_core.specs.LossyStep.{ActsOn, Cuts, HoldsBytes, AcceptsConnection, DoesItem}
+use Rattle.node_core.specs.LossyStep.{ActsOn, LogCutOrLost, HoldsBytes, AcceptsConnection, DoesItem}
 use Rattle.node_core.specs.LossyReading.{TakesOr, TakesFirstPacket, ClosesConnection, EndsConnection, EndsSilent, LosesFailed, ReadsNext, Shuts}
-use Rattle.node_core.specs.LossyStep.Cuts.{nothing_to_cut, cuts_log, forgets_cut}
+use Rattle.node_core.specs.LossyStep.LogCutOrLost.{nothing_to_cut, cuts_log, forgets_cut}
 use Rattle.node_core.specs.LossyReading.EndsConnection.{none_open, unproposed, proposed}
 use Rattle.node_core.specs.LossyReading.EndsSilent.{none_silent, ends_one}
 use Rattle.node_core.specs.LossyReading.LosesFailed.{none_failed, tells_one}
@@ -86,7 +86,7 @@ asked_on keep_alive c stays = goes_still c (noted_proposed keep_alive c) refl re
 
 -- ---- what comes to the replica
 
-moves_on : (outcome : Outcome State Command Output) (core : CoreState) (did : Account) → ReplicaSteps outcome core did → Goes core did
+moves_on : (outcome : Outcome State Command Output) (core : CoreState) (did : Account) → HandledStepOrLost outcome core did → Goes core did
 moves_on outcome core did m apart = delivers_on did.given (record core { replica = m.replica }) did.core did.messages m.handles apart
 
 takes_on : (command : Command) (core : CoreState) (did : Account) → TakesCommand command core did → Goes core did
@@ -182,7 +182,7 @@ all_read_on now port core did runs = repeated_on (unread_of (open_at port core))
 drives_on : (input : Input Command) (core : CoreState) (did : Account) → Drives input core did → Goes core did
 drives_on input core did runs = moves_on _ core did runs
 
-cut_on : (core : CoreState) (did : Account) → Cuts core did → Goes core did
+cut_on : (core : CoreState) (did : Account) → LogCutOrLost core did → Goes core did
 cut_on core did (nothing_to_cut none is) = without_effects_on core _ did is (each_itself core.connections)
 cut_on core did (cuts_log can reads is) = without_effects_on core _ did is (each_itself core.connections)
 cut_on core did (forgets_cut can is) = without_effects_on core _ did is (each_itself core.connections)

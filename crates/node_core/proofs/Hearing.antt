@@ -5,7 +5,7 @@ use Rattle.broker.specs.broker_base.State.{State}
 use Rattle.broker_spec.specs.declared.command.Command.{Command}
 use Rattle.broker_spec.specs.declared.command.Output.{Output}
 use Rattle.ballot.specs.ballot_base.declared.message.Effect.{Effect}
-use Rattle.ballot.specs.ballot_base.Losses.{SendsAndAddsNothing, SteppedOrLost, StepsOrLost, Thinned}
+use Rattle.ballot.specs.ballot_base.Losses.{AppendedStepOrLost, ReplicaStepOrLost, SendsAndAddsNothing, Thinned}
 use Rattle.ballot.specs.ballot_base.Losses.Thinned.{keeps, loses}
 use Rattle.ballot.specs.ballot_base.Losses.Thinned.{none as none_missing}
 use Rattle.ballot.specs.ballot_base.declared.message.Message.{Message}
@@ -33,7 +33,7 @@ missing_nothing _ _ e (keeps t) = absurd cc
 missing_nothing _ _ e (loses t) = absurd cc
 
 given_nothing : (old : CountedReplica State Command) (o : Outcome State Command Output) (new : CountedReplica State Command) (given : List (Effect Command Output)) →
-    o.effects ≡ [] → StepsOrLost rules old o new given → given ≡ []
+    o.effects ≡ [] → ReplicaStepOrLost rules old o new given → given ≡ []
 given_nothing old o new given e (inl exact) = exact.1 ∙ e
 given_nothing old o new given e (inr (inl (same, thinned), counted)) = missing_nothing given o.effects e thinned
 given_nothing old o new given e (inr (inr (inl (same, is)), counted)) = is
@@ -43,7 +43,7 @@ given_nothing old o new given e (inr (inr (inr (same, is)), counted)) = is
 pub heard_quietly : (message : Message Command) (old mid new : RunningStep) (replica : CountedReplica State Command) (before after : List (Effect Command Output)) (losses : ℕ) →
     before ≡ [] →
     (old.core.replica.state.stopped ≡ false →
-    SteppedOrLost rules old.core.replica (replica_step rules old.core.replica.state (Receives message)) replica before after) →
+    AppendedStepOrLost rules old.core.replica (replica_step rules old.core.replica.state (Receives message)) replica before after) →
     (old.core.replica.state.stopped ≡ false → SendsAndAddsNothing old.core.replica.state (replica_step rules old.core.replica.state (Receives message)) →
     is_unread rules old.core.replica.state message.body ≡ false →
     replica ≡ record old.core.replica { state = (replica_step rules old.core.replica.state (Receives message)).state }) →

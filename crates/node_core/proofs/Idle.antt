@@ -18,7 +18,7 @@ use Rattle.node_connections.specs.Connections.{has_failed, is_open_at, is_propos
 use Rattle.node_connections.specs.ConnectionChanges.{changed_where, closed_connection, with_unread}
 use Rattle.node_core.specs.Core.{CoreState, StepOutcome}
 use Rattle.node_core.specs.Failing.{loses_all_failed}
-use Rattle.node_core.specs.Inside.{RanOrLost, RunningStep, DoesOutcome, WithoutFailure}
+use Rattle.node_core.specs.Inside.{StepPartOrLost, RunningStep, DoesOutcome, WithoutFailure}
 use Rattle.node_core.specs.KeepAlive.{ends_all_silent, ends_silent}
 use Rattle.node_core.specs.Losses.{DoesNothing, IsHeardQuietly, IsIgnored, ReadsNone, ItemTakesNoMemory, was_proposed}
 use Rattle.node_core.specs.Lossy.{Account, Drives, Repeated, without_effects}
@@ -27,7 +27,7 @@ use Rattle.node_core.specs.LossyStep.{ActsOn, LosesAllFailed, ReadsPackets, Does
 use Rattle.node_core.specs.LossyReading.{EndsSilent, ReadsNext}
 use Rattle.ballot.specs.ballot_base.Cutting.{can_cut}
 use Rattle.node_core.specs.LossyProposals.Declines.{no_room}
-use Rattle.node_core.specs.LossyStep.Cuts.{nothing_to_cut}
+use Rattle.node_core.specs.LossyStep.LogCutOrLost.{nothing_to_cut}
 use Rattle.node_core.specs.LossyReading.EndsConnection.{none_open}
 use Rattle.node_core.specs.LossyReading.EndsSilent.{none_silent}
 use Rattle.node_core.specs.Reading.{changes, port_closed, open_at, reads_all, reads_next, unread_of}
@@ -171,7 +171,7 @@ turns_ignored item a b x y idle turns =
     subst (λ (t : StepOutcome). DoesOutcome a b x y t) (sym (ap (λ (t : StepOutcome). then_also t loses_all_failed) (takes_nothing item a.core idle))) turns
 
 pub ran_ignored : (item : Item) (a b : CoreState) (x y : List (Effect Command Output)) → DoesNothing item a →
-    RanOrLost LosesAllFailed a b x y → RanOrLost (ActsOn item) a b x y
+    StepPartOrLost LosesAllFailed a b x y → StepPartOrLost (ActsOn item) a b x y
 ran_ignored item a b x y idle ran =
     ran_then (DoesItem item) LosesAllFailed a a b x x y (ran_without_effects (DoesItem item) a a x (takes_idle item a idle)) ran
 

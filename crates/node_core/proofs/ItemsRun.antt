@@ -13,30 +13,30 @@ use Rattle.node_core.specs.declared.item.Item.{Item}
 use Rattle.node_core.specs.declared.item.Item.TheVariants.{Opened, Cut, Crash}
 use Rattle.node_connections.specs.Connections.{has_failed}
 use Rattle.node_core.specs.Core.{CoreState, CountedCore, StepOutcome, rules}
-use Rattle.node_core.specs.Inside.{RanOrLost, RunningStep, DoesOutcome}
-use Rattle.node_core.specs.Losses.{IsExactly, NodeStepped, NodeSteps, ItemTakesNoMemory}
+use Rattle.node_core.specs.Inside.{StepPartOrLost, RunningStep, DoesOutcome}
+use Rattle.node_core.specs.Losses.{IsExactly, ItemStepOrLost, NodeStepOrLost, ItemTakesNoMemory}
 use Rattle.node_core.specs.Lossy.{without_effects}
-use Rattle.node_core.specs.LossyStep.{ActsOn, Cuts, AcceptsConnection, RunsOn, DoesItem}
+use Rattle.node_core.specs.LossyStep.{ActsOn, LogCutOrLost, AcceptsConnection, RunsOn, DoesItem}
 use Rattle.node_core.specs.Step.{acts_on, node_step, with_next_connection, settled}
 use Rattle.node_core.proofs.Accounts.{ran_without_effects}
 
-pub ran_item : (item same : Item) (a b : CoreState) (x y : List (Effect Command Output)) → item ≡ same → RanOrLost (DoesItem same) a b x y →
-    RanOrLost (DoesItem item) a b x y
-ran_item item same a b x y is ran = subst (λ (i : Item). RanOrLost (DoesItem i) a b x y) (sym is) ran
+pub ran_item : (item same : Item) (a b : CoreState) (x y : List (Effect Command Output)) → item ≡ same → StepPartOrLost (DoesItem same) a b x y →
+    StepPartOrLost (DoesItem item) a b x y
+ran_item item same a b x y is ran = subst (λ (i : Item). StepPartOrLost (DoesItem i) a b x y) (sym is) ran
 
 opens_by : (port : Port) (a b : CoreState) → (b ≡ with_next_connection port a) ⊎ (b ≡ a) → AcceptsConnection port a (without_effects b)
 opens_by port a b (inl e) = inl (ap without_effects e)
 opens_by port a b (inr e) = inr (ap without_effects e)
 
 pub ran_opened : (port : Port) (now : ℕ) (a b : CoreState) (x : List (Effect Command Output)) → (b ≡ with_next_connection port a) ⊎ (b ≡ a) →
-    RanOrLost (DoesItem (Opened port now)) a b x x
+    StepPartOrLost (DoesItem (Opened port now)) a b x x
 ran_opened port now a b x did = ran_without_effects (DoesItem (Opened port now)) a b x (opens_by port a b did)
 
-pub ran_cut : (a b : CoreState) (x : List (Effect Command Output)) → Cuts a (without_effects b) → RanOrLost (DoesItem Cut) a b x x
+pub ran_cut : (a b : CoreState) (x : List (Effect Command Output)) → LogCutOrLost a (without_effects b) → StepPartOrLost (DoesItem Cut) a b x x
 ran_cut a b x did = ran_without_effects (DoesItem Cut) a b x did
 
 pub ran_crashed : (a : CoreState) (replica : CountedReplica State Command) (x : List (Effect Command Output)) →
-    replica ≡ record a.replica { state = halted rules a.replica.state } → RanOrLost (DoesItem Crash) a (record a { replica = replica }) x x
+    replica ≡ record a.replica { state = halted rules a.replica.state } → StepPartOrLost (DoesItem Crash) a (record a { replica = replica }) x x
 ran_crashed a replica x is =
     ran_without_effects (DoesItem Crash) a (record a { replica = replica }) x
     (ap (λ (r : CountedReplica State Command). without_effects (record a { replica = r })) is)
@@ -53,20 +53,20 @@ exactly_by old a b outcome new losses x y turns settles e counted =
 steps_by : (old : CountedCore) (a b : RunningStep) (outcome : StepOutcome) (new : CoreState) (losses : ℕ) (x y : List (Effect Command Output))
     (turns : DoesOutcome a b x y outcome) → new ≡ settled b.core → (out_of_memory : Bool) → b.out_of_memory ≡ out_of_memory →
     losses ≡ (if out_of_memory then one_more old.losses else old.losses) →
-    NodeSteps old (record { core = settled outcome.core; messages = outcome.messages }) (record { core = new; losses = losses }) turns.given
+    NodeStepOrLost old (record { core = settled outcome.core; messages = outcome.messages }) (record { core = new; losses = losses }) turns.given
 steps_by old a b outcome new losses x y turns settles true e counted = inr counted
 steps_by old a b outcome new losses x y turns settles false e counted = inl (exactly_by old a b outcome new losses x y turns settles e counted)
 
 pub stepped_by : (old : CountedCore) (item : Item) (a b : RunningStep) (new : CoreState) (losses : ℕ) (x y : List (Effect Command Output)) →
-    a.core ≡ old.core → DoesOutcome a b x y (acts_on item a.core) → RanOrLost (ActsOn item) a.core b.core x y → new ≡ settled b.core →
+    a.core ≡ old.core → DoesOutcome a b x y (acts_on item a.core) → StepPartOrLost (ActsOn item) a.core b.core x y → new ≡ settled b.core →
     losses ≡ (if b.out_of_memory then one_more old.losses else old.losses) → a.out_of_memory ≡ false →
     (ItemTakesNoMemory item a.core → find has_failed a.core.connections ≡ None → b.out_of_memory ≡ a.out_of_memory) →
-    NodeStepped old item (record { core = new; losses = losses }) x y
+    ItemStepOrLost old item (record { core = new; losses = losses }) x y
 stepped_by old item a b new losses x y same turns ran settles counted calm quiet =
     record {
       given = turns.given;
       appended = turns.appended;
-      steps = subst (λ (k : CoreState). NodeSteps old (node_step item k) (record { core = new; losses = losses }) turns.given) same
+      steps = subst (λ (k : CoreState). NodeStepOrLost old (node_step item k) (record { core = new; losses = losses }) turns.given) same
           (steps_by old a b (acts_on item a.core) new losses x y turns settles b.out_of_memory refl counted);
       uncounted = subst (λ (k : CoreState). ItemTakesNoMemory item k → find has_failed k.connections ≡ None →
           IsExactly old (node_step item k) (record { core = new; losses = losses }) turns.given) same

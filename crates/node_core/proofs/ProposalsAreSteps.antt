@@ -7,13 +7,13 @@ use Rattle.broker_spec.specs.declared.command.Command.{Command}
 use Rattle.broker_spec.specs.declared.command.Output.{Output}
 use Rattle.ballot.specs.ballot_base.Logs.{places}
 use Rattle.ballot.specs.ballot_base.declared.message.Effect.{Effect}
-use Rattle.ballot.specs.ballot_base.Losses.{DoneOrLost, StepsOrLost, Thinned, halted, one_more}
+use Rattle.ballot.specs.ballot_base.Losses.{ReplicaStepOrLost, StepMessagesOrLost, Thinned, halted, one_more}
 use Rattle.ballot.specs.ballot_base.Replica.{CountedReplica, is_active}
 use Rattle.ballot.specs.ballot_base.Sending.{Outcome}
 use Rattle.ballot.specs.ballot_base.Serving.{added, max_places, proposed}
 use Rattle.ballot.proofs.of_ballot_base.StepRows.{proposed-adds, proposed-full}
 use Rattle.node_core.specs.Core.{CoreState, rules, serves}
-use Rattle.node_core.specs.Lossy.{Account, ReplicaSteps}
+use Rattle.node_core.specs.Lossy.{Account, HandledStepOrLost}
 use Rattle.node_core.specs.LossyProposals.{ProposalsAreSteps}
 use Rattle.node_core.specs.LossyProposals.Declines.{no_room, forgets, stops}
 use Rattle.node_core.specs.Lossy.HandlesAll.{nothing}
@@ -21,10 +21,10 @@ use Rattle.node_core.specs.Effects.{has_room}
 use Rattle.node_core.proofs.Asked.{left_true}
 
 done_steps : (old new : CountedReplica State Command) (outcome : Outcome State Command Output) (given : List (Effect Command Output)) →
-    DoneOrLost old outcome new [] given → StepsOrLost rules old outcome new given
+    StepMessagesOrLost old outcome new [] given → ReplicaStepOrLost rules old outcome new given
 done_steps old new outcome given did = by did.counted
   where
-    by : ((did.given ≡ outcome.effects) × (new.losses ≡ old.losses)) ⊎ (new.losses ≡ one_more old.losses) → StepsOrLost rules old outcome new given
+    by : ((did.given ≡ outcome.effects) × (new.losses ≡ old.losses)) ⊎ (new.losses ≡ one_more old.losses) → ReplicaStepOrLost rules old outcome new given
     by (inl exact) = inl (did.state, did.appended ∙ exact.0, exact.1)
     by (inr counted) =
         inr (inl (did.state, subst (λ (l : List (Effect Command Output)). Thinned l outcome.effects) (sym did.appended) did.thinned), counted)
@@ -65,7 +65,7 @@ pub proposals_are_steps : ProposalsAreSteps
 proposals_are_steps command core did (inl takes) = (
   λ serving. record {
     replica = takes.replica;
-    steps = subst (λ (o : Outcome State Command Output). StepsOrLost rules core.replica o takes.replica did.given)
+    steps = subst (λ (o : Outcome State Command Output). ReplicaStepOrLost rules core.replica o takes.replica did.given)
         (sym (proposed-adds rules core.replica.state command (active_of core serving) (room_of core takes.room)))
         (done_steps core.replica takes.replica (added rules core.replica.state command) did.given takes.done);
     handles = takes.handles;
@@ -73,10 +73,10 @@ proposals_are_steps command core did (inl takes) = (
   λ idle. absurd (not_idle core takes.room idle),
 )
 proposals_are_steps command core did (inr (no_room full is)) = (
-  λ serving. subst (λ (d : Account). ReplicaSteps (proposed rules core.replica.state command) core d) (sym is)
+  λ serving. subst (λ (d : Account). HandledStepOrLost (proposed rules core.replica.state command) core d) (sym is)
       (record {
         replica = core.replica;
-        steps = subst (λ (o : Outcome State Command Output). StepsOrLost rules core.replica o core.replica [])
+        steps = subst (λ (o : Outcome State Command Output). ReplicaStepOrLost rules core.replica o core.replica [])
             (sym (proposed-full rules core.replica.state command (active_of core serving) (full_of core serving full)))
             (inl (refl, refl, refl));
         handles = nothing;
@@ -84,7 +84,7 @@ proposals_are_steps command core did (inr (no_room full is)) = (
   λ idle. is,
 )
 proposals_are_steps command core did (inr (forgets room is)) = (
-  λ serving. subst (λ (d : Account). ReplicaSteps (proposed rules core.replica.state command) core d) (sym is)
+  λ serving. subst (λ (d : Account). HandledStepOrLost (proposed rules core.replica.state command) core d) (sym is)
       (record {
         replica = record core.replica { losses = one_more core.replica.losses };
         steps = inr (inr (inl (refl, refl)), refl);
@@ -93,7 +93,7 @@ proposals_are_steps command core did (inr (forgets room is)) = (
   λ idle. absurd (not_idle core room idle),
 )
 proposals_are_steps command core did (inr (stops room is)) = (
-  λ serving. subst (λ (d : Account). ReplicaSteps (proposed rules core.replica.state command) core d) (sym is)
+  λ serving. subst (λ (d : Account). HandledStepOrLost (proposed rules core.replica.state command) core d) (sym is)
       (record {
         replica = record { state = halted rules core.replica.state; losses = one_more core.replica.losses };
         steps = inr (inr (inr (refl, refl)), refl);

@@ -7,7 +7,7 @@ use Rattle.broker_spec.specs.declared.command.Command.{Command}
 use Rattle.broker_spec.specs.declared.command.Command.TheVariants as commands
 use Rattle.broker_spec.specs.declared.command.Output.{Output}
 use Rattle.ballot.specs.ballot_base.declared.message.Effect.{Effect}
-use Rattle.ballot.specs.ballot_base.Losses.{DoneOrLost, StepsOrLost}
+use Rattle.ballot.specs.ballot_base.Losses.{ReplicaStepOrLost, StepMessagesOrLost}
 use Rattle.ballot.specs.ballot_base.Replica.{CountedReplica}
 use Rattle.ballot.specs.ballot_base.Sending.{Outcome}
 use Rattle.ballot.specs.ballot_base.Serving.{added}
@@ -54,9 +54,9 @@ StepsReplica old new outcome given = new.out_of_memory ≡ false →
     })
     × (given ≡ outcome.effects)
 
--- what was done, when memory may have run out; the messages that were sent were appended to what
--- was there
-pub record RanOrLost (Did : CoreState → Account → Type 0) (old new : CoreState)
+-- a part of a step was done, exactly or with losses; the messages that were sent were appended to
+-- what was there
+pub record StepPartOrLost (Did : CoreState → Account → Type 0) (old new : CoreState)
     (before after : List (Effect Command Output)) : Type 0 where
   pub did : Account
   pub runs : Did old did
@@ -70,12 +70,12 @@ pub record HandledAll (given : List (Effect Command Output)) (old new : CoreStat
   pub handles : HandlesAll given old new messages
   pub appended : after ≡ before ++ messages
 
--- a step of the replica only, or one with losses
-pub record StepsReplicaOrLoses (outcome : Outcome State Command Output) (old new : CoreState)
+-- a step of the replica only, which it did exactly or with losses that it counted
+pub record NodeReplicaStepOrLost (outcome : Outcome State Command Output) (old new : CoreState)
     (given : List (Effect Command Output)) : Type 0 where
   pub replica : CountedReplica State Command
   pub core : new ≡ record old { replica = replica }
-  pub steps : StepsOrLost rules old.replica outcome replica given
+  pub steps : ReplicaStepOrLost rules old.replica outcome replica given
 
 -- a command that was proposed to the replica only, with its answer
 pub record Took (command : Command) (old new : CoreState)
@@ -83,7 +83,7 @@ pub record Took (command : Command) (old new : CoreState)
   pub room : has_room old ≡ true
   pub replica : CountedReplica State Command
   pub core : new ≡ record old { replica = replica }
-  pub done : DoneOrLost old.replica (added rules old.replica.state command) replica [] given
+  pub done : StepMessagesOrLost old.replica (added rules old.replica.state command) replica [] given
 
 -- the replica took the command, or declined it and gave nothing
 abbrev pub Answered : Bool → Command → CoreState → CoreState → List (Effect Command Output) → Type 0

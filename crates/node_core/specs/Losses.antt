@@ -83,21 +83,21 @@ abbrev pub IsExactly : CountedCore → StepOutcome → CountedCore → List (Eff
 IsExactly old outcome new given =
     (new.core ≡ outcome.core) × (given ≡ outcome.messages) × (new.losses ≡ old.losses)
 
--- exactly the step, or one in which memory ran out and which was counted
-abbrev pub NodeSteps : CountedCore → StepOutcome → CountedCore → List (Effect Command Output) →
+-- the step was done exactly, or with losses that were counted
+abbrev pub NodeStepOrLost : CountedCore → StepOutcome → CountedCore → List (Effect Command Output) →
     Type 0
-NodeSteps old outcome new given =
+NodeStepOrLost old outcome new given =
     IsExactly old outcome new given ⊎ (new.losses ≡ one_more old.losses)
 
 -- The messages of a step were appended to what was there. It is exactly the step, or counted. A
 -- step on an item that takes no memory is never counted, as long as there is no failed connection
 -- that is still to be reported to the broker. In any case it did no more than the step may do if
 -- memory runs out.
-pub record NodeStepped (old : CountedCore) (item : Item) (new : CountedCore)
+pub record ItemStepOrLost (old : CountedCore) (item : Item) (new : CountedCore)
     (before after : List (Effect Command Output)) : Type 0 where
   pub given : List (Effect Command Output)
   pub appended : after ≡ before ++ given
-  pub steps : NodeSteps old (node_step item old.core) new given
+  pub steps : NodeStepOrLost old (node_step item old.core) new given
   pub uncounted : ItemTakesNoMemory item old.core → find has_failed old.core.connections ≡ None →
       IsExactly old (node_step item old.core) new given
   pub run : RunsOn item old.core new.core given

@@ -7,7 +7,7 @@ use Rattle.broker_spec.specs.declared.command.Output.TheVariants as outputs
 use Rattle.ballot.specs.ballot_base.declared.message.Effect.{Effect}
 use Rattle.ballot.specs.ballot_base.declared.message.Effect.TheVariants.{To, Out}
 use Rattle.ballot.specs.ballot_base.declared.message.Message.{Message}
-use Rattle.ballot.specs.ballot_base.Losses.{DoneOrLost, StepsOrLost}
+use Rattle.ballot.specs.ballot_base.Losses.{ReplicaStepOrLost, StepMessagesOrLost}
 use Rattle.ballot.specs.ballot_base.Protocol.{Input}
 use Rattle.ballot.specs.ballot_base.Replica.{CountedReplica}
 use Rattle.ballot.specs.ballot_base.Sending.{Outcome}
@@ -85,21 +85,22 @@ pub data HandlesAll : List (Effect Command Output) → CoreState → CoreState �
 
 -- ---- what is given to the replica
 
--- the replica does its step, or one with losses, which it counts
-pub record ReplicaSteps (outcome : Outcome State Command Output) (core : CoreState)
+-- the replica does its step, exactly or with losses that it counts, and its effects are handled
+pub record HandledStepOrLost (outcome : Outcome State Command Output) (core : CoreState)
     (did : Account) : Type 0 where
   pub replica : CountedReplica State Command
-  pub steps : StepsOrLost rules core.replica outcome replica did.given
+  pub steps : ReplicaStepOrLost rules core.replica outcome replica did.given
   pub handles : HandlesAll did.given (record core { replica = replica }) did.core did.messages
 
 -- a message of another node, or a tick
 abbrev pub Drives : Input Command → CoreState → Account → Type 0
-Drives input core did = ReplicaSteps (outcome_of_input input core.replica.state) core did
+Drives input core did = HandledStepOrLost (outcome_of_input input core.replica.state) core did
 
 -- a command that the replica takes into its log; some of the messages that it then sends may be
 -- missing, which it counts
 pub record TakesCommand (command : Command) (core : CoreState) (did : Account) : Type 0 where
   pub room : has_room core ≡ true
   pub replica : CountedReplica State Command
-  pub done : DoneOrLost core.replica (added rules core.replica.state command) replica [] did.given
+  pub done : StepMessagesOrLost core.replica (added rules core.replica.state command) replica []
+      did.given
   pub handles : HandlesAll did.given (record core { replica = replica }) did.core did.messages

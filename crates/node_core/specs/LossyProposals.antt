@@ -5,7 +5,7 @@ use Rattle.ballot.specs.ballot_base.Losses.{halted, one_more}
 use Rattle.ballot.specs.ballot_base.Serving.{proposed}
 use Rattle.node_core.specs.Core.{CoreState, rules, serves}
 use Rattle.node_core.specs.Effects.{has_room}
-use Rattle.node_core.specs.Lossy.{Account, without_effects, ReplicaSteps, TakesCommand}
+use Rattle.node_core.specs.Lossy.{Account, without_effects, HandledStepOrLost, TakesCommand}
 
 -- a command that it does not take, because it does not serve clients or its log is full, or because
 -- memory ran out: then it counts a loss, and may stop
@@ -36,5 +36,5 @@ ProposesCommand command core did = TakesCommand command core did ⊎ Declines co
 abbrev pub ProposalsAreSteps : Type 0
 ProposalsAreSteps =
     (command : Command) (core : CoreState) (did : Account) → ProposesCommand command core did →
-    (serves core ≡ true → ReplicaSteps (proposed rules core.replica.state command) core did)
+    (serves core ≡ true → HandledStepOrLost (proposed rules core.replica.state command) core did)
     × (serves core ≡ false → did ≡ without_effects core)

@@ -33,18 +33,19 @@ AcceptsConnection port core did =
 
 -- the replica cuts its log, and its frozen bytes thaw to its machine; or, if there is no memory for
 -- that, it counts a loss
-pub data Cuts (core : CoreState) (did : Account) : Type 0 where
+pub data LogCutOrLost (core : CoreState) (did : Account) : Type 0 where
   -- nothing is to be cut
-  nothing_to_cut : can_cut core.replica.state ≡ false → did ≡ without_effects core → Cuts core did
+  nothing_to_cut : can_cut core.replica.state ≡ false → did ≡ without_effects core →
+      LogCutOrLost core did
   -- the log is cut
   cuts_log : can_cut core.replica.state ≡ true →
       rules.thawed (rules.frozen core.replica.state.machine) ≡ Some core.replica.state.machine →
-      did ≡ without_effects (with_cut core) → Cuts core did
+      did ≡ without_effects (with_cut core) → LogCutOrLost core did
   -- memory ran out: a loss is counted
   forgets_cut : can_cut core.replica.state ≡ true →
       did ≡ without_effects
       (record core { replica = record core.replica { losses = one_more core.replica.losses } }) →
-      Cuts core did
+      LogCutOrLost core did
 
 -- all silent connections are closed, one after another
 abbrev pub EndsAllSilent : ℕ → CoreState → Account → Type 0
@@ -68,7 +69,7 @@ DoesItem (Bytes port piece now) core did =
     Then (HoldsBytes port piece) (ReadsPackets now port) core did
 DoesItem (Ended port) core did = EndsConnection port core did
 DoesItem (Expel client) core did = ProposesCommand (commands.Expel client) core did
-DoesItem Cut core did = Cuts core did
+DoesItem Cut core did = LogCutOrLost core did
 DoesItem Crash core did = did ≡ without_effects (crashed core)
 
 -- what an item asks for, and then the reports of connections that failed in the step

@@ -5,10 +5,10 @@ ghost use Rattle.ballot.specs.ballot_base.Losses.{greatest_count};
 ghost use Rattle.ballot.specs.ballot_base.Protocol.Input.{Receives, Ticks};
 ghost use Rattle.ballot.specs.ballot_base.Serving.{proposed};
 ghost use Rattle.node_core.specs.Core.{rules, serves};
-ghost use Rattle.node_core.specs.Inside.{StepsReplicaOrLoses, Answered, HandledAll, DoesExactly, DoesOutcome, StepsReplica, ProposedBy, RanOrLost, WithoutFailure};
+ghost use Rattle.node_core.specs.Inside.{NodeReplicaStepOrLost, Answered, HandledAll, DoesExactly, DoesOutcome, StepsReplica, ProposedBy, StepPartOrLost, WithoutFailure};
 ghost use Rattle.node_core.specs.Losses.{IsHeardQuietly, ReadsNone};
 ghost use Rattle.node_core.specs.Lossy.{Drives, Performs, without_effects};
-ghost use Rattle.node_core.specs.LossyStep.{Cuts};
+ghost use Rattle.node_core.specs.LossyStep.{LogCutOrLost};
 ghost use Rattle.node_core.specs.Step.{cuts};
 ghost use Rattle.node_core.specs.Effects.{handled_all, drives, has_room, outcome_of_input, proposes, performed_by};
 
@@ -21,7 +21,7 @@ impl SteppingNode {
     pub fn propose(&mut self, command: Command, effects: &mut Vec<Effect<Command, Output>>) -> bool
         ensures exact { DoesOutcome self.old self.new effects.old.items effects.new.items
             (proposes command self.old.core) }
-        ensures lossy { RanOrLost (ProposedBy result command) self.old.core self.new.core
+        ensures lossy { StepPartOrLost (ProposedBy result command) self.old.core self.new.core
             effects.old.items effects.new.items }
         ensures taken { self.new.out_of_memory ≡ false → result ≡ has_room self.old.core }
     {
@@ -57,7 +57,7 @@ impl SteppingNode {
     pub fn receive(&mut self, message: Message<Command>, effects: &mut Vec<Effect<Command, Output>>)
         ensures exact { DoesOutcome self.old self.new effects.old.items effects.new.items
             (drives (Receives message) self.old.core) }
-        ensures lossy { RanOrLost (Drives (Receives message)) self.old.core self.new.core
+        ensures lossy { StepPartOrLost (Drives (Receives message)) self.old.core self.new.core
             effects.old.items effects.new.items }
         ensures quiet { IsHeardQuietly message self.old.core → ReadsNone message self.old.core →
             WithoutFailure self.old self.new }
@@ -72,7 +72,7 @@ impl SteppingNode {
         requires { given.old.items ≡ [] }
         ensures hears { StepsReplica self.old self.new
             (outcome_of_input (Receives message) self.old.core.replica.state) given.new.items }
-        ensures acts { StepsReplicaOrLoses
+        ensures acts { NodeReplicaStepOrLost
             (outcome_of_input (Receives message) self.old.core.replica.state)
             self.old.core self.new.core given.new.items }
         ensures quiet { IsHeardQuietly message self.old.core → ReadsNone message self.old.core →
@@ -88,7 +88,7 @@ impl SteppingNode {
     pub fn tick(&mut self, effects: &mut Vec<Effect<Command, Output>>)
         ensures exact { DoesOutcome self.old self.new effects.old.items effects.new.items
             (drives Ticks self.old.core) }
-        ensures lossy { RanOrLost
+        ensures lossy { StepPartOrLost
             (Drives Ticks) self.old.core self.new.core effects.old.items effects.new.items }
     {
         let mut given = Vec::new(self.alloc);
@@ -101,7 +101,7 @@ impl SteppingNode {
         requires { given.old.items ≡ [] }
         ensures hears { StepsReplica self.old self.new
             (outcome_of_input Ticks self.old.core.replica.state) given.new.items }
-        ensures acts { StepsReplicaOrLoses (outcome_of_input Ticks self.old.core.replica.state)
+        ensures acts { NodeReplicaStepOrLost (outcome_of_input Ticks self.old.core.replica.state)
             self.old.core self.new.core given.new.items }
     {
         let before = self.replica.losses();
@@ -112,7 +112,7 @@ impl SteppingNode {
     /// Cuts the replica's log if there is something to cut.
     pub fn cut_log(&mut self)
         ensures exact { DoesExactly self.old self.new (cuts self.old.core) }
-        ensures lossy { Cuts self.old.core (without_effects self.new.core) }
+        ensures lossy { LogCutOrLost self.old.core (without_effects self.new.core) }
     {
         let before = self.replica.losses();
         self.replica.cut();

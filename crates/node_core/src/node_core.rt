@@ -14,7 +14,7 @@ ghost use Rattle.ballot.specs.lists.Lists.{IsPrefixOf};
 ghost use Rattle.node_core.specs.Handing.{handed_after, pending_bytes, hands_over, idle_ports, listed_at};
 ghost use Rattle.node_connections.specs.Stands.{standing_of};
 ghost use Rattle.node_core.specs.Effects.{has_room};
-ghost use Rattle.node_core.specs.Losses.{DoesNothing, NodeStepped};
+ghost use Rattle.node_core.specs.Losses.{DoesNothing, ItemStepOrLost};
 
 use crate::item::Item;
 use crate::stepping_node::SteppingNode;
@@ -155,7 +155,7 @@ impl NodeCore {
         effects: &mut Vec<Effect<Command, Output>>,
     )
         requires { DoesNothing (Item.Peer message.now) self.old.core }
-        ensures { NodeStepped self.old (Item.Peer message.now) self.new
+        ensures { ItemStepOrLost self.old (Item.Peer message.now) self.new
             effects.old.items effects.new.items }
     {
         self.stepping.begin_step();
@@ -168,7 +168,7 @@ impl NodeCore {
     /// out, a connection is closed or not accepted, or a message is lost, and the step is counted.
     /// Each connection that stays open has everything that was queued for it.
     pub fn step(&mut self, item: Item, effects: &mut Vec<Effect<Command, Output>>)
-        ensures { NodeStepped self.old item self.new effects.old.items effects.new.items }
+        ensures { ItemStepOrLost self.old item self.new effects.old.items effects.new.items }
     {
         self.stepping.begin_step();
         self.stepping.act_on(item, effects);

@@ -6,7 +6,7 @@ ghost use Rattle.broker_spec.specs.declared.command.Command.TheVariants as comma
 ghost use Rattle.broker_spec.specs.Sized.{IsSized};
 ghost use Rattle.node_connections.specs.Connections.{has_failed, is_first, is_proposed};
 ghost use Rattle.node_connections.specs.ConnectionChanges.{closed_connection, with_unread};
-ghost use Rattle.node_core.specs.Inside.{TakesPacket, DoesOutcome, RanOrLost, ReportsLost, WithoutFailure};
+ghost use Rattle.node_core.specs.Inside.{TakesPacket, DoesOutcome, StepPartOrLost, ReportsLost, WithoutFailure};
 ghost use Rattle.node_core.specs.declared.item.Item.TheVariants as items;
 ghost use Rattle.node_core.specs.Losses.{DoesNothing, IsHeardQuietly, ReadsNone, ItemTakesNoMemory, was_proposed};
 ghost use Rattle.node_core.specs.Lossy.{without_effects};
@@ -32,7 +32,7 @@ impl SteppingNode {
     pub fn act_on(&mut self, item: Item, effects: &mut Vec<Effect<Command, Output>>)
         ensures exact { DoesOutcome self.old self.new effects.old.items effects.new.items
             (acts_on item self.old.core) }
-        ensures lossy { RanOrLost
+        ensures lossy { StepPartOrLost
             (ActsOn item) self.old.core self.new.core effects.old.items effects.new.items }
         ensures quiet { ItemTakesNoMemory item self.old.core →
             find has_failed self.old.core.connections ≡ None →
@@ -54,7 +54,7 @@ impl SteppingNode {
         requires { DoesNothing (items.Peer message.now) self.old.core }
         ensures exact { DoesOutcome self.old self.new effects.old.items effects.new.items
             (acts_on (items.Peer message.now) self.old.core) }
-        ensures lossy { RanOrLost (ActsOn (items.Peer message.now)) self.old.core self.new.core
+        ensures lossy { StepPartOrLost (ActsOn (items.Peer message.now)) self.old.core self.new.core
             effects.old.items effects.new.items }
         ensures quiet { find has_failed self.old.core.connections ≡ None →
             self.new.out_of_memory ≡ self.old.out_of_memory }
@@ -66,7 +66,7 @@ impl SteppingNode {
     fn do_item(&mut self, item: Item, effects: &mut Vec<Effect<Command, Output>>)
         ensures exact { DoesOutcome self.old self.new effects.old.items effects.new.items
             (does_item item self.old.core) }
-        ensures lossy { RanOrLost
+        ensures lossy { StepPartOrLost
             (DoesItem item) self.old.core self.new.core effects.old.items effects.new.items }
         ensures heard { (message : Message Command) → item ≡ items.Peer message →
             IsHeardQuietly message self.old.core → ReadsNone message self.old.core →
@@ -97,9 +97,8 @@ impl SteppingNode {
     fn expel(&mut self, client: ClientId, effects: &mut Vec<Effect<Command, Output>>)
         ensures exact { DoesOutcome self.old self.new effects.old.items effects.new.items
             (proposes (commands.Expel client) self.old.core) }
-        ensures lossy { RanOrLost (ProposesCommand (commands.Expel client)) self.old.core
-            self.new.core
-            effects.old.items effects.new.items }
+        ensures lossy { StepPartOrLost (ProposesCommand (commands.Expel client)) self.old.core
+            self.new.core effects.old.items effects.new.items }
     {
         self.propose(Command::Expel(client), effects);
     }
@@ -108,7 +107,7 @@ impl SteppingNode {
     fn end_silent(&mut self, now: u64, effects: &mut Vec<Effect<Command, Output>>)
         ensures exact { DoesOutcome self.old self.new effects.old.items effects.new.items
             (ends_all_silent now self.old.core) }
-        ensures lossy { RanOrLost
+        ensures lossy { StepPartOrLost
             (EndsAllSilent now) self.old.core self.new.core effects.old.items effects.new.items }
     {
         for _connection in 0..self.listed() {
@@ -123,7 +122,7 @@ impl SteppingNode {
     fn hold(&mut self, port: Port, piece: Piece, effects: &mut Vec<Effect<Command, Output>>)
         ensures exact { DoesOutcome self.old self.new effects.old.items effects.new.items
             (without_messages (changes port (with_unread piece) self.old.core)) }
-        ensures lossy { RanOrLost
+        ensures lossy { StepPartOrLost
             (HoldsBytes port piece) self.old.core self.new.core
             effects.old.items effects.new.items }
     {
@@ -137,7 +136,7 @@ impl SteppingNode {
     fn read(&mut self, port: Port, now: u64, effects: &mut Vec<Effect<Command, Output>>)
         ensures exact { DoesOutcome self.old self.new effects.old.items effects.new.items
             (reads_all now port self.old.core) }
-        ensures lossy { RanOrLost
+        ensures lossy { StepPartOrLost
             (ReadsPackets now port) self.old.core self.new.core
             effects.old.items effects.new.items }
     {
@@ -157,7 +156,7 @@ impl SteppingNode {
     ) -> bool
         ensures exact { DoesOutcome self.old self.new effects.old.items effects.new.items
             (reads_next now port self.old.core) }
-        ensures lossy { RanOrLost
+        ensures lossy { StepPartOrLost
             (ReadsNext now port) self.old.core self.new.core effects.old.items effects.new.items }
         ensures done { result ≡ false → self.new.out_of_memory ≡ false →
             reads_next now port self.new.core ≡ without_messages self.new.core }
@@ -196,7 +195,7 @@ impl SteppingNode {
             (if is_first stage
             then takes_first_packet port name packet self.old.core
             else proposes_packet port name packet self.old.core) }
-        ensures lossy { RanOrLost (TakesPacket (is_first stage) port name packet)
+        ensures lossy { StepPartOrLost (TakesPacket (is_first stage) port name packet)
             self.old.core self.new.core effects.old.items effects.new.items }
     {
         if !stage.is_first() {
@@ -221,7 +220,7 @@ impl SteppingNode {
     )
         ensures exact { DoesOutcome self.old self.new effects.old.items effects.new.items
             (connect_proposed port name connect self.old.core) }
-        ensures lossy { RanOrLost (ProposesConnect port name connect)
+        ensures lossy { StepPartOrLost (ProposesConnect port name connect)
             self.old.core self.new.core effects.old.items effects.new.items }
     {
         let command = Command::Connect(name, connect.client, connect.clean);
@@ -241,7 +240,7 @@ impl SteppingNode {
         requires sized { IsSized packet }
         ensures exact { DoesOutcome self.old self.new effects.old.items effects.new.items
             (proposes_packet port name packet self.old.core) }
-        ensures lossy { RanOrLost (ProposesPacket port name packet)
+        ensures lossy { StepPartOrLost (ProposesPacket port name packet)
             self.old.core self.new.core effects.old.items effects.new.items }
     {
         let Ok(packet) = SizedPacket::new(packet) else {
@@ -263,8 +262,8 @@ impl SteppingNode {
             (if is_proposed stage
             then proposes (commands.Lost name) self.old.core
             else without_messages self.old.core) }
-        ensures lossy { RanOrLost (ReportsLost (is_proposed stage) name) self.old.core self.new.core
-            effects.old.items effects.new.items }
+        ensures lossy { StepPartOrLost (ReportsLost (is_proposed stage) name)
+            self.old.core self.new.core effects.old.items effects.new.items }
     {
         if stage.is_proposed() {
             self.propose(Command::Lost(name), effects);
@@ -275,7 +274,7 @@ impl SteppingNode {
     fn end(&mut self, port: Port, effects: &mut Vec<Effect<Command, Output>>)
         ensures exact { DoesOutcome self.old self.new effects.old.items effects.new.items
             (port_closed port self.old.core) }
-        ensures lossy { RanOrLost
+        ensures lossy { StepPartOrLost
             (EndsConnection port) self.old.core self.new.core effects.old.items effects.new.items }
         ensures unproposed { was_proposed (open_at port self.old.core) ≡ false →
             self.new ≡ record self.old { core = changes port closed_connection self.old.core } }
@@ -297,7 +296,7 @@ impl SteppingNode {
     fn report_failed(&mut self, effects: &mut Vec<Effect<Command, Output>>)
         ensures exact { DoesOutcome self.old self.new effects.old.items effects.new.items
             (loses_all_failed self.old.core) }
-        ensures lossy { RanOrLost LosesAllFailed
+        ensures lossy { StepPartOrLost LosesAllFailed
             self.old.core self.new.core effects.old.items effects.new.items }
         ensures none { find has_failed self.old.core.connections ≡ None → self.new ≡ self.old }
     {
@@ -312,7 +311,7 @@ impl SteppingNode {
     fn report_one_failed(&mut self, effects: &mut Vec<Effect<Command, Output>>) -> bool
         ensures exact { DoesOutcome self.old self.new effects.old.items effects.new.items
             (loses_failed self.old.core) }
-        ensures lossy { RanOrLost LosesFailed
+        ensures lossy { StepPartOrLost LosesFailed
             self.old.core self.new.core effects.old.items effects.new.items }
         ensures none { find has_failed self.old.core.connections ≡ None → self.new ≡ self.old }
         ensures done { result ≡ false →

@@ -19,9 +19,9 @@ use Rattle.node_moves.specs.Closed.{exact_refusal}
 use Rattle.node_moves.specs.Ends.{IsEnd, IsGiven, IsOrderly, open_named, piece_on}
 use Rattle.node_moves.specs.Ends.{came_on as exactly_came, move_proposal as exactly_proposed}
 use Rattle.node_moves.specs.Ends.IsEnd.{not_yet, is_open, is_over}
-use Rattle.node_moves.specs.LossyMoves.{LossyMoves}
+use Rattle.node_moves.specs.LossyMoves.{MoveOrLost}
 use Rattle.node_moves.specs.LossyParts.{came_on, move_proposal, refusal_in}
-use Rattle.node_moves.specs.LossyMoves.LossyMoves.{exactly, first_losing, later_losing, drops}
+use Rattle.node_moves.specs.LossyMoves.MoveOrLost.{exactly, first_losing, later_losing, drops}
 use Rattle.node_moves.specs.Moves.{Moves}
 use Rattle.node_moves.specs.Moves.Moves.{holds, reads_first, reads_later, refuses, loses_one, loses_next, expels_one}
 use Rattle.node_moves.proofs.Kept.{named}
@@ -54,7 +54,7 @@ exactly_none_put x core outcome (reads_first now port c connect rest at first is
 exactly_none_put x core outcome (reads_later now port c packet rest at later is room) o none = one_other x core port c (commands.Packet c.name packet) o none at refl
 exactly_none_put x core outcome m o none = refl
 
-pub none_put : (x : ConnectionName) (core : CoreState) (outcome : StepOutcome) (m : LossyMoves core outcome) → IsOrderly core → open_named x core ≡ None
+pub none_put : (x : ConnectionName) (core : CoreState) (outcome : StepOutcome) (m : MoveOrLost core outcome) → IsOrderly core → open_named x core ≡ None
     → packet_commands x (move_proposal m) ≡ []
 none_put x core outcome (exactly m) o none = exactly_none_put x core outcome m o none
 none_put x core outcome (first_losing now port c connect rest did at first is taken) o none =
@@ -78,7 +78,7 @@ exactly_none_came : (x : ConnectionName) (core : CoreState) (outcome : StepOutco
 exactly_none_came x core outcome (holds port piece) o none = no_piece x core port piece o none
 exactly_none_came x core outcome m o none = refl
 
-pub none_came : (x : ConnectionName) (core : CoreState) (outcome : StepOutcome) (m : LossyMoves core outcome) → IsOrderly core → open_named x core ≡ None → came_on x m ≡ []
+pub none_came : (x : ConnectionName) (core : CoreState) (outcome : StepOutcome) (m : MoveOrLost core outcome) → IsOrderly core → open_named x core ≡ None → came_on x m ≡ []
 none_came x core outcome (exactly m) o none = exactly_none_came x core outcome m o none
 none_came x core outcome (drops port piece) o none = no_piece x core port piece o none
 none_came x core outcome m o none = refl
@@ -99,7 +99,7 @@ exactly_packets x core outcome (loses_next c at) = lost_or_not x c.name (serves 
 exactly_packets x core outcome (expels_one client) = expelled_or_not x client (serves core)
 exactly_packets x core outcome m = refl
 
-pub packets_put : (x : ConnectionName) (core : CoreState) (outcome : StepOutcome) (m : LossyMoves core outcome) → packet_commands x (commands_put m) ≡ packet_commands x (move_proposal m)
+pub packets_put : (x : ConnectionName) (core : CoreState) (outcome : StepOutcome) (m : MoveOrLost core outcome) → packet_commands x (commands_put m) ≡ packet_commands x (move_proposal m)
 packets_put x core outcome (exactly m) = exactly_packets x core outcome m
 packets_put x core outcome m = refl
 
@@ -135,7 +135,7 @@ exactly_refused x core outcome (refuses port c code at first is) written read in
     by false e = rw e refl
 exactly_refused x core outcome m written read in_transit o end = refl
 
-pub none_refused : (x : ConnectionName) (core : CoreState) (outcome : StepOutcome) (m : LossyMoves core outcome) (written read : List Packet) (in_transit : List ℕ) → IsOrderly core
+pub none_refused : (x : ConnectionName) (core : CoreState) (outcome : StepOutcome) (m : MoveOrLost core outcome) (written read : List Packet) (in_transit : List ℕ) → IsOrderly core
     → IsEnd x core written read in_transit → refusal_in x m ≡ []
 none_refused x core outcome (exactly m) written read in_transit o end = exactly_refused x core outcome m written read in_transit o end
 none_refused x core outcome m written read in_transit o end = refl

@@ -7,10 +7,10 @@ use Rattle.node_moves.specs.Ends.{came_on}
 use Rattle.node_moves.specs.RunProposals.{bytes_on}
 use Rattle.node_moves.specs.Hearing.{HearsAtFirst, IsCalm}
 use Rattle.node_moves.specs.LossyParts.{inputs_of}
-use Rattle.node_moves.specs.LossyRuns.{AllFreeze, CutsThaw, LossyRuns, all_inputs}
+use Rattle.node_moves.specs.LossyRuns.{AllFreeze, CutsThaw, RunOrLost, all_inputs}
 use Rattle.node_moves.specs.LossyRuns.{HearsAtFirst as FirstLosing, HearsNothing as CalmLosing, bytes_on as bytes_losing}
-use Rattle.node_moves.specs.LossyMoves.LossyMoves.{exactly}
-use Rattle.node_moves.specs.LossyRuns.LossyRuns.{rests as rests_losing, goes_on as goes_losing}
+use Rattle.node_moves.specs.LossyMoves.MoveOrLost.{exactly}
+use Rattle.node_moves.specs.LossyRuns.RunOrLost.{rests as rests_losing, goes_on as goes_losing}
 use Rattle.node_moves.specs.Moves.{Moves, Runs}
 use Rattle.node_moves.specs.Moves.Moves.{hears, cuts_log}
 use Rattle.node_moves.specs.Moves.Runs.{rests, goes_on}
@@ -21,7 +21,7 @@ use Rattle.node_group.specs.Losing.{WereSent}
 use Rattle.node_group.specs.Losing.{all_given as given_losing, put_in_run as put_losing, recorded_in as recorded_losing}
 use Rattle.node_group.specs.Putting.{recorded_by, recorded_in}
 
-abbrev pub losing_none : {core : CoreState} {outcome : StepOutcome} → Runs core outcome → LossyRuns core outcome
+abbrev pub losing_none : {core : CoreState} {outcome : StepOutcome} → Runs core outcome → RunOrLost core outcome
 losing_none rests = rests_losing
 losing_none (goes_on m run) = goes_losing (exactly m) (losing_none run)
 
@@ -69,7 +69,7 @@ pub frozen_losing : (g : Group) (n : ℕ) {core : CoreState} {outcome : StepOutc
 frozen_losing g n rests sent = tt
 frozen_losing g n (goes_on m run) sent = (freezes_by g n m sent.0, frozen_losing g n run sent.1)
 
-sent_and : (g : Group) (n : ℕ) {core : CoreState} {outcome : StepOutcome} (m : Moves core outcome) {later : StepOutcome} (run : LossyRuns outcome.core later) → WereSent g n (inputs_of m) → WereSent g n (all_inputs run)
+sent_and : (g : Group) (n : ℕ) {core : CoreState} {outcome : StepOutcome} (m : Moves core outcome) {later : StepOutcome} (run : RunOrLost outcome.core later) → WereSent g n (inputs_of m) → WereSent g n (all_inputs run)
     → WereSent g n (inputs_of m ++ all_inputs run)
 sent_and g n (hears input other) run sent more = (sent.0, more)
 sent_and g n m run sent more = more

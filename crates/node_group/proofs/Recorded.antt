@@ -6,11 +6,11 @@ use Rattle.packet_world.specs.broker_spec.declared.command.Command.{Command}
 use Rattle.packet_world.specs.snapshots.World.{recorded}
 use Rattle.node_moves.specs.node_core.Core.{CoreState, StepOutcome}
 use Rattle.node_moves.specs.Keeping.{moves_replica}
-use Rattle.node_moves.specs.LossyMoves.{LossyMoves}
+use Rattle.node_moves.specs.LossyMoves.{MoveOrLost}
 use Rattle.node_moves.specs.LossyParts.{hears_in, inputs_in, inputs_of}
-use Rattle.node_moves.specs.LossyMoves.LossyMoves.{exactly, hears_losing}
-use Rattle.node_moves.specs.LossyRuns.{CutsNothing, HearsAtFirst, LossyRuns, all_inputs, cuts_in, exactly_cuts}
-use Rattle.node_moves.specs.LossyRuns.LossyRuns.{rests, goes_on}
+use Rattle.node_moves.specs.LossyMoves.MoveOrLost.{exactly, hears_losing}
+use Rattle.node_moves.specs.LossyRuns.{CutsNothing, HearsAtFirst, RunOrLost, all_inputs, cuts_in, exactly_cuts}
+use Rattle.node_moves.specs.LossyRuns.RunOrLost.{rests, goes_on}
 use Rattle.node_moves.specs.Moves.{Moves}
 use Rattle.node_moves.specs.Moves.Moves.{hears, cuts_log, crashes}
 use Rattle.node_moves.proofs.BaseStays.{calm_base, calm_run_base}
@@ -25,11 +25,11 @@ exactly_none : (archive : List Command) {core : CoreState} {outcome : StepOutcom
 exactly_none archive (cuts_log can) none = absurd cc
 exactly_none archive m none = refl
 
-none_by : (archive : List Command) {core : CoreState} {outcome : StepOutcome} (m : LossyMoves core outcome) → cuts_in m ≡ false → recorded_by archive m ≡ archive
+none_by : (archive : List Command) {core : CoreState} {outcome : StepOutcome} (m : MoveOrLost core outcome) → cuts_in m ≡ false → recorded_by archive m ≡ archive
 none_by archive (exactly m) none = exactly_none archive m none
 none_by archive m none = refl
 
-pub records_none : (archive : List Command) {core : CoreState} {outcome : StepOutcome} (run : LossyRuns core outcome) → CutsNothing run → recorded_in archive run ≡ archive
+pub records_none : (archive : List Command) {core : CoreState} {outcome : StepOutcome} (run : RunOrLost core outcome) → CutsNothing run → recorded_in archive run ≡ archive
 records_none archive rests none = refl
 records_none archive (goes_on m run) none = ap (λ (l : List Command). recorded_in l run) (none_by archive m none.0) ∙ records_none archive run none.1
 
@@ -68,13 +68,13 @@ exactly_heard archive core outcome crashes moves none = stays_at archive core (r
 exactly_heard archive core outcome (hears input other) moves none = absurd cc
 exactly_heard archive core outcome m moves none = absurd cc
 
-heard : (archive : List Command) (core : CoreState) (outcome : StepOutcome) (m : LossyMoves core outcome) → hears_in m ≡ true → inputs_in m ≡ []
+heard : (archive : List Command) (core : CoreState) (outcome : StepOutcome) (m : MoveOrLost core outcome) → hears_in m ≡ true → inputs_in m ≡ []
     → recorded_by archive m ≡ recorded_to archive core (replica_of outcome.core).log.base
 heard archive core outcome (exactly m) moves none = exactly_heard archive core outcome m moves none
 heard archive core outcome (hears_losing input did other drives) moves none = absurd cc
 heard archive core outcome m moves none = absurd cc
 
-first_records : (archive : List Command) (core : CoreState) (outcome : StepOutcome) (m : LossyMoves core outcome) → inputs_in m ≡ []
+first_records : (archive : List Command) (core : CoreState) (outcome : StepOutcome) (m : MoveOrLost core outcome) → inputs_in m ≡ []
     → recorded_by archive m ≡ recorded_to archive core (replica_of outcome.core).log.base
 first_records archive core outcome m none = by (hears_in m) refl
   where
@@ -86,7 +86,7 @@ none_at_first : {C : Type 0} (xs ys : List C) → xs ++ ys ≡ [] → xs ≡ []
 none_at_first [] ys e = refl
 none_at_first (x ∷ xs) ys e = absurd cc
 
-pub records_to : (archive : List Command) {core : CoreState} {outcome : StepOutcome} (run : LossyRuns core outcome) → HearsAtFirst run → all_inputs run ≡ []
+pub records_to : (archive : List Command) {core : CoreState} {outcome : StepOutcome} (run : RunOrLost core outcome) → HearsAtFirst run → all_inputs run ≡ []
     → recorded_in archive run ≡ recorded_to archive core (replica_of outcome.core).log.base
 records_to archive {core = core} rests calm none = stays_at archive core (replica_of core).log.base refl
 records_to archive {core = core} (goes_on {first = first} m run) calm none =

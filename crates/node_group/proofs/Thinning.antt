@@ -2,7 +2,7 @@
 use Rattle.std.proofs.Common.{◌≡◌, inl, inr, ℕ, List, [], ◌∷◌, ◌++◌, filter, refl, ap, subst, sym}
 use Rattle.node_moves.specs.ballot_base.declared.message.Effect.{Effect}
 use Rattle.node_moves.specs.ballot_base.declared.message.Effect.TheVariants.{To, Out}
-use Rattle.node_moves.specs.ballot_base.Losses.{Loses, StepsOrLost, Thinned}
+use Rattle.node_moves.specs.ballot_base.Losses.{Loses, ReplicaStepOrLost, Thinned}
 use Rattle.node_moves.specs.ballot_base.Losses.Thinned.{none, keeps, loses}
 use Rattle.node_moves.specs.ballot_base.declared.message.Message.{Message}
 use Rattle.node_moves.specs.ballot_base.Replica.{CountedReplica, ReplicaState}
@@ -101,7 +101,7 @@ loses_more old new outcome given thin (inr (inl (is, e))) more = inr (inl (is, n
 loses_more old new outcome given thin (inr (inr (is, e))) more = inr (inr (is, nothing_kept thin (subst (λ (l : Given). Thinned thin l) e more)))
 
 -- whether it was counted or not
-pub steps_lose : (old new : CountedReplica State Command) (outcome : Outcome State Command Output) (given : Given) → StepsOrLost rules old outcome new given
+pub steps_lose : (old new : CountedReplica State Command) (outcome : Outcome State Command Output) (given : Given) → ReplicaStepOrLost rules old outcome new given
     → Loses rules old.state outcome new.state given
 steps_lose old new outcome given (inl (is, e, count)) = inl (is, subst (λ (l : Given). Thinned l outcome.effects) (sym e) (all_kept outcome.effects))
 steps_lose old new outcome given (inr (lost, count)) = lost

@@ -6,11 +6,11 @@ use Rattle.node_moves.specs.ballot_base.Protocol.{Input}
 use Rattle.packet_world.specs.broker_spec.declared.command.Command.{Command}
 use Rattle.packet_world.specs.broker_spec.declared.command.Output.{Output}
 use Rattle.node_moves.specs.node_core.Core.{CoreState, StepOutcome}
-use Rattle.node_moves.specs.LossyMoves.{LossyMoves}
+use Rattle.node_moves.specs.LossyMoves.{MoveOrLost}
 use Rattle.node_moves.specs.LossyParts.{move_effects, move_proposal}
-use Rattle.node_moves.specs.LossyRuns.{LossyRuns}
-use Rattle.node_moves.specs.LossyMoves.LossyMoves.{exactly}
-use Rattle.node_moves.specs.LossyRuns.LossyRuns.{rests, goes_on}
+use Rattle.node_moves.specs.LossyRuns.{RunOrLost}
+use Rattle.node_moves.specs.LossyMoves.MoveOrLost.{exactly}
+use Rattle.node_moves.specs.LossyRuns.RunOrLost.{rests, goes_on}
 use Rattle.node_group.specs.Group.{Group, replica_of}
 use Rattle.node_group.specs.Putting.{InputWasSent}
 use Rattle.node_group.specs.Putting.{commands_put as exactly_put, recorded_by as exactly_recorded}
@@ -22,37 +22,37 @@ WereSent g n (input ∷ inputs) = InputWasSent g n input × WereSent g n inputs
 
 -- the record of places after a move
 abbrev pub recorded_by : List Command → {core : CoreState} {outcome : StepOutcome} →
-    LossyMoves core outcome →
+    MoveOrLost core outcome →
     List Command
 recorded_by archive (exactly m) = exactly_recorded archive m
 recorded_by archive _ = archive
 
 -- the record after a run
 abbrev pub recorded_in : List Command → {core : CoreState} {outcome : StepOutcome} →
-    LossyRuns core outcome →
+    RunOrLost core outcome →
     List Command
 recorded_in archive rests = archive
 recorded_in archive (goes_on m run) = recorded_in (recorded_by archive m) run
 
 -- the effects of its replica
-abbrev pub all_given : {core : CoreState} {outcome : StepOutcome} → LossyRuns core outcome →
+abbrev pub all_given : {core : CoreState} {outcome : StepOutcome} → RunOrLost core outcome →
     List (Effect Command Output)
 all_given rests = []
 all_given (goes_on m run) = move_effects m ++ all_given run
 
 -- the commands that a node proposes to its replica in a move
-abbrev pub commands_put : {core : CoreState} {outcome : StepOutcome} → LossyMoves core outcome →
+abbrev pub commands_put : {core : CoreState} {outcome : StepOutcome} → MoveOrLost core outcome →
     List Command
 commands_put (exactly m) = exactly_put m
 commands_put m = move_proposal m
 
 -- what a node proposes in a move, each with the ballot that it has joined then
-abbrev pub put_in_move : {core : CoreState} {outcome : StepOutcome} → LossyMoves core outcome →
+abbrev pub put_in_move : {core : CoreState} {outcome : StepOutcome} → MoveOrLost core outcome →
     List (ℕ × Command)
 put_in_move {core = core} m = map (λ command. ((replica_of core).joined, command)) (commands_put m)
 
 -- what a node proposes in a run, in order
-abbrev pub put_in_run : {core : CoreState} {outcome : StepOutcome} → LossyRuns core outcome →
+abbrev pub put_in_run : {core : CoreState} {outcome : StepOutcome} → RunOrLost core outcome →
     List (ℕ × Command)
 put_in_run rests = []
 put_in_run (goes_on m run) = put_in_move m ++ put_in_run run

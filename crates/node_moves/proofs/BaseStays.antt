@@ -12,11 +12,11 @@ use Rattle.node_core.specs.Core.{CoreState, StepOutcome}
 use Rattle.node_core.specs.Reading.{changes}
 use Rattle.node_core.specs.Step.{node_step}
 use Rattle.node_core.specs.declared.item.Item.TheVariants.{Cut}
-use Rattle.node_moves.specs.LossyMoves.{LossyMoves}
+use Rattle.node_moves.specs.LossyMoves.{MoveOrLost}
 use Rattle.node_moves.specs.LossyParts.{hears_in}
-use Rattle.node_moves.specs.LossyMoves.LossyMoves.{exactly, hears_losing, first_losing, later_losing, tells_losing, expels_losing, forgets, halts, fails, unheard, drops}
-use Rattle.node_moves.specs.LossyRuns.{HearsNothing, LossyRuns}
-use Rattle.node_moves.specs.LossyRuns.LossyRuns.{rests, goes_on}
+use Rattle.node_moves.specs.LossyMoves.MoveOrLost.{exactly, hears_losing, first_losing, later_losing, tells_losing, expels_losing, forgets, halts, fails, unheard, drops}
+use Rattle.node_moves.specs.LossyRuns.{HearsNothing, RunOrLost}
+use Rattle.node_moves.specs.LossyRuns.RunOrLost.{rests, goes_on}
 use Rattle.node_moves.specs.Moves.{Moves, Runs}
 use Rattle.node_moves.specs.Moves.NodeCall.{takes}
 use Rattle.node_moves.specs.Moves.Moves.{hears, opens_one, holds, reads_first, reads_later, closes, refuses, loses_one, loses_next, expels_one, cuts_log, crashes, settles, hands}
@@ -30,7 +30,7 @@ use Rattle.node_moves.proofs.StepsMove.{First, node_calls_begin}
 base_of : (core later : CoreState) → later.replica ≡ core.replica → later.replica.state.log.base ≡ core.replica.state.log.base
 base_of core later e = ap (λ (r : CountedReplica State Command). r.state.log.base) e
 
-pub calm_base : (core : CoreState) (outcome : StepOutcome) (m : LossyMoves core outcome) → hears_in m ≡ false → outcome.core.replica.state.log.base ≡ core.replica.state.log.base
+pub calm_base : (core : CoreState) (outcome : StepOutcome) (m : MoveOrLost core outcome) → hears_in m ≡ false → outcome.core.replica.state.log.base ≡ core.replica.state.log.base
 calm_base core outcome (exactly m) calm = (move_same core outcome m calm).base
 calm_base core outcome (hears_losing input did other drives) calm = absurd cc
 calm_base core outcome (first_losing now port c connect rest did at first is taken) calm =
@@ -47,7 +47,7 @@ calm_base core outcome unheard calm = refl
 calm_base core outcome (drops port piece) calm = base_of core outcome.core (at_replica port closed_connection core)
 
 -- so it is in a run of such moves
-pub calm_run_base : {core : CoreState} {outcome : StepOutcome} (run : LossyRuns core outcome) → HearsNothing run → outcome.core.replica.state.log.base ≡ core.replica.state.log.base
+pub calm_run_base : {core : CoreState} {outcome : StepOutcome} (run : RunOrLost core outcome) → HearsNothing run → outcome.core.replica.state.log.base ≡ core.replica.state.log.base
 calm_run_base rests calm = refl
 calm_run_base {core = core} (goes_on {first = first} m run) calm = calm_run_base run calm.1 ∙ calm_base core first m calm.0
 

@@ -11,16 +11,16 @@ use Rattle.node_core.specs.declared.item.Item.TheVariants.{Peer, Tick, Opened, B
 use Rattle.node_core.specs.node_connections.ConnectionChanges.{closed_connection, with_unread}
 use Rattle.node_core.specs.Core.{CoreState, StepOutcome}
 use Rattle.node_core.specs.Lossy.{Account, both_accounts, without_effects}
-use Rattle.node_core.specs.LossyStep.{Cuts, HoldsBytes, LosesAllFailed, AcceptsConnection, DoesItem}
+use Rattle.node_core.specs.LossyStep.{LogCutOrLost, HoldsBytes, LosesAllFailed, AcceptsConnection, DoesItem}
 use Rattle.node_core.specs.LossyReading.{EndsSilent, ReadsNext}
-use Rattle.node_core.specs.LossyStep.Cuts.{nothing_to_cut, cuts_log as cuts_log_at, forgets_cut}
+use Rattle.node_core.specs.LossyStep.LogCutOrLost.{nothing_to_cut, cuts_log as cuts_log_at, forgets_cut}
 use Rattle.node_core.specs.LossyReading.EndsConnection.{none_open, unproposed, proposed}
 use Rattle.node_core.specs.Reading.{changes, open_at, unread_of}
 use Rattle.node_core.specs.Step.{crashed, with_next_connection, settled, with_cut}
 use Rattle.node_moves.specs.Ends.{piece_on}
 use Rattle.node_moves.specs.LossyMoves.{with_loss, outcome_in}
 use Rattle.node_moves.specs.ItemRuns.{IsRunOn, LossesAreMoves, came_with, heard_with, is_cut}
-use Rattle.node_moves.specs.LossyMoves.LossyMoves.{exactly, hears_losing, forgets, drops}
+use Rattle.node_moves.specs.LossyMoves.MoveOrLost.{exactly, hears_losing, forgets, drops}
 use Rattle.node_moves.specs.Moves.{and_then}
 use Rattle.node_moves.specs.Moves.Moves.{holds, opens_one, cuts_log, crashes, settles}
 use Rattle.node_moves.proofs.LossyRuns.{Calm, First, Given, Still, all_failed, calm_join, calm_move, first_calm, first_move, still_ends, still_expelled, still_lost, still_reads, still_repeated, still_silent}
@@ -64,7 +64,7 @@ opened port now core did (inl is) =
     (before_calm core (without_effects (with_next_connection port core)) false (λ x. []) (λ x. refl) (calm_move (exactly (opens_one port)) (refl, refl, refl, λ x. refl)))
 opened port now core did (inr is) = before_is core (without_effects core) did [] false _ is (λ next tail. first_calm false (λ x. []) (λ x. refl) tail)
 
-cut : (core : CoreState) (did : Account) → Cuts core did → Before core did [] true (λ x. came_with x Cut core)
+cut : (core : CoreState) (did : Account) → LogCutOrLost core did → Before core did [] true (λ x. came_with x Cut core)
 cut core did (nothing_to_cut none is) = before_is core (without_effects core) did [] true _ is (λ next tail. first_calm true (λ x. []) (λ x. refl) tail)
 cut core did (cuts_log_at can reads is) =
     before_is core (without_effects (with_cut core)) did [] true _ is (λ next tail. first_move (exactly (cuts_log can)) true (λ x. []) refl (λ x. refl) (λ e. absurd cc) reads tail)

@@ -2,7 +2,7 @@
 use Rattle.std.proofs.Common.{◌≡◌, inl, inr, ℕ, true, false, not, List, Some, refl, sym, ap, ◌∙◌, subst}
 use Rattle.std.proofs.lemmas.Bool.{both_ways}
 use Rattle.node_core.specs.ballot_base.declared.message.Effect.{Effect}
-use Rattle.node_core.specs.ballot_base.Losses.{StepsOrLost}
+use Rattle.node_core.specs.ballot_base.Losses.{ReplicaStepOrLost}
 use Rattle.node_core.specs.ballot_base.Protocol.{Input}
 use Rattle.node_core.specs.ballot_base.Replica.{CountedReplica, ReplicaState, is_active}
 use Rattle.node_core.specs.ballot_base.Sending.{Outcome}
@@ -25,9 +25,9 @@ use Rattle.node_moves.specs.Closed.{listed_named}
 use Rattle.node_moves.specs.Ends.{IsOrderly}
 use Rattle.node_moves.specs.Keeping.{AreOfTheBallot, moves_replica}
 use Rattle.node_moves.specs.LossyNames.{AreWhereItServes, LossyNamesKeepTheirBallot}
-use Rattle.node_moves.specs.LossyMoves.{LossyMoves, halting}
+use Rattle.node_moves.specs.LossyMoves.{MoveOrLost, halting}
 use Rattle.node_moves.specs.LossyParts.{hears_in, move_proposal}
-use Rattle.node_moves.specs.LossyMoves.LossyMoves.{exactly, hears_losing, first_losing, later_losing, tells_losing, expels_losing, forgets, halts, fails, unheard, drops}
+use Rattle.node_moves.specs.LossyMoves.MoveOrLost.{exactly, hears_losing, first_losing, later_losing, tells_losing, expels_losing, forgets, halts, fails, unheard, drops}
 use Rattle.node_moves.specs.Moves.{Moves, is_proposal}
 use Rattle.node_moves.specs.Moves.Moves.{hears, opens_one, holds, reads_first, reads_later, closes, refuses, loses_one, loses_next, expels_one, cuts_log, crashes, settles, hands}
 use Rattle.node_moves.proofs.Kept.{left_true}
@@ -75,7 +75,7 @@ taken_after command core between did same t =
 
 -- ---- a move in which it receives nothing
 
-by_same : (core : CoreState) (turn : StepOutcome) (m : LossyMoves core turn) → IsOrderly core → Loses m → Same core.replica.state turn.core.replica.state
+by_same : (core : CoreState) (turn : StepOutcome) (m : MoveOrLost core turn) → IsOrderly core → Loses m → Same core.replica.state turn.core.replica.state
     → AreWhereItServes core → AreWhereItServes turn.core
 by_same core turn m o may same of serving =
     record { each = λ x d e lives. by_shuts x core turn.core (sent_in x m) d (of (sym (serves_same core turn.core same) ∙ serving)) same (lossy_shuts core turn m o x may) e lives }
@@ -88,7 +88,7 @@ exact_calm core turn m o calm of serving =
 stopped_not : (core : CoreState) → AreWhereItServes (halting core)
 stopped_not core serving = absurd (both_ways (serves (halting core)) (and_false (is_active core.replica.state.role)) serving)
 
-calm_keeps : (core : CoreState) (turn : StepOutcome) (m : LossyMoves core turn) → IsOrderly core → hears_in m ≡ false → AreWhereItServes core → AreWhereItServes turn.core
+calm_keeps : (core : CoreState) (turn : StepOutcome) (m : MoveOrLost core turn) → IsOrderly core → hears_in m ≡ false → AreWhereItServes core → AreWhereItServes turn.core
 calm_keeps core turn (exactly m) o calm of = exact_calm core turn m o calm of
 calm_keeps core turn (hears_losing input did other drives) o calm of = absurd cc
 calm_keeps core turn (first_losing now port c connect rest did at first is taken) o calm of =
@@ -111,7 +111,7 @@ calm_keeps core turn (drops port piece) o calm of =
 -- ---- a move in which it receives something
 
 lossy_stays : (old new : CountedReplica State Command) (outcome : Outcome State Command Output) (given : List (Effect Command Output)) →
-    StaysOr old.state outcome.state → StepsOrLost rules old outcome new given → StaysOr old.state new.state
+    StaysOr old.state outcome.state → ReplicaStepOrLost rules old outcome new given → StaysOr old.state new.state
 lossy_stays old new outcome given or (inl (state, effects, rest)) = subst (λ (r : ReplicaState State Command). StaysOr old.state r) (sym state) or
 lossy_stays old new outcome given or (inr (inl (state, rest), counted)) = subst (λ (r : ReplicaState State Command). StaysOr old.state r) (sym state) or
 lossy_stays old new outcome given or (inr (inr (inl (state, rest)), counted)) = inl (ap (λ (r : ReplicaState State Command). r.joined) state)
@@ -168,7 +168,7 @@ exact_keeps core turn (expels_one client) o of = exact_calm core turn (expels_on
 exact_keeps core turn settles o of = exact_calm core turn settles o refl (where_it_serves core of)
 exact_keeps core turn (hands port) o of = exact_calm core turn (hands port) o refl (where_it_serves core of)
 
-first_keeps : (core : CoreState) (turn : StepOutcome) (m : LossyMoves core turn) → IsOrderly core → AreOfTheBallot core → AreWhereItServes turn.core
+first_keeps : (core : CoreState) (turn : StepOutcome) (m : MoveOrLost core turn) → IsOrderly core → AreOfTheBallot core → AreWhereItServes turn.core
 first_keeps core turn (exactly m) o of = exact_keeps core turn m o of
 first_keeps core turn (hears_losing input did other drives) o of = lossy_heard input core did other drives o of
 first_keeps core turn (first_losing now port c connect rest did at first is taken) o of =
@@ -185,7 +185,7 @@ first_keeps core turn (drops port piece) o of = calm_keeps core turn (drops port
 
 -- ---- what is proposed
 
-proposes_of : (core : CoreState) (turn : StepOutcome) (m : LossyMoves core turn) → IsOrderly core → AreOfTheBallot core → (x : ConnectionName) (command : Command)
+proposes_of : (core : CoreState) (turn : StepOutcome) (m : MoveOrLost core turn) → IsOrderly core → AreOfTheBallot core → (x : ConnectionName) (command : Command)
     → In command (move_proposal m) → is_packet_of command x ≡ true → x.ballot ≡ core.replica.state.joined
 proposes_of core turn (exactly m) o of x command i named' = names_keep_their_ballot.proposes core turn m o of x command i named'
 proposes_of core turn (first_losing now port c connect rest did at first is taken) o of x command i named' =

@@ -5,7 +5,7 @@ use Rattle.exactly_once.specs.packet.Spelling.{spelling}
 use Rattle.exactly_once.specs.packet.declared.packet.Packet.{Packet}
 use Rattle.exactly_once.specs.packet.declared.packet.Packet.TheVariants as packets
 use Rattle.node_core.specs.ballot_base.declared.message.Effect.{Effect}
-use Rattle.node_core.specs.ballot_base.Losses.{StepsOrLost}
+use Rattle.node_core.specs.ballot_base.Losses.{ReplicaStepOrLost}
 use Rattle.node_core.specs.ballot_base.Protocol.{Input}
 use Rattle.node_core.specs.ballot_base.Protocol.Input.{Receives, Ticks}
 use Rattle.node_core.specs.ballot_base.Replica.{CountedReplica, ReplicaState}
@@ -25,7 +25,7 @@ use Rattle.node_core.specs.node_connections.ConnectionChanges.{noted_proposed, c
 use Rattle.node_core.specs.Core.{CoreState, rules, serves}
 use Rattle.node_core.specs.Failing.{closes_failed}
 use Rattle.node_core.specs.Handing.{hands_over}
-use Rattle.node_core.specs.Lossy.{Account, HandlesAll, Drives, ReplicaSteps, Repeated, Performs, TakesCommand, Then, without_effects}
+use Rattle.node_core.specs.Lossy.{Account, HandlesAll, Drives, HandledStepOrLost, Repeated, Performs, TakesCommand, Then, without_effects}
 use Rattle.node_core.specs.LossyProposals.{Declines, ProposesCommand}
 use Rattle.node_core.specs.LossyProposals.Declines.{no_room, forgets, stops}
 use Rattle.node_core.specs.Lossy.HandlesAll.{nothing, does, sends, loses}
@@ -37,7 +37,7 @@ use Rattle.node_core.specs.LossyReading.LosesFailed.{none_failed, tells_one}
 use Rattle.node_core.specs.LossyReading.ReadsNext.{waits, first, later, refuses, ends}
 use Rattle.node_core.specs.Reading.{changes, open_at, connect_refused, unread_of}
 use Rattle.node_core.specs.Step.{crashed, next_name, with_next_connection, settled, with_cut}
-use Rattle.node_core.specs.LossyStep.Cuts.{nothing_to_cut, cuts_log, forgets_cut}
+use Rattle.node_core.specs.LossyStep.LogCutOrLost.{nothing_to_cut, cuts_log, forgets_cut}
 use Rattle.node_core.specs.Effects.{changes_named}
 use Rattle.node_moves.specs.Apart.{KeepsNames, NamesStayApart}
 use Rattle.node_moves.specs.Closed.{listed_named}
@@ -128,7 +128,7 @@ same_up : (r s : ReplicaState State Command) → s ≡ r → r.joined ≤ s.join
 same_up r s e = subst (λ (t : ReplicaState State Command). r.joined ≤ t.joined) (sym e) (same_le r.joined)
 
 pub steps_up : (old new : CountedReplica State Command) (outcome : Outcome State Command Output) (given : List (Effect Command Output)) →
-    Up old.state outcome → StepsOrLost rules old outcome new given → old.state.joined ≤ new.state.joined
+    Up old.state outcome → ReplicaStepOrLost rules old outcome new given → old.state.joined ≤ new.state.joined
 steps_up old new outcome given up (inl (state, effects, rest)) =
     subst (λ (t : ReplicaState State Command). old.state.joined ≤ t.joined) (sym state) up
 steps_up old new outcome given up (inr (inl (state, rest), counted)) =
@@ -153,7 +153,7 @@ keep_delivered _ core new _ (sends {receiver} {message} {given = given} more) = 
 keep_delivered _ core new _ (loses {receiver} {message} {given = given} more) = keep_delivered given core new _ more
 
 keep_moved : (outcome : Outcome State Command Output) (core : CoreState) (did : Account) → Up core.replica.state outcome →
-    ReplicaSteps outcome core did → Keep core did.core
+    HandledStepOrLost outcome core did → Keep core did.core
 keep_moved outcome core did up m =
     keep_both core (record core { replica = m.replica }) did.core
     (keep_replica core m.replica (steps_up core.replica m.replica outcome did.given up m.steps))

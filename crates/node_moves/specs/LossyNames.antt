@@ -9,14 +9,14 @@ use Rattle.node_core.specs.Core.{CoreState, StepOutcome, serves}
 use Rattle.node_moves.specs.Closed.{listed_named}
 use Rattle.node_moves.specs.Ends.{IsOrderly}
 use Rattle.node_moves.specs.Keeping.{AreOfTheBallot}
-use Rattle.node_moves.specs.LossyMoves.{LossyMoves}
+use Rattle.node_moves.specs.LossyMoves.{MoveOrLost}
 use Rattle.node_moves.specs.LossyParts.{hears_in, move_proposal}
 use Rattle.node_moves.specs.Names.{IsNextName}
 
 -- a connection that is new after a move has the next name of the ballot that the node leads
 abbrev pub LossyNamesAreOfTheBallot : Type 0
 LossyNamesAreOfTheBallot =
-    (core : CoreState) (outcome : StepOutcome) (m : LossyMoves core outcome) → IsOrderly core →
+    (core : CoreState) (outcome : StepOutcome) (m : MoveOrLost core outcome) → IsOrderly core →
     (x : ConnectionName) (d : Connection) →
     listed_named x core ≡ None → listed_named x outcome.core ≡ Some d → IsNextName core x
 
@@ -28,13 +28,13 @@ AreWhereItServes core = serves core ≡ true → AreOfTheBallot core
 -- which it does, if that move began as a step does. And a node proposes under a name only in the
 -- ballot of that name.
 pub record LossyNamesKeepTheirBallot : Type 0 where
-  pub moves : (core : CoreState) (outcome : StepOutcome) (m : LossyMoves core outcome) →
+  pub moves : (core : CoreState) (outcome : StepOutcome) (m : MoveOrLost core outcome) →
       IsOrderly core →
       hears_in m ≡ false → AreWhereItServes core → AreWhereItServes outcome.core
-  pub hears : (core : CoreState) (outcome : StepOutcome) (m : LossyMoves core outcome) →
+  pub hears : (core : CoreState) (outcome : StepOutcome) (m : MoveOrLost core outcome) →
       IsOrderly core →
       AreOfTheBallot core → AreWhereItServes outcome.core
-  pub proposes : (core : CoreState) (outcome : StepOutcome) (m : LossyMoves core outcome) →
+  pub proposes : (core : CoreState) (outcome : StepOutcome) (m : MoveOrLost core outcome) →
       IsOrderly core →
       AreWhereItServes core → serves core ≡ true → (x : ConnectionName) (command : Command) →
       In command (move_proposal m) → is_packet_of command x ≡ true →

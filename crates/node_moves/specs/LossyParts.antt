@@ -17,11 +17,11 @@ use Rattle.node_moves.specs.Keeping.{moves_replica}
 use Rattle.node_moves.specs.Moves.{Moves}
 use Rattle.node_moves.specs.Moves.Moves.{hears}
 use Rattle.node_moves.specs.Puts.{move_effects as exact_given, is_handing as exact_handing}
-use Rattle.node_moves.specs.LossyMoves.{LossyMoves}
-use Rattle.node_moves.specs.LossyMoves.LossyMoves.{exactly, hears_losing, first_losing, later_losing, tells_losing, expels_losing, forgets, halts, fails, unheard, drops}
+use Rattle.node_moves.specs.LossyMoves.{MoveOrLost}
+use Rattle.node_moves.specs.LossyMoves.MoveOrLost.{exactly, hears_losing, first_losing, later_losing, tells_losing, expels_losing, forgets, halts, fails, unheard, drops}
 
 -- the effects of its replica in a move
-abbrev pub move_effects : {core : CoreState} {outcome : StepOutcome} → LossyMoves core outcome →
+abbrev pub move_effects : {core : CoreState} {outcome : StepOutcome} → MoveOrLost core outcome →
     List (Effect Command Output)
 move_effects (exactly m) = exact_given m
 move_effects (hears_losing input did other drives) = did.given
@@ -36,7 +36,7 @@ move_effects unheard = []
 move_effects (drops port piece) = []
 
 -- the command that it proposes
-abbrev pub move_proposal : {core : CoreState} {outcome : StepOutcome} → LossyMoves core outcome →
+abbrev pub move_proposal : {core : CoreState} {outcome : StepOutcome} → MoveOrLost core outcome →
     List Command
 move_proposal (exactly m) = exact_proposal m
 move_proposal (hears_losing input did other drives) = []
@@ -54,7 +54,7 @@ move_proposal (drops port piece) = []
 
 -- the bytes that come on the connection of a name
 abbrev pub came_on : ConnectionName → {core : CoreState} {outcome : StepOutcome} →
-    LossyMoves core outcome →
+    MoveOrLost core outcome →
     List ℕ
 came_on x (exactly m) = exact_came x m
 came_on x {core = core} (drops port piece) = piece_on x piece (open_at port core)
@@ -62,18 +62,18 @@ came_on x _ = []
 
 -- the answer to a CONNECT that the node refuses itself
 abbrev pub refusal_in : ConnectionName → {core : CoreState} {outcome : StepOutcome} →
-    LossyMoves core outcome →
+    MoveOrLost core outcome →
     List Packet
 refusal_in x (exactly m) = exact_refusal x m
 refusal_in x _ = []
 
 -- whether bytes are handed over in a move
-abbrev pub is_handing : {core : CoreState} {outcome : StepOutcome} → LossyMoves core outcome → Bool
+abbrev pub is_handing : {core : CoreState} {outcome : StepOutcome} → MoveOrLost core outcome → Bool
 is_handing (exactly m) = exact_handing m
 is_handing _ = false
 
 -- whether a packet is read in a move
-abbrev pub is_read : {core : CoreState} {outcome : StepOutcome} → LossyMoves core outcome → Bool
+abbrev pub is_read : {core : CoreState} {outcome : StepOutcome} → MoveOrLost core outcome → Bool
 is_read (exactly m) = exact_read m
 is_read (first_losing now port c connect rest did at first is taken) = true
 is_read (later_losing now port c packet rest did at later is taken) = true
@@ -86,14 +86,14 @@ inputs_of (hears input other) = input ∷ []
 inputs_of _ = []
 
 -- what the replica receives in a move that may have losses
-abbrev pub inputs_in : {core : CoreState} {outcome : StepOutcome} → LossyMoves core outcome →
+abbrev pub inputs_in : {core : CoreState} {outcome : StepOutcome} → MoveOrLost core outcome →
     List (Input Command)
 inputs_in (exactly m) = inputs_of m
 inputs_in (hears_losing input did other drives) = input ∷ []
 inputs_in _ = []
 
 -- whether the replica receives something in a move, or the node crashes
-abbrev pub hears_in : {core : CoreState} {outcome : StepOutcome} → LossyMoves core outcome → Bool
+abbrev pub hears_in : {core : CoreState} {outcome : StepOutcome} → MoveOrLost core outcome → Bool
 hears_in (exactly m) = moves_replica m
 hears_in (hears_losing input did other drives) = true
 hears_in _ = false

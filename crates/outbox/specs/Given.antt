@@ -9,7 +9,7 @@ use Rattle.node.specs.ballot_base.declared.message.Message.{Message}
 use Rattle.node.specs.declared.Config.{Config}
 use Rattle.node.specs.declared.Item.{Item}
 use Rattle.node.specs.node_core.Core.{CountedCore, opening_core}
-use Rattle.node.specs.node_core.Losses.{NodeStepped}
+use Rattle.node.specs.node_core.Losses.{ItemStepOrLost}
 use Rattle.node.specs.lists.Lists.{In}
 use Rattle.node.specs.State.{Replays}
 
@@ -50,7 +50,7 @@ pub record WasGiven (effect : Effect Command Output) : Type 0 where
   pub next : CountedCore
   pub before : List (Effect Command Output)
   pub after : List (Effect Command Output)
-  pub step : NodeStepped core item next before after
+  pub step : ItemStepOrLost core item next before after
   pub gives : In effect step.given
 
 -- a step of a node gave this message for the master

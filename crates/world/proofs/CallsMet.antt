@@ -29,7 +29,7 @@ use Rattle.world.specs.ClientCalls.{SendsCall, ClientDoes, SendsDisconnect, Lose
 use Rattle.world_clients.specs.Calling.{LosesConnection, IsCall}
 use Rattle.world.specs.Cannot.{HoldsNone, RefusesCall}
 use Rattle.world.specs.Inside.Calling.{CountsRefusal, with_one_loss}
-use Rattle.world.specs.Inside.Steps.{EventIsDone, MeetsOrLost}
+use Rattle.world.specs.Inside.Steps.{EventIsDone, EventResultOrLost}
 use Rattle.world.specs.World.{WorldState}
 use Rattle.world.proofs.ClientGoes.{same_piped}
 use Rattle.world.proofs.StandsThere.{core_found}
@@ -198,25 +198,25 @@ or_nodes (inl a) = inl a
 or_nodes (inr b) = inr (inl b)
 
 pub publish_meets : (name : List ℕ) (p : Publication) (old : WorldState) (result : Result (Unit {0}) Idle) (new : WorldState)
-    → ClientMeets name (RefusesCall (Call.Publishes p)) (SendsCall (Call.Publishes p)) (LosesAsking (Call.Publishes p)) old result new → MeetsOrLost (events.Publish name p) old result new
+    → ClientMeets name (RefusesCall (Call.Publishes p)) (SendsCall (Call.Publishes p)) (LosesAsking (Call.Publishes p)) old result new → EventResultOrLost (events.Publish name p) old result new
 publish_meets name p old (Ok x) new (inl d) = inl (record { possible = d.possible; does = inr d.less; exact = λ none. d.exact; uncounted = d.uncounted })
 publish_meets name p old (Ok x) new (inr l) = inr (record { possible = l.possible; takes_memory = λ none low. none; done = l.done; does = l.less; lost = or_nodes l.lost; counted = l.counted })
 publish_meets name p old (Err x) new m = m
 
 pub subscribe_meets : (name filter : List ℕ) (qos : QoS) (old : WorldState) (result : Result (Unit {0}) Idle) (new : WorldState)
-    → ClientMeets name (RefusesCall (Call.Subscribes filter qos)) (SendsCall (Call.Subscribes filter qos)) (LosesAsking (Call.Subscribes filter qos)) old result new → MeetsOrLost (events.Subscribe name filter qos) old result new
+    → ClientMeets name (RefusesCall (Call.Subscribes filter qos)) (SendsCall (Call.Subscribes filter qos)) (LosesAsking (Call.Subscribes filter qos)) old result new → EventResultOrLost (events.Subscribe name filter qos) old result new
 subscribe_meets name filter qos old (Ok x) new (inl d) = inl (record { possible = d.possible; does = inr d.less; exact = λ none. d.exact; uncounted = d.uncounted })
 subscribe_meets name filter qos old (Ok x) new (inr l) = inr (record { possible = l.possible; takes_memory = λ none low. none; done = l.done; does = l.less; lost = or_nodes l.lost; counted = l.counted })
 subscribe_meets name filter qos old (Err x) new m = m
 
 pub unsubscribe_meets : (name filter : List ℕ) (old : WorldState) (result : Result (Unit {0}) Idle) (new : WorldState)
-    → ClientMeets name (RefusesCall (Call.Unsubscribes filter)) (SendsCall (Call.Unsubscribes filter)) (LosesAsking (Call.Unsubscribes filter)) old result new → MeetsOrLost (events.Unsubscribe name filter) old result new
+    → ClientMeets name (RefusesCall (Call.Unsubscribes filter)) (SendsCall (Call.Unsubscribes filter)) (LosesAsking (Call.Unsubscribes filter)) old result new → EventResultOrLost (events.Unsubscribe name filter) old result new
 unsubscribe_meets name filter old (Ok x) new (inl d) = inl (record { possible = d.possible; does = inr d.less; exact = λ none. d.exact; uncounted = d.uncounted })
 unsubscribe_meets name filter old (Ok x) new (inr l) = inr (record { possible = l.possible; takes_memory = λ none low. none; done = l.done; does = l.less; lost = or_nodes l.lost; counted = l.counted })
 unsubscribe_meets name filter old (Err x) new m = m
 
 pub disconnect_meets : (name : List ℕ) (old : WorldState) (result : Result (Unit {0}) Idle) (new : WorldState) → ClientMeets name HoldsNone SendsDisconnect LosesLeaving old result new
-    → MeetsOrLost (events.Disconnect name) old result new
+    → EventResultOrLost (events.Disconnect name) old result new
 disconnect_meets name old (Ok x) new (inl d) = inl (record { possible = d.possible; does = inr d.less; exact = λ none. d.exact; uncounted = d.uncounted })
 disconnect_meets name old (Ok x) new (inr l) = inr (record { possible = l.possible; takes_memory = λ none low. none; done = l.done; does = l.less; lost = or_nodes l.lost; counted = l.counted })
 disconnect_meets name old (Err x) new m = m

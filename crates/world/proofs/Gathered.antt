@@ -8,7 +8,7 @@ use Rattle.world_clients.specs.Handing.{with_down}
 use Rattle.world.specs.Gathering.{GatheredWhere, Gathers, GathersAmong, IsGathered, MayBeGathered, leads_open_to}
 use Rattle.world_clients.specs.Handing.{bytes_put_out}
 use Rattle.world.specs.Inside.Steps.{IsTrace}
-use Rattle.world.specs.Inside.Handing.{GathersOn, MayGatherOn, marked}
+use Rattle.world.specs.Inside.Handing.{GatheringOrLost, GathersOn, marked}
 use Rattle.world.specs.World.{WorldState}
 use Rattle.world.proofs.Joined.{goes_on_join}
 use Rattle.world.proofs.StandsThere.{numbered_at}
@@ -38,7 +38,7 @@ stays_open number place w found up =
 
 -- exactly, or its node ran out of memory
 pub may_be_gathered : (number : ℕ) (place : ConnectionSlot) (is_open : Bool) (old mid new : WorldState) → slice_get old.connections (number - 1) ≡ Some place → 0 < number → place.is_open ≡ true
-    → MayGatherOn number place old is_open mid → new ≡ marked number place is_open mid → MayBeGathered false number old new
+    → GatheringOrLost number place old is_open mid → new ≡ marked number place is_open mid → MayBeGathered false number old new
 may_be_gathered number place is_open old mid new at positive up (inl h) is = inl (is_gathered number place is_open old mid new at positive h is)
 may_be_gathered number place is_open old mid new at positive up (inr lost) is =
     let forgot : WorldState = record old { nodes = nodes_with_loss old.nodes } in

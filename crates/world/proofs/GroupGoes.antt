@@ -18,7 +18,7 @@ use Rattle.headline.specs.byte_world.Steps.WorldStep.{group_goes}
 use Rattle.world_nodes.specs.Nodes.{NodesState, NodesStandFor}
 use Rattle.world_nodes.specs.ExactSteps.{NodeDoesCall, GoesBy}
 use Rattle.world_nodes.specs.Steps.{nodes_with_loss}
-use Rattle.world_nodes.specs.GroupSteps.{ActsOrRests, ComesOrRests, MasterGoesOrRests, MasterHears}
+use Rattle.world_nodes.specs.GroupSteps.{GroupDeliveryOrLost, MasterHears, MasterStepOrLost, NodeCallOrLost}
 use Rattle.world_clients.specs.NodesGoOn.{NodesGo, NodesStay}
 use Rattle.world.specs.Inside.Steps.{IsTrace}
 use Rattle.world.specs.StandsFor.{FollowsModel}
@@ -70,15 +70,15 @@ acts_or_stays : (node_call : Option (ℕ × NodeCall)) (old new : NodesState) �
 acts_or_stays node_call old new apart (inl does) = acts node_call apart does
 acts_or_stays node_call old new apart (inr forgets) = stays (nodes_forget old new forgets)
 
-pub by_assign : {X : Type 0} (r : Result X Idle) (old new : NodesState) → OnOk r (MasterGoesOrRests old new) → OnErr r (new ≡ old) → GoesApart old new
+pub by_assign : {X : Type 0} (r : Result X Idle) (old new : NodesState) → OnOk r (MasterStepOrLost old new) → OnErr r (new ≡ old) → GoesApart old new
 by_assign (Ok x) old new does same = acts_or_stays None old new refl does
 by_assign (Err e) old new does same = stays (nodes_stay old new same)
 
-pub by_cut : {X : Type 0} (r : Result X Idle) (old new : NodesState) (node : ℕ) → OnOk r (ActsOrRests (node - 1) (takes Cut) old new) → OnErr r (new ≡ old) → GoesApart old new
+pub by_cut : {X : Type 0} (r : Result X Idle) (old new : NodesState) (node : ℕ) → OnOk r (NodeCallOrLost (node - 1) (takes Cut) old new) → OnErr r (new ≡ old) → GoesApart old new
 by_cut (Ok x) old new node does same = acts_or_stays (Some (node - 1, takes Cut)) old new refl does
 by_cut (Err e) old new node does same = stays (nodes_stay old new same)
 
-pub by_expel : {X : Type 0} (r : Result X Idle) (old new : NodesState) (node : ℕ) (client : Client) → OnOk r (ActsOrRests (node - 1) (takes (Expel client)) old new) → OnErr r (new ≡ old)
+pub by_expel : {X : Type 0} (r : Result X Idle) (old new : NodesState) (node : ℕ) (client : Client) → OnOk r (NodeCallOrLost (node - 1) (takes (Expel client)) old new) → OnErr r (new ≡ old)
     → GoesApart old new
 by_expel (Ok x) old new node client does same = acts_or_stays (Some (node - 1, takes (Expel client))) old new refl does
 by_expel (Err e) old new node client does same = stays (nodes_stay old new same)
@@ -98,12 +98,12 @@ heard (Append b place command) old new same = stays (nodes_stay old new same)
 heard (Held b held) old new same = stays (nodes_stay old new same)
 heard (Commit b held) old new same = stays (nodes_stay old new same)
 
-comes : (o : Option (ℕ × Message Command)) (old new : NodesState) → ComesOrRests o old new → GoesApart old new
+comes : (o : Option (ℕ × Message Command)) (old new : NodesState) → GroupDeliveryOrLost o old new → GoesApart old new
 comes None old new does = absurd does
 comes (Some (zero, message)) old new does = heard message.body old new does
 comes (Some (suc at, message)) old new does = acts_or_stays (Some (at, takes (Peer message))) old new refl does
 
-pub by_delivery : {X : Type 0} (r : Result X Idle) (old new : NodesState) (number : ℕ) → OnOk r (ComesOrRests (slice_get old.sent number) old new) → OnErr r (new ≡ old)
+pub by_delivery : {X : Type 0} (r : Result X Idle) (old new : NodesState) (number : ℕ) → OnOk r (GroupDeliveryOrLost (slice_get old.sent number) old new) → OnErr r (new ≡ old)
     → GoesApart old new
 by_delivery (Ok x) old new number does same = comes (slice_get old.sent number) old new does
 by_delivery (Err e) old new number does same = stays (nodes_stay old new same)

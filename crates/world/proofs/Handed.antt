@@ -11,11 +11,11 @@ use Rattle.world_clients.specs.declared.world_client.WorldClient.{WorldClient}
 use Rattle.world_clients.specs.NodesGoOn.{NodesGoOn}
 use Rattle.world_clients.specs.SlotsAreValid.{SlotsAreValid, targets_of_clients}
 use Rattle.world.specs.Found.{port_at_node}
-use Rattle.world_clients.specs.Handing.{with_down, HandsDown, MayPutDown, PutsDown}
+use Rattle.world_clients.specs.Handing.{with_down, BytesDownOrLost, MayPutDown, PipeBytesDownOrLost}
 use Rattle.world_clients.specs.Carrying.{CannotCarryUp, CarriesUpWhere}
 use Rattle.world.specs.Inside.Carrying.{CannotCarryUpOn, CarriesUpOnWhere}
 use Rattle.world.specs.Inside.Steps.{IsTrace}
-use Rattle.world.specs.Inside.Handing.{MayGatherOn}
+use Rattle.world.specs.Inside.Handing.{GatheringOrLost}
 use Rattle.world.specs.World.{WorldState}
 use Rattle.world.proofs.ComesUp.{takes_up}
 use Rattle.world.proofs.GoesDown.{put_down, puts_down}
@@ -31,8 +31,8 @@ same_client old i client new later found still =
 
 -- what is known about the end, and what went down; or nothing went down
 pub gathers_on : (old : WorldState) (number : ℕ) (place : ConnectionSlot) (client : WorldClient) (way : Way) (is_open : Bool) (new : NodesState) (later : Piped) → slice_get old.clients place.client ≡ Some client
-    → slice_get client.piped.ways place.at ≡ Some way → PutsDown place.at place.node (port_at_node number) old.nodes client.piped new later is_open
-    → MayGatherOn number place old is_open (put_down place.client client later new old)
+    → slice_get client.piped.ways place.at ≡ Some way → PipeBytesDownOrLost place.at place.node (port_at_node number) old.nodes client.piped new later is_open
+    → GatheringOrLost number place old is_open (put_down place.client client later new old)
 gathers_on old number place client way is_open new later owned stands puts = by (puts way stands)
   where
     same_bytes : (bytes : List ℕ) → bytes ≡ way.down → with_down place.at way bytes client.piped ≡ client.piped
@@ -40,8 +40,8 @@ gathers_on old number place client way is_open new later owned stands puts = by 
         ap (λ (b : List ℕ). with_down place.at way b client.piped) same
         ∙ ap (λ (l : List Way). let p : Piped = record client.piped { ways = l } in p) (set_itself client.piped.ways place.at way stands)
 
-    by : (bytes : List ℕ) × HandsDown place.node (port_at_node number) old.nodes way.down new bytes is_open × (later ≡ with_down place.at way bytes client.piped)
-        → MayGatherOn number place old is_open (put_down place.client client later new old)
+    by : (bytes : List ℕ) × BytesDownOrLost place.node (port_at_node number) old.nodes way.down new bytes is_open × (later ≡ with_down place.at way bytes client.piped)
+        → GatheringOrLost number place old is_open (put_down place.client client later new old)
     by (bytes, inl p, is) =
         inl (record {
           client = client;

@@ -14,7 +14,7 @@ use Rattle.node_core.specs.declared.item.Item.TheVariants.{Bytes, Crash, Ended, 
 use Rattle.world_nodes.specs.ExactSteps.{MessageArrives, ComesToNobody, CutsExactly, TakesExactly}
 use Rattle.world_nodes.specs.Running.{cutting, proposing, running}
 use Rattle.world_nodes.specs.Nodes.{NodesState}
-use Rattle.world_nodes.specs.Steps.{ComesIn, CutsIn, ExpelsIn, GivesIn, NodesLoseNothing, TakesIn}
+use Rattle.world_nodes.specs.Steps.{DeliveryOrLost, NewBallotOrLost, NodeCutOrLost, NodeExpelOrLost, NodeItemOrLost, NodesLoseNothing}
 use Rattle.world_pipes.specs.declared.way.Way.{Way}
 use Rattle.world_pipes.specs.Piped.{Piped, is_holding}
 use Rattle.world_events.specs.declared.event.Event.{Event}
@@ -34,7 +34,7 @@ use Rattle.world_clients.specs.SlotsAreValid.{SlotsAreValid, targets_of_clients}
 use Rattle.world.specs.Quiet.{EventTakesNoMemory}
 use Rattle.world_clients.specs.Carrying.{CanCarryUp, CannotCarryDown, CarriesDownOn}
 use Rattle.world.specs.Inside.Carrying.{CannotCarryUpOn, CarriesUpOn}
-use Rattle.world.specs.Inside.Steps.{IsCounted, EventIsDone, MeetsOrLost}
+use Rattle.world.specs.Inside.Steps.{IsCounted, EventIsDone, EventResultOrLost}
 use Rattle.world.specs.Inside.Calling.{with_one_loss}
 use Rattle.world.specs.World.{WorldState}
 use Rattle.world.proofs.GroupGoes.{with_nodes}
@@ -43,8 +43,8 @@ use Rattle.world.proofs.StandsThere.{connected, numbered_at, way_found}
 
 -- ---- the master
 
-pub assign_meets : (r : Result (Unit {0}) Idle) (config : Config) (old : WorldState) (new : NodesState) → OnOk r (GivesIn config old.nodes new)
-    → IsErr r ↔ (refusal old.nodes.master config ≡ None → ⊥) → OnErr r (new ≡ old.nodes) → MeetsOrLost (events.Assign config) old r (with_nodes new old)
+pub assign_meets : (r : Result (Unit {0}) Idle) (config : Config) (old : WorldState) (new : NodesState) → OnOk r (NewBallotOrLost config old.nodes new)
+    → IsErr r ↔ (refusal old.nodes.master config ≡ None → ⊥) → OnErr r (new ≡ old.nodes) → EventResultOrLost (events.Assign config) old r (with_nodes new old)
 assign_meets (Ok x) config old new gives idle same =
     inl (record {
       possible = λ refused. both_ways false refl (idle.1 refused);
@@ -58,7 +58,7 @@ assign_meets (Err e) config old new acts idle same = (idle.0 refl, ap (λ (n : N
 
 -- a message comes to its receiver
 pub delivered : (number receiver : ℕ) (old : WorldState) (between : NodesState) (new : WorldState) → receiver ≡ receiver_of (slice_get old.nodes.sent number)
-    → (ComesToNobody (slice_get old.nodes.sent number) old.nodes → ⊥) → ComesIn (slice_get old.nodes.sent number) old.nodes between
+    → (ComesToNobody (slice_get old.nodes.sent number) old.nodes → ⊥) → DeliveryOrLost (slice_get old.nodes.sent number) old.nodes between
     → (NodesLoseNothing old.nodes between → MessageArrives (slice_get old.nodes.sent number) old.nodes between) → Gathers false receiver (with_nodes between old) new → new.losses ≡ old.losses
     → EventIsDone (events.Deliver number) old new
 delivered number receiver old between new is possible comes exact gathers still =
@@ -74,20 +74,20 @@ delivered number receiver old between new is possible comes exact gathers still 
     }
 
 -- time passes at it, or it crashes
-pub ticked : (node : ℕ) (old : WorldState) (between : NodesState) (new : WorldState) → (running old.nodes.nodes node ≡ None → ⊥) → TakesIn node (Tick 0) old.nodes between
+pub ticked : (node : ℕ) (old : WorldState) (between : NodesState) (new : WorldState) → (running old.nodes.nodes node ≡ None → ⊥) → NodeItemOrLost node (Tick 0) old.nodes between
     → Gathers false node (with_nodes between old) new → new.losses ≡ old.losses → EventIsDone (events.Tick node) old new
 ticked node old between new possible takes gathers still =
     let item : TakesItem false node (Tick 0) old new = (between, takes, gathers) in
     record { possible = possible; does = inr item; exact = λ none. takes_exactly node (Tick 0) old new item none; uncounted = still }
 
-pub crashed : (node : ℕ) (old : WorldState) (between : NodesState) (new : WorldState) → (running old.nodes.nodes node ≡ None → ⊥) → TakesIn node Crash old.nodes between
+pub crashed : (node : ℕ) (old : WorldState) (between : NodesState) (new : WorldState) → (running old.nodes.nodes node ≡ None → ⊥) → NodeItemOrLost node Crash old.nodes between
     → Gathers false node (with_nodes between old) new → new.losses ≡ old.losses → EventIsDone (events.Crash node) old new
 crashed node old between new possible takes gathers still =
     let item : TakesItem false node Crash old new = (between, takes, gathers) in
     record { possible = possible; does = inr item; exact = λ none. takes_exactly node Crash old new item none; uncounted = still }
 
 -- it cuts its log
-pub cut_done : (node : ℕ) (old : WorldState) (between : NodesState) (new : WorldState) → (cutting old.nodes.nodes node ≡ None → ⊥) → CutsIn node old.nodes between
+pub cut_done : (node : ℕ) (old : WorldState) (between : NodesState) (new : WorldState) → (cutting old.nodes.nodes node ≡ None → ⊥) → NodeCutOrLost node old.nodes between
     → (NodesLoseNothing old.nodes between → CutsExactly node old.nodes between) → Gathers false node (with_nodes between old) new → new.losses ≡ old.losses → EventIsDone (events.Cut node) old new
 cut_done node old between new possible cuts exact gathers still =
     record {
@@ -100,7 +100,7 @@ cut_done node old between new possible cuts exact gathers still =
     }
 
 -- it proposes that the session of a client ends
-pub expelled : (name : List ℕ) (node : ℕ) (old : WorldState) (between : NodesState) (new : WorldState) → (CannotHappen (events.Expel name node) old → ⊥) → ExpelsIn name node old.nodes between
+pub expelled : (name : List ℕ) (node : ℕ) (old : WorldState) (between : NodesState) (new : WorldState) → (CannotHappen (events.Expel name node) old → ⊥) → NodeExpelOrLost name node old.nodes between
     → (NodesLoseNothing old.nodes between → TakesExactly node (Expel name) old.nodes between) → Gathers false node (with_nodes between old) new → new.losses ≡ old.losses
     → EventIsDone (events.Expel name node) old new
 expelled name node old between new possible expels exact gathers still =
@@ -132,7 +132,7 @@ may_expel name node w (Some i) none at is e proposes (inr full) = proposes full
 
 -- it sees the end of a connection
 pub noticed : (number : ℕ) (old : WorldState) (c : Connected number old) (between : NodesState) (new : WorldState) → (CannotHappen (events.Notice number) old → ⊥)
-    → TakesIn c.slot.node (Ended (port_at_node number)) old.nodes between → Gathers false c.slot.node (with_nodes between old) new → new.losses ≡ old.losses → EventIsDone (events.Notice number) old new
+    → NodeItemOrLost c.slot.node (Ended (port_at_node number)) old.nodes between → Gathers false c.slot.node (with_nodes between old) new → new.losses ≡ old.losses → EventIsDone (events.Notice number) old new
 noticed number old c between new possible takes gathers still =
     let item : TakesItem false c.slot.node (Ended (port_at_node number)) old new = (between, takes, gathers) in
     record { possible = possible; does = inr (c, item); exact = λ none. (c, takes_exactly c.slot.node (Ended (port_at_node number)) old new item none); uncounted = still }
@@ -297,7 +297,7 @@ never_opened number count w none = inl (ap (λ (o : Option ConnectionSlot). is_h
 
 -- an event that was done is counted if its nodes counted a loss, and one that is counted already is
 -- not counted again
-pub step_happens : (event : Event) (old mid new : WorldState) (before counted : ℕ) → before ≡ old.nodes.losses → counted ≡ old.losses → MeetsOrLost event old (Ok tt) mid
+pub step_happens : (event : Event) (old mid new : WorldState) (before counted : ℕ) → before ≡ old.nodes.losses → counted ≡ old.losses → EventResultOrLost event old (Ok tt) mid
     → (EventTakesNoMemory event old → mid.nodes.losses ≡ old.nodes.losses) → IsCounted before counted mid new → EventHappens event old (Ok tt) new
 step_happens event old mid new before counted is so_many (inl d) quiet (inl none) =
     let w = none.1 (d.uncounted ∙ sym so_many) in let kept = w.0 in let below = w.1 in

@@ -15,7 +15,7 @@ use Rattle.node_core.specs.declared.item.Item.TheVariants.{Cut, Expel, Peer}
 use Rattle.node_core.specs.declared.Port.{Port}
 use Rattle.world_nodes.specs.ExactSteps.{after_node_call}
 use Rattle.world_nodes.specs.Nodes.{NodesState}
-use Rattle.world_nodes.specs.Steps.{ActsWithLosses, ComesIn, CutsIn, CutsWithLosses, ExpelsIn, HearsIn, NodesLoseNothing, TakesIn, nodes_with_loss}
+use Rattle.world_nodes.specs.Steps.{ActsWithLosses, CutsWithLosses, DeliveryOrLost, MasterAnswerOrLost, NodeCutOrLost, NodeExpelOrLost, NodeItemOrLost, NodesLoseNothing, nodes_with_loss}
 use Rattle.world_nodes.proofs.Exactly.{exactly}
 use Rattle.world.specs.Found.{slot_numbered, port_at_node}
 use Rattle.world.specs.Gathering.{GatheredWhere, Gathers, GathersAmong, MayBeGathered, TakesItem, leads_open_to}
@@ -43,14 +43,14 @@ counts_more old new is none = let more = ap (λ (n : NodesState). n.losses) is i
 pub forgets_rises : (old new : NodesState) → new ≡ nodes_with_loss old → Rises old new
 forgets_rises old new is = let more = ap (λ (n : NodesState). n.losses) is in omega (arith, more)
 
-pub takes_rises : (node : ℕ) (item : Item) (old new : NodesState) → TakesIn node item old new → Rises old new
+pub takes_rises : (node : ℕ) (item : Item) (old new : NodesState) → NodeItemOrLost node item old new → Rises old new
 takes_rises node item old new t = by t.way
   where
     by : (new ≡ after_node_call (node - 1) t.core (takes item) old) ⊎ ActsWithLosses (node - 1) item t.core old new → Rises old new
     by (inl is) = let same = ap (λ (n : NodesState). n.losses) is in omega (arith, same)
     by (inr loses) = let more = ap (λ (n : NodesState). n.losses) loses.is in omega (arith, more)
 
-pub cuts_rises : (node : ℕ) (old new : NodesState) → CutsIn node old new → Rises old new
+pub cuts_rises : (node : ℕ) (old new : NodesState) → NodeCutOrLost node old new → Rises old new
 cuts_rises node old new t = by t.way
   where
     by : (new ≡ record (after_node_call (node - 1) t.core (takes Cut) old) { archive = recorded old.archive t.core.core.replica.state })
@@ -60,7 +60,7 @@ cuts_rises node old new t = by t.way
     by (inr (inl loses)) = let more = ap (λ (n : NodesState). n.losses) loses.is in omega (arith, more)
     by (inr (inr lost)) = forgets_rises old new lost
 
-pub expels_rises : (client : Client) (node : ℕ) (old new : NodesState) → ExpelsIn client node old new → Rises old new
+pub expels_rises : (client : Client) (node : ℕ) (old new : NodesState) → NodeExpelOrLost client node old new → Rises old new
 expels_rises client node old new (inl took) = takes_rises node (Expel client) old new took
 expels_rises client node old new (inr lost) = forgets_rises old new lost
 
@@ -127,7 +127,7 @@ assigns_exactly config old new (inr (inr lost)) none = absurd (counts_more old n
 
 -- ---- a message
 
-heard_rises : (from : ℕ) (body : Body Command) (old new : NodesState) → HearsIn from body old new → Rises old new
+heard_rises : (from : ℕ) (body : Body Command) (old new : NodesState) → MasterAnswerOrLost from body old new → Rises old new
 heard_rises from (Activate ballot) old new (inl is) = let same = ap (λ (n : NodesState). n.losses) is in omega (arith, same)
 heard_rises from (Activate ballot) old new (inr lost) = let more = ap (λ (n : NodesState). n.losses) lost in omega (arith, more)
 heard_rises from (NewBallot b members a o) old new is = let same = ap (λ (n : NodesState). n.losses) is in omega (arith, same)
@@ -141,7 +141,7 @@ heard_rises from (Append b place command) old new is = let same = ap (λ (n : No
 heard_rises from (Held b held) old new is = let same = ap (λ (n : NodesState). n.losses) is in omega (arith, same)
 heard_rises from (Commit b held) old new is = let same = ap (λ (n : NodesState). n.losses) is in omega (arith, same)
 
-pub comes_rises : (o : Option (ℕ × Message Command)) (old new : NodesState) → ComesIn o old new → Rises old new
+pub comes_rises : (o : Option (ℕ × Message Command)) (old new : NodesState) → DeliveryOrLost o old new → Rises old new
 comes_rises None old new comes = absurd comes
 comes_rises (Some (zero, message)) old new comes = heard_rises message.from message.body old new comes
 comes_rises (Some (suc at, message)) old new (inl t) = takes_rises (suc at) (Peer message) old new t

@@ -32,7 +32,7 @@ use Rattle.world.specs.Opening.{OpensNone, OpensOne, OpensUnless, has_no_name_le
 use Rattle.world.specs.Happening.{HappensLosing}
 use Rattle.world.specs.Cannot.{CannotOpen, is_serving}
 use Rattle.world.specs.Gathering.{Gathers, TakesItem}
-use Rattle.world.specs.Inside.Connecting.{BeginsConnection, ConnectsAt, MayOpenNone, OpensAt, OpensNoneAt}
+use Rattle.world.specs.Inside.Connecting.{ConnectsAt, MayOpenNone, OpeningOrLost, OpensAt, OpensNoneAt}
 use Rattle.world_clients.specs.Opening.{HasNew, HearsOfOne, IsKnown}
 use Rattle.world.specs.Inside.Steps.{IsTrace, EventIsDone}
 use Rattle.world.specs.StandsFor.{ModelStepsTo, FollowsModel}
@@ -154,7 +154,7 @@ opens_one name at node old new first o =
     }
 
 pub open_meets : (name : List ℕ) (at node : ℕ) (old new : WorldState) (client : WorldClient) → position (is_named name) old.clients ≡ Some at → slice_get old.clients at ≡ Some client
-    → is_holding client.piped ≡ false → is_serving (numbered_node old.nodes.nodes node) ≡ true → has_no_name_left (numbered_node old.nodes.nodes node) ≡ false → BeginsConnection at node old new
+    → is_holding client.piped ≡ false → is_serving (numbered_node old.nodes.nodes node) ≡ true → has_no_name_left (numbered_node old.nodes.nodes node) ≡ false → OpeningOrLost at node old new
     → EventIsDone (events.Open name node) old new ⊎ HappensLosing (events.Open name node) old new
 open_meets name at node old new client first stands free serving left begins = by begins
   where
@@ -174,7 +174,7 @@ open_meets name at node old new client first stands free serving left begins = b
     losses_none mid (inl same) = ap (λ (w : WorldState). w.losses) same
     losses_none mid (inr o) = ap (λ (w : WorldState). w.losses) o.is
 
-    by : BeginsConnection at node old new → EventIsDone (events.Open name node) old new ⊎ HappensLosing (events.Open name node) old new
+    by : OpeningOrLost at node old new → EventIsDone (events.Open name node) old new ⊎ HappensLosing (events.Open name node) old new
     by (inl o) =
         let one = opens_one name at node old new first o in
         inl (record {

@@ -9,7 +9,7 @@ use Rattle.world_clients.specs.declared.connection_slot.ConnectionSlot.{Connecti
 use Rattle.world.specs.Found.{slot_numbered}
 use Rattle.world.specs.Gathering.{GatheredWhere, GathersAmong, leads_open_to}
 use Rattle.world_clients.specs.SlotsAreValid.{open_from}
-use Rattle.world.specs.Inside.Handing.{GathersAt, MayGatherOn, marked}
+use Rattle.world.specs.Inside.Handing.{GatheringOrLost, GathersAt, marked}
 use Rattle.world.specs.Inside.Steps.{IsTrace}
 use Rattle.world.specs.World.{WorldState}
 use Rattle.world.proofs.Gathered.{IsGathering, gathered, gathering_on, may_be_gathered}
@@ -142,7 +142,7 @@ gathers_at_none node at number place w stands found positive other =
 -- it leads to the node, and this is known about its end
 pub gathers_at_one : (node at number : ℕ) (place : ConnectionSlot) (is_open : Bool) (old mid new : WorldState) → slice_get (open_from 1 old.connections) at ≡ Some number
     → slice_get old.connections (number - 1) ≡ Some place → 0 < number → place.is_open ≡ true → place.node ≡ node → mid.connections ≡ old.connections
-    → MayGatherOn number place old is_open mid → new ≡ marked number place is_open mid → GathersAt node at old new
+    → GatheringOrLost number place old is_open mid → new ≡ marked number place is_open mid → GathersAt node at old new
 gathers_at_one node at number place is_open old mid new stands found positive up leads same hands is =
     record {
       number = number;

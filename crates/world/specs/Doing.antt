@@ -8,7 +8,7 @@ use Rattle.escaping_client.specs.client_base.declared.error.ClientError.TheVaria
 use Rattle.node_core.specs.declared.item.Item.TheVariants as items
 use Rattle.world_nodes.specs.ExactSteps.{MessageArrives, CutsExactly, TakesExactly, after_giving}
 use Rattle.world_nodes.specs.Nodes.{NodesState}
-use Rattle.world_nodes.specs.Steps.{ComesIn, CutsIn, ExpelsIn, GivesIn}
+use Rattle.world_nodes.specs.Steps.{DeliveryOrLost, NewBallotOrLost, NodeCutOrLost, NodeExpelOrLost}
 use Rattle.world_pipes.specs.Piped.{CarriesDown, Piped}
 use Rattle.world_events.specs.declared.event.Event.{Event}
 use Rattle.world_events.specs.declared.event.Event.TheVariants as events
@@ -24,22 +24,22 @@ use Rattle.world.specs.Opening.{OpensNone, OpensWhere}
 -- the master gives a ballot, exactly or perhaps with losses
 abbrev pub Assigns : Bool → Config → NodesState → NodesState → Type 0
 Assigns true config old new = new ≡ after_giving config old
-Assigns false config old new = GivesIn config old new
+Assigns false config old new = NewBallotOrLost config old new
 
 -- a message comes to its receiver, a node or the master, exactly or perhaps with losses
 abbrev pub DeliversMessage : Bool → Option (ℕ × Message Command) → NodesState → NodesState → Type 0
 DeliversMessage true message old new = MessageArrives message old new
-DeliversMessage false message old new = ComesIn message old new
+DeliversMessage false message old new = DeliveryOrLost message old new
 
 -- a node cuts its log, exactly or perhaps with losses
 abbrev pub CutsLog : Bool → ℕ → NodesState → NodesState → Type 0
 CutsLog true node old new = CutsExactly node old new
-CutsLog false node old new = CutsIn node old new
+CutsLog false node old new = NodeCutOrLost node old new
 
 -- a node proposes to end the session of a client
 abbrev pub ProposesExpel : Bool → List ℕ → ℕ → NodesState → NodesState → Type 0
 ProposesExpel true name node old new = TakesExactly node (items.Expel name) old new
-ProposesExpel false name node old new = ExpelsIn name node old new
+ProposesExpel false name node old new = NodeExpelOrLost name node old new
 
 -- the receiver of a message that was sent; 0, the master, if there is none
 abbrev pub receiver_of : Option (ℕ × Message Command) → ℕ

@@ -7,7 +7,7 @@ use Rattle.node_core.specs.declared.item.Item.{Item}
 use Rattle.world_nodes.specs.ExactSteps.{TakesExactly}
 use Rattle.world_nodes.specs.Running.{numbered_node}
 use Rattle.world_nodes.specs.Nodes.{NodesState}
-use Rattle.world_nodes.specs.Steps.{TakesIn, nodes_with_loss}
+use Rattle.world_nodes.specs.Steps.{NodeItemOrLost, nodes_with_loss}
 use Rattle.world_clients.specs.declared.connection_slot.ConnectionSlot.{ConnectionSlot}
 use Rattle.world.specs.Found.{Connected, slot_numbered, port_at_node, with_piped}
 use Rattle.world_clients.specs.Handing.{with_down}
@@ -70,7 +70,7 @@ Gathers whole (suc at) old new = GathersAmong whole (length old.connections) (su
 -- a node takes just this item; if losses are allowed, perhaps with losses
 abbrev pub TakesWhere : Bool → ℕ → Item → NodesState → NodesState → Type 0
 TakesWhere true node item old new = TakesExactly node item old new
-TakesWhere false node item old new = TakesIn node item old new
+TakesWhere false node item old new = NodeItemOrLost node item old new
 
 -- a node takes just this item, and what it queued then goes down
 abbrev pub TakesItem : Bool → ℕ → Item → WorldState → WorldState → Type 0

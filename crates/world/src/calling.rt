@@ -7,9 +7,9 @@ ghost use Rattle.world.specs.Trace.{CountsOnce};
 ghost use Rattle.world.specs.Opening.{has_no_name_left};
 ghost use Rattle.world.specs.Quiet.{EventTakesNoMemory};
 ghost use Rattle.world.specs.Cannot.{is_serving};
-ghost use Rattle.world.specs.Inside.Connecting.{BeginsConnection, ConnectsAt, MayOpenNone};
+ghost use Rattle.world.specs.Inside.Connecting.{ConnectsAt, MayOpenNone, OpeningOrLost};
 ghost use Rattle.world.specs.Inside.Calling.{CountsRefusal};
-ghost use Rattle.world.specs.Inside.Steps.{PublishesAsked, IsTrace, MeetsOrLost};
+ghost use Rattle.world.specs.Inside.Steps.{PublishesAsked, IsTrace, EventResultOrLost};
 
 use crate::world::World;
 use node_core::Port;
@@ -30,7 +30,7 @@ impl World {
     /// of a ballot changes nothing.
     pub(crate) fn open(&mut self, client: &ClientId, node: u8) -> Result<(), Idle>
         ensures goes { IsTrace self.old self.new }
-        ensures meets { MeetsOrLost (Event.Open client.now node) self.old result self.new }
+        ensures meets { EventResultOrLost (Event.Open client.now node) self.old result self.new }
         ensures once { CountsOnce self.old self.new }
         ensures quiet { EventTakesNoMemory (Event.Open client.now node) self.old →
             self.new ≡ self.old }
@@ -60,7 +60,7 @@ impl World {
             (λ found. is_holding found.piped ≡ false) }
         requires node { 0 < node }
         ensures goes { IsTrace self.old self.new }
-        ensures begins { BeginsConnection client node self.old self.new }
+        ensures begins { OpeningOrLost client node self.old self.new }
         ensures once { CountsOnce self.old self.new }
     {
         let before = self.nodes.losses();
@@ -108,7 +108,7 @@ impl World {
     /// Lets a client lose its connection. `Idle` comes if there is no such client, or it has none.
     pub(crate) fn abandon(&mut self, client: &ClientId) -> Result<(), Idle>
         ensures goes { IsTrace self.old self.new }
-        ensures meets { MeetsOrLost (Event.Abandon client.now)
+        ensures meets { EventResultOrLost (Event.Abandon client.now)
             self.old result self.new }
         ensures still { self.new.losses ≡ self.old.losses }
         ensures nodes { self.new.nodes ≡ self.old.nodes }
@@ -126,7 +126,7 @@ impl World {
     /// Lets a client disconnect. `Idle` comes if there is no such client, or it has no connection.
     pub(crate) fn disconnect(&mut self, client: &ClientId) -> Result<(), Idle>
         ensures goes { IsTrace self.old self.new }
-        ensures meets { MeetsOrLost (Event.Disconnect client.now)
+        ensures meets { EventResultOrLost (Event.Disconnect client.now)
             self.old result self.new }
         ensures once { CountsOnce self.old self.new }
     {
@@ -148,7 +148,7 @@ impl World {
     ) -> Result<(), Idle>
         ensures asked { PublishesAsked (Event.Publish client.now publication.now)
             self.old result self.new }
-        ensures meets { MeetsOrLost (Event.Publish client.now publication.now)
+        ensures meets { EventResultOrLost (Event.Publish client.now publication.now)
             self.old result self.new }
         ensures once { CountsOnce self.old self.new }
     {
@@ -170,7 +170,7 @@ impl World {
         qos: QoS,
     ) -> Result<(), Idle>
         ensures goes { IsTrace self.old self.new }
-        ensures meets { MeetsOrLost (Event.Subscribe client.now filter.now qos)
+        ensures meets { EventResultOrLost (Event.Subscribe client.now filter.now qos)
             self.old result self.new }
         ensures once { CountsOnce self.old self.new }
     {
@@ -187,7 +187,7 @@ impl World {
     /// Lets a client unsubscribe from a filter. `Idle` comes as for `publish`.
     pub(crate) fn unsubscribe(&mut self, client: &ClientId, filter: &Filter) -> Result<(), Idle>
         ensures goes { IsTrace self.old self.new }
-        ensures meets { MeetsOrLost (Event.Unsubscribe client.now filter.now)
+        ensures meets { EventResultOrLost (Event.Unsubscribe client.now filter.now)
             self.old result self.new }
         ensures once { CountsOnce self.old self.new }
     {

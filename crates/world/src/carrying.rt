@@ -3,7 +3,7 @@
 ghost use Rattle.std.specs.Prelude.{◌≡◌, ◌<◌, ◌-◌, true, Some, slice_get, if◌then◌else◌, IfOk, OnErr};
 ghost use Rattle.world.specs.Trace.{CountsOnce};
 ghost use Rattle.world.specs.Inside.Carrying.{CannotCarryUpOn, CarriesUpOnWhere};
-ghost use Rattle.world.specs.Inside.Steps.{IsTrace, MeetsOrLost};
+ghost use Rattle.world.specs.Inside.Steps.{EventResultOrLost, IsTrace};
 ghost use Rattle.world.specs.Inside.Calling.{with_one_loss};
 
 use crate::world::World;
@@ -17,7 +17,7 @@ impl World {
     /// the node is closed, if the node has stopped, for no bytes, and for more than wait.
     pub(crate) fn carry_up(&mut self, number: u64, count: u64) -> Result<(), Idle>
         ensures goes { IsTrace self.old self.new }
-        ensures meets { MeetsOrLost (Event.CarryUp number count) self.old result self.new }
+        ensures meets { EventResultOrLost (Event.CarryUp number count) self.old result self.new }
         ensures once { CountsOnce self.old self.new }
     {
         match self.slot(number) {
@@ -33,7 +33,7 @@ impl World {
         requires positive { 0 < number }
         requires up { slot.is_open ≡ true }
         ensures goes { IsTrace self.old self.new }
-        ensures meets { MeetsOrLost (Event.CarryUp number count) self.old result self.new }
+        ensures meets { EventResultOrLost (Event.CarryUp number count) self.old result self.new }
         ensures once { CountsOnce self.old self.new }
     {
         let had = self.carry_to_node(slot, number, count)?;
@@ -72,7 +72,7 @@ impl World {
     /// client does not hold this connection, for no bytes, and for more than wait.
     pub(crate) fn carry_down(&mut self, number: u64, count: u64) -> Result<(), Idle>
         ensures goes { IsTrace self.old self.new }
-        ensures meets { MeetsOrLost (Event.CarryDown number count) self.old result self.new }
+        ensures meets { EventResultOrLost (Event.CarryDown number count) self.old result self.new }
         ensures once { CountsOnce self.old self.new }
     {
         let Some(slot) = self.slot(number) else {

@@ -3,7 +3,7 @@
 ghost use Rattle.std.specs.Prelude.{◌≡◌, ◌<◌, ◌-◌, true, false, Some, length, slice_get};
 ghost use Rattle.world.specs.Gathering.{Gathers, GathersAmong};
 ghost use Rattle.world_clients.specs.SlotsAreValid.{open_from};
-ghost use Rattle.world.specs.Inside.Handing.{GathersAt, MayGatherOn, marked};
+ghost use Rattle.world.specs.Inside.Handing.{GatheringOrLost, GathersAt, marked};
 ghost use Rattle.world_clients.specs.Handing.{StaysQuiet};
 ghost use Rattle.world.specs.Inside.Steps.{IsTrace};
 
@@ -97,7 +97,7 @@ impl World {
         requires positive { 0 < number }
         ensures goes { IsTrace self.old self.new }
         ensures connections { self.new.connections ≡ self.old.connections }
-        ensures gathers { MayGatherOn number slot self.old result self.new }
+        ensures gathers { GatheringOrLost number slot self.old result self.new }
         ensures still { self.new.losses ≡ self.old.losses }
         ensures quiet { StaysQuiet slot.node self.old.nodes self.new.nodes }
     {

@@ -3,7 +3,7 @@
 ghost use Rattle.std.specs.Prelude.{◌≡◌, ◌<◌, ◌-◌, true, Some, slice_get};
 ghost use Rattle.world.specs.Doing.{receiver_of};
 ghost use Rattle.world.specs.Found.{port_at_node};
-ghost use Rattle.world.specs.Inside.Steps.{IsTrace, MeetsOrLost};
+ghost use Rattle.world.specs.Inside.Steps.{EventResultOrLost, IsTrace};
 ghost use Rattle.world.specs.Quiet.{IsQuietAt, EventTakesNoMemory};
 
 use crate::world::World;
@@ -18,7 +18,7 @@ impl World {
     /// receiver is unknown or has stopped.
     pub(crate) fn deliver(&mut self, number: u64) -> Result<(), Idle>
         ensures goes { IsTrace self.old self.new }
-        ensures meets { MeetsOrLost (Event.Deliver number) self.old result self.new }
+        ensures meets { EventResultOrLost (Event.Deliver number) self.old result self.new }
         ensures still { self.new.losses ≡ self.old.losses }
         ensures quiet { EventTakesNoMemory (Event.Deliver number) self.old →
             self.new.nodes.losses ≡ self.old.nodes.losses }
@@ -42,7 +42,7 @@ impl World {
     /// Lets time pass at a node. `Idle` comes if it is unknown or has stopped.
     pub(crate) fn tick(&mut self, node: u8) -> Result<(), Idle>
         ensures goes { IsTrace self.old self.new }
-        ensures meets { MeetsOrLost (Event.Tick node) self.old result self.new }
+        ensures meets { EventResultOrLost (Event.Tick node) self.old result self.new }
         ensures still { self.new.losses ≡ self.old.losses }
         ensures quiet { EventTakesNoMemory (Event.Tick node) self.old →
             self.new.nodes.losses ≡ self.old.nodes.losses }
@@ -56,7 +56,7 @@ impl World {
     /// nothing since its last cut.
     pub(crate) fn cut(&mut self, node: u8) -> Result<(), Idle>
         ensures goes { IsTrace self.old self.new }
-        ensures meets { MeetsOrLost (Event.Cut node) self.old result self.new }
+        ensures meets { EventResultOrLost (Event.Cut node) self.old result self.new }
         ensures still { self.new.losses ≡ self.old.losses }
     {
         self.nodes.cut(node)?;
@@ -68,7 +68,7 @@ impl World {
     /// if the node is no running active primary, and if its log is full.
     pub(crate) fn expel(&mut self, client: &ClientId, node: u8) -> Result<(), Idle>
         ensures goes { IsTrace self.old self.new }
-        ensures meets { MeetsOrLost (Event.Expel client.now node) self.old result self.new }
+        ensures meets { EventResultOrLost (Event.Expel client.now node) self.old result self.new }
         ensures still { self.new.losses ≡ self.old.losses }
     {
         if self.index_of_client(client).is_none() {
@@ -82,7 +82,7 @@ impl World {
     /// Stops a node for good. `Idle` comes if it is unknown or has stopped.
     pub(crate) fn crash(&mut self, node: u8) -> Result<(), Idle>
         ensures goes { IsTrace self.old self.new }
-        ensures meets { MeetsOrLost (Event.Crash node) self.old result self.new }
+        ensures meets { EventResultOrLost (Event.Crash node) self.old result self.new }
         ensures still { self.new.losses ≡ self.old.losses }
         ensures quiet { EventTakesNoMemory (Event.Crash node) self.old →
             self.new.nodes.losses ≡ self.old.nodes.losses }
@@ -95,7 +95,7 @@ impl World {
     /// Lets the master give the next ballot to a configuration. `Idle` comes if the master refuses.
     pub(crate) fn assign(&mut self, config: &Config) -> Result<(), Idle>
         ensures goes { IsTrace self.old self.new }
-        ensures meets { MeetsOrLost (Event.Assign config.now) self.old result self.new }
+        ensures meets { EventResultOrLost (Event.Assign config.now) self.old result self.new }
         ensures still { self.new.losses ≡ self.old.losses }
     {
         self.nodes.assign(config)
@@ -105,7 +105,7 @@ impl World {
     /// the node has stopped.
     pub(crate) fn notice(&mut self, number: u64) -> Result<(), Idle>
         ensures goes { IsTrace self.old self.new }
-        ensures meets { MeetsOrLost (Event.Notice number) self.old result self.new }
+        ensures meets { EventResultOrLost (Event.Notice number) self.old result self.new }
         ensures still { self.new.losses ≡ self.old.losses }
         ensures quiet { EventTakesNoMemory (Event.Notice number) self.old →
             self.new.nodes.losses ≡ self.old.nodes.losses }
@@ -122,7 +122,7 @@ impl World {
         requires up { slot.is_open ≡ true }
         requires positive { 0 < number }
         ensures goes { IsTrace self.old self.new }
-        ensures meets { MeetsOrLost (Event.Notice number) self.old result self.new }
+        ensures meets { EventResultOrLost (Event.Notice number) self.old result self.new }
         ensures still { self.new.losses ≡ self.old.losses }
         ensures quiet { IsQuietAt slot.node (Item.Ended (port_at_node number)) self.old.nodes →
             self.new.nodes.losses ≡ self.old.nodes.losses }

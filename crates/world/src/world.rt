@@ -9,7 +9,7 @@ ghost use Rattle.world.specs.Trace.{AgreedListGrows, AreReached, CountsOnce, Sta
 ghost use Rattle.world.specs.Asking.{EventAsks, RunAsks};
 ghost use Rattle.world.specs.Happening.{EventHappens, EventsHappen, WorldOpens};
 ghost use Rattle.world.specs.Cannot.{CannotHappen};
-ghost use Rattle.world.specs.Inside.Steps.{PublishesAsked, IsCounted, MeetsOrLost};
+ghost use Rattle.world.specs.Inside.Steps.{PublishesAsked, IsCounted, EventResultOrLost};
 ghost use Rattle.world.specs.Quiet.{EventTakesNoMemory};
 ghost use Rattle.world_clients.specs.Clients.{identifiers};
 ghost use Rattle.world.specs.StandsFor.{IsReached, KeepsReached, FollowsModelAsking, asked_on};
@@ -221,7 +221,7 @@ impl World {
     // Hands an event to the call for its kind.
     fn happen(&mut self, event: &Event) -> Result<(), Idle>
         ensures asked { PublishesAsked event.now self.old result self.new }
-        ensures meets { MeetsOrLost event.now self.old result self.new }
+        ensures meets { EventResultOrLost event.now self.old result self.new }
         ensures once { CountsOnce self.old self.new }
         ensures quiet { EventTakesNoMemory event.now self.old →
             self.new.nodes.losses ≡ self.old.nodes.losses }

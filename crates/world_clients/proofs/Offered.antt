@@ -17,7 +17,7 @@ use Rattle.byte_world.proofs.of_node_group.Placed.{get_of_set}
 use Rattle.world_nodes.specs.ExactSteps.{NodeDoesCall, after_node_call}
 use Rattle.world_nodes.specs.Running.{numbered_node, running, unless_stopped}
 use Rattle.world_nodes.specs.Nodes.{NodesState}
-use Rattle.world_nodes.specs.Steps.{ActsWithLosses, TakesIn}
+use Rattle.world_nodes.specs.Steps.{ActsWithLosses, NodeItemOrLost}
 use Rattle.client.specs.client_base.Steps.{Call, keeper_step}
 use Rattle.world_pipes.specs.Following.{ConnectingFollows}
 use Rattle.world_pipes.specs.Piped.{SendsConnect as Opens, Piped, taken_back}
@@ -41,7 +41,7 @@ set_there nodes (suc n) core later e =
     subst (λ (k : ℕ). slice_get (slice_set nodes k later) n ≡ Some later) (let same : n ≡ suc n - 1 = omega arith in same)
     (get_of_set nodes n core later (unstopped (slice_get nodes n) core e))
 
-pub still_there : (node : ℕ) (item : Item) (old new : NodesState) → TakesIn node item old new → numbered_node new.nodes node ≡ None → ⊥
+pub still_there : (node : ℕ) (item : Item) (old new : NodesState) → NodeItemOrLost node item old new → numbered_node new.nodes node ≡ None → ⊥
 still_there node item old new t none = by t.way
   where
     at_once : (later : CountedCore) → new.nodes ≡ slice_set old.nodes (node - 1) later → ⊥
@@ -64,7 +64,7 @@ was_heard (Err e) P ok does = absurd (both_ways true ok refl)
 
 -- it has it then, or not
 pub hears_of_one : (has : Bool) (node : ℕ) (port : Port) (old new : NodesState) (core : CountedCore) → numbered_node new.nodes node ≡ Some core
-    → has ≡ is_some (listed_at port core.core) → TakesIn node (Opened port 0) old new → NodeDoesCall (node - 1) (takes (Opened port 0)) old new
+    → has ≡ is_some (listed_at port core.core) → NodeItemOrLost node (Opened port 0) old new → NodeDoesCall (node - 1) (takes (Opened port 0)) old new
     → HearsOfOne has node port old new
 hears_of_one true node port old new core stands known step acts =
     record { step = step; acts = acts; known = record { core = core; stands = stands; known = sym known } }
@@ -74,7 +74,7 @@ hears_of_one false node port old new core stands known step acts =
 -- ---- the client's part
 
 -- it was reported to its node, or not
-heard : (node : ℕ) (port : Port) (old new : NodesState) → HearsOfOne false node port old new → (new ≡ old) ⊎ TakesIn node (Opened port 0) old new
+heard : (node : ℕ) (port : Port) (old new : NodesState) → HearsOfOne false node port old new → (new ≡ old) ⊎ NodeItemOrLost node (Opened port 0) old new
 heard node port old new (inl same) = inl same
 heard node port old new (inr hears) = inr hears.step
 

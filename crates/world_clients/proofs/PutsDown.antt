@@ -10,12 +10,12 @@ use Rattle.node_core.specs.Core.{CountedCore}
 use Rattle.byte_world.specs.node_moves.Moves.NodeCall.{gives}
 use Rattle.world_nodes.specs.Running.{numbered_node}
 use Rattle.world_nodes.specs.Nodes.{NodesState}
-use Rattle.world_nodes.specs.HandingOver.{HandsIn}
+use Rattle.world_nodes.specs.HandingOver.{HandoverOrLost}
 use Rattle.world_nodes.proofs.Exactly.{gives_acts}
 use Rattle.world_pipes.specs.declared.way.Way.{Way}
 use Rattle.world_pipes.specs.Piped.{Piped}
 use Rattle.world_clients.specs.SlotsAreValid.{connection_targets}
-use Rattle.world_clients.specs.Handing.{with_down, HandsOverBytes, is_more, is_told_open, bytes_put_out, HandsDown, MayHandDown, MayPutDown, PutsDown, tells_open}
+use Rattle.world_clients.specs.Handing.{with_down, HandsOverBytes, is_more, is_told_open, bytes_put_out, BytesDownOrLost, MayHandDown, MayPutDown, PipeBytesDownOrLost, tells_open}
 use Rattle.world_clients.specs.NodesGoOn.{NodesGoOn}
 use Rattle.world_clients.proofs.NodesGoOn.{acts_go, nodes_forget, nodes_stay, staying_goes}
 use Rattle.world_clients.proofs.LeadsKept.{leads_set}
@@ -26,27 +26,27 @@ abbrev HandsExactly : ℕ → Port → NodesState → List ℕ → NodesState �
 HandsExactly node port old before new after is_open o = HandsOverBytes o node port old new × (after ≡ before ++ bytes_put_out port o) × (is_open ≡ is_told_open port o)
 
 pub handed_down : (r : Result Handed Idle) (is_open : Bool) (node : ℕ) (port : Port) (old new : NodesState) (before after : List ℕ) → is_open ≡ tells_open r
-    → IsErr r ↔ (numbered_node old.nodes node ≡ None) → IfOk r (λ handed. HandsIn node port old new before after handed) → OnErr r ((new ≡ old) × (after ≡ before))
-    → HandsDown node port old before new after is_open
+    → IsErr r ↔ (numbered_node old.nodes node ≡ None) → IfOk r (λ handed. HandoverOrLost node port old new before after handed) → OnErr r ((new ≡ old) × (after ≡ before))
+    → BytesDownOrLost node port old before new after is_open
 handed_down r is_open node port old new before after eq idle does same = by r eq idle does same
   where
-    one : (h : Handed) → is_open ≡ is_more h → HandsIn node port old new before after h → HandsDown node port old before new after is_open
+    one : (h : Handed) → is_open ≡ is_more h → HandoverOrLost node port old new before after h → BytesDownOrLost node port old before new after is_open
     one h eq (inl hands) =
         let there = hands.0.there in
         inl (subst (HandsExactly node port old before new after is_open) (sym there) (hands.0.is, hands.1 hands.0.core there, eq ∙ ap is_more (hands.2 hands.0.core there)))
     one h eq (inr rests) = inr (rests.0, rests.1, eq ∙ ap is_more rests.2)
 
-    by : (r : Result Handed Idle) → is_open ≡ tells_open r → IsErr r ↔ (numbered_node old.nodes node ≡ None) → IfOk r (λ handed. HandsIn node port old new before after handed)
-        → OnErr r ((new ≡ old) × (after ≡ before)) → HandsDown node port old before new after is_open
+    by : (r : Result Handed Idle) → is_open ≡ tells_open r → IsErr r ↔ (numbered_node old.nodes node ≡ None) → IfOk r (λ handed. HandoverOrLost node port old new before after handed)
+        → OnErr r ((new ≡ old) × (after ≡ before)) → BytesDownOrLost node port old before new after is_open
     by (Ok h) eq idle does same = one h eq does
     by (Err x) eq idle does same = inl (subst (HandsExactly node port old before new after is_open) (sym (idle.0 refl)) (same.0, same.1 ∙ sym (append-nil before), eq))
 
 -- even if memory runs out
-pub may_hand_down : (r : Result Handed Idle) (node : ℕ) (port : Port) (old new : NodesState) (before after : List ℕ) → IfOk r (λ handed. HandsIn node port old new before after handed)
+pub may_hand_down : (r : Result Handed Idle) (node : ℕ) (port : Port) (old new : NodesState) (before after : List ℕ) → IfOk r (λ handed. HandoverOrLost node port old new before after handed)
     → OnErr r ((new ≡ old) × (after ≡ before)) → MayHandDown node port old before new after
 may_hand_down (Ok h) node port old new before after does same = by does
   where
-    by : HandsIn node port old new before after h → MayHandDown node port old before new after
+    by : HandoverOrLost node port old new before after h → MayHandDown node port old before new after
     by (inl hands) = inr (gives_acts node port old new hands.0, hands.1)
     by (inr rests) = inl (nodes_forget old new rests.0, rests.1)
 may_hand_down (Err e) node port old new before after does same = inl (nodes_stay old new same.0, same.1)
@@ -73,11 +73,11 @@ exchanged old mid later at none handed first second way found =
 
 pub puts : (node : ℕ) (port : Port) (nodes after : NodesState) (old mid later : Piped) (at : ℕ) (none moved handed : List ℕ) (is_open : Bool)
     → IfSome (slice_get old.ways at) (λ way. mid ≡ with_down at way none old) → IfSome (slice_get old.ways at) (λ way. moved ≡ way.down)
-    → IfSome (slice_get mid.ways at) (λ way. later ≡ with_down at way handed mid) → HandsDown node port nodes moved after handed is_open
-    → PutsDown at node port nodes old after later is_open
+    → IfSome (slice_get mid.ways at) (λ way. later ≡ with_down at way handed mid) → BytesDownOrLost node port nodes moved after handed is_open
+    → PipeBytesDownOrLost at node port nodes old after later is_open
 puts node port nodes after old mid later at none moved handed is_open first given second hands way found = (
   handed,
-  subst (λ (l : List ℕ). HandsDown node port nodes l after handed is_open) (of_some (λ (w : Way). moved ≡ w.down) (slice_get old.ways at) way found given) hands,
+  subst (λ (l : List ℕ). BytesDownOrLost node port nodes l after handed is_open) (of_some (λ (w : Way). moved ≡ w.down) (slice_get old.ways at) way found given) hands,
   exchanged old mid later at none handed first second way found,
 )
 

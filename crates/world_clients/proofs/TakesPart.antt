@@ -7,7 +7,7 @@ use Rattle.byte_world.specs.node_moves.Moves.NodeCall.{takes}
 use Rattle.world_nodes.specs.ExactSteps.{NodeDoesCall}
 use Rattle.world_nodes.specs.Running.{running}
 use Rattle.world_nodes.specs.Nodes.{NodesState}
-use Rattle.world_nodes.specs.Steps.{TakesIn}
+use Rattle.world_nodes.specs.Steps.{NodeItemOrLost}
 use Rattle.world_pipes.specs.declared.way.Way.{Way}
 use Rattle.world_pipes.specs.Piped.{Piped}
 use Rattle.world_clients.specs.declared.connection_slot.ConnectionSlot.{ConnectionSlot}
@@ -20,7 +20,7 @@ use Rattle.world_clients.proofs.Turned.{there}
 pub takes_part : (place : ConnectionSlot) (port : Port) (count : ℕ) (old : NodesState) (client : Piped) (new : NodesState) (later : Piped) (waiting piece : List ℕ)
     → place.at < length client.ways → IfSome (slice_get client.ways place.at) (λ way. waiting ≡ way.up) → 0 < count → count ≤ length waiting
     → (running old.nodes place.node ≡ None → ⊥) → piece ≡ take count waiting
-    → IfSome (slice_get client.ways place.at) (λ way. later ≡ with_less place.at count way client) → TakesIn place.node (Bytes port piece 0) old new
+    → IfSome (slice_get client.ways place.at) (λ way. later ≡ with_less place.at count way client) → NodeItemOrLost place.node (Bytes port piece 0) old new
     → NodeDoesCall (place.node - 1) (takes (Bytes port piece 0)) old new → CarriesUp place port count old client new later
 takes_part place port count old client new later waiting piece below up some part runs is less step acts =
     let w = there client.ways place.at below in
@@ -31,7 +31,7 @@ takes_part place port count old client new later waiting piece below up some par
       some = some;
       runs = runs;
       part = (let e = ap length waits in omega (arith, e, part));
-      step = subst (λ (l : List ℕ). TakesIn place.node (Bytes port l 0) old new) (is ∙ ap (take count) waits) step;
+      step = subst (λ (l : List ℕ). NodeItemOrLost place.node (Bytes port l 0) old new) (is ∙ ap (take count) waits) step;
       acts = subst (λ (l : List ℕ). NodeDoesCall (place.node - 1) (takes (Bytes port l 0)) old new) (is ∙ ap (take count) waits) acts;
       is = of_some (λ (way : Way). later ≡ with_less place.at count way client) w.0 w.1 less;
     }

@@ -9,7 +9,7 @@ use Rattle.node_core.specs.declared.item.Item.TheVariants.{Bytes}
 use Rattle.byte_world.specs.node_moves.Moves.NodeCall.{takes}
 use Rattle.world_nodes.specs.ExactSteps.{NodeDoesCall}
 use Rattle.world_nodes.specs.Nodes.{NodesState}
-use Rattle.world_nodes.specs.Steps.{TakesIn}
+use Rattle.world_nodes.specs.Steps.{NodeItemOrLost}
 use Rattle.client.specs.client_base.declared.error.ClientError.TheVariants as errors
 use Rattle.client.specs.client_base.declared.error.ClientError.{ClientError}
 
@@ -31,7 +31,7 @@ pub record CarriesUp (slot : ConnectionSlot) (port : Port) (count : ℕ) (old : 
   pub some : 0 < count
   pub part : count ≤ length way.up
   pub runs : running old.nodes slot.node ≡ None → ⊥
-  pub step : TakesIn slot.node (Bytes port (take count way.up) 0) old new
+  pub step : NodeItemOrLost slot.node (Bytes port (take count way.up) 0) old new
   pub acts : NodeDoesCall (slot.node - 1) (takes (Bytes port (take count way.up) 0)) old new
   pub is : later ≡ with_less slot.at count way client
 

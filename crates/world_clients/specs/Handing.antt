@@ -53,19 +53,21 @@ tells_open (Ok handed) = is_more handed
 tells_open (Err idle) = false
 
 -- A node hands over what it queued for a port, after these bytes, and says whether its end is open.
--- Or it runs out of memory: it hands nothing over, and its end is open.
-abbrev pub HandsDown : ℕ → Port → NodesState → List ℕ → NodesState → List ℕ → Bool → Type 0
-HandsDown node port old before new after is_open =
+-- Or it runs out of memory, and counts that: it hands nothing over, and its end is open.
+abbrev pub BytesDownOrLost : ℕ → Port → NodesState → List ℕ → NodesState → List ℕ → Bool → Type 0
+BytesDownOrLost node port old before new after is_open =
     (HandsOverBytes (numbered_node old.nodes node) node port old new
     × (after ≡ before ++ bytes_put_out port (numbered_node old.nodes node))
     × (is_open ≡ is_told_open port (numbered_node old.nodes node)))
     ⊎ ((new ≡ nodes_with_loss old) × (after ≡ before) × (is_open ≡ true))
 
--- a node hands down what it queued, after what is in transit on the connection at this index
-abbrev pub PutsDown : ℕ → ℕ → Port → NodesState → Piped → NodesState → Piped → Bool → Type 0
-PutsDown at node port old client new later is_open =
+-- a node hands down what it queued, or counts a loss, after what is in transit on the connection at
+-- this index
+abbrev pub PipeBytesDownOrLost : ℕ → ℕ → Port → NodesState → Piped → NodesState → Piped → Bool →
+    Type 0
+PipeBytesDownOrLost at node port old client new later is_open =
     (way : Way) → slice_get client.ways at ≡ Some way →
-    (bytes : List ℕ) × HandsDown node port old way.down new bytes is_open
+    (bytes : List ℕ) × BytesDownOrLost node port old way.down new bytes is_open
     × (later ≡ with_down at way bytes client)
 
 -- it may have no memory: then it hands over nothing

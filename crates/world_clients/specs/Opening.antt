@@ -7,7 +7,7 @@ use Rattle.node_core.specs.declared.item.Item.TheVariants as items
 use Rattle.node_core.specs.declared.Port.{Port}
 use Rattle.world_nodes.specs.Running.{numbered_node}
 use Rattle.world_nodes.specs.Nodes.{NodesState}
-use Rattle.world_nodes.specs.Steps.{TakesIn}
+use Rattle.world_nodes.specs.Steps.{NodeItemOrLost}
 use Rattle.world_pipes.specs.Piped.{SendsConnect, Piped, taken_back}
 use Rattle.std.specs.Option.{is_some}
 use Rattle.node_core.specs.Handing.{listed_at}
@@ -26,7 +26,8 @@ NoneOpens node port old client new later =
     × (new ≡ old))
     ⊎ ((opened : Piped)
     × SendsConnect (node - 1) port (keeper_step Call.Opens client.core.state) client (Ok tt) opened
-    × (later ≡ taken_back opened) × ((new ≡ old) ⊎ TakesIn node (items.Opened port 0) old new))
+    × (later ≡ taken_back opened)
+    × ((new ≡ old) ⊎ NodeItemOrLost node (items.Opened port 0) old new))
 
 -- the node of this number exists, and has a connection at this port or not
 pub record IsKnown (has : Bool) (node : ℕ) (port : Port) (n : NodesState) : Type 0 where
@@ -36,7 +37,7 @@ pub record IsKnown (has : Bool) (node : ℕ) (port : Port) (n : NodesState) : Ty
 
 -- a new connection is reported to a node, which then has it or not
 pub record HearsAndHas (has : Bool) (node : ℕ) (port : Port) (old new : NodesState) : Type 0 where
-  pub step : TakesIn node (Opened port 0) old new
+  pub step : NodeItemOrLost node (Opened port 0) old new
   pub acts : NodeDoesCall (node - 1) (takes (Opened port 0)) old new
   pub known : IsKnown has node port new
 

@@ -3,7 +3,7 @@
 ghost use Rattle.std.specs.Prelude.{◌≡◌, ◌<◌, length};
 ghost use Rattle.world_clients.specs.NodesGoOn.{NodesGoOn};
 ghost use Rattle.world_clients.specs.SlotsAreValid.{connection_targets};
-ghost use Rattle.world_clients.specs.Handing.{HandsDown, MayHandDown, MayPutDown, PutsDown, StaysQuiet, tells_open};
+ghost use Rattle.world_clients.specs.Handing.{BytesDownOrLost, MayHandDown, MayPutDown, PipeBytesDownOrLost, StaysQuiet, tells_open};
 
 use node_core::{Handed, Port};
 use std::alloc::Global;
@@ -24,7 +24,7 @@ pub fn hand_down(
     ensures nodes { NodesGoOn nodes.old nodes.new }
     ensures quiet { StaysQuiet node nodes.old nodes.new }
     ensures may { MayPutDown at node port nodes.old piped.old nodes.new piped.new }
-    ensures puts { PutsDown at node port nodes.old piped.old nodes.new piped.new result }
+    ensures puts { PipeBytesDownOrLost at node port nodes.old piped.old nodes.new piped.new result }
     ensures leads { connection_targets piped.new.ways
         ≡ connection_targets piped.old.ways }
 {
@@ -40,7 +40,7 @@ fn hands_over(nodes: &mut Nodes, node: u8, port: Port, bytes: &mut Vec<u8>) -> b
     ensures nodes { NodesGoOn nodes.old nodes.new }
     ensures quiet { StaysQuiet node nodes.old nodes.new }
     ensures may { MayHandDown node port nodes.old bytes.old.items nodes.new bytes.new.items }
-    ensures hands { HandsDown node port nodes.old bytes.old.items
+    ensures hands { BytesDownOrLost node port nodes.old bytes.old.items
         nodes.new bytes.new.items result }
 {
     tells_open(nodes.hand_over(node, port, bytes))

@@ -25,7 +25,7 @@ use Rattle.byte_world.proofs.NodeCallsCarry.{node_calls_carry_their_bytes}
 use Rattle.byte_world.proofs.of_node_group.Placed.{get_mapped, set_mapped}
 use Rattle.world_nodes.specs.Nodes.{NodesState, NodesStandFor}
 use Rattle.world_nodes.specs.ExactSteps.{NodeDoesCall, after_node_call}
-use Rattle.world_nodes.specs.Steps.{TakesIn}
+use Rattle.world_nodes.specs.Steps.{NodeItemOrLost}
 use Rattle.world_nodes.specs.Inside.{RunsAt, TookItem, ItemWasSent}
 
 abbrev pub core_in : CountedCore → CoreState
@@ -103,7 +103,7 @@ whole_turn old at core new item more t =
 
 pub turn_takes : (old : NodesState) (node at : ℕ) (x : RunsAt old.nodes node at) (new : CountedCore) (item : Item) (more : List (ℕ × Message Command))
     (whole : Bool) (losses : ℕ) → TookItem x.core item new old.sent more whole → losses ≡ (if whole && true then old.losses else one_more old.losses)
-    → TakesIn node item old (after_turn_of at new more losses old)
+    → NodeItemOrLost node item old (after_turn_of at new more losses old)
 turn_takes old node at x new item more true losses t count =
     record {
       core = x.core;

@@ -21,7 +21,7 @@ use Rattle.world_nodes.specs.Nodes.{NodesState, cores_of}
 use Rattle.world_nodes.specs.ExactSteps.{CutsExactly, after_node_call}
 use Rattle.world_nodes.specs.Running.{cutting, unless_stopped, unless_whole}
 use Rattle.world_nodes.specs.Inside.{HaveCounted, TookItem}
-use Rattle.world_nodes.specs.Steps.{CutsIn, CutsWithLosses, NodesLoseNothing, nodes_with_loss, recorded_if_cut}
+use Rattle.world_nodes.specs.Steps.{CutsWithLosses, NodeCutOrLost, NodesLoseNothing, nodes_with_loss, recorded_if_cut}
 use Rattle.world_nodes.proofs.Acts.{after_turn_with, core_in, not_one_more, same_core, whole_turn}
 use Rattle.world_nodes.proofs.AgreedCounted.{within_at}
 
@@ -117,7 +117,7 @@ module _ (old : NodesState) (at : ℕ) (core : CountedCore) (there : slice_get o
 
   pub cut_takes : (new : CountedCore) (more : List (ℕ × Message Command)) (archive : List Command) (whole : Bool) (losses : ℕ) → TookItem core Cut new old.sent more whole
       → archive ≡ recorded_if_cut old.archive core new → losses ≡ (if whole && true then old.losses else one_more old.losses)
-      → CutsIn (at + 1) old (after_turn_with at new more archive losses old)
+      → NodeCutOrLost (at + 1) old (after_turn_with at new more archive losses old)
   cut_takes new more archive true losses t is count =
       record {
         core = core;
@@ -148,7 +148,7 @@ module _ (old : NodesState) (at : ℕ) (core : CountedCore) (there : slice_get o
       }
 
   -- there was no memory for the record
-  pub cut_rests : (new : NodesState) → new ≡ nodes_with_loss old → CutsIn (at + 1) old new
+  pub cut_rests : (new : NodesState) → new ≡ nodes_with_loss old → NodeCutOrLost (at + 1) old new
   cut_rests new is = record { core = core; cuts = is_cutting; way = inr (inr is) }
 
 -- what was undone is as if nothing had happened
@@ -168,7 +168,7 @@ rests_counting n archive losses told next is c =
     }
 
 -- if nothing is counted it was a cut
-pub cuts_exactly : (node : ℕ) (old new : NodesState) → CutsIn node old new → NodesLoseNothing old new → CutsExactly node old new
+pub cuts_exactly : (node : ℕ) (old new : NodesState) → NodeCutOrLost node old new → NodesLoseNothing old new → CutsExactly node old new
 cuts_exactly node old new t none = by t.way
   where
     never : (later : NodesState) → new ≡ later → later.losses ≡ one_more old.losses → ⊥

@@ -10,10 +10,10 @@ use Rattle.byte_world.specs.node_moves.Moves.NodeCall.{takes, gives}
 use Rattle.world_nodes.specs.Nodes.{NodesState}
 use Rattle.world_nodes.specs.ExactSteps.{NodeDoesCall, GivesExactly, TakesExactly, after_node_call}
 use Rattle.world_nodes.specs.Running.{numbered_node}
-use Rattle.world_nodes.specs.Steps.{ActsWithLosses, NodesLoseNothing, TakesIn}
+use Rattle.world_nodes.specs.Steps.{ActsWithLosses, NodeItemOrLost, NodesLoseNothing}
 use Rattle.world_nodes.proofs.Acts.{acts, not_one_more}
 
-pub exactly : (node : ℕ) (item : Item) (old new : NodesState) → TakesIn node item old new → NodesLoseNothing old new → TakesExactly node item old new
+pub exactly : (node : ℕ) (item : Item) (old new : NodesState) → NodeItemOrLost node item old new → NodesLoseNothing old new → TakesExactly node item old new
 exactly node item old new t none = by t.way
   where
     by : (new ≡ after_node_call (node - 1) t.core (takes item) old) ⊎ ActsWithLosses (node - 1) item t.core old new → TakesExactly node item old new

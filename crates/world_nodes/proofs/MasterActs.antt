@@ -21,8 +21,8 @@ use Rattle.byte_world.specs.node_group.Steps.GroupStep.{master_assigns, master_h
 use Rattle.byte_world.specs.Steps.{DoesCall, IsFaithful, node_call_of}
 use Rattle.world_nodes.specs.Nodes.{NodesState, NodesStandFor}
 use Rattle.world_nodes.specs.ExactSteps.{NodeDoesCall, MessageArrives, GoesBy, HeardByMaster, after_answer, after_giving}
-use Rattle.world_nodes.specs.Steps.{ComesIn, GivesIn, HearsIn, NodesLoseNothing, TakesIn, nodes_with_loss, unheard}
-use Rattle.world_nodes.specs.GroupSteps.{ActsOrRests, ComesOrRests, MasterGoes, MasterHears}
+use Rattle.world_nodes.specs.Steps.{DeliveryOrLost, MasterAnswerOrLost, NewBallotOrLost, NodeItemOrLost, NodesLoseNothing, nodes_with_loss, unheard}
+use Rattle.world_nodes.specs.GroupSteps.{GroupDeliveryOrLost, MasterGoes, MasterHears, NodeCallOrLost}
 use Rattle.master.specs.Inside.{asks_for}
 use Rattle.master.specs.declared.event.Idle.{Idle}
 use Rattle.world_nodes.proofs.Acts.{not_one_more}
@@ -137,12 +137,12 @@ told_or_counted old m state receiver body is more false losses same_state same_b
 pub gives_ballot : (old : NodesState) (config : Config) (state : MasterState) (body : Body Command) (more : Sent) (told : Bool) (losses : ℕ)
     → state ≡ assigning old.master config → body ≡ NewBallot (old.master.given + 1) config.members old.master.active old.master.members
     → OnTrue told (more ≡ old.sent ++ (config.primary, record { from = 0; body = body }) ∷ []) → OnFalse told (more ≡ old.sent)
-    → losses ≡ (if told && true then old.losses else one_more old.losses) → GivesIn config old (master_turn state more losses old)
+    → losses ≡ (if told && true then old.losses else one_more old.losses) → NewBallotOrLost config old (master_turn state more losses old)
 gives_ballot old config state body more told losses state_is body_is kept lost count =
     by (told_or_counted old _ state config.primary body _ more told losses state_is body_is kept lost count)
   where
     by : (master_turn state more losses old ≡ after_giving config old) ⊎ (master_turn state more losses old ≡ unheard (after_giving config old) old)
-        → GivesIn config old (master_turn state more losses old)
+        → NewBallotOrLost config old (master_turn state more losses old)
     by (inl is) = inl is
     by (inr is) = inr (inl is)
 
@@ -150,7 +150,7 @@ pub answers_ballot : (old : NodesState) (from ballot : ℕ) (state : MasterState
     → state ≡ activating old.master ballot old.master.waiting
     → body ≡ (if is_granted old.master ballot old.master.waiting then Activated ballot else Superseded ballot)
     → OnTrue told (more ≡ old.sent ++ (from, record { from = 0; body = body }) ∷ []) → OnFalse told (more ≡ old.sent)
-    → losses ≡ (if told && true then old.losses else one_more old.losses) → HearsIn from (Activate ballot) old (master_turn state more losses old)
+    → losses ≡ (if told && true then old.losses else one_more old.losses) → MasterAnswerOrLost from (Activate ballot) old (master_turn state more losses old)
 answers_ballot old from ballot state body more told losses state_is body_is kept lost count =
     told_or_counted old _ state from body _ more told losses state_is body_is kept lost count
 
@@ -158,12 +158,12 @@ answers_ballot old from ballot state body more told losses state_is body_is kept
 pub counts : (n old new : NodesState) → n.losses ≡ one_more old.losses → new ≡ n → NodesLoseNothing old new → ⊥
 counts n old new more is none = not_one_more old.losses none.1 (sym more ∙ sym (ap (λ (n : NodesState). n.losses) is) ∙ none.0)
 
-pub gives_where : (config : Config) (old new : NodesState) → GivesIn config old new → NodesLoseNothing old new → new ≡ after_giving config old
+pub gives_where : (config : Config) (old new : NodesState) → NewBallotOrLost config old new → NodesLoseNothing old new → new ≡ after_giving config old
 gives_where config old new (inl is) none = is
 gives_where config old new (inr (inl is)) none = absurd (counts (unheard (after_giving config old) old) old new refl is none)
 gives_where config old new (inr (inr is)) none = absurd (counts (nodes_with_loss old) old new refl is none)
 
-pub answers_where : (from ballot : ℕ) (old new : NodesState) → HearsIn from (Activate ballot) old new → NodesLoseNothing old new → new ≡ after_answer from ballot old
+pub answers_where : (from ballot : ℕ) (old new : NodesState) → MasterAnswerOrLost from (Activate ballot) old new → NodesLoseNothing old new → new ≡ after_answer from ballot old
 answers_where from ballot old new (inl is) none = is
 answers_where from ballot old new (inr is) none = absurd (counts (unheard (after_answer from ballot old) old) old new refl is none)
 
@@ -253,15 +253,15 @@ asked_in sent number ballot x found zero_is asks =
     ∙ ap (λ (b : Body Command). let m : Message Command = record { from = x.1.from; body = b } in let y : ℕ × Message Command = (0, m) in Some y) (asks_ballot ballot x.1.body asks))
 
 -- a message of a number that came to the master
-pub heard_ballot : (from ballot : ℕ) (body : Body Command) (old new : NodesState) → asks_for body ≡ Some ballot → HearsIn from (Activate ballot) old new
-    → HearsIn from body old new
-heard_ballot from ballot body old new asks hears = subst (λ (b : Body Command). HearsIn from b old new) (sym (asks_ballot ballot body asks)) hears
+pub heard_ballot : (from ballot : ℕ) (body : Body Command) (old new : NodesState) → asks_for body ≡ Some ballot → MasterAnswerOrLost from (Activate ballot) old new
+    → MasterAnswerOrLost from body old new
+heard_ballot from ballot body old new asks hears = subst (λ (b : Body Command). MasterAnswerOrLost from b old new) (sym (asks_ballot ballot body asks)) hears
 
-pub not_heard : (from : ℕ) (body : Body Command) (old new : NodesState) → asks_for body ≡ None → new ≡ old → HearsIn from body old new
+pub not_heard : (from : ℕ) (body : Body Command) (old new : NodesState) → asks_for body ≡ None → new ≡ old → MasterAnswerOrLost from body old new
 not_heard from (Activate b) old new e same = cc
 not_heard from body old new e same = same
 
-heard_exactly : (from : ℕ) (body : Body Command) (old new : NodesState) → HearsIn from body old new → NodesLoseNothing old new → HeardByMaster from body old new
+heard_exactly : (from : ℕ) (body : Body Command) (old new : NodesState) → MasterAnswerOrLost from body old new → NodesLoseNothing old new → HeardByMaster from body old new
 heard_exactly from (Activate b) old new hears none = answers_where from b old new hears none
 heard_exactly from body old new same none = same
 
@@ -272,38 +272,38 @@ pub not_heeded : (body : Body Command) (old new : NodesState) → asks_for body 
 not_heeded (Activate b) old new e same = cc
 not_heeded body old new e same = same
 
-pub comes_or_rests : (o : Option (ℕ × Message Command)) (x : ℕ × Message Command) (old new : NodesState) → o ≡ Some x → x.0 ≡ 0 → MasterHears x.1.body old new
-    → ComesOrRests o old new
-comes_or_rests o x old new found zero_is heard =
-    subst (λ (q : Option (ℕ × Message Command)). ComesOrRests q old new)
+pub delivered_or_lost : (o : Option (ℕ × Message Command)) (x : ℕ × Message Command) (old new : NodesState) → o ≡ Some x → x.0 ≡ 0 → MasterHears x.1.body old new
+    → GroupDeliveryOrLost o old new
+delivered_or_lost o x old new found zero_is heard =
+    subst (λ (q : Option (ℕ × Message Command)). GroupDeliveryOrLost q old new)
     (sym (found ∙ ap (λ (k : ℕ). let y : ℕ × Message Command = (k, x.1) in Some y) zero_is)) heard
 
 -- .. or to a node
 pub comes_to_node : (o : Option (ℕ × Message Command)) (x : ℕ × Message Command) (m : Message Command) (old new : NodesState) → o ≡ Some x → (x.0 ≡ 0 → ⊥) → m ≡ x.1
-    → ActsOrRests (x.0 - 1) (takes (Peer m)) old new → ComesOrRests o old new
+    → NodeCallOrLost (x.0 - 1) (takes (Peer m)) old new → GroupDeliveryOrLost o old new
 comes_to_node o (zero, message) m old new found positive same acts = absurd (positive refl)
 comes_to_node o (suc at, message) m old new found positive same acts =
-    subst (λ (q : Option (ℕ × Message Command)). ComesOrRests q old new) (sym found)
-    (subst (λ (k : ℕ). ActsOrRests k (takes (Peer message)) old new) (let e : suc at - 1 ≡ at = omega arith in e)
-    (subst (λ (z : Message Command). ActsOrRests (suc at - 1) (takes (Peer z)) old new) same acts))
+    subst (λ (q : Option (ℕ × Message Command)). GroupDeliveryOrLost q old new) (sym found)
+    (subst (λ (k : ℕ). NodeCallOrLost k (takes (Peer message)) old new) (let e : suc at - 1 ≡ at = omega arith in e)
+    (subst (λ (z : Message Command). NodeCallOrLost (suc at - 1) (takes (Peer z)) old new) same acts))
 
 -- ---- the same, exactly or with losses that are counted
 
 pub came_to_master : (o : Option (ℕ × Message Command)) (x : ℕ × Message Command) (old new : NodesState) → o ≡ Some x → x.0 ≡ 0
-    → HearsIn x.1.from x.1.body old new → ComesIn o old new
+    → MasterAnswerOrLost x.1.from x.1.body old new → DeliveryOrLost o old new
 came_to_master o x old new found zero_is heard =
-    subst (λ (q : Option (ℕ × Message Command)). ComesIn q old new)
+    subst (λ (q : Option (ℕ × Message Command)). DeliveryOrLost q old new)
     (sym (found ∙ ap (λ (k : ℕ). let y : ℕ × Message Command = (k, x.1) in Some y) zero_is)) heard
 
 pub came_to_node : (o : Option (ℕ × Message Command)) (x : ℕ × Message Command) (m : Message Command) (old new : NodesState) → o ≡ Some x → (x.0 ≡ 0 → ⊥) → m ≡ x.1
-    → TakesIn x.0 (Peer m) old new ⊎ (new ≡ nodes_with_loss old) → ComesIn o old new
+    → NodeItemOrLost x.0 (Peer m) old new ⊎ (new ≡ nodes_with_loss old) → DeliveryOrLost o old new
 came_to_node o (zero, message) m old new found positive same took = absurd (positive refl)
 came_to_node o (suc at, message) m old new found positive same took =
-    subst (λ (q : Option (ℕ × Message Command)). ComesIn q old new) (sym found)
-    (subst (λ (z : Message Command). TakesIn (suc at) (Peer z) old new ⊎ (new ≡ nodes_with_loss old)) same took)
+    subst (λ (q : Option (ℕ × Message Command)). DeliveryOrLost q old new) (sym found)
+    (subst (λ (z : Message Command). NodeItemOrLost (suc at) (Peer z) old new ⊎ (new ≡ nodes_with_loss old)) same took)
 
 -- if nothing is counted it came
-pub comes_exactly : (o : Option (ℕ × Message Command)) (old new : NodesState) → ComesIn o old new → NodesLoseNothing old new → MessageArrives o old new
+pub comes_exactly : (o : Option (ℕ × Message Command)) (old new : NodesState) → DeliveryOrLost o old new → NodesLoseNothing old new → MessageArrives o old new
 comes_exactly None old new came none = came
 comes_exactly (Some (zero, message)) old new came none = heard_exactly message.from message.body old new came none
 comes_exactly (Some (suc at, message)) old new (inl took) none = exactly (suc at) (Peer message) old new took none
@@ -311,16 +311,16 @@ comes_exactly (Some (suc at, message)) old new (inr is) none = absurd (counts (n
 
 -- of a result
 pub came_on : {X : Type 0} (r : Result X Idle) (o : Option (ℕ × Message Command)) (x : ℕ × Message Command) (m : Message Command) (old new : NodesState) → o ≡ Some x
-    → (x.0 ≡ 0 → ⊥) → m ≡ x.1 → OnOk r (TakesIn x.0 (Peer m) old new) → OnOk r (ComesIn o old new)
+    → (x.0 ≡ 0 → ⊥) → m ≡ x.1 → OnOk r (NodeItemOrLost x.0 (Peer m) old new) → OnOk r (DeliveryOrLost o old new)
 came_on (Ok y) o x m old new found positive same took = came_to_node o x m old new found positive same (inl took)
 came_on (Err e) o x m old new found positive same took = tt
 
 pub may_come_on : {X : Type 0} (r : Result X Idle) (o : Option (ℕ × Message Command)) (x : ℕ × Message Command) (m : Message Command) (old new : NodesState) → o ≡ Some x
-    → (x.0 ≡ 0 → ⊥) → m ≡ x.1 → OnOk r (NodeDoesCall (x.0 - 1) (takes (Peer m)) old new) → OnOk r (ComesOrRests o old new)
+    → (x.0 ≡ 0 → ⊥) → m ≡ x.1 → OnOk r (NodeDoesCall (x.0 - 1) (takes (Peer m)) old new) → OnOk r (GroupDeliveryOrLost o old new)
 may_come_on (Ok y) o x m old new found positive same acts = comes_to_node o x m old new found positive same (inl acts)
 may_come_on (Err e) o x m old new found positive same acts = tt
 
-pub comes_on : {X : Type 0} (r : Result X Idle) (o : Option (ℕ × Message Command)) (old new : NodesState) → OnOk r (ComesIn o old new) → NodesLoseNothing old new
+pub comes_on : {X : Type 0} (r : Result X Idle) (o : Option (ℕ × Message Command)) (old new : NodesState) → OnOk r (DeliveryOrLost o old new) → NodesLoseNothing old new
     → OnOk r (MessageArrives o old new)
 comes_on (Ok y) o old new came none = comes_exactly o old new came none
 comes_on (Err e) o old new came none = tt

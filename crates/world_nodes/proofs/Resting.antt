@@ -24,7 +24,7 @@ use Rattle.byte_world.specs.node_connections.Connections.{has_failed}
 use Rattle.node_core.specs.declared.item.Item.{Item}
 use Rattle.node_core.specs.declared.item.Item.TheVariants.{Peer}
 use Rattle.node_core.specs.Core.{CoreState, CountedCore, rules}
-use Rattle.node_core.specs.Losses.{DoesNothing, IsExactly, IsHeardQuietly, IsIgnored, NodeStepped, ItemTakesNoMemory}
+use Rattle.node_core.specs.Losses.{DoesNothing, IsExactly, IsHeardQuietly, IsIgnored, ItemStepOrLost, ItemTakesNoMemory}
 use Rattle.node_core.specs.LossyStep.{RunsOn}
 use Rattle.node_core.specs.Step.{node_step}
 use Rattle.node_core.proofs.Calmly.{says_nothing}
@@ -34,8 +34,8 @@ use Rattle.world_nodes.specs.Nodes.{NodesState}
 use Rattle.world_nodes.specs.ExactSteps.{NodeDoesCall, MessageArrives, HeardByMaster, TakesExactly, after_node_call}
 use Rattle.world_nodes.specs.Running.{running}
 use Rattle.world_nodes.specs.Quiet.{ComesUnheeded, IsUnheeded, RestsAt}
-use Rattle.world_nodes.specs.Steps.{ComesIn, NodesLoseNothing, TakesIn}
-use Rattle.world_nodes.specs.GroupSteps.{ActsOrRests, ComesOrRests}
+use Rattle.world_nodes.specs.Steps.{DeliveryOrLost, NodeItemOrLost, NodesLoseNothing}
+use Rattle.world_nodes.specs.GroupSteps.{GroupDeliveryOrLost, NodeCallOrLost}
 use Rattle.world_nodes.specs.Inside.{HaveCounted, IsPassedOver, KeepsMessages, RunsAt, TookItem}
 use Rattle.world_nodes.proofs.Acts.{after_turn_of, not_one_more, same_core, took_by, whole_turn}
 use Rattle.world_nodes.proofs.Exactly.{exactly}
@@ -48,7 +48,7 @@ both_true true false e = absurd cc
 both_true false b e = absurd cc
 
 pub took_in : (old : CountedCore) (item : Item) (new : CountedCore) (effects : List (Effect Command Output)) (sent more : List (ℕ × Message Command)) (before after : ℕ) (kept whole : Bool)
-    → NodeStepped old item new [] effects → KeepsMessages effects sent more kept → before ≡ old.losses → after ≡ new.losses → (whole ≡ true → (after ≡ before) × (before < 2 ^ 64 - 1))
+    → ItemStepOrLost old item new [] effects → KeepsMessages effects sent more kept → before ≡ old.losses → after ≡ new.losses → (whole ≡ true → (after ≡ before) × (before < 2 ^ 64 - 1))
     → (after ≡ before → before < 2 ^ 64 - 1 → whole ≡ true) → TookItem old item new sent more (kept && whole)
 took_in old item new effects sent more before after kept whole s k was is told so =
     record {
@@ -131,10 +131,10 @@ positive_node : (P : ℕ → Type 0) (node : ℕ) → 0 < node → ((at : ℕ) �
 positive_node P zero few holds = absurd (omega (arith, few))
 positive_node P (suc at) few holds = holds at
 
-pub passes : (at number : ℕ) (old new : NodesState) (p : IsPassedOver at number old) → TakesIn p.node (Peer p.message) old new → ComesIn (slice_get old.sent number) old new
+pub passes : (at number : ℕ) (old new : NodesState) (p : IsPassedOver at number old) → NodeItemOrLost p.node (Peer p.message) old new → DeliveryOrLost (slice_get old.sent number) old new
 passes at number old new p took =
-    subst (λ (o : Option (ℕ × Message Command)). ComesIn o old new) (sym p.sent)
-    (positive_node (λ (n : ℕ). TakesIn n (Peer p.message) old new → ComesIn (Some (n, p.message)) old new) p.node p.runs.positive (λ k t. inl t) took)
+    subst (λ (o : Option (ℕ × Message Command)). DeliveryOrLost o old new) (sym p.sent)
+    (positive_node (λ (n : ℕ). NodeItemOrLost n (Peer p.message) old new → DeliveryOrLost (Some (n, p.message)) old new) p.node p.runs.positive (λ k t. inl t) took)
 
 pub passes_exactly : (at number : ℕ) (old new : NodesState) (p : IsPassedOver at number old) → TakesExactly p.node (Peer p.message) old new → MessageArrives (slice_get old.sent number) old new
 passes_exactly at number old new p took =
@@ -142,10 +142,10 @@ passes_exactly at number old new p took =
     (positive_node (λ (n : ℕ). TakesExactly n (Peer p.message) old new → MessageArrives (Some (n, p.message)) old new) p.node p.runs.positive (λ k t. t) took)
 
 pub passes_acting : (at number : ℕ) (old new : NodesState) (p : IsPassedOver at number old) → NodeDoesCall (p.node - 1) (takes (Peer p.message)) old new
-    → ComesOrRests (slice_get old.sent number) old new
+    → GroupDeliveryOrLost (slice_get old.sent number) old new
 passes_acting at number old new p acts =
-    subst (λ (o : Option (ℕ × Message Command)). ComesOrRests o old new) (sym p.sent)
-    (positive_node (λ (n : ℕ). NodeDoesCall (n - 1) (takes (Peer p.message)) old new → ComesOrRests (Some (n, p.message)) old new) p.node p.runs.positive
+    subst (λ (o : Option (ℕ × Message Command)). GroupDeliveryOrLost o old new) (sym p.sent)
+    (positive_node (λ (n : ℕ). NodeDoesCall (n - 1) (takes (Peer p.message)) old new → GroupDeliveryOrLost (Some (n, p.message)) old new) p.node p.runs.positive
     (λ k a. inl (subst (λ (i : ℕ). NodeDoesCall i (takes (Peer p.message)) old new) (let e : suc k - 1 ≡ k = omega arith in e) a)) acts)
 
 pub passes_at_rest : (at number : ℕ) (old : NodesState) (p : IsPassedOver at number old) → ComesUnheeded (slice_get old.sent number) old → RestsAt p.node (Peer p.message) old

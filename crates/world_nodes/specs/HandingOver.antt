@@ -9,8 +9,8 @@ use Rattle.world_nodes.specs.Steps.{nodes_with_loss}
 
 -- What was queued was handed over and appended, and the answer says whether more may come. Or
 -- nothing was, more may come, and that is counted.
-abbrev pub HandsIn : ℕ → Port → NodesState → NodesState → List ℕ → List ℕ → Handed → Type 0
-HandsIn node port old new before after handed =
+abbrev pub HandoverOrLost : ℕ → Port → NodesState → NodesState → List ℕ → List ℕ → Handed → Type 0
+HandoverOrLost node port old new before after handed =
     (GivesExactly node port old new × HandsOver node port old before after
     × AnswersFor node port old handed)
     ⊎ ((new ≡ nodes_with_loss old) × (after ≡ before) × (handed ≡ answers.Open))

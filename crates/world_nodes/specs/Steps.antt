@@ -64,7 +64,7 @@ pub record CutsWithLosses (at : ℕ) (core : CountedCore) (old new : NodesState)
   }
 
 -- the node of this number, which runs, takes the item: exactly, or with losses that are counted
-pub record TakesIn (node : ℕ) (item : Item) (old new : NodesState) : Type 0 where
+pub record NodeItemOrLost (node : ℕ) (item : Item) (old new : NodesState) : Type 0 where
   pub core : CountedCore
   pub runs : running old.nodes node ≡ Some core
   pub way : (new ≡ after_node_call (node - 1) core (takes item) old)
@@ -72,12 +72,13 @@ pub record TakesIn (node : ℕ) (item : Item) (old new : NodesState) : Type 0 wh
 
 -- An Expel of a client is proposed by a node, exactly or with losses; or there is no memory for it,
 -- and that is counted.
-abbrev pub ExpelsIn : List ℕ → ℕ → NodesState → NodesState → Type 0
-ExpelsIn client node old new = TakesIn node (Expel client) old new ⊎ (new ≡ nodes_with_loss old)
+abbrev pub NodeExpelOrLost : List ℕ → ℕ → NodesState → NodesState → Type 0
+NodeExpelOrLost client node old new =
+    NodeItemOrLost node (Expel client) old new ⊎ (new ≡ nodes_with_loss old)
 
 -- The node of this number, which had something to cut, took that item: exactly, or with losses that
 -- are counted. Or there was no memory for the record, and that is counted.
-pub record CutsIn (node : ℕ) (old new : NodesState) : Type 0 where
+pub record NodeCutOrLost (node : ℕ) (old new : NodesState) : Type 0 where
   pub core : CountedCore
   pub cuts : cutting old.nodes node ≡ Some core
   pub way : (new ≡ record (after_node_call (node - 1) core (takes Cut) old) {
@@ -92,22 +93,22 @@ unheard after n = record n { master = after.master; losses = one_more n.losses }
 
 -- The master gave a ballot, and sent it to its primary. Or it was not sent, or nothing happened:
 -- both are counted.
-abbrev pub GivesIn : Config → NodesState → NodesState → Type 0
-GivesIn config old new =
+abbrev pub NewBallotOrLost : Config → NodesState → NodesState → Type 0
+NewBallotOrLost config old new =
     (new ≡ after_giving config old) ⊎ (new ≡ unheard (after_giving config old) old)
     ⊎ (new ≡ nodes_with_loss old)
 
 -- The master answered a node that asked it to activate a ballot. Or the answer was lost, and that
 -- is counted. It ignores every other message.
-abbrev pub HearsIn : ℕ → Body Command → NodesState → NodesState → Type 0
-HearsIn from (Activate ballot) old new =
+abbrev pub MasterAnswerOrLost : ℕ → Body Command → NodesState → NodesState → Type 0
+MasterAnswerOrLost from (Activate ballot) old new =
     (new ≡ after_answer from ballot old) ⊎ (new ≡ unheard (after_answer from ballot old) old)
-HearsIn from _ old new = new ≡ old
+MasterAnswerOrLost from _ old new = new ≡ old
 
 -- A message that was sent came to the master, or to a node, which took it. Or there was no memory
 -- for it, and that is counted.
-abbrev pub ComesIn : Option (ℕ × Message Command) → NodesState → NodesState → Type 0
-ComesIn None old new = ⊥
-ComesIn (Some (zero, message)) old new = HearsIn message.from message.body old new
-ComesIn (Some (suc at, message)) old new =
-    TakesIn (suc at) (Peer message) old new ⊎ (new ≡ nodes_with_loss old)
+abbrev pub DeliveryOrLost : Option (ℕ × Message Command) → NodesState → NodesState → Type 0
+DeliveryOrLost None old new = ⊥
+DeliveryOrLost (Some (zero, message)) old new = MasterAnswerOrLost message.from message.body old new
+DeliveryOrLost (Some (suc at, message)) old new =
+    NodeItemOrLost (suc at) (Peer message) old new ⊎ (new ≡ nodes_with_loss old)

@@ -10,8 +10,8 @@ ghost use Rattle.byte_world.specs.node_moves.Moves.NodeCall.{takes};
 ghost use Rattle.world_nodes.specs.ExactSteps.{NodeDoesCall, MessageArrives, CutsExactly, TakesExactly};
 ghost use Rattle.world_nodes.specs.Running.{running};
 ghost use Rattle.world_nodes.specs.Quiet.{ComesUnheeded, RestsAt};
-ghost use Rattle.world_nodes.specs.Steps.{ComesIn, CutsIn, GivesIn, HearsIn, NodesLoseNothing, TakesIn, nodes_with_loss};
-ghost use Rattle.world_nodes.specs.GroupSteps.{ActsOrRests, ComesOrRests, MasterGoes};
+ghost use Rattle.world_nodes.specs.Steps.{DeliveryOrLost, MasterAnswerOrLost, NewBallotOrLost, NodeCutOrLost, NodeItemOrLost, NodesLoseNothing, nodes_with_loss};
+ghost use Rattle.world_nodes.specs.GroupSteps.{GroupDeliveryOrLost, MasterGoes, NodeCallOrLost};
 ghost use Rattle.node_core.specs.Core.{CountedCore};
 ghost use Rattle.world_nodes.specs.Inside.{IsPassedOver, RunsAt, ItemWasSent};
 
@@ -24,7 +24,7 @@ impl Nodes {
     /// Lets a node that runs take an item. `Idle` comes if it is unknown or has stopped.
     pub(crate) fn act(&mut self, node: u8, item: Item) -> Result<(), Idle>
         requires { ItemWasSent node item self.old.sent }
-        ensures lossy { OnOk result (TakesIn node item self.old self.new) }
+        ensures lossy { OnOk result (NodeItemOrLost node item self.old self.new) }
         ensures exact { NodesLoseNothing self.old self.new →
             OnOk result (TakesExactly node item self.old self.new) }
         ensures acts { OnOk result (NodeDoesCall (node - 1) (takes item) self.old self.new) }
@@ -49,10 +49,10 @@ impl Nodes {
     /// `act`. No copy of the message is made.
     pub(crate) fn pass_over(&mut self, at: usize, number: usize)
         requires { IsPassedOver at number self.old }
-        ensures lossy { ComesIn (slice_get self.old.sent number) self.old self.new }
+        ensures lossy { DeliveryOrLost (slice_get self.old.sent number) self.old self.new }
         ensures exact { NodesLoseNothing self.old self.new →
             MessageArrives (slice_get self.old.sent number) self.old self.new }
-        ensures acts { ComesOrRests (slice_get self.old.sent number) self.old self.new }
+        ensures acts { GroupDeliveryOrLost (slice_get self.old.sent number) self.old self.new }
         ensures quiet { ComesUnheeded (slice_get self.old.sent number) self.old →
             MessageArrives (slice_get self.old.sent number) self.old self.new }
         ensures rises { self.old.losses ≤ self.new.losses }
@@ -69,10 +69,10 @@ impl Nodes {
     pub(crate) fn cut_at(&mut self, at: usize)
         requires { (core : CountedCore) × (slice_get self.old.nodes at ≡ Some core)
             × (can_cut core.core.replica.state ≡ true) }
-        ensures lossy { CutsIn (at + 1) self.old self.new }
+        ensures lossy { NodeCutOrLost (at + 1) self.old self.new }
         ensures exact { NodesLoseNothing self.old self.new →
             CutsExactly (at + 1) self.old self.new }
-        ensures acts { ActsOrRests at (takes Item.Cut) self.old self.new }
+        ensures acts { NodeCallOrLost at (takes Item.Cut) self.old self.new }
         ensures rises { self.old.losses ≤ self.new.losses }
     {
         let before = self.archive.len();
@@ -126,7 +126,7 @@ impl Nodes {
     /// out before it gave any.
     pub(crate) fn give(&mut self, config: &Config) -> Result<(), Memory>
         requires { refusal self.old.master config.now ≡ None }
-        ensures lossy { OnOk result (GivesIn config.now self.old self.new) }
+        ensures lossy { OnOk result (NewBallotOrLost config.now self.old self.new) }
         ensures acts { OnOk result (MasterGoes self.old self.new) }
         ensures rises { self.old.losses ≤ self.new.losses }
         ensures err { OnErr result (self.new ≡ self.old) }
@@ -148,7 +148,7 @@ impl Nodes {
     /// Lets the master answer a node that asks it to activate a ballot.
     pub(crate) fn answer(&mut self, from: u8, ballot: u64)
         requires { In (0, record { from = from; body = Activate ballot }) self.old.sent }
-        ensures lossy { HearsIn from (Activate ballot) self.old self.new }
+        ensures lossy { MasterAnswerOrLost from (Activate ballot) self.old self.new }
         ensures acts { MasterGoes self.old self.new }
         ensures rises { self.old.losses ≤ self.new.losses }
     {

@@ -10,9 +10,9 @@ ghost use Rattle.world_nodes.specs.Nodes.{NodesState, NodesStandFor};
 ghost use Rattle.world_nodes.specs.ExactSteps.{NodeDoesCall, AnswersFor, MessageArrives, ComesToNobody, CutsExactly, GivesExactly, HandsOver, TakesExactly, after_giving};
 ghost use Rattle.world_nodes.specs.Running.{cutting, is_running, numbered_node, proposing, running};
 ghost use Rattle.world_nodes.specs.Quiet.{ComesUnheeded, RestsAt, WaitsAtNone};
-ghost use Rattle.world_nodes.specs.Steps.{ComesIn, CutsIn, ExpelsIn, GivesIn, NodesLoseNothing, TakesIn};
-ghost use Rattle.world_nodes.specs.HandingOver.{HandsIn};
-ghost use Rattle.world_nodes.specs.GroupSteps.{ActsOrRests, ComesOrRests, MasterGoesOrRests};
+ghost use Rattle.world_nodes.specs.Steps.{DeliveryOrLost, NewBallotOrLost, NodeCutOrLost, NodeExpelOrLost, NodeItemOrLost, NodesLoseNothing};
+ghost use Rattle.world_nodes.specs.HandingOver.{HandoverOrLost};
+ghost use Rattle.world_nodes.specs.GroupSteps.{GroupDeliveryOrLost, MasterStepOrLost, NodeCallOrLost};
 
 use crate::counters::Counters;
 use master::{Idle, Master, asks_for, can_open, copy_of};
@@ -110,10 +110,10 @@ impl Nodes {
     /// Lets the master give the next ballot to a configuration. Idle if it refuses: for members or
     /// a primary that no ballot may have, and after the last ballot.
     pub fn assign(&mut self, config: &Config) -> Result<(), Idle>
-        ensures lossy { OnOk result (GivesIn config.now self.old self.new) }
+        ensures lossy { OnOk result (NewBallotOrLost config.now self.old self.new) }
         ensures exact { NodesLoseNothing self.old self.new →
             OnOk result (self.new ≡ after_giving config.now self.old) }
-        ensures acts { OnOk result (MasterGoesOrRests self.old self.new) }
+        ensures acts { OnOk result (MasterStepOrLost self.old self.new) }
         ensures rises { self.old.losses ≤ self.new.losses }
         ensures idle { IsErr result ↔ (refusal self.old.master config.now ≡ None → ⊥) }
         ensures same { OnErr result (self.new ≡ self.old) }
@@ -130,11 +130,12 @@ impl Nodes {
     /// Delivers the message of this number to its receiver. Idle if no such message was sent, or
     /// its receiver is unknown or has stopped. One that its receiver ignores takes no memory.
     pub fn deliver(&mut self, number: u64) -> Result<(), Idle>
-        ensures lossy { OnOk result (ComesIn (slice_get self.old.sent number) self.old self.new) }
+        ensures lossy { OnOk result
+            (DeliveryOrLost (slice_get self.old.sent number) self.old self.new) }
         ensures exact { NodesLoseNothing self.old self.new →
             OnOk result (MessageArrives (slice_get self.old.sent number) self.old self.new) }
         ensures acts { OnOk result
-            (ComesOrRests (slice_get self.old.sent number) self.old self.new) }
+            (GroupDeliveryOrLost (slice_get self.old.sent number) self.old self.new) }
         ensures quiet { ComesUnheeded (slice_get self.old.sent number) self.old →
             OnOk result (MessageArrives (slice_get self.old.sent number) self.old self.new) }
         ensures rises { self.old.losses ≤ self.new.losses }
@@ -169,7 +170,7 @@ impl Nodes {
     /// Lets time pass at a node: it repeats what others may have missed. Idle if it is unknown or
     /// has stopped.
     pub fn tick(&mut self, node: u8) -> Result<(), Idle>
-        ensures lossy { OnOk result (TakesIn node (Item.Tick 0) self.old self.new) }
+        ensures lossy { OnOk result (NodeItemOrLost node (Item.Tick 0) self.old self.new) }
         ensures exact { NodesLoseNothing self.old self.new →
             OnOk result (TakesExactly node (Item.Tick 0) self.old self.new) }
         ensures acts { OnOk result
@@ -186,10 +187,10 @@ impl Nodes {
     /// Lets a node cut its log. The places that it drops are recorded first. Idle if the node is
     /// unknown or has stopped, or has applied nothing since it last cut its log.
     pub fn cut(&mut self, node: u8) -> Result<(), Idle>
-        ensures lossy { OnOk result (CutsIn node self.old self.new) }
+        ensures lossy { OnOk result (NodeCutOrLost node self.old self.new) }
         ensures exact { NodesLoseNothing self.old self.new →
             OnOk result (CutsExactly node self.old self.new) }
-        ensures acts { OnOk result (ActsOrRests (node - 1) (takes Item.Cut) self.old self.new) }
+        ensures acts { OnOk result (NodeCallOrLost (node - 1) (takes Item.Cut) self.old self.new) }
         ensures rises { self.old.losses ≤ self.new.losses }
         ensures idle { IsErr result ↔ (cutting self.old.nodes node ≡ None) }
         ensures same { OnErr result (self.new ≡ self.old) }
@@ -207,11 +208,11 @@ impl Nodes {
     /// Lets a node propose that the session of a client ends. Idle if the node is unknown or has
     /// stopped, if it does not serve clients, and if its log is full.
     pub fn expel(&mut self, node: u8, client: &ClientId) -> Result<(), Idle>
-        ensures lossy { OnOk result (ExpelsIn client.now node self.old self.new) }
+        ensures lossy { OnOk result (NodeExpelOrLost client.now node self.old self.new) }
         ensures exact { NodesLoseNothing self.old self.new →
             OnOk result (TakesExactly node (Item.Expel client.now) self.old self.new) }
         ensures acts { OnOk result
-            (ActsOrRests (node - 1) (takes (Item.Expel client.now)) self.old self.new) }
+            (NodeCallOrLost (node - 1) (takes (Item.Expel client.now)) self.old self.new) }
         ensures rises { self.old.losses ≤ self.new.losses }
         ensures idle { IsErr result ↔ (proposing self.old.nodes node ≡ None) }
         ensures same { OnErr result (self.new ≡ self.old) }
@@ -233,7 +234,7 @@ impl Nodes {
 
     /// Stops a node for good. Idle if it is unknown or has stopped.
     pub fn crash(&mut self, node: u8) -> Result<(), Idle>
-        ensures lossy { OnOk result (TakesIn node Item.Crash self.old self.new) }
+        ensures lossy { OnOk result (NodeItemOrLost node Item.Crash self.old self.new) }
         ensures exact { NodesLoseNothing self.old self.new →
             OnOk result (TakesExactly node Item.Crash self.old self.new) }
         ensures acts { OnOk result (NodeDoesCall (node - 1) (takes Item.Crash) self.old self.new) }
@@ -248,7 +249,7 @@ impl Nodes {
 
     /// Opens a stream at a node, at this time. Idle if the node is unknown or has stopped.
     pub fn opened(&mut self, node: u8, port: Port, now: u64) -> Result<(), Idle>
-        ensures lossy { OnOk result (TakesIn node (Item.Opened port now) self.old self.new) }
+        ensures lossy { OnOk result (NodeItemOrLost node (Item.Opened port now) self.old self.new) }
         ensures exact { NodesLoseNothing self.old self.new →
             OnOk result (TakesExactly node (Item.Opened port now) self.old self.new) }
         ensures acts { OnOk result
@@ -264,7 +265,8 @@ impl Nodes {
 
     /// Gives bytes to a stream of a node, at time 0. Idle if the node is unknown or has stopped.
     pub fn give_bytes(&mut self, node: u8, port: Port, piece: Piece) -> Result<(), Idle>
-        ensures lossy { OnOk result (TakesIn node (Item.Bytes port piece 0) self.old self.new) }
+        ensures lossy { OnOk result
+            (NodeItemOrLost node (Item.Bytes port piece 0) self.old self.new) }
         ensures exact { NodesLoseNothing self.old self.new →
             OnOk result (TakesExactly node (Item.Bytes port piece 0) self.old self.new) }
         ensures acts { OnOk result
@@ -280,7 +282,7 @@ impl Nodes {
 
     /// Ends a stream of a node. Idle if the node is unknown or has stopped.
     pub fn ended(&mut self, node: u8, port: Port) -> Result<(), Idle>
-        ensures lossy { OnOk result (TakesIn node (Item.Ended port) self.old self.new) }
+        ensures lossy { OnOk result (NodeItemOrLost node (Item.Ended port) self.old self.new) }
         ensures exact { NodesLoseNothing self.old self.new →
             OnOk result (TakesExactly node (Item.Ended port) self.old self.new) }
         ensures acts { OnOk result
@@ -305,7 +307,7 @@ impl Nodes {
         ensures answer { NodesLoseNothing self.old self.new →
             IfOk result (λ handed. AnswersFor node port self.old handed) }
         ensures lossy { IfOk result (λ handed.
-            HandsIn node port self.old self.new out.old.items out.new.items handed) }
+            HandoverOrLost node port self.old self.new out.old.items out.new.items handed) }
         ensures quiet { WaitsAtNone node port self.old →
             OnOk result (GivesExactly node port self.old self.new) }
         ensures rises { self.old.losses ≤ self.new.losses }

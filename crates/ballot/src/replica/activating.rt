@@ -3,7 +3,7 @@
 ghost use Rattle.std.specs.Prelude.{◌≡◌, ◌++◌, ◌&&◌, ◌==◌, nat_lt, nat_le, true, false, ◌-◌, ◌<◌};
 ghost use Rattle.std.specs.Prelude.{◌≤◌, length, IfOk, OnOk, OnErr, MatchResult};
 ghost use Rattle.ballot_base.specs.Sends.{Sends};
-ghost use Rattle.ballot.specs.Inside.{BecomesActive, WentOrLost};
+ghost use Rattle.ballot.specs.Inside.{ActivationOrLost, PlainStepOrLost};
 ghost use Rattle.ballot_base.specs.Activating.{on_activated};
 ghost use Rattle.ballot_base.specs.Logs.{Log, places, popped, pushed};
 ghost use Rattle.ballot_base.specs.Replica.{is_installing, others, progress_at};
@@ -31,7 +31,7 @@ impl<M: Machine> Replica<M> {
         out: &mut Vec<Effect<M::Command, M::Output>>,
     ) -> Result<(), Halted>
         requires { self.old.state.stopped ≡ false }
-        ensures went { WentOrLost M.rules self.old (on_activated M.rules self.old.state ballot)
+        ensures went { PlainStepOrLost M.rules self.old (on_activated M.rules self.old.state ballot)
             self.new out.old.items out.new.items }
         ensures ok { OnOk result (self.new.state.stopped ≡ false) }
         ensures err { OnErr result ((self.new.state.stopped ≡ true) ×
@@ -131,7 +131,7 @@ impl<M: Machine> Replica<M> {
         requires applied { self.old.state.log.base ≤ committed }
         requires after { committed < places self.old.state.log }
         ensures outcome { MatchResult result
-            (λ _. BecomesActive M.rules self.old self.new out.old.items out.new.items)
+            (λ _. ActivationOrLost M.rules self.old self.new out.old.items out.new.items)
             (λ _. (out.new.items ≡ out.old.items) × (self.new ≡ record {
               state = record self.old.state {
                 log = popped self.old.state.log;

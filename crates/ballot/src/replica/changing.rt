@@ -3,7 +3,7 @@
 ghost use Rattle.std.specs.Prelude.{◌≡◌, ◌≤◌, ◌<◌, ◌&&◌, ◌==◌, Some, true, false, nat_lt};
 ghost use Rattle.std.specs.Prelude.{nat_le, if◌then◌else◌};
 ghost use Rattle.std.specs.Bool.{OnTrue, OnFalse};
-ghost use Rattle.ballot.specs.Inside.{HeardOrLost, WentOrLost};
+ghost use Rattle.ballot.specs.Inside.{PlainStepOrLost, ReadingStepOrLost};
 ghost use Rattle.ballot_base.specs.Changing.{on_new_ballot, on_join, on_state, on_install};
 ghost use Rattle.ballot_base.specs.Changing.{waits_for, lacks};
 ghost use Rattle.ballot_base.specs.Logs.{places};
@@ -25,7 +25,7 @@ impl<M: Machine> Replica<M> {
         previous_members: Members,
         out: &mut Vec<Effect<M::Command, M::Output>>,
     )
-        ensures went { WentOrLost M.rules self.old
+        ensures went { PlainStepOrLost M.rules self.old
             (on_new_ballot M.Output self.old.state ballot members previous previous_members)
             self.new out.old.items out.new.items }
         ensures runs { self.new.state.stopped ≡ self.old.state.stopped }
@@ -53,7 +53,7 @@ impl<M: Machine> Replica<M> {
         previous: u64,
         out: &mut Vec<Effect<M::Command, M::Output>>,
     )
-        ensures went { WentOrLost M.rules self.old
+        ensures went { PlainStepOrLost M.rules self.old
             (on_join M.Output self.old.state from ballot previous)
             self.new out.old.items out.new.items }
         ensures runs { self.new.state.stopped ≡ self.old.state.stopped }
@@ -89,7 +89,8 @@ impl<M: Machine> Replica<M> {
         out: &mut Vec<Effect<M::Command, M::Output>>,
     )
         requires { self.old.state.stopped ≡ false }
-        ensures went { HeardOrLost M.rules self.old (on_state M.rules self.old.state ballot log)
+        ensures went { ReadingStepOrLost M.rules self.old
+            (on_state M.rules self.old.state ballot log)
             (is_unread M.rules self.old.state (Body.State ballot log))
             self.new out.old.items out.new.items }
         ensures unread { is_unread M.rules self.old.state (Body.State ballot log) ≡ true →
@@ -124,7 +125,7 @@ impl<M: Machine> Replica<M> {
         out: &mut Vec<Effect<M::Command, M::Output>>,
     )
         requires { self.old.state.stopped ≡ false }
-        ensures went { HeardOrLost M.rules self.old
+        ensures went { ReadingStepOrLost M.rules self.old
             (on_install M.rules self.old.state from ballot log)
             (is_unread M.rules self.old.state (Body.Install ballot log))
             self.new out.old.items out.new.items }

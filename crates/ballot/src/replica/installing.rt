@@ -2,7 +2,7 @@
 
 ghost use Rattle.std.specs.Prelude.{◌≡◌, ◌&&◌, ◌==◌, []};
 ghost use Rattle.std.specs.List.{list_any};
-ghost use Rattle.ballot.specs.Inside.{WentOrLost};
+ghost use Rattle.ballot.specs.Inside.{PlainStepOrLost};
 ghost use Rattle.ballot_base.specs.Activating.{on_installed, on_superseded};
 ghost use Rattle.ballot_base.specs.Replica.{is_installing};
 
@@ -19,7 +19,7 @@ impl<M: Machine> Replica<M> {
         ballot: u64,
         out: &mut Vec<Effect<M::Command, M::Output>>,
     )
-        ensures went { WentOrLost M.rules self.old
+        ensures went { PlainStepOrLost M.rules self.old
             (on_installed M.Output self.old.state from ballot)
             self.new out.old.items out.new.items }
         ensures runs { self.new.state.stopped ≡ self.old.state.stopped }
@@ -36,7 +36,7 @@ impl<M: Machine> Replica<M> {
 
     /// Handles Superseded: the replica gives the ballot up, and waits for a later one.
     pub(super) fn on_superseded(&mut self, ballot: u64)
-        ensures went { WentOrLost M.rules self.old
+        ensures went { PlainStepOrLost M.rules self.old
             (on_superseded M.Output self.old.state ballot) self.new [] [] }
         ensures runs { self.new.state.stopped ≡ self.old.state.stopped }
     {

@@ -1,8 +1,8 @@
 // What a replica does with each message of another node.
 
 ghost use Rattle.std.specs.Prelude.{◌≡◌, ◌<◌, ◌↔◌, true, false, [], ◌∷◌, OnOk, OnErr, IsErr};
-ghost use Rattle.ballot.specs.Inside.{HeardOrLost, SendsCounted, WentOrLost};
-ghost use Rattle.ballot_base.specs.Losses.{SteppedOrLost, SendsAndAddsNothing, one_more};
+ghost use Rattle.ballot.specs.Inside.{MessagesOrLost, PlainStepOrLost, ReadingStepOrLost};
+ghost use Rattle.ballot_base.specs.Losses.{AppendedStepOrLost, SendsAndAddsNothing, one_more};
 ghost use Rattle.ballot_base.specs.Sending.{message_to};
 ghost use Rattle.ballot_base.specs.Unread.{is_unread};
 ghost use Rattle.ballot_base.specs.Protocol.{received, replica_step};
@@ -25,7 +25,8 @@ impl<M: Machine> Replica<M> {
     ) -> Result<(), Halted>
         // The protocol's step, or one in which memory ran out and that was counted.
         ensures step { self.old.state.stopped ≡ false →
-            SteppedOrLost M.rules self.old (replica_step M.rules self.old.state (Receives message))
+            AppendedStepOrLost M.rules self.old
+            (replica_step M.rules self.old.state (Receives message))
             self.new out.old.items out.new.items }
         // A message that sends, adds and applies nothing never runs out of memory, unless a
         // snapshot has to be read.
@@ -59,7 +60,8 @@ impl<M: Machine> Replica<M> {
         out: &mut Vec<Effect<M::Command, M::Output>>,
     ) -> Result<(), Halted>
         requires { self.old.state.stopped ≡ false }
-        ensures went { HeardOrLost M.rules self.old (received M.rules self.old.state from body)
+        ensures went { ReadingStepOrLost M.rules self.old
+            (received M.rules self.old.state from body)
             (is_unread M.rules self.old.state body) self.new out.old.items out.new.items }
         ensures unread { is_unread M.rules self.old.state body ≡ true →
             self.new ≡ record self.old { losses = one_more self.old.losses } }
@@ -96,7 +98,7 @@ impl<M: Machine> Replica<M> {
         command: M::Command,
         out: &mut Vec<Effect<M::Command, M::Output>>,
     )
-        ensures went { WentOrLost M.rules self.old
+        ensures went { PlainStepOrLost M.rules self.old
             (on_append M.Output self.old.state from ballot place command) self.new
             out.old.items out.new.items }
         ensures runs { self.new.state.stopped ≡ self.old.state.stopped }
@@ -122,7 +124,7 @@ impl<M: Machine> Replica<M> {
         body: Body<M::Command>,
         out: &mut Vec<Effect<M::Command, M::Output>>,
     )
-        ensures { SendsCounted self.old (message_to M.Output self.old.state.id body receiver ∷ [])
+        ensures { MessagesOrLost self.old (message_to M.Output self.old.state.id body receiver ∷ [])
             self.new out.old.items out.new.items }
     {
         let from = self.id;
@@ -139,7 +141,8 @@ impl<M: Machine> Replica<M> {
         out: &mut Vec<Effect<M::Command, M::Output>>,
     ) -> Result<(), Halted>
         requires { self.old.state.stopped ≡ false }
-        ensures went { WentOrLost M.rules self.old (on_held M.rules self.old.state from ballot held)
+        ensures went { PlainStepOrLost M.rules self.old
+            (on_held M.rules self.old.state from ballot held)
             self.new out.old.items out.new.items }
         ensures ok { OnOk result (self.new.state.stopped ≡ false) }
         ensures err { OnErr result ((self.new.state.stopped ≡ true) ×
@@ -168,8 +171,8 @@ impl<M: Machine> Replica<M> {
     // outputs.
     fn on_commit(&mut self, ballot: u64, held: u64) -> Result<(), Halted>
         requires { self.old.state.stopped ≡ false }
-        ensures went { WentOrLost M.rules self.old (on_commit M.rules self.old.state ballot held)
-            self.new [] [] }
+        ensures went { PlainStepOrLost M.rules self.old
+            (on_commit M.rules self.old.state ballot held) self.new [] [] }
         ensures ok { OnOk result (self.new.state.stopped ≡ false) }
         ensures err { OnErr result (self.new.state.stopped ≡ true) }
     {

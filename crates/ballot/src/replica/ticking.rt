@@ -2,7 +2,7 @@
 
 ghost use Rattle.std.specs.Prelude.{◌≡◌, ◌++◌, true, false};
 ghost use Rattle.ballot_base.specs.Sends.{Sends};
-ghost use Rattle.ballot_base.specs.Losses.{SteppedOrLost, SendsAndAddsNothing};
+ghost use Rattle.ballot_base.specs.Losses.{AppendedStepOrLost, SendsAndAddsNothing};
 ghost use Rattle.ballot_base.specs.Protocol.{replica_step, ticked};
 ghost use Rattle.ballot_base.specs.Protocol.Input.{Ticks};
 ghost use Rattle.ballot_base.specs.Serving.{appends_after};
@@ -21,7 +21,7 @@ impl<M: Machine> Replica<M> {
     /// others may lack. It takes no step of its own, and never halts.
     pub fn tick(&mut self, out: &mut Vec<Effect<M::Command, M::Output>>)
         ensures step { self.old.state.stopped ≡ false →
-            SteppedOrLost M.rules self.old (replica_step M.rules self.old.state Ticks)
+            AppendedStepOrLost M.rules self.old (replica_step M.rules self.old.state Ticks)
             self.new out.old.items out.new.items }
         ensures quiet { self.old.state.stopped ≡ false →
             SendsAndAddsNothing self.old.state

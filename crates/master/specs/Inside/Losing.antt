@@ -43,7 +43,7 @@ TookExactly rules old input new given =
 -- a replica took its step, perhaps with losses: without losses if it was whole, or if it sends
 -- nothing, keeps the log and applies nothing. If the count did not change, and is below its
 -- greatest number, the step was whole.
-pub record TookIn {S C O : Type 0} (rules : Rules S C O) (old : CountedReplica S C)
+pub record InputStepOrLost {S C O : Type 0} (rules : Rules S C O) (old : CountedReplica S C)
     (input : Input C)
     (new : CountedReplica S C) (before moment_after_event : List (Effect C O))
     (whole : Bool) : Type 0 where
@@ -76,7 +76,7 @@ pub record Parted {C O : Type 0} (given left parted : List (Effect C O))
 
 -- a group after a step of one node, or one with losses that was counted; no loss is counted if the
 -- node sends nothing, keeps its log and applies nothing
-pub record TookStep {S C O : Type 0} (rules : Rules S C O) (old : GroupState S C O)
+pub record GroupNodeStepOrLost {S C O : Type 0} (rules : Rules S C O) (old : GroupState S C O)
     (t : NodeOutcome S C O) (new : GroupState S C O) : Type 0 where
   pub state : ReplicaState S C
   pub given : List (Effect C O)
@@ -88,7 +88,7 @@ pub record TookStep {S C O : Type 0} (rules : Rules S C O) (old : GroupState S C
       (state ≡ t.outcome.state) × (given ≡ t.outcome.effects) × (new.losses ≡ old.losses)
 
 -- a group after a cut of one node's log, or one for which memory ran out, which was counted
-pub record TookCut {S C O : Type 0} (rules : Rules S C O) (old : GroupState S C O)
+pub record GroupCutOrLost {S C O : Type 0} (rules : Rules S C O) (old : GroupState S C O)
     (t : NodeOutcome S C O) (new : GroupState S C O) : Type 0 where
   pub way : ((new.moment ≡ moment_after_event old.moment (Some (by_cut t)))
       × (new.losses ≡ old.losses)
@@ -96,7 +96,7 @@ pub record TookCut {S C O : Type 0} (rules : Rules S C O) (old : GroupState S C 
       ⊎ (new ≡ record old { losses = one_more old.losses })
 
 -- a group after a step of the master, or one whose message was lost, which was counted
-pub record MasterTook {S C O : Type 0} (old : GroupState S C O) (o : MasterOutcome C)
+pub record GroupMasterStepOrLost {S C O : Type 0} (old : GroupState S C O) (o : MasterOutcome C)
     (new : GroupState S C O) : Type 0 where
   pub way : ((new.moment
       ≡ record { master = o.state; world = sends_from_master old.moment.world o })

@@ -10,8 +10,8 @@ ghost use Rattle.snapshots.specs.Masters.{activated, assigned};
 ghost use Rattle.snapshots.specs.agreement.MasterState.{refusal};
 ghost use Rattle.master.specs.Exact.{event_outcome};
 ghost use Rattle.master.specs.Outcomes.{cut_outcome};
-ghost use Rattle.master.specs.Inside.Losing.{MasterTook, TookCut};
-ghost use Rattle.master.specs.Steps.{StepsBy, GroupTakesNoMemory, done_exactly};
+ghost use Rattle.master.specs.Inside.Losing.{GroupCutOrLost, GroupMasterStepOrLost};
+ghost use Rattle.master.specs.Steps.{GroupEventOrLost, GroupTakesNoMemory, done_exactly};
 
 use super::Group;
 use crate::copying::{config_of, copy_of};
@@ -26,7 +26,7 @@ use machine::{Machine, Memory};
 impl<M: Machine> Group<M> {
     /// Lets an active primary take a command; [`Idle`] comes for any other node and for a full log.
     pub(super) fn propose(&mut self, node: u8, command: &M::Command) -> Result<(), Idle>
-        ensures step { StepsBy M.rules self.old (Event.Propose node command.now) self.new }
+        ensures step { GroupEventOrLost M.rules self.old (Event.Propose node command.now) self.new }
         ensures idle { IsErr result ↔
             (event_outcome M.rules self.old.moment (Event.Propose node command.now) ≡ None) }
         ensures same { OnErr result (self.new ≡ self.old) }
@@ -50,7 +50,7 @@ impl<M: Machine> Group<M> {
 
     /// Lets the master give a ballot for a configuration; [`Idle`] comes if it refuses.
     pub(super) fn assign(&mut self, config: &Config) -> Result<(), Idle>
-        ensures step { StepsBy M.rules self.old (Event.Assign config.now) self.new }
+        ensures step { GroupEventOrLost M.rules self.old (Event.Assign config.now) self.new }
         ensures idle { IsErr result ↔
             (event_outcome M.rules self.old.moment (Event.Assign config.now) ≡ None) }
         ensures same { OnErr result (self.new ≡ self.old) }
@@ -70,7 +70,7 @@ impl<M: Machine> Group<M> {
     // Lets the master give a ballot, which is sent to its primary.
     fn give(&mut self, config: &Config) -> Result<(), Memory>
         requires { refusal self.old.moment.master config.now ≡ None }
-        ensures ok { OnOk result (MasterTook self.old
+        ensures ok { OnOk result (GroupMasterStepOrLost self.old
             (assigned M.Command self.old.moment.master config.now) self.new) }
         ensures err { OnErr result (self.new ≡ self.old) }
     {
@@ -89,7 +89,7 @@ impl<M: Machine> Group<M> {
     /// Lets a message reach its receiver. [`Idle`] comes for a number of no message and for a node
     /// that does not run.
     pub(super) fn deliver(&mut self, number: u64) -> Result<(), Idle>
-        ensures step { StepsBy M.rules self.old (Event.Deliver number) self.new }
+        ensures step { GroupEventOrLost M.rules self.old (Event.Deliver number) self.new }
         ensures idle { IsErr result ↔
             (event_outcome M.rules self.old.moment (Event.Deliver number) ≡ None) }
         ensures same { OnErr result (self.new ≡ self.old) }
@@ -124,7 +124,8 @@ impl<M: Machine> Group<M> {
     fn answer(&mut self, from: u8, ballot: u64)
         requires { In (0, record { from = from; body = Activate ballot })
             self.old.moment.world.sent }
-        ensures { MasterTook self.old (activated M.Command self.old.moment.master ballot from
+        ensures { GroupMasterStepOrLost self.old
+            (activated M.Command self.old.moment.master ballot from
             self.old.moment.master.waiting) self.new }
     {
         let (before, _) = self.master.active();
@@ -137,7 +138,7 @@ impl<M: Machine> Group<M> {
 
     /// Lets a node repeat what others may have missed; [`Idle`] comes if it does not run.
     pub(super) fn tick(&mut self, node: u8) -> Result<(), Idle>
-        ensures step { StepsBy M.rules self.old (Event.Tick node) self.new }
+        ensures step { GroupEventOrLost M.rules self.old (Event.Tick node) self.new }
         ensures idle { IsErr result ↔
             (event_outcome M.rules self.old.moment (Event.Tick node) ≡ None) }
         ensures same { OnErr result (self.new ≡ self.old) }
@@ -156,7 +157,7 @@ impl<M: Machine> Group<M> {
 
     /// Lets a node cut its log; [`Idle`] comes if it does not run or has nothing to cut.
     pub(super) fn cut(&mut self, node: u8) -> Result<(), Idle>
-        ensures step { StepsBy M.rules self.old (Event.Cut node) self.new }
+        ensures step { GroupEventOrLost M.rules self.old (Event.Cut node) self.new }
         ensures idle { IsErr result ↔ (event_outcome M.rules self.old.moment (Event.Cut node)
             ≡ None) }
         ensures same { OnErr result (self.new ≡ self.old) }
@@ -181,7 +182,7 @@ impl<M: Machine> Group<M> {
             (can_cut replica ≡ true) }
         ensures { (replica : ReplicaState M M.Command) →
             slice_get self.old.moment.world.nodes at ≡ Some replica →
-            TookCut M.rules self.old (cut_outcome M.rules at replica) self.new }
+            GroupCutOrLost M.rules self.old (cut_outcome M.rules at replica) self.new }
     {
         let before = self.archive.len();
         let replica = &self.nodes[at];
@@ -208,7 +209,7 @@ impl<M: Machine> Group<M> {
 
     /// Stops a node for good; [`Idle`] comes if it does not run.
     pub(super) fn crash(&mut self, node: u8) -> Result<(), Idle>
-        ensures step { StepsBy M.rules self.old (Event.Crash node) self.new }
+        ensures step { GroupEventOrLost M.rules self.old (Event.Crash node) self.new }
         ensures idle { IsErr result ↔
             (event_outcome M.rules self.old.moment (Event.Crash node) ≡ None) }
         ensures same { OnErr result (self.new ≡ self.old) }

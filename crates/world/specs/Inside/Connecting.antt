@@ -49,8 +49,8 @@ abbrev pub MayOpenNone : ℕ → ℕ → WorldState → WorldState → Type 0
 MayOpenNone i node old new = (new ≡ old) ⊎ OpensNoneAt i node old new
 
 -- it opens one; or it has none, which the nodes counted, or otherwise the world
-abbrev pub BeginsConnection : ℕ → ℕ → WorldState → WorldState → Type 0
-BeginsConnection i node old new =
+abbrev pub OpeningOrLost : ℕ → ℕ → WorldState → WorldState → Type 0
+OpeningOrLost i node old new =
     OpensAt i node old new
     ⊎ (MayOpenNone i node old new × (NodesLoseNothing old.nodes new.nodes → ⊥))
     ⊎ ((none : WorldState) × MayOpenNone i node old none

@@ -34,8 +34,8 @@ pub record GathersOn (number : ℕ) (slot : ConnectionSlot) (old : WorldState) (
 
 -- What a node queued is in transit. Or the node ran out of memory: nothing changes, its end is
 -- open, and that is counted.
-abbrev pub MayGatherOn : ℕ → ConnectionSlot → WorldState → Bool → WorldState → Type 0
-MayGatherOn number slot old is_open new =
+abbrev pub GatheringOrLost : ℕ → ConnectionSlot → WorldState → Bool → WorldState → Type 0
+GatheringOrLost number slot old is_open new =
     GathersOn number slot old is_open new
     ⊎ ((is_open ≡ true) × (new ≡ record old { nodes = nodes_with_loss old.nodes }))
 

@@ -38,10 +38,11 @@ pub record EventIsDone (event : Event) (old new : WorldState) : Type 0 where
   pub exact : NodesLoseNothing old.nodes new.nodes → DoesEvent true event old new
   pub uncounted : new.losses ≡ old.losses
 
--- the result of an event, before the step counts what its nodes counted
-abbrev pub MeetsOrLost : Event → WorldState → Result (Unit {0}) Idle → WorldState → Type 0
-MeetsOrLost event old (Err idle) new = CannotHappen event old × (new ≡ old)
-MeetsOrLost event old (Ok done) new = EventIsDone event old new ⊎ HappensLosing event old new
+-- the result of an event, which was done exactly or with losses, before the step counts what its
+-- nodes counted
+abbrev pub EventResultOrLost : Event → WorldState → Result (Unit {0}) Idle → WorldState → Type 0
+EventResultOrLost event old (Err idle) new = CannotHappen event old × (new ≡ old)
+EventResultOrLost event old (Ok done) new = EventIsDone event old new ⊎ HappensLosing event old new
 
 -- Nothing is counted if the nodes' count of losses is what it was; otherwise one loss is counted,
 -- if the world's count is still what it was.

@@ -3,14 +3,14 @@ use Rattle.ballot.specs.ballot_base.Losses.{one_more}
 use Rattle.node_core.specs.declared.item.Item.TheVariants.{Peer}
 use Rattle.node_core.specs.Core.{CountedCore}
 use Rattle.node_core.specs.Inside.{RunningStep}
-use Rattle.node_core.specs.Losses.{NodeStepped}
+use Rattle.node_core.specs.Losses.{ItemStepOrLost}
 use Rattle.node_core.proofs.EndsRun.{core_of}
 use Rattle.node_core.proofs.ItemsRun.{stepped_by}
 use Rattle.node_core.proofs.node_core.NodeCore.pass_over.Goals as goal
 
 pub returns : goal.returns
 returns c =
-    subst (λ (n : CountedCore). NodeStepped n (Peer c.args.message.now) (record { core = c.settle.new.self.core; losses = c.losses_after-self-inside.result })
+    subst (λ (n : CountedCore). ItemStepOrLost n (Peer c.args.message.now) (record { core = c.settle.new.self.core; losses = c.losses_after-self-inside.result })
     c.args.effects.now.items c.pass_over.new.effects.items) c.self.view_is
     (stepped_by _ (Peer c.args.message.now) c.begin_step.new.self c.pass_over.new.self c.settle.new.self.core c.losses_after-self-inside.result _ _
     (core_of _ _ c.begin_step.ensures) c.pass_over.ensures.exact c.pass_over.ensures.lossy (core_of _ _ c.settle.ensures)

@@ -1,5 +1,5 @@
 use Rattle.std.proofs.Common.{◌≡◌, ◌≤◌, ℕ, suc, ◌+◌, length, sym, subst, ◌∙◌, arith}
-use Rattle.node_core.specs.Inside.{RanOrLost, DoesOutcome}
+use Rattle.node_core.specs.Inside.{StepPartOrLost, DoesOutcome}
 use Rattle.node_core.specs.KeepAlive.{ends_silent}
 use Rattle.node_core.specs.Lossy.{Repeated}
 use Rattle.node_core.specs.LossyStep.{EndsAllSilent}
@@ -48,7 +48,7 @@ loop-connection-preserved c =
           c.args.effects.now.items c.loop-connection.effects.items c.end.new.effects.items c.loop-connection.invariant.exact
           (turns_silent c.args.now c.in-Some.port c.loop-connection.self c.end.new.self c.loop-connection.effects.items c.end.new.effects.items
           (sym c.lowest_silent.ensures ∙ c.in-Some.is) c.end.ensures.exact));
-      lossy = subst (λ (k : ℕ). RanOrLost (Repeated k (EndsSilent c.args.now)) c.args.self.now.core c.end.new.self.core
+      lossy = subst (λ (k : ℕ). StepPartOrLost (Repeated k (EndsSilent c.args.now)) c.args.self.now.core c.end.new.self.core
           c.args.effects.now.items c.end.new.effects.items) one_more
           (ran_more (EndsSilent c.args.now) c.loop-connection._connection c.args.self.now.core c.loop-connection.self.core c.end.new.self.core
           c.args.effects.now.items c.loop-connection.effects.items c.end.new.effects.items c.loop-connection.invariant.lossy

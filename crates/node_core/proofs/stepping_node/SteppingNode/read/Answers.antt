@@ -1,5 +1,5 @@
 use Rattle.std.proofs.Common.{◌≡◌, ◌≤◌, ℕ, suc, ◌+◌, subst, arith}
-use Rattle.node_core.specs.Inside.{RanOrLost, DoesOutcome}
+use Rattle.node_core.specs.Inside.{StepPartOrLost, DoesOutcome}
 use Rattle.node_core.specs.Lossy.{Repeated}
 use Rattle.node_core.specs.LossyStep.{ReadsPackets}
 use Rattle.node_core.specs.LossyReading.{ReadsNext}
@@ -49,7 +49,7 @@ loop-packet-preserved c =
           (repeats_more (reads_next c.args.now c.args.port) c.loop-packet._packet c.args.self.now c.loop-packet.self c.read_next.new.self
           c.args.effects.now.items c.loop-packet.effects.items c.read_next.new.effects.items
           c.loop-packet.invariant.exact c.read_next.ensures.exact);
-      lossy = subst (λ (k : ℕ). RanOrLost (Repeated k (ReadsNext c.args.now c.args.port)) c.args.self.now.core c.read_next.new.self.core
+      lossy = subst (λ (k : ℕ). StepPartOrLost (Repeated k (ReadsNext c.args.now c.args.port)) c.args.self.now.core c.read_next.new.self.core
           c.args.effects.now.items c.read_next.new.effects.items) one_more
           (ran_more (ReadsNext c.args.now c.args.port) c.loop-packet._packet c.args.self.now.core c.loop-packet.self.core c.read_next.new.self.core
           c.args.effects.now.items c.loop-packet.effects.items c.read_next.new.effects.items

@@ -1,6 +1,6 @@
 use Rattle.std.proofs.Common.{◌≡◌, ◌≤◌, ℕ, suc, ◌+◌, length, refl, subst, arith}
 use Rattle.node_core.specs.Failing.{loses_failed}
-use Rattle.node_core.specs.Inside.{RanOrLost, DoesOutcome}
+use Rattle.node_core.specs.Inside.{StepPartOrLost, DoesOutcome}
 use Rattle.node_core.specs.Lossy.{Repeated}
 use Rattle.node_core.specs.LossyStep.{LosesAllFailed}
 use Rattle.node_core.specs.LossyReading.{LosesFailed}
@@ -51,7 +51,7 @@ loop-connection-preserved c =
           (repeats_more loses_failed c.loop-connection._connection c.args.self.now c.loop-connection.self c.report_one_failed.new.self
           c.args.effects.now.items c.loop-connection.effects.items c.report_one_failed.new.effects.items
           c.loop-connection.invariant.exact c.report_one_failed.ensures.exact);
-      lossy = subst (λ (k : ℕ). RanOrLost (Repeated k LosesFailed) c.args.self.now.core c.report_one_failed.new.self.core
+      lossy = subst (λ (k : ℕ). StepPartOrLost (Repeated k LosesFailed) c.args.self.now.core c.report_one_failed.new.self.core
           c.args.effects.now.items c.report_one_failed.new.effects.items) one_more
           (ran_more LosesFailed c.loop-connection._connection c.args.self.now.core c.loop-connection.self.core c.report_one_failed.new.self.core
           c.args.effects.now.items c.loop-connection.effects.items c.report_one_failed.new.effects.items

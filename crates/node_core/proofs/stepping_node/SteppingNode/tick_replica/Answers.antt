@@ -1,11 +1,11 @@
 use Rattle.std.proofs.Common.{subst}
 use Rattle.ballot.specs.ballot_base.Protocol.Input.{Ticks}
-use Rattle.node_core.specs.Inside.{StepsReplicaOrLoses, RunningStep}
+use Rattle.node_core.specs.Inside.{NodeReplicaStepOrLost, RunningStep}
 use Rattle.node_core.specs.Effects.{outcome_of_input}
 use Rattle.node_core.proofs.Answering.{acts_kept}
 use Rattle.node_core.proofs.stepping_node.SteppingNode.tick_replica.Goals as goal
 
 pub returns-clause-acts : goal.returns-clause-acts
 returns-clause-acts c =
-    subst (λ (r : RunningStep). StepsReplicaOrLoses (outcome_of_input Ticks r.core.replica.state) r.core c.note_losses.new.self.core c.tick.new.out.items) c.self.view_is
+    subst (λ (r : RunningStep). NodeReplicaStepOrLost (outcome_of_input Ticks r.core.replica.state) r.core c.note_losses.new.self.core c.tick.new.out.items) c.self.view_is
     (acts_kept Ticks _ c.tick.new.self _ _ _ c.requires c.tick.ensures.step c.tick.ensures.stopped c.note_losses.ensures.kept)

@@ -1,6 +1,6 @@
 use Rattle.std.proofs.Common.{◌-◌, ℕ, Bool, true, false, List, slice_get, refl, ap, ◌∙◌, subst, arith}
 use Rattle.world_clients.specs.declared.connection_slot.ConnectionSlot.{ConnectionSlot}
-use Rattle.world.specs.Inside.Handing.{MayGatherOn}
+use Rattle.world.specs.Inside.Handing.{GatheringOrLost}
 use Rattle.world_clients.specs.Handing.{StaysQuiet}
 use Rattle.world.specs.World.{WorldState}
 use Rattle.world.proofs.Joined.{goes_on_join, goes_on_rest, goes_on_still}
@@ -25,7 +25,7 @@ pub returns-else-not-gather_on-clause-gathers : goal.returns-else-not-gather_on-
 returns-else-not-gather_on-clause-gathers c =
     gathers_at_one c.args.node c.args.at c.open_at-number.result.0 c.open_at-number.result.1 true c.args.self.now c.gather_on.new.self c.gather_on.new.self c.open_at-number.ensures.number
     c.open_at-number.ensures.slot c.open_at-number.ensures.positive c.open_at-number.ensures.up c.if-slot-node.false c.gather_on.ensures.connections
-    (subst (λ (b : Bool). MayGatherOn c.open_at-number.result.0 c.open_at-number.result.1 c.args.self.now b c.gather_on.new.self) c.if-not-gather_on.false c.gather_on.ensures.gathers)
+    (subst (λ (b : Bool). GatheringOrLost c.open_at-number.result.0 c.open_at-number.result.1 c.args.self.now b c.gather_on.new.self) c.if-not-gather_on.false c.gather_on.ensures.gathers)
     (stays_open c.open_at-number.result.0 c.open_at-number.result.1 c.gather_on.new.self
     (ap (λ (l : List ConnectionSlot). slice_get l (c.open_at-number.result.0 - 1)) c.gather_on.ensures.connections ∙ c.open_at-number.ensures.slot) c.open_at-number.ensures.up)
 
@@ -38,7 +38,7 @@ pub returns-then-not-gather_on-clause-gathers : goal.returns-then-not-gather_on-
 returns-then-not-gather_on-clause-gathers c =
     gathers_at_one c.args.node c.args.at c.open_at-number.result.0 c.open_at-number.result.1 false c.args.self.now c.gather_on.new.self c.close.new.self c.open_at-number.ensures.number
     c.open_at-number.ensures.slot c.open_at-number.ensures.positive c.open_at-number.ensures.up c.if-slot-node.false c.gather_on.ensures.connections
-    (subst (λ (b : Bool). MayGatherOn c.open_at-number.result.0 c.open_at-number.result.1 c.args.self.now b c.gather_on.new.self) c.if-not-gather_on.true c.gather_on.ensures.gathers)
+    (subst (λ (b : Bool). GatheringOrLost c.open_at-number.result.0 c.open_at-number.result.1 c.args.self.now b c.gather_on.new.self) c.if-not-gather_on.true c.gather_on.ensures.gathers)
     c.close.ensures
 
 pub returns-then-slot-node-clause-quiet : goal.returns-then-slot-node-clause-quiet

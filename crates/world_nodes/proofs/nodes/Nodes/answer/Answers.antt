@@ -3,7 +3,7 @@ use Rattle.master.specs.ballot_base.declared.message.Body.TheVariants.{Activate}
 use Rattle.master.specs.agreement.MasterState.{is_granted}
 use Rattle.master.proofs.Groups.{answer_is, turned}
 use Rattle.world_nodes.specs.Nodes.{NodesState}
-use Rattle.world_nodes.specs.Steps.{HearsIn}
+use Rattle.world_nodes.specs.Steps.{MasterAnswerOrLost}
 use Rattle.world_nodes.proofs.MasterCounts.{answers_counting}
 use Rattle.world_nodes.proofs.MasterActs.{answers_ballot, answers_or_loses, master_turn}
 use Rattle.world_nodes.proofs.nodes.Nodes.answer.Goals as goal
@@ -20,7 +20,7 @@ returns-clause-lossy c =
       archive = c.self.inside.archive.items;
       losses = c.self.inside.losses;
     } in
-    subst (λ (n : NodesState). HearsIn c.args.from (Activate c.args.ballot) n (master_turn c.activate-activation.new.self c.send-kept.new.sent.items c.counted-self-inside.result old))
+    subst (λ (n : NodesState). MasterAnswerOrLost c.args.from (Activate c.args.ballot) n (master_turn c.activate-activation.new.self c.send-kept.new.sent.items c.counted-self-inside.result old))
     c.self.view_is
     (answers_ballot old c.args.from c.args.ballot c.activate-activation.new.self c.activation_answer.result c.send-kept.new.sent.items c.send-kept.result c.counted-self-inside.result
     c.activate-activation.ensures.state body c.send-kept.ensures.kept c.send-kept.ensures.lost c.counted-self-inside.ensures)

@@ -2,7 +2,7 @@ use Rattle.std.proofs.Common.{sym, refl, ◌∙◌}
 use Rattle.master.specs.Copying.{has_numbers_alone}
 use Rattle.master.proofs.Quiet.{not_copied}
 use Rattle.world_nodes.specs.Nodes.{NodesState}
-use Rattle.world_nodes.proofs.MasterActs.{asked_in, came_on, came_to_master, comes_exactly, comes_on, comes_or_rests, heard_ballot, heard_or_lost, may_come_on, sent_copy}
+use Rattle.world_nodes.proofs.MasterActs.{asked_in, came_on, came_to_master, comes_exactly, comes_on, delivered_or_lost, heard_ballot, heard_or_lost, may_come_on, sent_copy}
 use Rattle.world_nodes.proofs.Acts.{same_core}
 use Rattle.world_nodes.proofs.Resting.{asked_takes, copied_or, heeded_takes, is_passed, names_sent}
 use Rattle.world_nodes.proofs.nodes.Nodes.deliver.Goals as goal
@@ -44,7 +44,7 @@ act-requires c =
 
 pub returns-in-Some-asks_for-clause-acts : goal.returns-in-Some-asks_for-clause-acts
 returns-in-Some-asks_for-clause-acts c =
-    comes_or_rests _ c.in-Some.field-0.now c.args.self.now c.answer.new.self c.in-Some.ensures.some c.if-receiver-eq0.true
+    delivered_or_lost _ c.in-Some.field-0.now c.args.self.now c.answer.new.self c.in-Some.ensures.some c.if-receiver-eq0.true
     (heard_or_lost c.in-Some-asks_for.ballot c.in-Some.field-0.now.1.body c.args.self.now c.answer.new.self
     (sym c.asks_for.ensures ∙ c.in-Some-asks_for.is) c.answer.ensures.acts)
 
