@@ -3,6 +3,6 @@ pub mod Entries
 pub mod Listed
 pub mod Plain
 pub mod SameDocument
-pub mod SmallNumbers
+pub mod NumbersAtMostMaxNode
 pub mod ValuesRead
 pub mod WordsOfWays

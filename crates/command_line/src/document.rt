@@ -7,7 +7,7 @@ ghost use Rattle.toml.specs.View.{members_view, table_view, view};
 ghost use Rattle.command_line.specs.declared.node_table.ListeningNode.{ListeningNode};
 ghost use Rattle.command_line.specs.declared.node_table.NodeTable.{NodeTable};
 ghost use Rattle.command_line.specs.Tables.{document_of, list_data, node_data, number_value};
-ghost use Rattle.command_line.specs.Inside.Documents.{IsSmall, has_small_id, is_at_most_max_node};
+ghost use Rattle.command_line.specs.Inside.Documents.{NumbersAreAtMostMaxNode, has_id_at_most_max_node, is_at_most_max_node};
 
 use crate::fault::TableFault;
 use crate::node_table::{ListeningNode, NodeTable};
@@ -22,7 +22,7 @@ const MAX_NODE: i64 = ballot_base::MAX_NODE as i64;
 /// Returns the table of nodes in a document, with no number above the greatest of a node.
 pub(crate) fn document_table(alloc: Global, document: &Table) -> Result<NodeTable, TableFault>
     ensures value { IfOk result (λ t. table_view document.now ≡ document_of t) }
-    ensures shape { IsErrOf result TableFault.Shape → (t : NodeTable) → IsSmall t
+    ensures shape { IsErrOf result TableFault.Shape → (t : NodeTable) → NumbersAreAtMostMaxNode t
         → table_view document.now ≡ document_of t → ⊥ }
 {
     let mut entries = document.iter();
@@ -32,7 +32,7 @@ pub(crate) fn document_table(alloc: Global, document: &Table) -> Result<NodeTabl
     if entries.next().is_some() {
         return Err(TableFault::Shape);
     }
-    let primary = small_number(primary).ok_or(TableFault::Shape)?;
+    let primary = number_at_most_max_node(primary).ok_or(TableFault::Shape)?;
     let members = numbers_of(alloc, members)?;
     let nodes = nodes_of(alloc, nodes)?;
     Ok(NodeTable {
@@ -57,7 +57,7 @@ fn next_value<'a>(entries: &mut Iter<'a, String, Value>, key: &str) -> Option<&'
 }
 
 // Returns a number from 0 to the greatest of a node.
-fn small_number(value: &Value) -> Option<u8>
+fn number_at_most_max_node(value: &Value) -> Option<u8>
     ensures some { IfSome result (λ n. view value.now ≡ number_value n) }
     ensures none { IsNone result → (n : ℕ) → is_at_most_max_node n ≡ true →
         view value.now ≡ number_value n → ⊥ }
@@ -80,7 +80,7 @@ fn numbers_of(alloc: Global, value: &Value) -> Result<Members, TableFault>
     let values = value.as_array().ok_or(TableFault::Shape)?;
     let mut numbers = Vec::new(alloc);
     for one in values {
-        let number = small_number(one).ok_or(TableFault::Shape)?;
+        let number = number_at_most_max_node(one).ok_or(TableFault::Shape)?;
         numbers.push(number)?;
     }
     Members::from_slice(alloc, numbers.as_slice())
@@ -92,7 +92,8 @@ fn numbers_of(alloc: Global, value: &Value) -> Result<Members, TableFault>
 fn nodes_of(alloc: Global, value: &Value) -> Result<Vec<ListeningNode>, TableFault>
     ensures value { IfOk result (λ nodes. view value.now ≡ list_data node_data nodes.items) }
     ensures shape { IsErrOf result TableFault.Shape → (nodes : List ListeningNode)
-        → list_all has_small_id nodes ≡ true → view value.now ≡ list_data node_data nodes → ⊥ }
+        → list_all has_id_at_most_max_node nodes ≡ true
+        → view value.now ≡ list_data node_data nodes → ⊥ }
 {
     let values = value.as_array().ok_or(TableFault::Shape)?;
     let mut nodes = Vec::new(alloc);
@@ -106,7 +107,7 @@ fn nodes_of(alloc: Global, value: &Value) -> Result<Vec<ListeningNode>, TableFau
 fn node_of(alloc: Global, value: &Value) -> Result<ListeningNode, TableFault>
     ensures value { IfOk result (λ node. view value.now ≡ node_data node) }
     ensures shape { IsErrOf result TableFault.Shape → (node : ListeningNode)
-        → has_small_id node ≡ true → view value.now ≡ node_data node → ⊥ }
+        → has_id_at_most_max_node node ≡ true → view value.now ≡ node_data node → ⊥ }
 {
     let table = value.as_table().ok_or(TableFault::Shape)?;
     let mut entries = table.iter();
@@ -115,7 +116,7 @@ fn node_of(alloc: Global, value: &Value) -> Result<ListeningNode, TableFault>
     if entries.next().is_some() {
         return Err(TableFault::Shape);
     }
-    let id = small_number(id).ok_or(TableFault::Shape)?;
+    let id = number_at_most_max_node(id).ok_or(TableFault::Shape)?;
     let listen = listen.as_str().ok_or(TableFault::Shape)?;
     Ok(ListeningNode {
         id,

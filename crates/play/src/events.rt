@@ -98,11 +98,11 @@ fn members_from_numbers(alloc: Global, numbers: &[u64]) -> Result<Members, PlayE
     ensures value { IfOk result (λ members. members ≡ numbers.now) }
     ensures memory { OnErr result (IsErrOf result PlayError.Memory) }
 {
-    let mut small: Vec<u8> = Vec::new(alloc);
+    let mut bytes: Vec<u8> = Vec::new(alloc);
     for number in numbers {
-        small.push(*number as u8)?;
+        bytes.push(*number as u8)?;
     }
-    Ok(Members::from_slice(alloc, small.as_slice())?)
+    Ok(Members::from_slice(alloc, bytes.as_slice())?)
 }
 
 // Returns the tick of a node.

@@ -89,14 +89,14 @@ fn are_members(count: u64, members: &[u64]) -> bool
 // Returns the members. Each number is at most the greatest of a node.
 fn members_from_numbers(alloc: Global, members: &[u64]) -> Result<Members, FieldFault>
     requires { list_all is_at_most_max_node members.now ≡ true }
-    ensures value { IfOk result (λ small. small ≡ members.now) }
+    ensures value { IfOk result (λ made. made ≡ members.now) }
     ensures memory { result ≢ Err FieldFault.Form }
 {
-    let mut small: Vec<u8> = Vec::new(alloc);
+    let mut bytes: Vec<u8> = Vec::new(alloc);
     for member in members {
-        small.push(*member as u8)?;
+        bytes.push(*member as u8)?;
     }
-    Members::from_slice(alloc, small.as_slice())
+    Members::from_slice(alloc, bytes.as_slice())
         .ok()
         .ok_or(FieldFault::Memory)
 }

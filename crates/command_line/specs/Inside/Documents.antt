@@ -11,11 +11,11 @@ abbrev pub is_at_most_max_node : ℕ → Bool
 is_at_most_max_node n = nat_le n max_node
 
 -- whether a node's number is such a number
-abbrev pub has_small_id : ListeningNode → Bool
-has_small_id node = is_at_most_max_node node.id
+abbrev pub has_id_at_most_max_node : ListeningNode → Bool
+has_id_at_most_max_node node = is_at_most_max_node node.id
 
--- the numbers are ones that nodes may have
-pub record IsSmall (t : NodeTable) : Type 0 where
+-- no number of a table is above the greatest of a node
+pub record NumbersAreAtMostMaxNode (t : NodeTable) : Type 0 where
   pub members : list_all is_at_most_max_node t.config.members ≡ true
   pub primary : is_at_most_max_node t.config.primary ≡ true
-  pub nodes : list_all has_small_id t.nodes.items ≡ true
+  pub nodes : list_all has_id_at_most_max_node t.nodes.items ≡ true

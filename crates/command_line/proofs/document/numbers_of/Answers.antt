@@ -7,15 +7,15 @@ use Rattle.command_line.proofs.Listed.{is_array, items_said, said_at, said_more}
 use Rattle.command_line.proofs.document.numbers_of.Goals as goal
 
 pub returns-in_err-number-clause-shape : goal.returns-in_err-number-clause-shape
-returns-in_err-number-clause-shape c _ all small same =
+returns-in_err-number-clause-shape c _ all bounded same =
     let got : c.as_array.result ≡ Some c.in_ok-values.values = search rules in
     let is : view c.args.value.now ≡ array (items_view c.in_ok-values.values.now.items) =
     is_array _ _ (rw got at c.as_array.ensures) in
     let listed : view c.args.value.now ≡ array (items_view c.deref-one-items.result.now) =
     rw c.deref-one-items.ensures.value is in
-    let at = said_at number_value is_at_most_max_node c.deref-one-items.result.now all c.loop-one.one-index c.one-item.result c.loop-one-test.true small
+    let at = said_at number_value is_at_most_max_node c.deref-one-items.result.now all c.loop-one.one-index c.one-item.result c.loop-one-test.true bounded
     (items_said number_value c.deref-one-items.result.now c.args.value.now all listed same) in
-    c.small_number.ensures.none (search rules) at.one at.passed (ap view c.one-item.is ∙ at.said)
+    c.number_at_most_max_node.ensures.none (search rules) at.one at.passed (ap view c.one-item.is ∙ at.said)
 
 pub loop-one-preserved : goal.loop-one-preserved
 loop-one-preserved c =

@@ -4,12 +4,12 @@ use Rattle.std.proofs.lemmas.Option.{same_Some}
 use Rattle.toml.specs.View.{table_view}
 use Rattle.command_line.specs.Tables.{document_of, is_lawful_table}
 use Rattle.command_line.proofs.SameDocument.{same_lawful}
-use Rattle.command_line.proofs.SmallNumbers.{lawful_is_small}
+use Rattle.command_line.proofs.NumbersAtMostMaxNode.{lawful_is_at_most}
 use Rattle.command_line.proofs.reading.table.Goals as goal
 
 pub returns-in_err-read-clause-shape : goal.returns-in_err-read-clause-shape
 returns-in_err-read-clause-shape c same t says =
-    c.in_err-read.ensures.shape (search rules) t (lawful_is_small t says.1)
+    c.in_err-read.ensures.shape (search rules) t (lawful_is_at_most t says.1)
     (same_Some (table_view c.in-Ok.document) (document_of t) (sym c.in-Ok.ensures.ok ∙ says.0))
 
 pub returns-clause-shape : goal.returns-clause-shape
