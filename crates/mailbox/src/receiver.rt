@@ -169,7 +169,7 @@ impl<T: Drop, J: Naming> Receiver<T, J> {
         counts.copy_from_slice(self.counts.as_slice());
         for _ in rt.forever() {
             self.drain(rt, left);
-            if self.meets_all(lanes) {
+            if self.has_taken_all(lanes) {
                 return;
             }
         }
@@ -195,7 +195,7 @@ impl<T: Drop, J: Naming> Receiver<T, J> {
     }
 
     // Says whether all that these lanes sent was taken.
-    fn meets_all(&mut self, lanes: &mut [Lane<T, J>]) -> bool
+    fn has_taken_all(&mut self, lanes: &mut [Lane<T, J>]) -> bool
         requires { All (λ s. s.inbox ≡ self.old.inbox) lanes.old }
         ensures all { IsTrue result → All (IsDrained self.old.taken) lanes.new }
         ensures receiver { self.new ≡ self.old }

@@ -53,7 +53,7 @@ impl<'n> Permit<'n> {
     }
 
     /// Returns a permit for the taking of this number, which keeps others from beginning.
-    pub(crate) fn after(taking: u64, is_open: bool, passing: MutexGuard<'n, ()>) -> Permit<'n>
+    pub(crate) fn of_taking(taking: u64, is_open: bool, passing: MutexGuard<'n, ()>) -> Permit<'n>
         ensures { result ≡ record { taking = Some taking; most = 1; is_open = is_open } }
     {
         Permit {

@@ -170,13 +170,13 @@ impl<'g, J: NodeNaming, S: Stated<J>, G: Gate> Node<'g, J, S, G> {
         };
         let passing = self.passing.lock(rt);
         let taking = self.lock(rt).state().next_taking();
-        let is_open = self.ask(rt, gate, taking);
-        Permit::after(taking, is_open, passing)
+        let is_open = self.await_gate(rt, gate, taking);
+        Permit::of_taking(taking, is_open, passing)
     }
 
     // Waits until the gate opens for a taking, but not for ever. Returns what it answered last: a
     // taking for which it did not open is counted.
-    fn ask<R: Wait + Clock>(&self, rt: &R, gate: &G, taking: u64) -> bool
+    fn await_gate<R: Wait + Clock>(&self, rt: &R, gate: &G, taking: u64) -> bool
         ensures { WasAsked G.answers self.now.number taking result }
     {
         for _ in 1..GATE_ASKS {

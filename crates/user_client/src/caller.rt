@@ -129,11 +129,11 @@ impl Caller {
         ensures lost { IfErr result (IsLostBy self.old self.new) }
     {
         let was_connected = self.core.is_connected();
-        let goes_on = goes_on(self.core.on_bytes(piece))?;
+        let is_open = stays_open(self.core.on_bytes(piece))?;
         self.check_first_session()?;
         let is_connected = self.core.is_connected();
         self.was_accepted = self.was_accepted || is_connected;
-        Ok(news_of(goes_on, was_connected, is_connected))
+        Ok(news_of(is_open, was_connected, is_connected))
     }
 
     // Checks that before the first accepted connection the server has no session of the client.
@@ -150,7 +150,7 @@ impl Caller {
 
 // Says whether the connection stays open after this answer to a piece. A lost session is a fault,
 // and it is a fault too if memory ran out.
-fn goes_on(heard: Result<(), ClientError>) -> Result<bool, UserClientError>
+fn stays_open(heard: Result<(), ClientError>) -> Result<bool, UserClientError>
     ensures ok { OnOk result (heard ≢ Err errors.SessionLost) }
     ensures open { IfOk result (λ is_open. is_open ≡ is_ok heard) }
     ensures lost { IfErr result (λ fault.
@@ -166,10 +166,10 @@ fn goes_on(heard: Result<(), ClientError>) -> Result<bool, UserClientError>
 
 // Returns what came, by whether the server had accepted the connection before, and whether it has
 // now.
-fn news_of(goes_on: bool, was_connected: bool, is_connected: bool) -> News
-    ensures { result ≡ news_of goes_on was_connected is_connected }
+fn news_of(is_open: bool, was_connected: bool, is_connected: bool) -> News
+    ensures { result ≡ news_of is_open was_connected is_connected }
 {
-    if !goes_on {
+    if !is_open {
         News::Lost
     } else if !is_connected {
         News::Waits

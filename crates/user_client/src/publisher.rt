@@ -97,15 +97,15 @@ impl Publisher {
             let Some(stream) = next_stream(servers, opened) else {
                 continue;
             };
-            if self.visit(stream)? {
+            if self.publish_over(stream)? {
                 return Ok(());
             }
         }
         Err(UserClientError::Lost)
     }
 
-    // Uses one connection. Returns whether the publication was acknowledged, or written.
-    fn visit<D: Read + Write + Drop>(&mut self, stream: D) -> Result<bool, UserClientError>
+    // Publishes over one connection. Returns whether the publication was acknowledged, or written.
+    fn publish_over<D: Read + Write + Drop>(&mut self, stream: D) -> Result<bool, UserClientError>
         ensures acknowledged { IfOk result (λ done.
             done ≡ true → IsAcknowledged D.contents self.new) }
         ensures trace { OnOk result (Trace self.old.caller [] self.new.caller) }
@@ -142,11 +142,11 @@ impl Publisher {
         ensures lost { IfErr result (IsLostBy self.old.caller self.new.caller) }
     {
         let news = exchange(self.alloc, stream, buffer, &mut self.caller)?;
-        self.go_on(news, stream)
+        self.continue_by_news(news, stream)
     }
 
     // Continues by what came on a connection.
-    fn go_on<D: Read + Write>(
+    fn continue_by_news<D: Read + Write>(
         &mut self,
         news: News,
         stream: &mut Counted<D>,
@@ -159,11 +159,11 @@ impl Publisher {
         ensures lost { IfErr result (λ fault. fault ≢ UserClientError.Lost) }
     {
         match &self.once {
-            None => Ok(kept_on(news, &self.caller)),
+            None => Ok(progress_of_kept(news, &self.caller)),
             Some(publish) if news == News::Accepted => {
                 send_once(self.alloc, publish, stream, &mut self.caller)
             }
-            Some(_) => Ok(after(news)),
+            Some(_) => Ok(unfinished_progress(news)),
         }
     }
 }
@@ -185,13 +185,15 @@ fn publisher_of(
         (RefusesPacket (first_publish id (publication_with retain qos topic payload))) }
 {
     match qos {
-        QoS::AtMostOnce => unkept(alloc, id, topic, qos, retain, payload),
-        QoS::AtLeastOnce | QoS::ExactlyOnce => kept(alloc, id, topic, qos, retain, payload),
+        QoS::AtMostOnce => unanswered_publisher(alloc, id, topic, qos, retain, payload),
+        QoS::AtLeastOnce | QoS::ExactlyOnce => answered_publisher(
+            alloc, id, topic, qos, retain, payload,
+        ),
     }
 }
 
 // Returns a publisher at QoS 0: it has its publication itself.
-fn unkept(
+fn unanswered_publisher(
     alloc: Global,
     id: ClientId,
     topic: TopicName,
@@ -207,7 +209,7 @@ fn unkept(
     ensures err { IfErr result
         (RefusesPacket (first_publish id (publication_with retain qos topic payload))) }
 {
-    let publish = unanswered(topic, retain, payload)?;
+    let publish = unanswered_publish(topic, retain, payload)?;
     let caller = Caller::new(alloc, id);
     Ok(Publisher {
         alloc,
@@ -217,7 +219,7 @@ fn unkept(
 }
 
 // Returns a publisher at QoS 1 or 2: its client keeps its publication.
-fn kept(
+fn answered_publisher(
     alloc: Global,
     id: ClientId,
     topic: TopicName,
@@ -243,13 +245,13 @@ fn kept(
 }
 
 // Returns the progress of a publication that the client keeps.
-fn kept_on(news: News, caller: &Caller) -> Progress
+fn progress_of_kept(news: News, caller: &Caller) -> Progress
     ensures { result ≡ Progress.Done → kept_count caller.now.core.state ≡ 0 }
 {
     if caller.core.kept() == 0 {
         Progress::Done
     } else {
-        after(news)
+        unfinished_progress(news)
     }
 }
 
@@ -270,11 +272,11 @@ fn send_once<D: Read + Write>(
     let payload = publish.payload.clone()?;
     caller.publish(topic, QoS::AtMostOnce, publish.retain, payload)?;
     let is_whole = send(alloc, stream, caller)?;
-    Ok(written(is_whole))
+    Ok(progress_of_written(is_whole))
 }
 
 // Returns the progress of a publication at QoS 0 after it was written, or not.
-fn written(is_whole: bool) -> Progress
+fn progress_of_written(is_whole: bool) -> Progress
     ensures { result ≡ Progress.Done → is_whole ≡ true }
 {
     if is_whole {
@@ -285,7 +287,7 @@ fn written(is_whole: bool) -> Progress
 }
 
 // Returns the progress of a publisher whose publication is not done.
-fn after(news: News) -> Progress
+fn unfinished_progress(news: News) -> Progress
     ensures { result ≢ Progress.Done }
 {
     if news == News::Lost {
@@ -296,7 +298,11 @@ fn after(news: News) -> Progress
 }
 
 // Returns a publication at QoS 0. It is refused if its packet would be too large.
-fn unanswered(topic: TopicName, retain: bool, payload: Payload) -> Result<Publish, UserClientError>
+fn unanswered_publish(
+    topic: TopicName,
+    retain: bool,
+    payload: Payload,
+) -> Result<Publish, UserClientError>
     ensures made { IfOk result (λ publish. publish ≡
         unkept (publication_with retain qualities.AtMostOnce topic payload)) }
     ensures fits { OnOk result (is_over_limit (packets.Publish

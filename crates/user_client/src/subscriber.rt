@@ -95,15 +95,15 @@ impl Subscriber {
             let Some(stream) = next_stream(servers, opened) else {
                 continue;
             };
-            if self.visit(stream, output)? {
+            if self.print_over(stream, output)? {
                 return Ok(());
             }
         }
         Err(UserClientError::Lost)
     }
 
-    // Uses one connection. Returns whether everything was printed.
-    fn visit<D: Read + Write + Drop, W: Write>(
+    // Prints over one connection. Returns whether everything was printed.
+    fn print_over<D: Read + Write + Drop, W: Write>(
         &mut self,
         stream: D,
         output: &mut W,
@@ -141,27 +141,31 @@ impl Subscriber {
         ensures lost { IfErr result (IsLostBy self.old.caller self.new.caller) }
     {
         let news = exchange(self.alloc, stream, buffer, &mut self.caller)?;
-        self.go_on(news, output)?;
+        self.subscribe_and_print(news, output)?;
         Ok(news == News::Lost)
     }
 
     // Subscribes to the filter on a new connection, and prints what was accepted.
-    fn go_on<W: Write>(&mut self, news: News, output: &mut W) -> Result<(), UserClientError>
+    fn subscribe_and_print<W: Write>(
+        &mut self,
+        news: News,
+        output: &mut W,
+    ) -> Result<(), UserClientError>
         ensures printed { OnOk result
             (PrintsAccepted self.old (W.contents output.old) self.new (W.contents output.new)) }
         ensures lost { IfErr result (λ fault. fault ≢ UserClientError.Lost) }
     {
-        self.ask(news)?;
+        self.subscribe_if_accepted(news)?;
         self.print_accepted(output)
     }
 
     // Subscribes to the filter if a connection was accepted: until something is printed, the
     // subscription may have been lost with the connection before.
-    fn ask(&mut self, news: News) -> Result<(), UserClientError>
+    fn subscribe_if_accepted(&mut self, news: News) -> Result<(), UserClientError>
         ensures asked { OnOk result (PrintsNothing self.old self.new) }
         ensures lost { IfErr result (λ fault. fault ≢ UserClientError.Lost) }
     {
-        if !is_to_ask(news, self.left, self.count) {
+        if !is_to_subscribe(news, self.left, self.count) {
             return Ok(());
         }
         self.caller.subscribe(&self.filter, self.qos)
@@ -180,7 +184,7 @@ impl Subscriber {
 }
 
 // Says whether the client is to subscribe again.
-fn is_to_ask(news: News, left: u32, count: u32) -> bool {
+fn is_to_subscribe(news: News, left: u32, count: u32) -> bool {
     news == News::Accepted && left == count
 }
 

@@ -9,4 +9,4 @@ pub returns-clause-taken : goal.returns-clause-taken
 returns-clause-taken g c =
     λ done. taken_once g.D.Write.contents c.args.stream.now.device c.send.new.stream.device c.args.publish.now
     c.args.caller.now c.publish.new.self c.in_ok-topic.topic c.in_ok-payload.payload c.in_ok-topic.ensures.cases c.in_ok-payload.ensures.cases
-    c.in_ok-publish.ensures.asked (c.in_ok-is_whole.ensures.written (c.written.ensures done))
+    c.in_ok-publish.ensures.asked (c.in_ok-is_whole.ensures.written (c.progress_of_written.ensures done))

@@ -4,14 +4,14 @@ use Rattle.mailbox.specs.Delivery.{items_of_lane}
 use Rattle.mailbox.proofs.RestIsTaken.{of_all_lanes, still_all_lanes, all_arrives}
 use Rattle.mailbox.proofs.receiver.Receiver.take_rest.Goals as goal
 
-pub meets_all-requires : goal.meets_all-requires
-meets_all-requires g c =
+pub has_taken_all-requires : goal.has_taken_all-requires
+has_taken_all-requires g c =
     of_all_lanes (λ s. s.inbox ≡ c.drain.new.self.inbox) c.args.self.now c.loop.lanes
     (still_all_lanes c.args.self.now _ c.args.lanes.now c.loop.invariant.lanes c.requires.lanes)
     (λ k within. sym (ap (λ r. r.inbox) c.drain.ensures.history ∙ ap (λ r. r.inbox) c.loop.invariant.receiver))
 
-pub returns-then-meets_all-clause-whole : goal.returns-then-meets_all-clause-whole
-returns-then-meets_all-clause-whole g c =
+pub returns-then-has_taken_all-clause-whole : goal.returns-then-has_taken_all-clause-whole
+returns-then-has_taken_all-clause-whole g c =
     let drained = c.drain.ensures in
     let lanes = ap (λ r. r.lanes) c.self.view_is in
     let taken = ap (λ r. r.taken) c.self.view_is in
@@ -25,5 +25,5 @@ returns-then-meets_all-clause-whole g c =
     ap (λ l. slice_index l k) (c.copy_from_slice.ensures.after ∙ c.as_slice.ensures.value)
     ∙ c.self.invariant.counted k place
     ∙ ap (λ l. length (items_of_lane k l)) taken)
-    (still_all_lanes c.args.self.now _ c.args.lanes.now (c.meets_all.ensures.lanes ∙ c.loop.invariant.lanes) c.requires.lanes)
-    (c.if-meets_all.ensures.all refl)
+    (still_all_lanes c.args.self.now _ c.args.lanes.now (c.has_taken_all.ensures.lanes ∙ c.loop.invariant.lanes) c.requires.lanes)
+    (c.if-has_taken_all.ensures.all refl)

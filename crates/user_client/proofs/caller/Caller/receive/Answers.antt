@@ -17,13 +17,13 @@ returns-clause-trace c =
       | else-self w ↦ w.self-is ∙ c.is_connected-is_connected.ensures ∙ sym (ap (λ (was : Bool). was || online) w.if-self.false)
     ] in
     heard c.self.inside.core c.self.inside.was_accepted c.if-self.self c.args.piece.now c.on_bytes.result c.on_bytes.new.self
-    c.self.view_is c.on_bytes.ensures c.in_ok-goes_on.ensures.ok c.in_ok-check_first_session.ensures.ok now
+    c.self.view_is c.on_bytes.ensures c.in_ok-is_open.ensures.ok c.in_ok-check_first_session.ensures.ok now
 
-pub returns-in_err-goes_on-clause-lost : goal.returns-in_err-goes_on-clause-lost
-returns-in_err-goes_on-clause-lost c =
-    let fault = c.in_err-goes_on.field-0.0 in
+pub returns-in_err-is_open-clause-lost : goal.returns-in_err-is_open-clause-lost
+returns-in_err-is_open-clause-lost c =
+    let fault = c.in_err-is_open.field-0.0 in
     told c.from_residual.result (λ (it : UserClientError). it ≡ fault)
     (IsLostBy c.args.self.now (parts c.on_bytes.new.self c.self.inside.was_accepted)) c.from_residual.ensures.1
     (λ (it : UserClientError) is. λ (lost : it ≡ faults.Lost). lost_here c.self.inside.core c.self.inside.was_accepted
     c.args.piece.now c.on_bytes.result c.on_bytes.new.self c.self.view_is c.on_bytes.ensures
-    (c.in_err-goes_on.ensures.lost (sym is ∙ lost)))
+    (c.in_err-is_open.ensures.lost (sym is ∙ lost)))

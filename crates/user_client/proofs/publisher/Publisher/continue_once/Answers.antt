@@ -6,5 +6,5 @@ use Rattle.user_client.proofs.publisher.Publisher.continue_once.Goals as goal
 
 pub returns-clause-trace : goal.returns-clause-trace
 returns-clause-trace g c =
-    subst (λ (s : Publishing). OnOk c.go_on.result (Trace s.caller [] c.go_on.new.self.caller)) c.self.view_is
-    (traces_follow_ok c.go_on.new.self.caller [] c.go_on.result c.in_ok-news.ensures.trace c.go_on.ensures.trace)
+    subst (λ (s : Publishing). OnOk c.continue_by_news.result (Trace s.caller [] c.continue_by_news.new.self.caller)) c.self.view_is
+    (traces_follow_ok c.continue_by_news.new.self.caller [] c.continue_by_news.result c.in_ok-news.ensures.trace c.continue_by_news.ensures.trace)

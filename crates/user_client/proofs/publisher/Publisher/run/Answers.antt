@@ -9,13 +9,13 @@ pub loop-opened-init : goal.loop-opened-init
 loop-opened-init g c = (Trace.starts, refl, AsksForConnections.none)
 
 pub returns-then-branch-clause-trace : goal.returns-then-branch-clause-trace
-returns-then-branch-clause-trace g c = traces_follow c.loop-opened.invariant.0 c.in_ok-visit.ensures.trace
+returns-then-branch-clause-trace g c = traces_follow c.loop-opened.invariant.0 c.in_ok-publish_over.ensures.trace
 
-pub returns-in_err-visit-clause-lost : goal.returns-in_err-visit-clause-lost
-returns-in_err-visit-clause-lost g c =
+pub returns-in_err-publish_over-clause-lost : goal.returns-in_err-publish_over-clause-lost
+returns-in_err-publish_over-clause-lost g c =
     gives_up_later g.S.Servers.opens g.S.Servers.pauses c.args.tries c.args.servers.now c.next_stream.new.servers
-    c.visit.new.self.caller c.from_residual.result c.in_err-visit.field-0.0 c.from_residual.ensures.1
-    c.loop-opened.invariant.0 c.in_err-visit.ensures.lost
+    c.publish_over.new.self.caller c.from_residual.result c.in_err-publish_over.field-0.0 c.from_residual.ensures.1
+    c.loop-opened.invariant.0 c.in_err-publish_over.ensures.lost
 
 pub returns-clause-lost : goal.returns-clause-lost
 returns-clause-lost g c =
@@ -25,8 +25,8 @@ returns-clause-lost g c =
 
 pub loop-opened-preserved : goal.loop-opened-preserved
 loop-opened-preserved g c = (
-  traces_follow c.loop-opened.invariant.0 c.in_ok-visit.ensures.trace,
-  c.in_ok-visit.ensures.same ∙ c.loop-opened.invariant.1,
+  traces_follow c.loop-opened.invariant.0 c.in_ok-publish_over.ensures.trace,
+  c.in_ok-publish_over.ensures.same ∙ c.loop-opened.invariant.1,
   AsksForConnections.more c.next_stream.new.servers c.loop-opened.invariant.2 c.next_stream.ensures,
 )
 

@@ -17,14 +17,14 @@ loop-opened-init g c =
 pub returns-then-branch-clause-printed : goal.returns-then-branch-clause-printed
 returns-then-branch-clause-printed g c =
     hears_join (g.W.Write.contents c.args.output.now) (g.W.Write.contents c.loop-opened.output)
-    (g.W.Write.contents c.visit.new.output) (listening_anew c.args.self.now) c.loop-opened.self c.visit.new.self
-    c.loop-opened.invariant.hears c.in_ok-visit.ensures.printed
+    (g.W.Write.contents c.print_over.new.output) (listening_anew c.args.self.now) c.loop-opened.self c.print_over.new.self
+    c.loop-opened.invariant.hears c.in_ok-print_over.ensures.printed
 
-pub returns-in_err-visit-clause-lost : goal.returns-in_err-visit-clause-lost
-returns-in_err-visit-clause-lost g c =
+pub returns-in_err-print_over-clause-lost : goal.returns-in_err-print_over-clause-lost
+returns-in_err-print_over-clause-lost g c =
     gives_up_later g.S.Servers.opens g.S.Servers.pauses c.args.tries c.args.servers.now c.next_stream.new.servers
-    c.visit.new.self.caller c.from_residual.result c.in_err-visit.field-0.0 c.from_residual.ensures.1
-    c.loop-opened.invariant.hears.1 c.in_err-visit.ensures.lost
+    c.print_over.new.self.caller c.from_residual.result c.in_err-print_over.field-0.0 c.from_residual.ensures.1
+    c.loop-opened.invariant.hears.1 c.in_err-print_over.ensures.lost
 
 pub returns-clause-lost : goal.returns-clause-lost
 returns-clause-lost g c =
@@ -35,8 +35,8 @@ returns-clause-lost g c =
 pub loop-opened-preserved : goal.loop-opened-preserved
 loop-opened-preserved g c = record {
   hears = hears_join (g.W.Write.contents c.args.output.now) (g.W.Write.contents c.loop-opened.output)
-      (g.W.Write.contents c.visit.new.output) (listening_anew c.args.self.now) c.loop-opened.self c.visit.new.self
-      c.loop-opened.invariant.hears c.in_ok-visit.ensures.printed;
+      (g.W.Write.contents c.print_over.new.output) (listening_anew c.args.self.now) c.loop-opened.self c.print_over.new.self
+      c.loop-opened.invariant.hears c.in_ok-print_over.ensures.printed;
   asks = AsksForConnections.more c.next_stream.new.servers c.loop-opened.invariant.asks c.next_stream.ensures;
 }
 

@@ -1,5 +1,5 @@
 use Rattle.user_client.specs.Tracing.{Trace}
-use Rattle.user_client.proofs.publisher.Publisher.go_on.Goals as goal
+use Rattle.user_client.proofs.publisher.Publisher.continue_by_news.Goals as goal
 
 pub returns-in-None-clause-trace : goal.returns-in-None-clause-trace
 returns-in-None-clause-trace g c = Trace.starts

@@ -1,6 +1,6 @@
 use Rattle.std.proofs.Common.{◌≡◌, []}
 use Rattle.user_client.specs.Tracing.{Trace}
-use Rattle.user_client.proofs.publisher.Publisher.visit.Given as goal
+use Rattle.user_client.proofs.publisher.Publisher.publish_over.Given as goal
 
 abbrev pub invariant-loop : goal.invariant-loop
 invariant-loop g l = Trace l.fn.self.caller [] l.self.caller × (l.self.once ≡ l.fn.self.once)

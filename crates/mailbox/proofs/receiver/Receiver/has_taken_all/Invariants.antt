@@ -2,7 +2,7 @@ use Rattle.std.proofs.Common.{◌≡◌, map}
 use Rattle.std.specs.List.{AllWithin}
 use Rattle.mailbox.specs.Ends.{unmet}
 use Rattle.mailbox.specs.Kept.{IsDrained}
-use Rattle.mailbox.proofs.receiver.Receiver.meets_all.Given as goal
+use Rattle.mailbox.proofs.receiver.Receiver.has_taken_all.Given as goal
 
 abbrev pub invariant-loop-lane : goal.invariant-loop-lane
 invariant-loop-lane g l = record {

@@ -2,7 +2,7 @@ use Rattle.std.proofs.Common.{◌∙◌}
 use Rattle.user_client.proofs.TracesJoin.{traces_follow}
 use Rattle.user_client.proofs.LossFollows.{passed_later}
 use Rattle.user_client.proofs.Acknowledged.{stays_acknowledged, left_trace}
-use Rattle.user_client.proofs.publisher.Publisher.visit.Goals as goal
+use Rattle.user_client.proofs.publisher.Publisher.publish_over.Goals as goal
 
 pub returns-in-Lost-clause-trace : goal.returns-in-Lost-clause-trace
 returns-in-Lost-clause-trace g c = traces_follow c.loop.invariant.0 c.in_ok-continue_once.ensures.trace

@@ -1,5 +1,5 @@
 use Rattle.user_client.specs.Listening.{PrintsAccepted}
-use Rattle.user_client.proofs.subscriber.Subscriber.visit.Given as goal
+use Rattle.user_client.proofs.subscriber.Subscriber.print_over.Given as goal
 
 abbrev pub invariant-loop : goal.invariant-loop
 invariant-loop g l = PrintsAccepted l.fn.self (g.W.Write.contents l.fn.output) l.self (g.W.Write.contents l.output)

@@ -5,7 +5,7 @@ use Rattle.std.proofs.Math.Seq.{map-set_same}
 use Rattle.mailbox.specs.Ends.{unmet}
 use Rattle.mailbox.specs.Kept.{IsDrained}
 use Rattle.mailbox.proofs.RestIsTaken.{all_like, met_all}
-use Rattle.mailbox.proofs.receiver.Receiver.meets_all.Goals as goal
+use Rattle.mailbox.proofs.receiver.Receiver.has_taken_all.Goals as goal
 
 pub meet-requires : goal.meet-requires
 meet-requires g c =

@@ -5,7 +5,7 @@ use Rattle.user_client.specs.Refusals.{RefusesPacket, first_publish}
 use Rattle.user_client.proofs.RefusedCalls.{told}
 use Rattle.user_client.proofs.FirstPublication.{has_kept}
 use Rattle.user_client.proofs.RefusedFirst.{fits_first, refuses_first}
-use Rattle.user_client.proofs.publisher.kept.Goals as goal
+use Rattle.user_client.proofs.publisher.answered_publisher.Goals as goal
 
 pub returns-clause-made : goal.returns-clause-made
 returns-clause-made c =

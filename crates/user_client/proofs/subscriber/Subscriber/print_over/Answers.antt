@@ -1,6 +1,6 @@
 use Rattle.user_client.proofs.LossFollows.{passed_later}
 use Rattle.user_client.proofs.PrintsJoin.{made_of, asks_made, asks_hears, hears_asks, hears_join, hears_none}
-use Rattle.user_client.proofs.subscriber.Subscriber.visit.Goals as goal
+use Rattle.user_client.proofs.subscriber.Subscriber.print_over.Goals as goal
 
 pub loop-init : goal.loop-init
 loop-init g c =

@@ -7,7 +7,7 @@ use Rattle.user_client.specs.Refusals.{RefusesPacket, first_publish}
 use Rattle.user_client.proofs.RefusedCalls.{told}
 use Rattle.user_client.proofs.FirstPublication.{has_unkept}
 use Rattle.user_client.proofs.RefusedFirst.{first_unkept}
-use Rattle.user_client.proofs.publisher.unkept.Goals as goal
+use Rattle.user_client.proofs.publisher.unanswered_publisher.Goals as goal
 
 pub returns-clause-made : goal.returns-clause-made
 returns-clause-made c =
