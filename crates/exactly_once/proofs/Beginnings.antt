@@ -1,13 +1,13 @@
 -- A story that begins in the middle of a list, when the client has no session, is sound.
 use Rattle.std.proofs.Common.{◌≡◌, ℕ, suc, Bool, true, false, if◌then◌else◌, List, [], ◌∷◌, ◌++◌, Option, Some, None, refl, sym, ◌∙◌, ap, ap₂, subst, inl, length}
-use Rattle.client_base.specs.packet.declared.packet.Packet.TheVariants as packets
-use Rattle.client_base.specs.lists.Lists.{has_id, IsDistinct, Each}
-use Rattle.broker_base.specs.broker_spec.Connection.{ConnectionName}
-use Rattle.broker_base.specs.broker_spec.Place.{Client, Past, Limits}
-use Rattle.broker_base.specs.broker_spec.Past.{current_connection, session_of}
-use Rattle.broker_base.specs.broker_spec.Received.{is_new}
-use Rattle.broker_base.specs.broker_spec.declared.command.Command.{Command}
-use Rattle.broker_base.specs.broker_spec.declared.command.Command.TheVariants as commands
+use Rattle.packet.specs.declared.packet.Packet.TheVariants as packets
+use Rattle.lists.specs.Lists.{has_id, IsDistinct, Each}
+use Rattle.broker_spec.specs.Connection.{ConnectionName}
+use Rattle.broker_spec.specs.Place.{Client, Past, Limits}
+use Rattle.broker_spec.specs.Past.{current_connection, session_of}
+use Rattle.broker_spec.specs.Received.{is_new}
+use Rattle.broker_spec.specs.declared.command.Command.{Command}
+use Rattle.broker_spec.specs.declared.command.Command.TheVariants as commands
 use Rattle.broker_base.proofs.QuietPasts.{no_connection}
 use Rattle.exactly_once.specs.Items.{SenderItem, busy, has_released}
 use Rattle.exactly_once.specs.Handshake.{Backward}
@@ -21,7 +21,7 @@ use Rattle.exactly_once.specs.Inside.AsSubscriber.{items_of_entries, as_subscrib
 use Rattle.exactly_once.specs.Inside.Shape.{AreNumberedFrom, HasShape, IsSoundStory, LastIsCurrent, NewestIsServed}
 use Rattle.exactly_once.proofs.places.Sessions.{received_outside}
 use Rattle.exactly_once.proofs.subscribing.places.Quiet.{no_entries}
-use Rattle.client_base.specs.session_base.declared.publication.Publication.{Publication}
+use Rattle.session_base.specs.declared.publication.Publication.{Publication}
 
 -- the story
 abbrev pub begun : Past → Client → List Own → List Own → Story

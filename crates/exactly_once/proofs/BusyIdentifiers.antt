@@ -1,10 +1,10 @@
 -- Identifiers of items: which are busy, sent and released.
 use Rattle.std.proofs.Common.{◌≡◌, ℕ, true, false, ◌==◌, List, [], ◌∷◌, ◌++◌, refl, ap, sym, subst, inl, inr, ◌⊎◌}
 use Rattle.std.proofs.lemmas.Bool.{or_cases, both_ways, cases_Bool}
-use Rattle.client_base.specs.lists.Lists.{has_id, IsDistinct}
+use Rattle.lists.specs.Lists.{has_id, IsDistinct}
 use Rattle.exactly_once.specs.Items.{SenderItem, busy, sent, has_sent, has_released}
-use Rattle.client_base.proofs.of_lists.Tests.{or_then, none_or, or_right, eq_is, eq_turn}
-use Rattle.client_base.proofs.of_lists.Identifiers.{other_id}
+use Rattle.lists.proofs.Tests.{or_then, none_or, or_right, eq_is, eq_turn}
+use Rattle.lists.proofs.Identifiers.{other_id}
 
 pub busy_append : {V : Type 0} (xs ys : List (SenderItem V)) → busy (xs ++ ys) ≡ busy xs ++ busy ys
 busy_append [] ys = refl

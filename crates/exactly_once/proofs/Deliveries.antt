@@ -2,18 +2,18 @@
 use Rattle.std.proofs.Common.{◌≡◌, ℕ, Bool, true, false, ◌==◌, if◌then◌else◌, List, [], ◌∷◌, ◌++◌, length, take, drop, Option, Some, None, refl, ap, ap₂, ◌∙◌}
 use Rattle.std.proofs.lemmas.List.{append-nil}
 use Rattle.std.specs.Prelude.{flat_map}
-use Rattle.client_base.specs.session_base.declared.publication.Publication.{Publication}
-use Rattle.client_base.specs.session_base.Publication.{is_answered}
-use Rattle.broker_base.specs.broker_spec.Connection.{ConnectionName, same_connection}
-use Rattle.broker_base.specs.broker_spec.Place.{Client, Place, Past, Limits}
-use Rattle.broker_base.specs.broker_spec.Past.{any_connection, current_connection}
-use Rattle.broker_base.specs.broker_spec.Entries.{Entry, copies_at}
-use Rattle.broker_base.specs.broker_spec.Readings.{made_at}
-use Rattle.broker_base.specs.broker_spec.Times.{entries_of}
-use Rattle.broker_base.specs.broker_spec.Sends.{publish_output, first_output, all_started, copy_outputs, handed_to, deliveries_to}
-use Rattle.broker_base.specs.broker_spec.declared.command.Output.{Output}
-use Rattle.broker_base.specs.broker_spec.declared.command.Output.TheVariants.{Send, Close}
-use Rattle.client_base.specs.lists.Lists.{Each}
+use Rattle.session_base.specs.declared.publication.Publication.{Publication}
+use Rattle.session_base.specs.Publication.{is_answered}
+use Rattle.broker_spec.specs.Connection.{ConnectionName, same_connection}
+use Rattle.broker_spec.specs.Place.{Client, Place, Past, Limits}
+use Rattle.broker_spec.specs.Past.{any_connection, current_connection}
+use Rattle.broker_spec.specs.Entries.{Entry, copies_at}
+use Rattle.broker_spec.specs.Readings.{made_at}
+use Rattle.broker_spec.specs.Times.{entries_of}
+use Rattle.broker_spec.specs.Sends.{publish_output, first_output, all_started, copy_outputs, handed_to, deliveries_to}
+use Rattle.broker_spec.specs.declared.command.Output.{Output}
+use Rattle.broker_spec.specs.declared.command.Output.TheVariants.{Send, Close}
+use Rattle.lists.specs.Lists.{Each}
 use Rattle.exactly_once.specs.Sends.{sends_to}
 
 pub sends_append : (x : ConnectionName) (xs ys : List Output) → sends_to x (xs ++ ys) ≡ sends_to x xs ++ sends_to x ys

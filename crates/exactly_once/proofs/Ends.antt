@@ -2,12 +2,12 @@
 use Rattle.std.proofs.Common.{◌≡◌, ℕ, Bool, true, false, if◌then◌else◌, List, [], ◌∷◌, ◌++◌, map, refl, ap, ap₂, sym, ◌∙◌, subst}
 use Rattle.std.proofs.lemmas.List.{map-append}
 use Rattle.std.proofs.lemmas.Bool.{both_ways}
-use Rattle.client_base.specs.session_base.declared.publication.Publication.{Publication}
-use Rattle.broker_base.specs.broker_spec.Place.{Limits}
-use Rattle.broker_base.specs.broker_spec.Entries.{Entry}
-use Rattle.broker_base.specs.broker_spec.Readings.{publication_in}
-use Rattle.broker_base.specs.broker_spec.Times.{entries_of}
-use Rattle.client_base.specs.lists.Lists.{Each, IsPrefixOf}
+use Rattle.session_base.specs.declared.publication.Publication.{Publication}
+use Rattle.broker_spec.specs.Place.{Limits}
+use Rattle.broker_spec.specs.Entries.{Entry}
+use Rattle.broker_spec.specs.Readings.{publication_in}
+use Rattle.broker_spec.specs.Times.{entries_of}
+use Rattle.lists.specs.Lists.{Each, IsPrefixOf}
 use Rattle.exactly_once.specs.Items.{SenderItem, value_of}
 use Rattle.exactly_once.specs.Exact.{is_pubrec_received}
 use Rattle.exactly_once.specs.Handshake.{Handshake}

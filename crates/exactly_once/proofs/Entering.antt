@@ -1,21 +1,21 @@
 -- A publication enters at the place where it is taken: a law of the broker, said about a client's
 -- story.
 use Rattle.std.proofs.Common.{◌≡◌, ◌∷◌, if◌then◌else◌, length, map, filter, subst, sym, ap₂}
-use Rattle.client_base.specs.packet.declared.packet.Packet.TheVariants as packets
-use Rattle.client_base.specs.session_base.Publication.{publication_of}
-use Rattle.broker_base.specs.broker_spec.declared.command.Command.{Command}
-use Rattle.broker_base.specs.broker_spec.declared.command.Command.TheVariants as commands
-use Rattle.broker_base.specs.broker_spec.Marks.{is_queued_at}
-use Rattle.broker_base.specs.broker_spec.OriginLaws.{is_from_publish}
-use Rattle.broker_base.specs.broker_spec.Place.{Client, Limits, Mark, Past, Place}
-use Rattle.broker_base.specs.broker_spec.Connection.{ConnectionName}
-use Rattle.broker_base.specs.broker_spec.Readings.{publication_in}
-use Rattle.broker_base.specs.broker_spec.TakenLaws.{queued_at}
-use Rattle.client_base.specs.packet.declared.publish.Publish.{Publish}
-use Rattle.broker_base.proofs.of_broker_spec.EntersAsPublished.{enters_as_published}
-use Rattle.broker_base.specs.broker_spec.Subscriptions.{effective_qos}
-use Rattle.broker_base.specs.broker_spec.Times.{entries_of}
-use Rattle.broker_base.proofs.of_broker_spec.PublicationEnters.{publication_enters}
+use Rattle.packet.specs.declared.packet.Packet.TheVariants as packets
+use Rattle.session_base.specs.Publication.{publication_of}
+use Rattle.broker_spec.specs.declared.command.Command.{Command}
+use Rattle.broker_spec.specs.declared.command.Command.TheVariants as commands
+use Rattle.broker_spec.specs.Marks.{is_queued_at}
+use Rattle.broker_spec.specs.OriginLaws.{is_from_publish}
+use Rattle.broker_spec.specs.Place.{Client, Limits, Mark, Past, Place}
+use Rattle.broker_spec.specs.Connection.{ConnectionName}
+use Rattle.broker_spec.specs.Readings.{publication_in}
+use Rattle.broker_spec.specs.TakenLaws.{queued_at}
+use Rattle.packet.specs.declared.publish.Publish.{Publish}
+use Rattle.broker_spec.proofs.EntersAsPublished.{enters_as_published}
+use Rattle.broker_spec.specs.Subscriptions.{effective_qos}
+use Rattle.broker_spec.specs.Times.{entries_of}
+use Rattle.broker_spec.proofs.PublicationEnters.{publication_enters}
 use Rattle.exactly_once.specs.Laws.{StoriesEnter}
 
 pub entering : StoriesEnter

@@ -1,7 +1,7 @@
 -- Every run keeps what is good: what is accepted is a prefix of the items, in order and each once.
 use Rattle.std.proofs.Common.{◌≡◌, ℕ, Bool, true, false, List, [], ◌∷◌, ◌++◌, map, refl, sym, subst}
 use Rattle.std.proofs.lemmas.List.{append-nil}
-use Rattle.client_base.specs.lists.Lists.{Each}
+use Rattle.lists.specs.Lists.{Each}
 use Rattle.exactly_once.specs.Items.{SenderItem, sent, item_released, finishing, start_first}
 use Rattle.exactly_once.specs.Handshake.{Forward, Backward, Transit, Handshake, answer, reply, sender_hears, receiver_takes, receiver_accepts, with_items}
 use Rattle.exactly_once.specs.HandshakeSteps.{Advances, HandshakeRun, opening_handshake}

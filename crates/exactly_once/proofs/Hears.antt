@@ -3,26 +3,26 @@ use Rattle.std.proofs.Common.{◌≡◌, ◌≤◌, ◌<◌, ℕ, zero, suc, Boo
 use Rattle.std.specs.Prelude.{slice_get}
 use Rattle.std.proofs.lemmas.List.{drop-append-le}
 use Rattle.std.proofs.lemmas.Bool.{both_ways, cases_Bool}
-use Rattle.client_base.specs.packet.packet_base.declared.qos.QoS.{QoS}
-use Rattle.client_base.specs.packet.packet_base.declared.qos.QoS.TheVariants as qualities
-use Rattle.client_base.specs.packet.declared.delivery.Delivery.{Delivery}
-use Rattle.client_base.specs.packet.declared.delivery.Delivery.TheVariants as deliveries
-use Rattle.client_base.specs.packet.declared.packet.Packet.{Packet}
-use Rattle.client_base.specs.packet.declared.packet.Packet.TheVariants as packets
-use Rattle.client_base.specs.session_base.declared.publication.Publication.{Publication}
-use Rattle.client_base.specs.session_base.Publication.{is_acknowledged, is_answered}
-use Rattle.broker_base.specs.broker_spec.Connection.{ConnectionName, same_connection}
-use Rattle.broker_base.specs.broker_spec.Place.{Place, Past, Limits}
-use Rattle.broker_base.specs.broker_spec.Received.{is_new}
-use Rattle.broker_base.specs.broker_spec.declared.command.Command.{Command}
-use Rattle.broker_base.specs.broker_spec.declared.command.Command.TheVariants as commands
+use Rattle.packet_base.specs.declared.qos.QoS.{QoS}
+use Rattle.packet_base.specs.declared.qos.QoS.TheVariants as qualities
+use Rattle.packet.specs.declared.delivery.Delivery.{Delivery}
+use Rattle.packet.specs.declared.delivery.Delivery.TheVariants as deliveries
+use Rattle.packet.specs.declared.packet.Packet.{Packet}
+use Rattle.packet.specs.declared.packet.Packet.TheVariants as packets
+use Rattle.session_base.specs.declared.publication.Publication.{Publication}
+use Rattle.session_base.specs.Publication.{is_acknowledged, is_answered}
+use Rattle.broker_spec.specs.Connection.{ConnectionName, same_connection}
+use Rattle.broker_spec.specs.Place.{Place, Past, Limits}
+use Rattle.broker_spec.specs.Received.{is_new}
+use Rattle.broker_spec.specs.declared.command.Command.{Command}
+use Rattle.broker_spec.specs.declared.command.Command.TheVariants as commands
 use Rattle.exactly_once.specs.Items.{SenderItem, item_released, has_sent}
 use Rattle.exactly_once.specs.Handshake.{Forward, Backward, Transit, with_items, sender_hears, reply}
 use Rattle.exactly_once.specs.HandshakeSteps.Advances.{hears}
 use Rattle.exactly_once.specs.HandshakeSteps.HandshakeRun.{stays, goes_on}
-use Rattle.client_base.proofs.of_lists.Tests.{or_then}
+use Rattle.lists.proofs.Tests.{or_then}
 use Rattle.exactly_once.specs.HandshakeInvariant.{IsGood, IsJoined, FitsTransit}
-use Rattle.broker_base.specs.broker_spec.Past.{current_connection}
+use Rattle.broker_spec.specs.Past.{current_connection}
 use Rattle.exactly_once.specs.Sends.{put_to}
 use Rattle.client_base.specs.Keeper.{Own, Written, Keeper}
 use Rattle.exactly_once.specs.Sides.{ClientConnection, Side}

@@ -1,12 +1,12 @@
 -- The QoS 2 entries of a session as items of a handshake: what the client's answers and new entries make of them.
 use Rattle.std.proofs.Common.{◌≡◌, ℕ, Bool, true, false, not, ◌==◌, if◌then◌else◌, List, [], ◌∷◌, ◌++◌, map, refl, ap, ap₂, inl, inr, ◌⊎◌}
 use Rattle.std.proofs.lemmas.Bool.{both_ways, cases_Bool}
-use Rattle.client_base.specs.packet.packet_base.declared.qos.QoS.{QoS}
-use Rattle.client_base.specs.packet.packet_base.declared.qos.QoS.TheVariants as qualities
-use Rattle.client_base.specs.session_base.declared.publication.Publication.{Publication}
-use Rattle.client_base.specs.session_base.Publication.{is_acknowledged, is_answered}
-use Rattle.broker_base.specs.broker_spec.Entries.{Entry}
-use Rattle.broker_base.specs.broker_spec.Times.{at_pubrec, at_pubcomp}
+use Rattle.packet_base.specs.declared.qos.QoS.{QoS}
+use Rattle.packet_base.specs.declared.qos.QoS.TheVariants as qualities
+use Rattle.session_base.specs.declared.publication.Publication.{Publication}
+use Rattle.session_base.specs.Publication.{is_acknowledged, is_answered}
+use Rattle.broker_spec.specs.Entries.{Entry}
+use Rattle.broker_spec.specs.Times.{at_pubrec, at_pubcomp}
 use Rattle.exactly_once.specs.Items.{SenderItem, item_released, finishing}
 use Rattle.exactly_once.specs.Carried.{is_two}
 use Rattle.exactly_once.specs.Inside.AsSubscriber.{items_of_entries, two_item}

@@ -1,10 +1,10 @@
 -- What the receiver knows about the items.
 use Rattle.std.proofs.Common.{◌≡◌, ℕ, Bool, true, false, not, ◌&&◌, ◌||◌, ◌==◌, List, [], ◌∷◌, refl, ap, ap₂, sym, subst, inl, inr, ◌⊎◌}
 use Rattle.std.proofs.lemmas.Bool.{or_cases, both_ways, cases_Bool}
-use Rattle.client_base.specs.lists.Lists.{has_id, IsDistinct, Each}
+use Rattle.lists.specs.Lists.{has_id, IsDistinct, Each}
 use Rattle.exactly_once.specs.Items.{SenderItem, busy, sent, has_sent, has_released}
 use Rattle.exactly_once.specs.HandshakeInvariant.{IsOld, IsNew, UnsentAreLast}
-use Rattle.client_base.proofs.of_lists.Tests.{or_none, none_or, or_right, eq_is, eq_turn}
+use Rattle.lists.proofs.Tests.{or_none, none_or, or_right, eq_is, eq_turn}
 use Rattle.exactly_once.proofs.BusyIdentifiers.{sent_not_released}
 use Rattle.exactly_once.proofs.ItemsStarted.{none_sent}
 

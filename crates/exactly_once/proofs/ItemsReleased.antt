@@ -1,10 +1,10 @@
 -- What a PUBREC does to the items.
 use Rattle.std.proofs.Common.{◌≡◌, ℕ, Bool, true, false, ◌||◌, ◌==◌, if◌then◌else◌, List, [], ◌∷◌, map, refl, ap, ap₂, subst, inl, inr, ◌⊎◌}
 use Rattle.std.proofs.lemmas.Bool.{cases_Bool}
-use Rattle.client_base.specs.lists.Lists.{has_id, Each}
+use Rattle.lists.specs.Lists.{has_id, Each}
 use Rattle.exactly_once.specs.Items.{SenderItem, value_of, busy, has_sent, has_released, item_released}
 use Rattle.exactly_once.specs.HandshakeInvariant.{IsOld}
-use Rattle.client_base.proofs.of_lists.Tests.{or_then, or_second, or_none, or_right, or_left, eq_is}
+use Rattle.lists.proofs.Tests.{or_then, or_second, or_none, or_right, or_left, eq_is}
 
 -- ---- PUBREC
 

@@ -1,6 +1,6 @@
 -- What a start does to the items.
 use Rattle.std.proofs.Common.{◌≡◌, ℕ, Bool, false, List, [], ◌∷◌, ◌++◌, Some, None, refl, ap, ap₂, sym, ◌∙◌}
-use Rattle.client_base.specs.lists.Lists.{Each}
+use Rattle.lists.specs.Lists.{Each}
 use Rattle.exactly_once.specs.Items.{SenderItem, busy, sent, start_first, first_waiting}
 use Rattle.exactly_once.specs.HandshakeInvariant.{IsOld, IsNew, IsUnsent, UnsentAreLast}
 

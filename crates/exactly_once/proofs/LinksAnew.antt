@@ -2,14 +2,14 @@
 use Rattle.std.proofs.Common.{◌≡◌, ℕ, Bool, true, false, ◌||◌, ◌==◌, List, [], ◌∷◌, ◌++◌, map, refl, ap, sym, ◌∙◌, subst, inl, inr, ◌⊎◌}
 use Rattle.std.proofs.lemmas.List.{append-nil}
 use Rattle.std.proofs.lemmas.Bool.{or_cases, both_ways}
-use Rattle.client_base.specs.lists.Lists.{In, has_id, IsDistinct, Each}
-use Rattle.client_base.specs.lists.Lists.In.{here, there}
+use Rattle.lists.specs.Lists.{In, has_id, IsDistinct, Each}
+use Rattle.lists.specs.Lists.In.{here, there}
 use Rattle.exactly_once.specs.Items.{SenderItem, busy, sent, has_sent, has_released}
 use Rattle.exactly_once.specs.Handshake.{Forward, sender_resends, publishing}
 use Rattle.exactly_once.specs.HandshakeInvariant.{IsNew, AreSides, publishes_in_transit, forward_id, IsMeant, IsJoined}
-use Rattle.client_base.proofs.of_lists.Tests.{or_none, none_or, eq_is}
-use Rattle.client_base.proofs.of_lists.Identifiers.{distinct_joined}
-use Rattle.client_base.proofs.of_lists.OfEach.{each_then}
+use Rattle.lists.proofs.Tests.{or_none, none_or, eq_is}
+use Rattle.lists.proofs.Identifiers.{distinct_joined}
+use Rattle.lists.proofs.OfEach.{each_then}
 use Rattle.exactly_once.proofs.BusyIdentifiers.{sent_append}
 use Rattle.exactly_once.proofs.ItemsKnown.{released_not_sent}
 

@@ -1,13 +1,13 @@
 -- What is in transit when a PUBCOMP is received.
 use Rattle.std.proofs.Common.{◌≡◌, ℕ, Bool, false, ◌==◌, List, [], ◌∷◌, ◌++◌, map, sym, subst}
 use Rattle.std.proofs.lemmas.List.{append-nil}
-use Rattle.client_base.specs.lists.Lists.{has_id, Each}
+use Rattle.lists.specs.Lists.{has_id, Each}
 use Rattle.exactly_once.specs.Items.{SenderItem, item_released, finishing}
 use Rattle.exactly_once.specs.Handshake.{Forward, Backward}
 use Rattle.exactly_once.specs.HandshakeInvariant.{forward_id, backward_id, IsMeant, IsDue, IsSent, IsJoined, IsBehind}
-use Rattle.client_base.proofs.of_lists.Tests.{or_none, eq_turn}
-use Rattle.client_base.proofs.of_lists.Identifiers.{distinct_without, distinct_middle}
-use Rattle.client_base.proofs.of_lists.OfEach.{each_then}
+use Rattle.lists.proofs.Tests.{or_none, eq_turn}
+use Rattle.lists.proofs.Identifiers.{distinct_without, distinct_middle}
+use Rattle.lists.proofs.OfEach.{each_then}
 use Rattle.exactly_once.proofs.ItemsFinished.{sent_finishing, released_finishing}
 use Rattle.exactly_once.proofs.LinksTaken.{dues}
 use Rattle.exactly_once.proofs.RowsSent.{row_finishing}

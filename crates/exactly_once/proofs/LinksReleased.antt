@@ -1,13 +1,13 @@
 -- What is in transit when a PUBREC is received.
 use Rattle.std.proofs.Common.{◌≡◌, ℕ, Bool, false, ◌==◌, List, [], ◌∷◌, ◌++◌, map, ap, sym, ◌∙◌, subst, append_assoc}
 use Rattle.std.proofs.lemmas.List.{append-nil, map-append}
-use Rattle.client_base.specs.lists.Lists.{has_id, IsDistinct, Each}
+use Rattle.lists.specs.Lists.{has_id, IsDistinct, Each}
 use Rattle.exactly_once.specs.Items.{SenderItem, sent, item_released}
 use Rattle.exactly_once.specs.Handshake.{Forward, Backward}
 use Rattle.exactly_once.specs.HandshakeInvariant.{publishes_in_transit, forward_id, backward_id, IsMeant, IsDue, IsSent, IsJoined}
-use Rattle.client_base.proofs.of_lists.Tests.{or_none, eq_turn}
-use Rattle.client_base.proofs.of_lists.Identifiers.{distinct_middle}
-use Rattle.client_base.proofs.of_lists.OfEach.{each_append, each_left, each_then}
+use Rattle.lists.proofs.Tests.{or_none, eq_turn}
+use Rattle.lists.proofs.Identifiers.{distinct_middle}
+use Rattle.lists.proofs.OfEach.{each_append, each_left, each_then}
 use Rattle.exactly_once.proofs.ItemsReleased.{sent_releasing, released_releasing, now_released}
 use Rattle.exactly_once.proofs.LinksTaken.{publishes_append, dues}
 use Rattle.exactly_once.proofs.RowsSent.{row_releasing}

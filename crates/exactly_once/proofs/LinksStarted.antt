@@ -1,13 +1,13 @@
 -- What is in transit when an item starts, waits, or a side leaves.
 use Rattle.std.proofs.Common.{◌≡◌, ℕ, Bool, true, false, ◌==◌, List, [], ◌∷◌, ◌++◌, map, refl, ap, sym, ◌∙◌, subst, append_assoc}
 use Rattle.std.proofs.lemmas.List.{append-nil, map-append}
-use Rattle.client_base.specs.lists.Lists.{has_id, IsDistinct, Each}
+use Rattle.lists.specs.Lists.{has_id, IsDistinct, Each}
 use Rattle.exactly_once.specs.Items.{SenderItem, busy, sent, start_first}
 use Rattle.exactly_once.specs.Handshake.{Forward, Backward, Transit, sender_sends}
 use Rattle.exactly_once.specs.HandshakeInvariant.{publishes_in_transit, forward_id, backward_id, IsMeant, IsDue, IsSent, ComesToReceiver, IsJoined, IsBehind, IsAhead, FitsTransit}
-use Rattle.client_base.proofs.of_lists.Tests.{or_none, none_or}
-use Rattle.client_base.proofs.of_lists.Identifiers.{other_id, distinct_after, distinct_insert}
-use Rattle.client_base.proofs.of_lists.OfEach.{each_append, each_then}
+use Rattle.lists.proofs.Tests.{or_none, none_or}
+use Rattle.lists.proofs.Identifiers.{other_id, distinct_after, distinct_insert}
+use Rattle.lists.proofs.OfEach.{each_append, each_then}
 use Rattle.exactly_once.proofs.RowsSent.{row_sent}
 use Rattle.exactly_once.proofs.BusyIdentifiers.{sent_busy, released_busy}
 use Rattle.exactly_once.proofs.ItemsStarted.{Started}

@@ -1,13 +1,13 @@
 -- What is in transit when the receiver takes a packet.
 use Rattle.std.proofs.Common.{◌≡◌, ℕ, Bool, false, ◌==◌, List, [], ◌∷◌, ◌++◌, map, refl, ap, sym, ◌∙◌, subst, append_assoc}
 use Rattle.std.proofs.lemmas.List.{append-nil, map-append}
-use Rattle.client_base.specs.lists.Lists.{has_id, IsDistinct, Each}
+use Rattle.lists.specs.Lists.{has_id, IsDistinct, Each}
 use Rattle.exactly_once.specs.Items.{SenderItem}
 use Rattle.exactly_once.specs.Handshake.{Forward, Backward, Handshake, answer}
 use Rattle.exactly_once.specs.HandshakeInvariant.{publishes_in_transit, forward_id, backward_id, IsDue, ComesToReceiver, IsJoined}
-use Rattle.client_base.proofs.of_lists.Tests.{or_none}
-use Rattle.client_base.proofs.of_lists.Identifiers.{has_split, distinct_rotate}
-use Rattle.client_base.proofs.of_lists.OfEach.{each_append}
+use Rattle.lists.proofs.Tests.{or_none}
+use Rattle.lists.proofs.Identifiers.{has_split, distinct_rotate}
+use Rattle.lists.proofs.OfEach.{each_append}
 use Rattle.exactly_once.proofs.Taken.{Took}
 
 pub publishes_append : {V : Type 0} (f g : List (Forward V)) → publishes_in_transit (f ++ g) ≡ publishes_in_transit f ++ publishes_in_transit g

@@ -3,20 +3,20 @@
 -- in which the client publishes.
 use Rattle.std.proofs.Common.{◌≡◌, ℕ, Bool, true, false, not, ◌&&◌, ◌||◌, ◌==◌, if◌then◌else◌, List, [], ◌∷◌, ◌++◌, length, take, drop, Option, Some, None, refl, ap, ◌∙◌}
 use Rattle.std.specs.Prelude.{flat_map}
-use Rattle.client_base.specs.packet.declared.packet.Packet.{Packet}
-use Rattle.client_base.specs.packet.declared.packet.Packet.TheVariants as packets
-use Rattle.client_base.specs.session_base.declared.publication.Publication.{Publication}
-use Rattle.client_base.specs.session_base.Publication.{is_answered, publish_for}
-use Rattle.broker_base.specs.broker_spec.Connection.{ConnectionName, same_connection}
-use Rattle.broker_base.specs.broker_spec.Place.{Client, Mark, Place, Past, Limits, only_if}
-use Rattle.broker_base.specs.broker_spec.Past.{is_leaving, ends_any, newest_session, current_connection, session_of, in_session}
-use Rattle.broker_base.specs.broker_spec.Received.{received_by, received_of}
-use Rattle.broker_base.specs.broker_spec.Entries.{Entry, copies_at}
-use Rattle.broker_base.specs.broker_spec.Readings.{made_at}
-use Rattle.broker_base.specs.broker_spec.Times.{entries_of}
-use Rattle.broker_base.specs.broker_spec.Sends.{publish_output, first_output, all_started, copy_outputs, handed_to, deliveries_to}
-use Rattle.broker_base.specs.broker_spec.declared.command.Command.TheVariants as commands
-use Rattle.broker_base.specs.broker_spec.declared.command.Output.{Output}
+use Rattle.packet.specs.declared.packet.Packet.{Packet}
+use Rattle.packet.specs.declared.packet.Packet.TheVariants as packets
+use Rattle.session_base.specs.declared.publication.Publication.{Publication}
+use Rattle.session_base.specs.Publication.{is_answered, publish_for}
+use Rattle.broker_spec.specs.Connection.{ConnectionName, same_connection}
+use Rattle.broker_spec.specs.Place.{Client, Mark, Place, Past, Limits, only_if}
+use Rattle.broker_spec.specs.Past.{is_leaving, ends_any, newest_session, current_connection, session_of, in_session}
+use Rattle.broker_spec.specs.Received.{received_by, received_of}
+use Rattle.broker_spec.specs.Entries.{Entry, copies_at}
+use Rattle.broker_spec.specs.Readings.{made_at}
+use Rattle.broker_spec.specs.Times.{entries_of}
+use Rattle.broker_spec.specs.Sends.{publish_output, first_output, all_started, copy_outputs, handed_to, deliveries_to}
+use Rattle.broker_spec.specs.declared.command.Command.TheVariants as commands
+use Rattle.broker_spec.specs.declared.command.Output.{Output}
 use Rattle.exactly_once.specs.Sends.{sends_to}
 use Rattle.exactly_once.specs.Inside.Projections.{backward_of_own}
 use Rattle.exactly_once.proofs.Deliveries.{sends_append}

@@ -2,8 +2,8 @@
 use Rattle.std.proofs.Common.{◌≡◌, ℕ, Bool, true, false, List, [], ◌∷◌, ◌++◌, map, Some, sym, ◌∙◌, subst, ap}
 use Rattle.std.proofs.lemmas.Bool.{both_ways}
 use Rattle.std.proofs.lemmas.List.{append-nil}
-use Rattle.client_base.specs.lists.Lists.{In, Each}
-use Rattle.client_base.specs.lists.Lists.In.{here, there}
+use Rattle.lists.specs.Lists.{In, Each}
+use Rattle.lists.specs.Lists.In.{here, there}
 use Rattle.exactly_once.specs.Items.{SenderItem, value_of, sent}
 use Rattle.exactly_once.specs.Handshake.{Forward, Transit, Handshake}
 use Rattle.exactly_once.specs.HandshakeSteps.{opening_handshake}

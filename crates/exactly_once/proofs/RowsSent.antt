@@ -1,9 +1,9 @@
 -- What is sent, with its value: after a PUBREC of another, and after a PUBCOMP.
 use Rattle.std.proofs.Common.{◌≡◌, ℕ, Bool, true, false, ◌==◌, if◌then◌else◌, List, [], ◌∷◌, map, refl}
 use Rattle.std.proofs.lemmas.Bool.{both_ways}
-use Rattle.client_base.specs.lists.Lists.{In}
-use Rattle.client_base.specs.lists.Lists.In.{here, there}
-use Rattle.client_base.proofs.of_lists.Tests.{or_left, or_right, eq_same}
+use Rattle.lists.specs.Lists.{In}
+use Rattle.lists.specs.Lists.In.{here, there}
+use Rattle.lists.proofs.Tests.{or_left, or_right, eq_same}
 use Rattle.exactly_once.specs.Items.{SenderItem, sent, has_sent, item_released, finishing}
 
 -- its identifier is that of one that is sent

@@ -1,17 +1,17 @@
 -- The packets that a place sends for the entries that start there are the PUBLISHes of the handshake's starts.
 use Rattle.std.proofs.Common.{◌≡◌, ℕ, Bool, true, false, ◌==◌, nat_lt, if◌then◌else◌, List, [], ◌∷◌, ◌++◌, length, map, refl, ap, ◌∙◌, arith}
-use Rattle.client_base.specs.packet.packet_base.declared.qos.QoS.{QoS}
-use Rattle.client_base.specs.packet.packet_base.declared.qos.QoS.TheVariants as qualities
-use Rattle.client_base.specs.packet.declared.packet.Packet.{Packet}
-use Rattle.client_base.specs.packet.declared.packet.Packet.TheVariants as packets
-use Rattle.client_base.specs.session_base.declared.publication.Publication.{Publication}
-use Rattle.client_base.specs.session_base.Publication.{publish_for}
-use Rattle.client_base.specs.session_base.Identifiers.{least_free}
-use Rattle.broker_base.specs.broker_spec.Connection.{ConnectionName}
-use Rattle.broker_base.specs.broker_spec.Entries.{Entry}
-use Rattle.broker_base.specs.broker_spec.Times.{start_all}
-use Rattle.broker_base.specs.broker_spec.Sends.{publish_output, first_output, all_started}
-use Rattle.broker_base.specs.broker_spec.declared.command.Output.{Output}
+use Rattle.packet_base.specs.declared.qos.QoS.{QoS}
+use Rattle.packet_base.specs.declared.qos.QoS.TheVariants as qualities
+use Rattle.packet.specs.declared.packet.Packet.{Packet}
+use Rattle.packet.specs.declared.packet.Packet.TheVariants as packets
+use Rattle.session_base.specs.declared.publication.Publication.{Publication}
+use Rattle.session_base.specs.Publication.{publish_for}
+use Rattle.session_base.specs.Identifiers.{least_free}
+use Rattle.broker_spec.specs.Connection.{ConnectionName}
+use Rattle.broker_spec.specs.Entries.{Entry}
+use Rattle.broker_spec.specs.Times.{start_all}
+use Rattle.broker_spec.specs.Sends.{publish_output, first_output, all_started}
+use Rattle.broker_spec.specs.declared.command.Output.{Output}
 use Rattle.exactly_once.specs.Handshake.{Forward, publishing}
 use Rattle.exactly_once.specs.Sends.{sends_to}
 use Rattle.exactly_once.specs.Carried.{is_two}

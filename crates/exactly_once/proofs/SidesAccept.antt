@@ -2,12 +2,12 @@
 use Rattle.std.proofs.Common.{◌≡◌, ℕ, Bool, true, false, not, ◌&&◌, ◌||◌, ◌==◌, List, [], ◌∷◌, ◌++◌, refl, ap, sym, ◌∙◌, subst, inl, inr, ◌⊎◌, append_assoc}
 use Rattle.std.proofs.lemmas.List.{map-append}
 use Rattle.std.proofs.lemmas.Bool.{or_cases, both_ways}
-use Rattle.client_base.specs.lists.Lists.{has_id, IsDistinct}
+use Rattle.lists.specs.Lists.{has_id, IsDistinct}
 use Rattle.exactly_once.specs.Items.{SenderItem, value_of, busy, has_released}
 use Rattle.exactly_once.specs.HandshakeInvariant.{IsOld, AreSides}
-use Rattle.client_base.proofs.of_lists.Tests.{or_right, or_left, eq_same}
-use Rattle.client_base.proofs.of_lists.Identifiers.{has_append, distinct_front, distinct_middle}
-use Rattle.client_base.proofs.of_lists.OfEach.{each_append}
+use Rattle.lists.proofs.Tests.{or_right, or_left, eq_same}
+use Rattle.lists.proofs.Identifiers.{has_append, distinct_front, distinct_middle}
+use Rattle.lists.proofs.OfEach.{each_append}
 use Rattle.exactly_once.proofs.BusyIdentifiers.{busy_append}
 use Rattle.exactly_once.proofs.ItemsKnown.{with, without, olds_more, news_more, olds_less, news_less, released_not_sent}
 

@@ -2,11 +2,11 @@
 use Rattle.std.proofs.Common.{◌≡◌, ℕ, Bool, true, false, ◌==◌, List, ◌++◌, map, ap, sym, ◌∙◌, subst, inl, inr, ◌⊎◌}
 use Rattle.std.proofs.lemmas.List.{map-append}
 use Rattle.std.proofs.lemmas.Bool.{both_ways, cases_Bool}
-use Rattle.client_base.specs.lists.Lists.{has_id, IsDistinct}
+use Rattle.lists.specs.Lists.{has_id, IsDistinct}
 use Rattle.exactly_once.specs.Items.{SenderItem, busy, has_sent, has_released, item_released, finishing}
 use Rattle.exactly_once.specs.HandshakeInvariant.{AreSides}
-use Rattle.client_base.proofs.of_lists.Tests.{eq_is}
-use Rattle.client_base.proofs.of_lists.Identifiers.{distinct_apart}
+use Rattle.lists.proofs.Tests.{eq_is}
+use Rattle.lists.proofs.Identifiers.{distinct_apart}
 use Rattle.exactly_once.proofs.BusyIdentifiers.{busy_append, sent_busy, released_busy}
 use Rattle.exactly_once.proofs.ItemsReleased.{busy_releasing, values_releasing, releasing_others, olds_releasing}
 use Rattle.exactly_once.proofs.ItemsFinished.{values_finishing, finishing_others, olds_finishing, apart_finishing, busy_finishing}

@@ -2,11 +2,11 @@
 use Rattle.std.proofs.Common.{◌≡◌, ℕ, Bool, true, false, List, [], ◌∷◌, ◌++◌, Some, ap, sym, ◌∙◌, subst, inl, inr, ◌⊎◌, append_assoc}
 use Rattle.std.proofs.lemmas.List.{append-nil}
 use Rattle.std.proofs.lemmas.Bool.{both_ways, cases_Bool}
-use Rattle.client_base.specs.lists.Lists.{has_id, IsDistinct}
+use Rattle.lists.specs.Lists.{has_id, IsDistinct}
 use Rattle.exactly_once.specs.Items.{SenderItem, busy, sent, start_first, first_waiting}
 use Rattle.exactly_once.specs.HandshakeInvariant.{IsNew, IsUnsent, UnsentAreLast, AreSides}
-use Rattle.client_base.proofs.of_lists.Identifiers.{has_join, has_split, distinct_push}
-use Rattle.client_base.proofs.of_lists.OfEach.{each_append}
+use Rattle.lists.proofs.Identifiers.{has_join, has_split, distinct_push}
+use Rattle.lists.proofs.OfEach.{each_append}
 use Rattle.exactly_once.proofs.BusyIdentifiers.{busy_append, sent_append}
 use Rattle.exactly_once.proofs.ItemsStarted.{start_after, waiting_after, Started, starts_new}
 

@@ -1,20 +1,20 @@
 -- The entries that start at a place are starts of the handshake, one after another.
 use Rattle.std.proofs.Common.{◌≡◌, ℕ, Bool, true, false, ◌||◌, ◌==◌, nat_lt, if◌then◌else◌, List, [], ◌∷◌, ◌++◌, length, Some, refl, ap, sym, ◌∙◌, append_assoc}
 use Rattle.std.proofs.lemmas.List.{append-nil}
-use Rattle.client_base.specs.session_base.declared.publication.Publication.{Publication}
-use Rattle.client_base.specs.lists.Lists.{has_id}
-use Rattle.client_base.specs.session_base.Identifiers.{least_free}
-use Rattle.broker_base.specs.broker_spec.Entries.{Entry}
-use Rattle.broker_base.specs.broker_spec.Times.{start_all}
-use Rattle.broker_base.specs.broker_spec.IdentifierLaws.{WaitingAreLast, IsWaitingEntry}
-use Rattle.broker_base.proofs.of_broker_spec.LeastFree.{least-is-free}
+use Rattle.session_base.specs.declared.publication.Publication.{Publication}
+use Rattle.lists.specs.Lists.{has_id}
+use Rattle.session_base.specs.Identifiers.{least_free}
+use Rattle.broker_spec.specs.Entries.{Entry}
+use Rattle.broker_spec.specs.Times.{start_all}
+use Rattle.broker_spec.specs.IdentifierLaws.{WaitingAreLast, IsWaitingEntry}
+use Rattle.broker_spec.proofs.LeastFree.{least-is-free}
 use Rattle.exactly_once.specs.Items.{SenderItem, busy, start_first, first_waiting}
 use Rattle.exactly_once.specs.Handshake.{sender_sends, with_items, Forward, Transit, Handshake}
 use Rattle.exactly_once.specs.HandshakeSteps.{HandshakeRun}
 use Rattle.exactly_once.specs.HandshakeSteps.Advances.{starts}
 use Rattle.exactly_once.specs.HandshakeSteps.HandshakeRun.{stays, goes_on}
-use Rattle.client_base.proofs.of_lists.Identifiers.{has_append}
-use Rattle.client_base.proofs.of_lists.Tests.{or_none, none_or}
+use Rattle.lists.proofs.Identifiers.{has_append}
+use Rattle.lists.proofs.Tests.{or_none, none_or}
 use Rattle.exactly_once.proofs.BusyIdentifiers.{busy_append}
 use Rattle.exactly_once.proofs.Exact.{run_then}
 use Rattle.exactly_once.specs.Carried.{is_two}

@@ -1,7 +1,7 @@
 -- Every story keeps its promises: what is shown of its two handshakes and of the places of its list, in one.
 use Rattle.std.proofs.Common.{length, subst}
-use Rattle.broker_base.specs.broker_spec.Place.{Client, Limits}
-use Rattle.broker_base.specs.broker_spec.NobodyLaws.{IsSteady}
+use Rattle.broker_spec.specs.Place.{Client, Limits}
+use Rattle.broker_spec.specs.NobodyLaws.{IsSteady}
 use Rattle.exactly_once.specs.Story.{Story}
 use Rattle.exactly_once.specs.StoryTrace.{StoryTrace}
 use Rattle.exactly_once.specs.Headline.{PublishedOnce, ExactlyOnce}
@@ -13,8 +13,8 @@ use Rattle.exactly_once.proofs.carrying.Answered.{answered_is_new, acknowledged_
 use Rattle.exactly_once.proofs.carrying.EntersOnce.{publication_enters_once}
 use Rattle.exactly_once.proofs.carrying.Distinct.{published_apart}
 use Rattle.exactly_once.specs.Carried.{new_numbers}
-use Rattle.client_base.specs.lists.Lists.{IsDistinct}
-use Rattle.client_base.proofs.of_lists.Identifiers.{distinct_front}
+use Rattle.lists.specs.Lists.{IsDistinct}
+use Rattle.lists.proofs.Identifiers.{distinct_front}
 
 pub told_stories_publish_once : (limits : Limits) → IsSteady limits → (c : Client) (s : Story) → StoryTrace limits c s → PublishedOnce limits s
 told_stories_publish_once limits steady c s told =

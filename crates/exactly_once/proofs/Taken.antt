@@ -1,12 +1,12 @@
 -- What the receiver takes, on either transit.
 use Rattle.std.proofs.Common.{◌≡◌, ℕ, Bool, true, false, not, ◌&&◌, ◌==◌, List, [], ◌∷◌, ◌++◌, refl, ap, sym, ◌∙◌, subst}
 use Rattle.std.proofs.lemmas.Bool.{both_ways}
-use Rattle.client_base.specs.lists.Lists.{Each}
+use Rattle.lists.specs.Lists.{Each}
 use Rattle.exactly_once.specs.Items.{SenderItem, sent, has_sent, has_released}
 use Rattle.exactly_once.specs.Handshake.{Forward, Backward, Transit, Handshake, answer, receiver_accepts, receiver_takes}
 use Rattle.exactly_once.specs.HandshakeInvariant.{AreSides, publishes_in_transit, forward_id, backward_id, IsMeant, IsDue, IsSent, ComesToReceiver}
-use Rattle.client_base.proofs.of_lists.Tests.{none_or, eq_same, eq_turn, or_left, or_right, or_then}
-use Rattle.client_base.proofs.of_lists.OfEach.{each_then}
+use Rattle.lists.proofs.Tests.{none_or, eq_same, eq_turn, or_left, or_right, or_then}
+use Rattle.lists.proofs.OfEach.{each_then}
 use Rattle.exactly_once.proofs.ItemsKnown.{cons_is, pair_is, olds_sent, first_sent, with, without}
 use Rattle.exactly_once.proofs.RowsSent.{row_sent}
 use Rattle.exactly_once.proofs.SidesAccept.{sides_accept, sides_forget}

@@ -1,10 +1,10 @@
 -- From the three lemmas on one event to every story.
 use Rattle.std.proofs.Common.{[], inl, refl}
-use Rattle.broker_base.specs.broker_spec.Place.{Client, Limits}
-use Rattle.broker_base.specs.broker_spec.Past.{current_connection, session_of}
-use Rattle.broker_base.specs.broker_spec.NobodyLaws.{IsSteady}
-use Rattle.broker_base.specs.broker_spec.Received.{received_of}
-use Rattle.broker_base.specs.broker_spec.Times.{entries_of}
+use Rattle.broker_spec.specs.Place.{Client, Limits}
+use Rattle.broker_spec.specs.Past.{current_connection, session_of}
+use Rattle.broker_spec.specs.NobodyLaws.{IsSteady}
+use Rattle.broker_spec.specs.Received.{received_of}
+use Rattle.broker_spec.specs.Times.{entries_of}
 use Rattle.exactly_once.specs.HandshakeInvariant.{IsGood}
 use Rattle.exactly_once.specs.Story.{Story, no_story}
 use Rattle.exactly_once.specs.StoryTrace.{StoryTrace}
@@ -15,7 +15,7 @@ use Rattle.exactly_once.specs.Inside.AsSubscriber.{as_subscriber}
 use Rattle.exactly_once.specs.Inside.Shape.{HasShape, IsSoundStory}
 use Rattle.exactly_once.specs.Inside.EachEvent.{EventKeepsShape, EventPublishes, EventSubscribes}
 use Rattle.exactly_once.proofs.Ends.{good_goes, accepted_in_order}
-use Rattle.broker_base.specs.broker_spec.Commands.{past_of}
+use Rattle.broker_spec.specs.Commands.{past_of}
 use Rattle.exactly_once.proofs.Beginnings.{begun_is_sound}
 
 opening_shape : (limits : Limits) (c : Client) → HasShape limits (no_story c)

@@ -1,11 +1,11 @@
 -- What holds for a client as a subscriber, whatever happens: what it accepts, and in which order.
 use Rattle.std.specs.Prelude.{◌≡◌, ℕ, Bool, true, false, List, [], ◌∷◌, ◌++◌, map, filter, Option, Some, None}
-use Rattle.client_base.specs.session_base.declared.publication.Publication.{Publication}
-use Rattle.broker_base.specs.broker_spec.Place.{Limits}
-use Rattle.broker_base.specs.broker_spec.Entries.{Entry}
-use Rattle.broker_base.specs.broker_spec.Readings.{publication_in, release_place}
-use Rattle.broker_base.specs.broker_spec.Times.{entries_of}
-use Rattle.client_base.specs.lists.Lists.{Each}
+use Rattle.session_base.specs.declared.publication.Publication.{Publication}
+use Rattle.broker_spec.specs.Place.{Limits}
+use Rattle.broker_spec.specs.Entries.{Entry}
+use Rattle.broker_spec.specs.Readings.{publication_in, release_place}
+use Rattle.broker_spec.specs.Times.{entries_of}
+use Rattle.lists.specs.Lists.{Each}
 use Rattle.exactly_once.specs.Sides.{ClientConnection}
 use Rattle.exactly_once.specs.Story.{Story}
 use Rattle.exactly_once.specs.Carried.{is_two}

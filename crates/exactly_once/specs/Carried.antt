@@ -1,15 +1,15 @@
 -- Which publication of a client a place carries, by position: the j-th command of a connection is
 -- its j-th written packet.
 use Rattle.std.specs.Prelude.{ℕ, Bool, true, false, ◌==◌, if◌then◌else◌, List, [], ◌∷◌, ◌++◌, map, Option, Some, None, slice_get}
-use Rattle.client_base.specs.packet.packet_base.declared.qos.QoS.{QoS}
-use Rattle.client_base.specs.packet.packet_base.declared.qos.QoS.TheVariants as qualities
-use Rattle.client_base.specs.packet.declared.packet.Packet.TheVariants as packets
-use Rattle.broker_base.specs.broker_spec.Connection.{ConnectionName, same_connection}
-use Rattle.broker_base.specs.broker_spec.Place.{Past}
-use Rattle.broker_base.specs.broker_spec.Received.{is_new}
-use Rattle.broker_base.specs.broker_spec.declared.command.Command.{Command}
-use Rattle.broker_base.specs.broker_spec.declared.command.Command.TheVariants as commands
-use Rattle.client_base.specs.session_base.declared.publication.Publication.{Publication}
+use Rattle.packet_base.specs.declared.qos.QoS.{QoS}
+use Rattle.packet_base.specs.declared.qos.QoS.TheVariants as qualities
+use Rattle.packet.specs.declared.packet.Packet.TheVariants as packets
+use Rattle.broker_spec.specs.Connection.{ConnectionName, same_connection}
+use Rattle.broker_spec.specs.Place.{Past}
+use Rattle.broker_spec.specs.Received.{is_new}
+use Rattle.broker_spec.specs.declared.command.Command.{Command}
+use Rattle.broker_spec.specs.declared.command.Command.TheVariants as commands
+use Rattle.session_base.specs.declared.publication.Publication.{Publication}
 use Rattle.client_base.specs.Keeper.{Own, Written, number_in}
 use Rattle.exactly_once.specs.Sides.{ClientConnection}
 use Rattle.exactly_once.specs.StoryCommands.{packet_count}

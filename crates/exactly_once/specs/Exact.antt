@@ -1,6 +1,6 @@
 -- What holds after every run of a handshake.
 use Rattle.std.specs.Prelude.{◌≡◌, ℕ, Bool, true, false, List, ◌∷◌, ◌++◌, map, Option, Some, None}
-use Rattle.client_base.specs.lists.Lists.{In, Each}
+use Rattle.lists.specs.Lists.{In, Each}
 use Rattle.exactly_once.specs.Items.{SenderItem, value_of}
 use Rattle.exactly_once.specs.Handshake.{Forward, Transit, Handshake}
 use Rattle.exactly_once.specs.HandshakeSteps.{HandshakeRun, opening_handshake}

@@ -1,6 +1,6 @@
 -- What every run of a handshake keeps: the two sides, and what is in transit between them.
 use Rattle.std.specs.Prelude.{◌≡◌, ℕ, Bool, true, false, List, [], ◌∷◌, ◌++◌, map}
-use Rattle.client_base.specs.lists.Lists.{In, has_id, IsDistinct, Each}
+use Rattle.lists.specs.Lists.{In, has_id, IsDistinct, Each}
 use Rattle.exactly_once.specs.Items.{SenderItem, value_of, busy, sent, has_sent, has_released}
 use Rattle.exactly_once.specs.Handshake.{Forward, Backward, Transit, Handshake}
 

@@ -1,6 +1,6 @@
 -- The steps of a QoS 2 handshake, one or several, and how it begins (MQTT 4.3.3).
 use Rattle.std.specs.Prelude.{◌≡◌, ℕ, true, false, List, [], ◌∷◌, ◌++◌, Some}
-use Rattle.client_base.specs.lists.Lists.{has_id, IsDistinct, Each}
+use Rattle.lists.specs.Lists.{has_id, IsDistinct, Each}
 use Rattle.exactly_once.specs.Items.{SenderItem, busy, has_released, start_first, first_waiting}
 use Rattle.exactly_once.specs.Handshake.{Forward, Backward, Transit, Handshake, answer, reply, receiver_takes, sender_hears, with_items, sender_sends, sender_resends}
 

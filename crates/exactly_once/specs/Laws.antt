@@ -1,19 +1,19 @@
 -- What holds for every story of a client, over any list of its connections, losses, crashes and
 -- packets of others (MQTT 4.3.3, 4.4, 4.6).
 use Rattle.std.specs.Prelude.{◌≡◌, if◌then◌else◌, ◌∷◌, length, filter}
-use Rattle.client_base.specs.packet.declared.publish.Publish.{Publish}
-use Rattle.client_base.specs.packet.declared.packet.Packet.TheVariants as packets
-use Rattle.client_base.specs.session_base.Publication.{publication_of}
-use Rattle.broker_base.specs.broker_spec.declared.command.Command.TheVariants as commands
-use Rattle.broker_base.specs.broker_spec.Commands.{usual_limits}
-use Rattle.broker_base.specs.broker_spec.Connection.{ConnectionName}
-use Rattle.broker_base.specs.broker_spec.Marks.{is_queued_at}
-use Rattle.broker_base.specs.broker_spec.OriginLaws.{is_from_publish}
-use Rattle.broker_base.specs.broker_spec.EndingLaws.{StandsAt}
-use Rattle.broker_base.specs.broker_spec.Place.{Client, Limits, Mark, Past, Place}
-use Rattle.broker_base.specs.broker_spec.Subscriptions.{effective_qos}
-use Rattle.broker_base.specs.broker_spec.Times.{entries_of}
-use Rattle.broker_base.specs.broker_spec.NobodyLaws.{IsSteady}
+use Rattle.packet.specs.declared.publish.Publish.{Publish}
+use Rattle.packet.specs.declared.packet.Packet.TheVariants as packets
+use Rattle.session_base.specs.Publication.{publication_of}
+use Rattle.broker_spec.specs.declared.command.Command.TheVariants as commands
+use Rattle.broker_spec.specs.Commands.{usual_limits}
+use Rattle.broker_spec.specs.Connection.{ConnectionName}
+use Rattle.broker_spec.specs.Marks.{is_queued_at}
+use Rattle.broker_spec.specs.OriginLaws.{is_from_publish}
+use Rattle.broker_spec.specs.EndingLaws.{StandsAt}
+use Rattle.broker_spec.specs.Place.{Client, Limits, Mark, Past, Place}
+use Rattle.broker_spec.specs.Subscriptions.{effective_qos}
+use Rattle.broker_spec.specs.Times.{entries_of}
+use Rattle.broker_spec.specs.NobodyLaws.{IsSteady}
 use Rattle.exactly_once.specs.Headline.{PublishedOnce, StoriesAreExact}
 use Rattle.exactly_once.specs.Acceptance.{AcceptedInOrder}
 use Rattle.exactly_once.specs.LivesAreExact.{AcceptsInEachSession, LivesAreExact}

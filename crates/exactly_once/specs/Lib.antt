@@ -19,9 +19,9 @@ pub mod HandshakeSteps
 pub mod Exact
 pub mod HandshakeInvariant
 pub use Rattle.broker_base.specs as broker_base
-pub use Rattle.broker_base.specs.broker_spec as broker_spec
+pub use Rattle.broker_spec.specs as broker_spec
 pub use Rattle.client_base.specs as client_base
-pub use Rattle.client_base.specs.lists as lists
-pub use Rattle.client_base.specs.packet as packet
-pub use Rattle.client_base.specs.packet_base as packet_base
-pub use Rattle.client_base.specs.session_base as session_base
+pub use Rattle.lists.specs as lists
+pub use Rattle.packet.specs as packet
+pub use Rattle.packet_base.specs as packet_base
+pub use Rattle.session_base.specs as session_base

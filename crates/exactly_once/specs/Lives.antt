@@ -1,21 +1,21 @@
 -- A client's life: its story over several sessions, which an Expel ends.
 use Rattle.std.specs.Prelude.{◌≡◌, ◌≤◌, ◌<◌, ℕ, false, if◌then◌else◌, List, [], ◌∷◌, ◌++◌, length, map, filter, Some, slice_get}
-use Rattle.client_base.specs.packet.declared.publish.Publish.{Publish}
-use Rattle.client_base.specs.packet.declared.packet.Packet.TheVariants as packets
-use Rattle.client_base.specs.session_base.Publication.{publication_of}
-use Rattle.client_base.specs.lists.Lists.{In, IsPrefixOf, Each}
-use Rattle.broker_base.specs.broker_spec.Connection.{ConnectionName}
-use Rattle.broker_base.specs.broker_spec.Place.{Client, Place, Past, Limits, Mark}
-use Rattle.broker_base.specs.broker_spec.Subscriptions.{effective_qos}
-use Rattle.broker_base.specs.broker_spec.Marks.{is_queued_at}
-use Rattle.broker_base.specs.broker_spec.Commands.{place_of}
-use Rattle.broker_base.specs.broker_spec.Entries.{Entry}
-use Rattle.broker_base.specs.broker_spec.Readings.{publication_in}
-use Rattle.broker_base.specs.broker_spec.Times.{entries_of}
-use Rattle.broker_base.specs.broker_spec.OriginLaws.{is_from_publish}
-use Rattle.broker_base.specs.broker_spec.EndingLaws.{StandsAt}
-use Rattle.broker_base.specs.broker_spec.TakenLaws.{queued_at}
-use Rattle.broker_base.specs.broker_spec.declared.command.Command.TheVariants as commands
+use Rattle.packet.specs.declared.publish.Publish.{Publish}
+use Rattle.packet.specs.declared.packet.Packet.TheVariants as packets
+use Rattle.session_base.specs.Publication.{publication_of}
+use Rattle.lists.specs.Lists.{In, IsPrefixOf, Each}
+use Rattle.broker_spec.specs.Connection.{ConnectionName}
+use Rattle.broker_spec.specs.Place.{Client, Place, Past, Limits, Mark}
+use Rattle.broker_spec.specs.Subscriptions.{effective_qos}
+use Rattle.broker_spec.specs.Marks.{is_queued_at}
+use Rattle.broker_spec.specs.Commands.{place_of}
+use Rattle.broker_spec.specs.Entries.{Entry}
+use Rattle.broker_spec.specs.Readings.{publication_in}
+use Rattle.broker_spec.specs.Times.{entries_of}
+use Rattle.broker_spec.specs.OriginLaws.{is_from_publish}
+use Rattle.broker_spec.specs.EndingLaws.{StandsAt}
+use Rattle.broker_spec.specs.TakenLaws.{queued_at}
+use Rattle.broker_spec.specs.declared.command.Command.TheVariants as commands
 use Rattle.client_base.specs.Keeper.{all_own}
 use Rattle.exactly_once.specs.Story.{Story, StoryStep, no_story}
 use Rattle.exactly_once.specs.Carried.{carries, new_numbers, own_publications, own_qos2_numbers}

@@ -1,7 +1,7 @@
 -- What a client is promised over all its sessions.
 use Rattle.std.specs.Prelude.{◌≡◌, ℕ}
 use Rattle.std.specs.List.{flat_map}
-use Rattle.broker_base.specs.broker_spec.Place.{Client, Limits}
+use Rattle.broker_spec.specs.Place.{Client, Limits}
 use Rattle.exactly_once.specs.Story.{Story}
 use Rattle.exactly_once.specs.Acceptance.{accepted_on}
 use Rattle.exactly_once.specs.InStep.{IsInStep, starts_of, accepted_in}

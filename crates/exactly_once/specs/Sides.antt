@@ -1,5 +1,5 @@
 -- A client's connections, by the names that the broker knows them by.
-use Rattle.broker_base.specs.broker_spec.Connection.{ConnectionName}
+use Rattle.broker_spec.specs.Connection.{ConnectionName}
 use Rattle.client_base.specs.Keeper as keeper
 
 -- a connection that the client opened, with what it wrote and received on it

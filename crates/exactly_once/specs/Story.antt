@@ -1,17 +1,17 @@
 -- One client's story: the list of commands, its connections as packets, what it keeps; and what may
 -- happen.
 use Rattle.std.specs.Prelude.{◌≡◌, ℕ, true, false, if◌then◌else◌, List, [], ◌∷◌, ◌++◌, Some, slice_get}
-use Rattle.client_base.specs.packet.declared.subscribe.Subscribe.{Subscribe}
-use Rattle.client_base.specs.packet.declared.unsubscribe.Unsubscribe.{Unsubscribe}
-use Rattle.client_base.specs.packet.declared.packet.Packet.{Packet}
-use Rattle.client_base.specs.packet.declared.packet.Packet.TheVariants as packets
-use Rattle.client_base.specs.session_base.declared.publication.Publication.{Publication}
-use Rattle.client_base.specs.session_base.Publication.{is_answered}
-use Rattle.client_base.specs.session_base.Identifiers.{least_free}
-use Rattle.broker_base.specs.broker_spec.Connection.{ConnectionName, same_connection}
-use Rattle.broker_base.specs.broker_spec.Place.{Client, Past, Limits}
-use Rattle.broker_base.specs.broker_spec.Commands.{place_of}
-use Rattle.broker_base.specs.broker_spec.declared.command.Command.{Command}
+use Rattle.packet.specs.declared.subscribe.Subscribe.{Subscribe}
+use Rattle.packet.specs.declared.unsubscribe.Unsubscribe.{Unsubscribe}
+use Rattle.packet.specs.declared.packet.Packet.{Packet}
+use Rattle.packet.specs.declared.packet.Packet.TheVariants as packets
+use Rattle.session_base.specs.declared.publication.Publication.{Publication}
+use Rattle.session_base.specs.Publication.{is_answered}
+use Rattle.session_base.specs.Identifiers.{least_free}
+use Rattle.broker_spec.specs.Connection.{ConnectionName, same_connection}
+use Rattle.broker_spec.specs.Place.{Client, Past, Limits}
+use Rattle.broker_spec.specs.Commands.{place_of}
+use Rattle.broker_spec.specs.declared.command.Command.{Command}
 use Rattle.exactly_once.specs.Sends.{put_to}
 use Rattle.client_base.specs.Keeper.{Written, Keeper, new_keeper, ids_in_use}
 use Rattle.client_base.specs.declared.request.Request.TheVariants as requests

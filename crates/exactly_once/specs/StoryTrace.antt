@@ -1,11 +1,11 @@
 -- Which stories a client may have in one session: how they begin, and how they go on.
 use Rattle.std.specs.Prelude.{◌≡◌, ℕ, suc, List, [], ◌∷◌, None, length}
-use Rattle.broker_base.specs.broker_spec.Place.{Client, Limits}
-use Rattle.broker_base.specs.broker_spec.Commands.{past_of}
-use Rattle.broker_base.specs.broker_spec.declared.command.Command.{Command}
+use Rattle.broker_spec.specs.Place.{Client, Limits}
+use Rattle.broker_spec.specs.Commands.{past_of}
+use Rattle.broker_spec.specs.declared.command.Command.{Command}
 use Rattle.client_base.specs.Keeper.{Keeper, new_keeper, ids_in_use, Own}
-use Rattle.broker_base.specs.broker_spec.Past.{session_of}
-use Rattle.client_base.specs.lists.Lists.{IsDistinct}
+use Rattle.broker_spec.specs.Past.{session_of}
+use Rattle.lists.specs.Lists.{IsDistinct}
 use Rattle.client_base.specs.OrderLaws.{AreNumbered}
 use Rattle.exactly_once.specs.Story.{Story, no_story, StoryStep}
 

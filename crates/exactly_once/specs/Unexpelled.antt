@@ -1,8 +1,8 @@
 -- A client that was never expelled: it has one session at most, and is in step.
 use Rattle.std.specs.Prelude.{◌≡◌, false}
-use Rattle.client_base.specs.lists.Lists.{Each}
-use Rattle.broker_base.specs.broker_spec.Place.{Client, Place, Past, Limits}
-use Rattle.broker_base.specs.broker_spec.Past.{expels}
+use Rattle.lists.specs.Lists.{Each}
+use Rattle.broker_spec.specs.Place.{Client, Place, Past, Limits}
+use Rattle.broker_spec.specs.Past.{expels}
 use Rattle.exactly_once.specs.Story.{Story}
 use Rattle.exactly_once.specs.InStep.{IsInStep, IsFirstSession}
 use Rattle.exactly_once.specs.Lives.{Lived}

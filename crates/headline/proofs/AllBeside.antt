@@ -1,15 +1,15 @@
 -- Beside every world that is reached goes one of `model`.
 use Rattle.std.proofs.Common.{◌≡◌, ℕ, List, [], ◌++◌, true, map, refl, sym, ◌∙◌}
-use Rattle.byte_world.specs.ballot_base.declared.config.Config.{Config}
-use Rattle.byte_world.specs.broker_spec.Place.{Client}
-use Rattle.byte_world.specs.lists.Lists.{Each}
+use Rattle.ballot_base.specs.declared.config.Config.{Config}
+use Rattle.broker_spec.specs.Place.{Client}
+use Rattle.lists.specs.Lists.{Each}
 use Rattle.byte_world.specs.agreement.World.{can_open}
-use Rattle.byte_world.specs.packet_world.World.{ClientsAreApart, ClientEnds, opening as opening_beside, story_of as story_beside}
-use Rattle.byte_world.specs.packet_world.World as model
-use Rattle.byte_world.specs.packet_world.Steps.Reached.{begins as begins_beside}
-use Rattle.byte_world.proofs.of_packet_world.Lists.{each_by}
-use Rattle.byte_world.specs.node_group.Steps.{GroupTrace}
-use Rattle.byte_world.specs.node_group.Steps.GroupTrace.{opened}
+use Rattle.packet_world.specs.World.{ClientsAreApart, ClientEnds, opening as opening_beside, story_of as story_beside}
+use Rattle.packet_world.specs.World as model
+use Rattle.packet_world.specs.Steps.Reached.{begins as begins_beside}
+use Rattle.packet_world.proofs.Lists.{each_by}
+use Rattle.node_group.specs.Steps.{GroupTrace}
+use Rattle.node_group.specs.Steps.GroupTrace.{opened}
 use Rattle.byte_world.specs.Carried.{trace_of, went_on}
 use Rattle.byte_world.specs.Steps.{Reached, WorldStep}
 use Rattle.byte_world.specs.Steps.Reached.{begins, goes_on}
@@ -21,7 +21,7 @@ use Rattle.headline.proofs.AllPutOut.{IsFull}
 use Rattle.headline.proofs.Beside.{Beside, ends_alone, grows_beside}
 use Rattle.headline.proofs.ClientsGo.{calls_so, connects_so, handles_so}
 use Rattle.headline.proofs.GoesBeside.{GoesBeside, group_beside, pipe_beside, pipe_rests}
-use Rattle.byte_world.proofs.of_node_group.CarriedInOrder.{carried_at_first}
+use Rattle.node_group.proofs.CarriedInOrder.{carried_at_first}
 use Rattle.headline.proofs.Places.{each_of_made, map_twice}
 use Rattle.headline.proofs.WorldsWrite.{HasAllPipes, clients_alone, is_of_written, pipes_alone}
 

@@ -1,26 +1,26 @@
 -- Every PUBLISH that a client writes has the number of its publication.
 use Rattle.std.proofs.Common.{◌≡◌, ℕ, zero, suc, Bool, true, false, not, ◌&&◌, if◌then◌else◌, List, [], ◌∷◌, ◌++◌, map, Option, None, refl, subst}
-use Rattle.byte_world.specs.packet.declared.connack.Connack.TheVariants as connacks
-use Rattle.byte_world.specs.packet.declared.delivery.Delivery.{Delivery}
-use Rattle.byte_world.specs.packet.declared.delivery.Delivery.TheVariants as deliveries
-use Rattle.byte_world.specs.packet.declared.packet.Packet.{Packet}
-use Rattle.byte_world.specs.packet.declared.packet.Packet.TheVariants as packets
-use Rattle.byte_world.specs.session_base.Identifiers.{least_free}
-use Rattle.byte_world.specs.session_base.Publication.{publication_of}
-use Rattle.byte_world.specs.session_base.declared.publication.Publication.{Publication}
-use Rattle.byte_world.specs.broker_spec.Place.{Limits}
-use Rattle.byte_world.specs.client_base.Called.{written_for}
-use Rattle.byte_world.specs.client_base.Handled.{confirmed, discarded, packet_handled, handled_first, handled_online}
-use Rattle.byte_world.specs.client_base.Handshakes.{own_at_pubrec, is_sent_with, pubrec_answered, takes_in}
-use Rattle.byte_world.specs.client_base.Keeper.{Keeper, Own, Written, ids_in_use, next_own_number}
-use Rattle.byte_world.specs.client_base.Written.{plain, written_publish, resent_written, written_again, written_first, writes_first, writing}
-use Rattle.byte_world.specs.lists.Lists.{Each, has_id}
-use Rattle.byte_world.proofs.of_lists.OfEach.{each_append}
-use Rattle.byte_world.specs.exactly_once.Sides.{ClientConnection, Side}
-use Rattle.byte_world.specs.exactly_once.Story.{StoryStep, Story}
-use Rattle.byte_world.specs.exactly_once.StoryCommands.{with_one_counted}
-use Rattle.byte_world.specs.exactly_once.Story.StoryStep.{takes, others_take, receives, opens_anew, loses, disconnects, publishes_one, subscribes, unsubscribes}
-use Rattle.byte_world.proofs.of_exactly_once.publishing.Answered.{counted_side}
+use Rattle.packet.specs.declared.connack.Connack.TheVariants as connacks
+use Rattle.packet.specs.declared.delivery.Delivery.{Delivery}
+use Rattle.packet.specs.declared.delivery.Delivery.TheVariants as deliveries
+use Rattle.packet.specs.declared.packet.Packet.{Packet}
+use Rattle.packet.specs.declared.packet.Packet.TheVariants as packets
+use Rattle.session_base.specs.Identifiers.{least_free}
+use Rattle.session_base.specs.Publication.{publication_of}
+use Rattle.session_base.specs.declared.publication.Publication.{Publication}
+use Rattle.broker_spec.specs.Place.{Limits}
+use Rattle.client_base.specs.Called.{written_for}
+use Rattle.client_base.specs.Handled.{confirmed, discarded, packet_handled, handled_first, handled_online}
+use Rattle.client_base.specs.Handshakes.{own_at_pubrec, is_sent_with, pubrec_answered, takes_in}
+use Rattle.client_base.specs.Keeper.{Keeper, Own, Written, ids_in_use, next_own_number}
+use Rattle.client_base.specs.Written.{plain, written_publish, resent_written, written_again, written_first, writes_first, writing}
+use Rattle.lists.specs.Lists.{Each, has_id}
+use Rattle.lists.proofs.OfEach.{each_append}
+use Rattle.exactly_once.specs.Sides.{ClientConnection, Side}
+use Rattle.exactly_once.specs.Story.{StoryStep, Story}
+use Rattle.exactly_once.specs.StoryCommands.{with_one_counted}
+use Rattle.exactly_once.specs.Story.StoryStep.{takes, others_take, receives, opens_anew, loses, disconnects, publishes_one, subscribes, unsubscribes}
+use Rattle.exactly_once.proofs.publishing.Answered.{counted_side}
 
 -- a PUBLISH of which it is not known which publication it is of
 abbrev pub is_unnumbered : Packet → Option ℕ → Bool

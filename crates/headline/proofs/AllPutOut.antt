@@ -3,24 +3,24 @@ use Rattle.std.proofs.Common.{◌≡◌, ◌≤◌, ◌+◌, ℕ, zero, suc, tru
 use Rattle.std.specs.Prelude.{slice_get}
 use Rattle.byte_world.specs.whole.Applying.{outputs_between}
 use Rattle.byte_world.specs.agreement.World.{outputs}
-use Rattle.byte_world.specs.broker_spec.declared.command.Command.{Command}
-use Rattle.byte_world.specs.broker_spec.Commands.{past_of, usual_limits}
-use Rattle.byte_world.specs.broker_spec.Place.{Client}
-use Rattle.byte_world.specs.lists.Lists.{Each}
-use Rattle.byte_world.proofs.of_lists.Places.{get_set}
-use Rattle.byte_world.specs.exactly_once.Sends.{put_to}
-use Rattle.byte_world.specs.exactly_once.Sides.{ClientConnection}
-use Rattle.byte_world.specs.packet_world.World.{ClientsAreApart, ClientEnds, End, World, with_client}
-use Rattle.byte_world.specs.packet_world.Steps.{HasPipe, Reached}
-use Rattle.byte_world.specs.packet_world.Steps.Goes.{reads}
-use Rattle.byte_world.specs.packet_world.Steps.Reached.{goes_on}
-use Rattle.byte_world.specs.packet_world.PutOut.{broker_rules, end_given}
-use Rattle.byte_world.proofs.of_packet_world.Ends.{pipe_at}
-use Rattle.byte_world.proofs.of_packet_world.Holds.{HasPipes}
-use Rattle.byte_world.proofs.of_packet_world.Lists.{each_get}
-use Rattle.byte_world.proofs.of_packet_world.PutOut.{given_is_put_out}
-use Rattle.byte_world.proofs.of_packet_world.WorldsExact.{reached_holds}
-use Rattle.byte_world.proofs.of_node_group.Placed.{set_same, set_twice}
+use Rattle.broker_spec.specs.declared.command.Command.{Command}
+use Rattle.broker_spec.specs.Commands.{past_of, usual_limits}
+use Rattle.broker_spec.specs.Place.{Client}
+use Rattle.lists.specs.Lists.{Each}
+use Rattle.lists.proofs.Places.{get_set}
+use Rattle.exactly_once.specs.Sends.{put_to}
+use Rattle.exactly_once.specs.Sides.{ClientConnection}
+use Rattle.packet_world.specs.World.{ClientsAreApart, ClientEnds, End, World, with_client}
+use Rattle.packet_world.specs.Steps.{HasPipe, Reached}
+use Rattle.packet_world.specs.Steps.Goes.{reads}
+use Rattle.packet_world.specs.Steps.Reached.{goes_on}
+use Rattle.packet_world.specs.PutOut.{broker_rules, end_given}
+use Rattle.packet_world.proofs.Ends.{pipe_at}
+use Rattle.packet_world.proofs.Holds.{HasPipes}
+use Rattle.packet_world.proofs.Lists.{each_get}
+use Rattle.packet_world.proofs.PutOut.{given_is_put_out}
+use Rattle.packet_world.proofs.WorldsExact.{reached_holds}
+use Rattle.node_group.proofs.Placed.{set_same, set_twice}
 use Rattle.headline.proofs.Places.{in_turn, take_whole}
 
 -- the open end of a connection of which all is read, whose node has applied this list and sent all

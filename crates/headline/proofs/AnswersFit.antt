@@ -1,18 +1,18 @@
 -- All that a connection is sent of the answers to a list of commands can be spelled.
 use Rattle.std.proofs.Common.{Bool, true, false, if◌then◌else◌, List, [], ◌∷◌, Option, Some, None, sym, subst, arith}
 use Rattle.std.specs.List.{AllByRecursion}
-use Rattle.byte_world.specs.lists.Lists.{Each}
-use Rattle.byte_world.proofs.of_lists.OfEach.{each_append}
-use Rattle.byte_world.specs.packet.Spelling.{IsPacket}
-use Rattle.byte_world.specs.broker_spec.Answers.{close_outputs}
-use Rattle.byte_world.specs.broker_spec.AnswersInOrder.{answers_from, answers_of}
-use Rattle.byte_world.specs.broker_spec.declared.command.Command.{Command}
-use Rattle.byte_world.specs.broker_spec.declared.command.Command.TheVariants as commands
-use Rattle.byte_world.specs.broker_spec.Commands.{past_from, past_of, place_of, usual_limits}
-use Rattle.byte_world.specs.broker_spec.Connection.{ConnectionName, same_connection}
-use Rattle.byte_world.specs.broker_spec.declared.command.Output.{Output}
-use Rattle.byte_world.specs.broker_spec.declared.command.Output.TheVariants.{Send, Close}
-use Rattle.byte_world.specs.broker_spec.Place.{Past}
+use Rattle.lists.specs.Lists.{Each}
+use Rattle.lists.proofs.OfEach.{each_append}
+use Rattle.packet.specs.Spelling.{IsPacket}
+use Rattle.broker_spec.specs.Answers.{close_outputs}
+use Rattle.broker_spec.specs.AnswersInOrder.{answers_from, answers_of}
+use Rattle.broker_spec.specs.declared.command.Command.{Command}
+use Rattle.broker_spec.specs.declared.command.Command.TheVariants as commands
+use Rattle.broker_spec.specs.Commands.{past_from, past_of, place_of, usual_limits}
+use Rattle.broker_spec.specs.Connection.{ConnectionName, same_connection}
+use Rattle.broker_spec.specs.declared.command.Output.{Output}
+use Rattle.broker_spec.specs.declared.command.Output.TheVariants.{Send, Close}
+use Rattle.broker_spec.specs.Place.{Past}
 use Rattle.byte_world.specs.broker_base.State.{State, empty_state, session_in}
 use Rattle.byte_world.specs.broker_base.Step.{step, steps_from}
 use Rattle.byte_world.specs.broker_base.StepAnswers.{connection_of}
@@ -21,8 +21,8 @@ use Rattle.byte_world.specs.broker_form.InRange.{IsBrokerState}
 use Rattle.byte_world.specs.broker_form.RangeLaws.{CanBeSpelled}
 use Rattle.byte_world.proofs.of_broker_form.EveryAnswer.{answers_are_spelled, lists_are_in_range}
 use Rattle.byte_world.proofs.of_broker_form.States.{stays_in_range}
-use Rattle.byte_world.specs.exactly_once.Sends.{put_to, sends_to}
-use Rattle.byte_world.proofs.of_packet_world.Answers.{put_place}
+use Rattle.exactly_once.specs.Sends.{put_to, sends_to}
+use Rattle.packet_world.proofs.Answers.{put_place}
 use Rattle.headline.proofs.Fitting.{IsFitting}
 use Rattle.headline.proofs.LostNowhere.{loss_in_range}
 use Rattle.headline.proofs.ExpelledNobody.{expel_in_range}

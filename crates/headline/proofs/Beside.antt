@@ -2,21 +2,21 @@
 -- all that it wrote, and sent all that is agreed, it continues as the agreed list grows.
 use Rattle.std.proofs.Common.{◌≡◌, ℕ, true, List, [], ◌∷◌, filter, length, map, take, Some, refl, sym, ap, ◌∙◌, subst, arith}
 use Rattle.std.specs.Prelude.{slice_get}
-use Rattle.byte_world.specs.broker_spec.declared.command.Command.{Command}
-use Rattle.byte_world.specs.broker_spec.Place.{Client}
-use Rattle.byte_world.specs.client_base.Keeper.{Keeper, Written}
-use Rattle.byte_world.specs.lists.Lists.{Each, In, IsPrefixOf}
-use Rattle.byte_world.proofs.of_lists.Prefixes.{prefix_length}
-use Rattle.byte_world.specs.exactly_once.Sides.{ClientConnection}
-use Rattle.byte_world.specs.exactly_once.StoryCommands.{is_packet_of}
-use Rattle.byte_world.specs.packet_world.World.{ClientsAreApart, ClientEnds, End, World}
-use Rattle.byte_world.specs.packet_world.Exact.{commands_from}
-use Rattle.byte_world.specs.packet_world.Steps.{HasPipe, Reached, is_of_connection}
-use Rattle.byte_world.specs.packet_world.Served.{IsOfPipe, ServesWorld, untaken}
-use Rattle.byte_world.proofs.of_packet_world.Answers.{of_name}
-use Rattle.byte_world.proofs.of_packet_world.Lists.{each_by, each_get}
-use Rattle.byte_world.proofs.of_packet_world.Serving.{worlds_are_served}
-use Rattle.byte_world.proofs.of_node_group.Placed.{get_mapped}
+use Rattle.broker_spec.specs.declared.command.Command.{Command}
+use Rattle.broker_spec.specs.Place.{Client}
+use Rattle.client_base.specs.Keeper.{Keeper, Written}
+use Rattle.lists.specs.Lists.{Each, In, IsPrefixOf}
+use Rattle.lists.proofs.Prefixes.{prefix_length}
+use Rattle.exactly_once.specs.Sides.{ClientConnection}
+use Rattle.exactly_once.specs.StoryCommands.{is_packet_of}
+use Rattle.packet_world.specs.World.{ClientsAreApart, ClientEnds, End, World}
+use Rattle.packet_world.specs.Exact.{commands_from}
+use Rattle.packet_world.specs.Steps.{HasPipe, Reached, is_of_connection}
+use Rattle.packet_world.specs.Served.{IsOfPipe, ServesWorld, untaken}
+use Rattle.packet_world.proofs.Answers.{of_name}
+use Rattle.packet_world.proofs.Lists.{each_by, each_get}
+use Rattle.packet_world.proofs.Serving.{worlds_are_served}
+use Rattle.node_group.proofs.Placed.{get_mapped}
 use Rattle.headline.proofs.Untaken.{AreSameUntaken, untaken_connection}
 use Rattle.headline.proofs.AllPutOut.{IsFull, all_put_out, end_of, ends_of, filled}
 use Rattle.headline.proofs.Places.{each_of_made, map_back, map_twice, same_place, take_whole}

@@ -1,16 +1,16 @@
 -- A client calls whatever is counted as taken of what it wrote, and whatever the list of commands is.
 use Rattle.std.proofs.Common.{◌≡◌, Bool, true, false, if◌then◌else◌, List, [], ◌∷◌, ◌++◌, map, refl, ap, sym, ◌∙◌, subst}
-use Rattle.byte_world.specs.packet.declared.packet.Packet.TheVariants as packets
-use Rattle.byte_world.specs.broker_spec.Place.{Limits, Past}
-use Rattle.byte_world.specs.client_base.Called.{adds_own, written_for}
-use Rattle.byte_world.specs.client_base.Handled.{lost}
-use Rattle.byte_world.specs.client_base.Keeper.{Keeper, Written}
-use Rattle.byte_world.specs.client_base.Written.{plain, writes_first}
-use Rattle.byte_world.specs.client_base.declared.request.Request.TheVariants as requests
-use Rattle.byte_world.specs.exactly_once.Sides.{ClientConnection}
-use Rattle.byte_world.specs.exactly_once.Story.{StoryStep, Story}
-use Rattle.byte_world.specs.exactly_once.Story.StoryStep.{takes, others_take, receives, opens_anew, loses, disconnects, publishes_one, subscribes, unsubscribes}
-use Rattle.byte_world.specs.packet_world.Steps.{is_call}
+use Rattle.packet.specs.declared.packet.Packet.TheVariants as packets
+use Rattle.broker_spec.specs.Place.{Limits, Past}
+use Rattle.client_base.specs.Called.{adds_own, written_for}
+use Rattle.client_base.specs.Handled.{lost}
+use Rattle.client_base.specs.Keeper.{Keeper, Written}
+use Rattle.client_base.specs.Written.{plain, writes_first}
+use Rattle.client_base.specs.declared.request.Request.TheVariants as requests
+use Rattle.exactly_once.specs.Sides.{ClientConnection}
+use Rattle.exactly_once.specs.Story.{StoryStep, Story}
+use Rattle.exactly_once.specs.Story.StoryStep.{takes, others_take, receives, opens_anew, loses, disconnects, publishes_one, subscribes, unsubscribes}
+use Rattle.packet_world.specs.Steps.{is_call}
 use Rattle.headline.proofs.Untaken.{AreSameUntaken, untaken_connection}
 
 -- ---- what is written on the newest connection

@@ -4,15 +4,15 @@ use Rattle.std.specs.Str.{chars, is_utf8}
 use lib.Utf8.{encode}
 use Rattle.std.proofs.Common.{◌≡◌, ◌<◌, ◌≤◌, ℕ, true, [], ◌∷◌, refl, sym, arith}
 use Rattle.std.proofs.lemmas.List.{append-nil}
-use Rattle.byte_world.specs.packet.Spelling.{IsPacket, spelling}
-use Rattle.byte_world.specs.client_base.Connected.{new_connection}
-use Rattle.byte_world.specs.client_base.Handled.{lost}
-use Rattle.byte_world.specs.client_base.Keeper.{Keeper, new_keeper}
-use Rattle.byte_world.specs.exactly_once.Rows.{first_name, writer}
-use Rattle.byte_world.specs.exactly_once.Sides.{ClientConnection}
-use Rattle.byte_world.specs.node_core.declared.item.Item.TheVariants.{Opened}
+use Rattle.packet.specs.Spelling.{IsPacket, spelling}
+use Rattle.client_base.specs.Connected.{new_connection}
+use Rattle.client_base.specs.Handled.{lost}
+use Rattle.client_base.specs.Keeper.{Keeper, new_keeper}
+use Rattle.exactly_once.specs.Rows.{first_name, writer}
+use Rattle.exactly_once.specs.Sides.{ClientConnection}
+use Rattle.node_core.specs.declared.item.Item.TheVariants.{Opened}
 use Rattle.byte_world.specs.node_connections.Connections.{fresh}
-use Rattle.byte_world.specs.node_group.Group.{opening_group}
+use Rattle.node_group.specs.Group.{opening_group}
 use Rattle.byte_world.specs.node_moves.Moves.NodeCall.{takes}
 use Rattle.byte_world.specs.node_moves.Puts.{spelled}
 use Rattle.byte_world.specs.Steps.{Reached}

@@ -2,31 +2,31 @@
 -- and its nodes read what it wrote.
 use Rattle.std.proofs.Common.{◌≡◌, ◌≤◌, ℕ, Bool, true, false, ◌||◌, List, [], ◌∷◌, length, map, set, take, Some, refl, sym, ap, ap₂, ◌∙◌, subst, arith, length-append}
 use Rattle.std.specs.Prelude.{slice_get}
-use Rattle.byte_world.specs.packet.declared.packet.Packet.{Packet}
-use Rattle.byte_world.specs.broker_spec.declared.command.Command.{Command}
-use Rattle.byte_world.specs.broker_spec.Commands.{past_of, usual_limits}
-use Rattle.byte_world.specs.broker_spec.Connection.{ConnectionName, same_connection}
-use Rattle.byte_world.specs.broker_spec.Place.{Client}
-use Rattle.byte_world.specs.client_base.Connected.{new_connection}
-use Rattle.byte_world.specs.client_base.Handled.{packet_handled, lost}
-use Rattle.byte_world.specs.client_base.Keeper.{Keeper, Written}
-use Rattle.byte_world.specs.client_base.Written.{writes, writes_first}
-use Rattle.byte_world.proofs.of_node_group.Placed.{get_of_set, set_mapped, set_twice}
-use Rattle.byte_world.specs.lists.Lists.{Each}
-use Rattle.byte_world.proofs.of_lists.OfEach.{each_then}
-use Rattle.byte_world.specs.exactly_once.Sends.{put_to}
-use Rattle.byte_world.specs.exactly_once.Sides.{ClientConnection, Side}
-use Rattle.byte_world.specs.exactly_once.Story.{StoryStep, Story}
-use Rattle.byte_world.specs.exactly_once.StoryCommands.{any_named}
-use Rattle.byte_world.proofs.of_exactly_once.publishing.Grown.{handled_grows}
-use Rattle.byte_world.specs.packet_world.World.{ClientsAreApart, ClientEnds, End, IsFresh, World, new_end, story_of, with_client}
-use Rattle.byte_world.specs.packet_world.Steps.{Reached, after_opening, is_call}
-use Rattle.byte_world.specs.packet_world.Steps.Goes.{calls, handles, opens}
-use Rattle.byte_world.specs.packet_world.Steps.Reached.{goes_on}
-use Rattle.byte_world.proofs.of_packet_world.Ends.{pipe_at}
-use Rattle.byte_world.proofs.of_packet_world.Holds.{HasPipes}
-use Rattle.byte_world.proofs.of_packet_world.Lists.{each_get, each_set}
-use Rattle.byte_world.proofs.of_packet_world.WorldsExact.{reached_holds}
+use Rattle.packet.specs.declared.packet.Packet.{Packet}
+use Rattle.broker_spec.specs.declared.command.Command.{Command}
+use Rattle.broker_spec.specs.Commands.{past_of, usual_limits}
+use Rattle.broker_spec.specs.Connection.{ConnectionName, same_connection}
+use Rattle.broker_spec.specs.Place.{Client}
+use Rattle.client_base.specs.Connected.{new_connection}
+use Rattle.client_base.specs.Handled.{packet_handled, lost}
+use Rattle.client_base.specs.Keeper.{Keeper, Written}
+use Rattle.client_base.specs.Written.{writes, writes_first}
+use Rattle.node_group.proofs.Placed.{get_of_set, set_mapped, set_twice}
+use Rattle.lists.specs.Lists.{Each}
+use Rattle.lists.proofs.OfEach.{each_then}
+use Rattle.exactly_once.specs.Sends.{put_to}
+use Rattle.exactly_once.specs.Sides.{ClientConnection, Side}
+use Rattle.exactly_once.specs.Story.{StoryStep, Story}
+use Rattle.exactly_once.specs.StoryCommands.{any_named}
+use Rattle.exactly_once.proofs.publishing.Grown.{handled_grows}
+use Rattle.packet_world.specs.World.{ClientsAreApart, ClientEnds, End, IsFresh, World, new_end, story_of, with_client}
+use Rattle.packet_world.specs.Steps.{Reached, after_opening, is_call}
+use Rattle.packet_world.specs.Steps.Goes.{calls, handles, opens}
+use Rattle.packet_world.specs.Steps.Reached.{goes_on}
+use Rattle.packet_world.proofs.Ends.{pipe_at}
+use Rattle.packet_world.proofs.Holds.{HasPipes}
+use Rattle.packet_world.proofs.Lists.{each_get, each_set}
+use Rattle.packet_world.proofs.WorldsExact.{reached_holds}
 use Rattle.byte_world.proofs.WorldsKeep.{call_writes}
 use Rattle.headline.proofs.Untaken.{untaken_connection}
 use Rattle.headline.proofs.AllPutOut.{IsFull, all_read, end_of, ends_of}

@@ -3,38 +3,38 @@
 use Rattle.std.proofs.Common.{◌≡◌, ◌≤◌, ◌⊎◌, inl, inr, ℕ, zero, suc, Bool, true, false, ◌||◌, List, [], ◌∷◌, length, Ok, Option, Some, set, refl, sym, ap, ◌∙◌, subst}
 use Rattle.std.specs.Prelude.{slice_get}
 use Rattle.std.proofs.lemmas.Bool.{both_ways, cases_Bool}
-use Rattle.byte_world.specs.packet.Spelling.{IsPacket}
-use Rattle.byte_world.specs.packet.declared.packet.Packet.{Packet}
+use Rattle.packet.specs.Spelling.{IsPacket}
+use Rattle.packet.specs.declared.packet.Packet.{Packet}
 use Rattle.byte_world.specs.cutter.Stream.{Stream, Takes}
-use Rattle.byte_world.specs.ballot_base.declared.config.Config.{Config}
-use Rattle.byte_world.specs.broker_spec.declared.command.Command.{Command}
-use Rattle.byte_world.specs.broker_spec.Commands.{past_of, usual_limits}
-use Rattle.byte_world.specs.broker_spec.Connection.{ConnectionName, same_connection}
-use Rattle.byte_world.specs.broker_spec.Place.{Client}
-use Rattle.byte_world.proofs.of_broker_spec.ConnectionNames.{same_name}
-use Rattle.byte_world.specs.client_base.Connected.{new_connection}
-use Rattle.byte_world.specs.client_base.Handled.{packet_handled}
-use Rattle.byte_world.specs.client_base.Keeper.{Written}
-use Rattle.byte_world.specs.client_base.Written.{writes_first}
-use Rattle.byte_world.specs.lists.Lists.{Each, In, IsPrefixOf}
-use Rattle.byte_world.proofs.of_lists.Places.{get_set, get_set_other}
+use Rattle.ballot_base.specs.declared.config.Config.{Config}
+use Rattle.broker_spec.specs.declared.command.Command.{Command}
+use Rattle.broker_spec.specs.Commands.{past_of, usual_limits}
+use Rattle.broker_spec.specs.Connection.{ConnectionName, same_connection}
+use Rattle.broker_spec.specs.Place.{Client}
+use Rattle.broker_spec.proofs.ConnectionNames.{same_name}
+use Rattle.client_base.specs.Connected.{new_connection}
+use Rattle.client_base.specs.Handled.{packet_handled}
+use Rattle.client_base.specs.Keeper.{Written}
+use Rattle.client_base.specs.Written.{writes_first}
+use Rattle.lists.specs.Lists.{Each, In, IsPrefixOf}
+use Rattle.lists.proofs.Places.{get_set, get_set_other}
 use Rattle.byte_world.specs.cutter.Pipe.{Joins}
-use Rattle.byte_world.specs.exactly_once.Sends.{put_to}
-use Rattle.byte_world.specs.exactly_once.Sides.{ClientConnection, Side}
-use Rattle.byte_world.specs.exactly_once.Story.{StoryStep, Story}
-use Rattle.byte_world.specs.exactly_once.StoryCommands.{any_named, is_packet_of}
-use Rattle.byte_world.specs.packet_world.World.{ClientsAreApart}
-use Rattle.byte_world.specs.packet_world.Steps.{is_call, is_of_connection}
-use Rattle.byte_world.proofs.of_packet_world.Lists.{each_by, each_get, each_set, same_or_other, stands_within, there_is}
+use Rattle.exactly_once.specs.Sends.{put_to}
+use Rattle.exactly_once.specs.Sides.{ClientConnection, Side}
+use Rattle.exactly_once.specs.Story.{StoryStep, Story}
+use Rattle.exactly_once.specs.StoryCommands.{any_named, is_packet_of}
+use Rattle.packet_world.specs.World.{ClientsAreApart}
+use Rattle.packet_world.specs.Steps.{is_call, is_of_connection}
+use Rattle.packet_world.proofs.Lists.{each_by, each_get, each_set, same_or_other, stands_within, there_is}
 use Rattle.byte_world.specs.node_moves.Moves.NodeCall.{takes}
 use Rattle.byte_world.specs.node_moves.Puts.{spelled}
-use Rattle.byte_world.specs.node_group.Group.{Group}
-use Rattle.byte_world.specs.node_group.Steps.{GroupTrace}
-use Rattle.byte_world.specs.node_group.Steps.GroupTrace.{then_went}
-use Rattle.byte_world.proofs.of_node_group.Placed.{get_mapped, set_mapped}
-use Rattle.byte_world.specs.node_group.Carried.{answers_to}
-use Rattle.byte_world.specs.node_core.declared.item.Item.TheVariants.{Opened}
-use Rattle.byte_world.specs.node_core.declared.Port.{Port}
+use Rattle.node_group.specs.Group.{Group}
+use Rattle.node_group.specs.Steps.{GroupTrace}
+use Rattle.node_group.specs.Steps.GroupTrace.{then_went}
+use Rattle.node_group.proofs.Placed.{get_mapped, set_mapped}
+use Rattle.node_group.specs.Carried.{answers_to}
+use Rattle.node_core.specs.declared.item.Item.TheVariants.{Opened}
+use Rattle.node_core.specs.declared.Port.{Port}
 use Rattle.byte_world.specs.Steps.{DoesCall}
 use Rattle.byte_world.specs.ClientSteps.{after_connecting, after_packet, story_alone}
 use Rattle.byte_world.specs.World.{ClientPipes, HasPipe, Pipe, World, after_writing, newly_written, packets_of, sent_up, with_client}
@@ -45,7 +45,7 @@ use Rattle.headline.proofs.Beside.{Alone, Beside, alone}
 use Rattle.headline.proofs.ClientsBeside.{IsFreshAlone, calls_beside, handles_beside, named_untaken, opens_beside}
 use Rattle.headline.proofs.CommandsFit.{IsWritten, list_fits}
 use Rattle.headline.proofs.GoesBeside.{GoesBeside, group_beside}
-use Rattle.byte_world.proofs.of_node_group.CarriedInOrder.{IsAgreedSo, carries_each}
+use Rattle.node_group.proofs.CarriedInOrder.{IsAgreedSo, carries_each}
 use Rattle.headline.proofs.NamesGiven.{names_fit}
 use Rattle.headline.proofs.NextAnswer.{next_answer}
 use Rattle.headline.proofs.Places.{each_of_made}

@@ -1,19 +1,19 @@
 -- The commands of packets that were written on a connection are fitting; a list of such commands is
 -- fitting too.
 use Rattle.std.proofs.Common.{◌≡◌, ℕ, zero, suc, Bool, true, false, if◌then◌else◌, List, [], ◌∷◌, filter, refl, subst}
-use Rattle.byte_world.specs.lists.Lists.{Each, In, IsPrefixOf}
-use Rattle.byte_world.specs.lists.Lists.In.{here, there}
-use Rattle.byte_world.proofs.of_lists.OfEach.{each_left}
-use Rattle.byte_world.specs.packet.declared.packet.Packet.{Packet}
-use Rattle.byte_world.specs.packet.declared.packet.Packet.TheVariants as packets
-use Rattle.byte_world.specs.packet.Spelling.{IsPacket}
-use Rattle.byte_world.specs.broker_spec.declared.command.Command.{Command}
-use Rattle.byte_world.specs.broker_spec.declared.command.Command.TheVariants as commands
-use Rattle.byte_world.specs.broker_spec.Connection.{ConnectionName, IsConnectionName}
-use Rattle.byte_world.specs.exactly_once.StoryCommands.{command_of, is_packet_of}
-use Rattle.byte_world.specs.packet_world.Steps.{is_of_connection}
+use Rattle.lists.specs.Lists.{Each, In, IsPrefixOf}
+use Rattle.lists.specs.Lists.In.{here, there}
+use Rattle.lists.proofs.OfEach.{each_left}
+use Rattle.packet.specs.declared.packet.Packet.{Packet}
+use Rattle.packet.specs.declared.packet.Packet.TheVariants as packets
+use Rattle.packet.specs.Spelling.{IsPacket}
+use Rattle.broker_spec.specs.declared.command.Command.{Command}
+use Rattle.broker_spec.specs.declared.command.Command.TheVariants as commands
+use Rattle.broker_spec.specs.Connection.{ConnectionName, IsConnectionName}
+use Rattle.exactly_once.specs.StoryCommands.{command_of, is_packet_of}
+use Rattle.packet_world.specs.Steps.{is_of_connection}
 use Rattle.byte_world.specs.node_moves.Ends.{packet_commands_from}
-use Rattle.byte_world.specs.node_group.Order.{packet_commands}
+use Rattle.node_group.specs.Order.{packet_commands}
 use Rattle.headline.proofs.Fitting.{IsFitting}
 
 -- ---- of one connection

@@ -1,21 +1,21 @@
 -- A client's current connection is one of its own.
 use Rattle.std.proofs.Common.{◌≡◌, ℕ, Bool, true, false, List, ◌∷◌, Option, Some, None, refl, sym, ap, ◌∙◌, subst, inl, inr, ◌⊎◌}
 use Rattle.std.specs.Prelude.{slice_get}
-use Rattle.byte_world.specs.packet.declared.packet.Packet.{Packet}
-use Rattle.byte_world.specs.broker_spec.declared.command.Command.{Command}
-use Rattle.byte_world.specs.broker_spec.declared.command.Command.TheVariants as commands
-use Rattle.byte_world.specs.broker_spec.Commands.{place_of}
-use Rattle.byte_world.specs.broker_spec.Connection.{ConnectionName, same_connection}
-use Rattle.byte_world.specs.broker_spec.Past.{accepts, current_connection}
-use Rattle.byte_world.specs.broker_spec.Place.{Client, Limits, Mark, Past, Place}
-use Rattle.byte_world.proofs.of_broker_spec.ClientsInOrder.{same_self}
-use Rattle.byte_world.specs.exactly_once.Sides.{ClientConnection}
-use Rattle.byte_world.specs.exactly_once.StoryCommands.{any_named, with_one_counted}
-use Rattle.byte_world.proofs.of_exactly_once.places.After.{current_opens}
-use Rattle.byte_world.proofs.of_exactly_once.publishing.Last.{is_named}
-use Rattle.byte_world.proofs.of_exactly_once.publishing.kept.KeepsNames.{counted_named}
-use Rattle.byte_world.proofs.of_exactly_once.sessions.EachPlaced.{IsOwnCommand}
-use Rattle.byte_world.proofs.of_exactly_once.subscribing.Newest.{stays_or_none}
+use Rattle.packet.specs.declared.packet.Packet.{Packet}
+use Rattle.broker_spec.specs.declared.command.Command.{Command}
+use Rattle.broker_spec.specs.declared.command.Command.TheVariants as commands
+use Rattle.broker_spec.specs.Commands.{place_of}
+use Rattle.broker_spec.specs.Connection.{ConnectionName, same_connection}
+use Rattle.broker_spec.specs.Past.{accepts, current_connection}
+use Rattle.broker_spec.specs.Place.{Client, Limits, Mark, Past, Place}
+use Rattle.broker_spec.proofs.ClientsInOrder.{same_self}
+use Rattle.exactly_once.specs.Sides.{ClientConnection}
+use Rattle.exactly_once.specs.StoryCommands.{any_named, with_one_counted}
+use Rattle.exactly_once.proofs.places.After.{current_opens}
+use Rattle.exactly_once.proofs.publishing.Last.{is_named}
+use Rattle.exactly_once.proofs.publishing.kept.KeepsNames.{counted_named}
+use Rattle.exactly_once.proofs.sessions.EachPlaced.{IsOwnCommand}
+use Rattle.exactly_once.proofs.subscribing.Newest.{stays_or_none}
 
 -- it is one that it opened
 abbrev pub IsCurrentNamed : Client → List ClientConnection → Past → Type 0

@@ -1,27 +1,27 @@
 -- What is promised for a client does not depend on how much of what it wrote is counted as taken.
 use Rattle.std.proofs.Common.{◌≡◌, ◌≤◌, ℕ, ◌+◌, Bool, true, false, if◌then◌else◌, List, [], ◌∷◌, ◌++◌, length, map, filter, Some, refl, ap, ap₂, sym, ◌∙◌, subst}
-use Rattle.byte_world.specs.lists.Lists.{Each, In, IsPrefixOf}
-use Rattle.byte_world.specs.packet.declared.packet.Packet.TheVariants as packets
-use Rattle.byte_world.specs.broker_spec.declared.command.Command.{Command}
-use Rattle.byte_world.specs.broker_spec.declared.command.Command.TheVariants as commands
-use Rattle.byte_world.specs.broker_spec.Connection.{ConnectionName, same_connection}
-use Rattle.byte_world.specs.broker_spec.Entries.{Entry}
-use Rattle.byte_world.specs.broker_spec.OriginLaws.{is_from_publish}
-use Rattle.byte_world.specs.broker_spec.Place.{Client, Limits, Past, Place}
-use Rattle.byte_world.specs.broker_spec.Received.{is_new}
-use Rattle.byte_world.specs.broker_spec.Times.{entries_of}
-use Rattle.byte_world.specs.client_base.Keeper.{Keeper, all_own}
-use Rattle.byte_world.specs.exactly_once.Carried.{carries, connection_named, more_by, new_numbers, written_number_at, own_qos2_numbers, is_this}
-use Rattle.byte_world.specs.exactly_once.Headline.{IsTakenAt, made_by}
-use Rattle.byte_world.specs.exactly_once.Acceptance.{accepted_on}
-use Rattle.byte_world.specs.exactly_once.InStep.{AreWelcome, IsFirstSession, IsInStep, WasWelcome, accepted_in, opened_in, starts_of}
-use Rattle.byte_world.specs.exactly_once.Lives.{AcceptedInSession, NumbersRise, PublishedOverSessions}
-use Rattle.byte_world.specs.exactly_once.LivesAreExact.{ExactlyOnceOverSessions}
-use Rattle.byte_world.specs.exactly_once.Unexpelled.{HasOneSession}
-use Rattle.byte_world.specs.exactly_once.Sides.{ClientConnection}
-use Rattle.byte_world.specs.exactly_once.Story.{Story}
-use Rattle.byte_world.specs.exactly_once.StoryCommands.{packet_count}
-use Rattle.byte_world.proofs.of_exactly_once.sessions.InTurn.{flat_map_same}
+use Rattle.lists.specs.Lists.{Each, In, IsPrefixOf}
+use Rattle.packet.specs.declared.packet.Packet.TheVariants as packets
+use Rattle.broker_spec.specs.declared.command.Command.{Command}
+use Rattle.broker_spec.specs.declared.command.Command.TheVariants as commands
+use Rattle.broker_spec.specs.Connection.{ConnectionName, same_connection}
+use Rattle.broker_spec.specs.Entries.{Entry}
+use Rattle.broker_spec.specs.OriginLaws.{is_from_publish}
+use Rattle.broker_spec.specs.Place.{Client, Limits, Past, Place}
+use Rattle.broker_spec.specs.Received.{is_new}
+use Rattle.broker_spec.specs.Times.{entries_of}
+use Rattle.client_base.specs.Keeper.{Keeper, all_own}
+use Rattle.exactly_once.specs.Carried.{carries, connection_named, more_by, new_numbers, written_number_at, own_qos2_numbers, is_this}
+use Rattle.exactly_once.specs.Headline.{IsTakenAt, made_by}
+use Rattle.exactly_once.specs.Acceptance.{accepted_on}
+use Rattle.exactly_once.specs.InStep.{AreWelcome, IsFirstSession, IsInStep, WasWelcome, accepted_in, opened_in, starts_of}
+use Rattle.exactly_once.specs.Lives.{AcceptedInSession, NumbersRise, PublishedOverSessions}
+use Rattle.exactly_once.specs.LivesAreExact.{ExactlyOnceOverSessions}
+use Rattle.exactly_once.specs.Unexpelled.{HasOneSession}
+use Rattle.exactly_once.specs.Sides.{ClientConnection}
+use Rattle.exactly_once.specs.Story.{Story}
+use Rattle.exactly_once.specs.StoryCommands.{packet_count}
+use Rattle.exactly_once.proofs.sessions.InTurn.{flat_map_same}
 use Rattle.headline.proofs.Untaken.{AreSameUntaken, untaken_connection}
 
 -- ---- what is read of connections

@@ -3,16 +3,16 @@ use Rattle.std.proofs.Common.{◌≡◌, Bool, true, false, if◌then◌else◌,
 use Rattle.std.specs.List.{AllByRecursion}
 use Rattle.std.proofs.lemmas.Bool.{both_ways}
 use Rattle.byte_world.specs.packet_base.ClientId.{is_client}
-use Rattle.byte_world.specs.broker_spec.declared.command.Command.TheVariants as commands
-use Rattle.byte_world.specs.broker_spec.Commands.{usual_limits}
-use Rattle.byte_world.specs.broker_spec.Connection.{ConnectionName}
-use Rattle.byte_world.specs.broker_spec.Place.{Client, Mark, Place, same_client}
+use Rattle.broker_spec.specs.declared.command.Command.TheVariants as commands
+use Rattle.broker_spec.specs.Commands.{usual_limits}
+use Rattle.broker_spec.specs.Connection.{ConnectionName}
+use Rattle.broker_spec.specs.Place.{Client, Mark, Place, same_client}
 use Rattle.byte_world.specs.broker_base.ClientSession.{ClientSession}
 use Rattle.byte_world.specs.broker_base.SessionStep.{kept_after}
 use Rattle.byte_world.specs.broker_base.State.{Sessions, State, keyed}
 use Rattle.byte_world.specs.broker_base.Step.{sessions_left, step}
-use Rattle.byte_world.proofs.of_broker_spec.ClientsInOrder.{same_is}
-use Rattle.byte_world.specs.broker_spec.Past.{any_connection, ends}
+use Rattle.broker_spec.proofs.ClientsInOrder.{same_is}
+use Rattle.broker_spec.specs.Past.{any_connection, ends}
 use Rattle.byte_world.specs.broker_form.InRange.{IsBrokerState, IsSession}
 use Rattle.byte_world.proofs.of_broker_form.States.{stays_in_range}
 

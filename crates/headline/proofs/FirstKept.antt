@@ -2,24 +2,24 @@
 use Rattle.std.proofs.Common.{◌≡◌, ℕ, List, ◌++◌, length, map, Option, Some, sym, ap, ◌∙◌, subst}
 use Rattle.std.specs.Prelude.{slice_get}
 use Rattle.std.proofs.lemmas.List.{map-append}
-use Rattle.byte_world.specs.session_base.declared.publication.Publication.{Publication}
-use Rattle.byte_world.specs.broker_spec.Commands.{usual_limits}
-use Rattle.byte_world.proofs.of_broker_spec.PacketOfNobody.{window_is_steady}
-use Rattle.byte_world.specs.client_base.History as history
-use Rattle.byte_world.specs.client_base.Keeper.{Own, all_own}
-use Rattle.byte_world.specs.client_base.State.{ClientState}
-use Rattle.byte_world.specs.exactly_once.Items.{SenderItem, value_of}
-use Rattle.byte_world.specs.exactly_once.HandshakeInvariant.{IsGood}
-use Rattle.byte_world.specs.exactly_once.Carried.{new_numbers, own_publications}
-use Rattle.byte_world.specs.exactly_once.Inside.Projections.{as_publisher}
-use Rattle.byte_world.specs.exactly_once.Inside.Shape.{AreNumberedFrom, IsSoundStory}
-use Rattle.byte_world.specs.exactly_once.InStep.{IsFirstSession, IsInStep}
-use Rattle.byte_world.specs.exactly_once.Lives.{Lived}
-use Rattle.byte_world.specs.exactly_once.Story.{Story}
-use Rattle.byte_world.proofs.of_exactly_once.Ends.{split_map}
-use Rattle.byte_world.proofs.of_exactly_once.keeping.StoryTrace.{told_stories_are_sound}
-use Rattle.byte_world.proofs.of_exactly_once.sessions.Beside.{beside}
-use Rattle.byte_world.proofs.of_exactly_once.sessions.LivesExact.{HasOneStory, first_has_story}
+use Rattle.session_base.specs.declared.publication.Publication.{Publication}
+use Rattle.broker_spec.specs.Commands.{usual_limits}
+use Rattle.broker_spec.proofs.PacketOfNobody.{window_is_steady}
+use Rattle.client_base.specs.History as history
+use Rattle.client_base.specs.Keeper.{Own, all_own}
+use Rattle.client_base.specs.State.{ClientState}
+use Rattle.exactly_once.specs.Items.{SenderItem, value_of}
+use Rattle.exactly_once.specs.HandshakeInvariant.{IsGood}
+use Rattle.exactly_once.specs.Carried.{new_numbers, own_publications}
+use Rattle.exactly_once.specs.Inside.Projections.{as_publisher}
+use Rattle.exactly_once.specs.Inside.Shape.{AreNumberedFrom, IsSoundStory}
+use Rattle.exactly_once.specs.InStep.{IsFirstSession, IsInStep}
+use Rattle.exactly_once.specs.Lives.{Lived}
+use Rattle.exactly_once.specs.Story.{Story}
+use Rattle.exactly_once.proofs.Ends.{split_map}
+use Rattle.exactly_once.proofs.keeping.StoryTrace.{told_stories_are_sound}
+use Rattle.exactly_once.proofs.sessions.Beside.{beside}
+use Rattle.exactly_once.proofs.sessions.LivesExact.{HasOneStory, first_has_story}
 use Rattle.headline.specs.Shown.{AreUnacknowledged, at_two, unacknowledged_of}
 use Rattle.headline.proofs.NewNumbered.{same_some}
 use Rattle.headline.proofs.StillKept.{kept_both, kept_values, new_kept, some_of, two_kept, two_published}

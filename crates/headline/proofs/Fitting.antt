@@ -1,7 +1,7 @@
 -- Commands whose answers can all be spelled.
-use Rattle.byte_world.specs.broker_spec.declared.command.Command.{Command}
-use Rattle.byte_world.specs.broker_spec.declared.command.Command.TheVariants as commands
-use Rattle.byte_world.specs.broker_spec.Logged.{IsBrokerCommand}
+use Rattle.broker_spec.specs.declared.command.Command.{Command}
+use Rattle.broker_spec.specs.declared.command.Command.TheVariants as commands
+use Rattle.broker_spec.specs.Logged.{IsBrokerCommand}
 
 -- a command that a log may hold; one that says which connection is lost, or which client is expelled, may name any
 abbrev pub IsFitting : Command → Type 0

@@ -3,22 +3,22 @@
 use Rattle.std.proofs.Common.{◌≡◌, ℕ, List, map, set, Some, refl, sym, ◌∙◌, subst}
 use Rattle.std.specs.Prelude.{slice_get}
 use Rattle.std.proofs.lemmas.List.{length-set}
-use Rattle.byte_world.specs.ballot_base.declared.config.Config.{Config}
-use Rattle.byte_world.specs.broker_spec.declared.command.Command.{Command}
-use Rattle.byte_world.specs.broker_spec.Place.{Client}
-use Rattle.byte_world.specs.lists.Lists.{Each}
-use Rattle.byte_world.proofs.of_snapshots.PastsAgree.{has_agreed}
-use Rattle.byte_world.specs.packet_world.World.{ClientsAreApart}
-use Rattle.byte_world.proofs.of_packet_world.Lists.{each_get, each_set}
-use Rattle.byte_world.proofs.of_packet_world.TakenOn.{map_set}
-use Rattle.byte_world.specs.node_core.Core.{rules}
-use Rattle.byte_world.specs.node_group.Group.{Group, moment_of_nodes}
-use Rattle.byte_world.specs.node_group.Steps.{GroupStep, GroupTrace}
-use Rattle.byte_world.specs.node_group.Steps.GroupTrace.{then_went}
+use Rattle.ballot_base.specs.declared.config.Config.{Config}
+use Rattle.broker_spec.specs.declared.command.Command.{Command}
+use Rattle.broker_spec.specs.Place.{Client}
+use Rattle.lists.specs.Lists.{Each}
+use Rattle.snapshots.proofs.PastsAgree.{has_agreed}
+use Rattle.packet_world.specs.World.{ClientsAreApart}
+use Rattle.packet_world.proofs.Lists.{each_get, each_set}
+use Rattle.packet_world.proofs.TakenOn.{map_set}
+use Rattle.node_core.specs.Core.{rules}
+use Rattle.node_group.specs.Group.{Group, moment_of_nodes}
+use Rattle.node_group.specs.Steps.{GroupStep, GroupTrace}
+use Rattle.node_group.specs.Steps.GroupTrace.{then_went}
 use Rattle.byte_world.specs.World.{ClientPipes, Pipe, World, with_client, with_pipe}
 use Rattle.byte_world.proofs.WorldsHold.{Holds}
 use Rattle.headline.proofs.Beside.{Beside, grows_beside}
-use Rattle.byte_world.proofs.of_node_group.CarriedInOrder.{CarriedSo, IsAgreedSo, carried_on}
+use Rattle.node_group.proofs.CarriedInOrder.{CarriedSo, IsAgreedSo, carried_on}
 use Rattle.headline.proofs.WorldsWrite.{HasAllPipes, clients_alone, is_of_written, pipes_alone}
 
 -- a past of all steps of its group, and for each list that is agreed at its end a world of `model`

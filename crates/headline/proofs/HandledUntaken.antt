@@ -1,18 +1,18 @@
 -- What a client does to a packet does not depend on how much of what it wrote is counted as taken.
 use Rattle.std.proofs.Common.{◌≡◌, ℕ, suc, Bool, true, false, not, ◌&&◌, if◌then◌else◌, [], ◌∷◌, ◌++◌, map, refl, ap, sym, ◌∙◌}
-use Rattle.byte_world.specs.packet.declared.connack.Connack.TheVariants as connacks
-use Rattle.byte_world.specs.packet.declared.delivery.Delivery.{Delivery}
-use Rattle.byte_world.specs.packet.declared.delivery.Delivery.TheVariants as deliveries
-use Rattle.byte_world.specs.packet.declared.packet.Packet.{Packet}
-use Rattle.byte_world.specs.packet.declared.packet.Packet.TheVariants as packets
-use Rattle.byte_world.specs.session_base.declared.publication.Publication.{Publication}
-use Rattle.byte_world.specs.session_base.Publication.{publication_of}
-use Rattle.byte_world.specs.lists.Lists.{has_id}
-use Rattle.byte_world.specs.client_base.Handled.{confirmed, discarded, packet_handled, handled_first, handled_online}
-use Rattle.byte_world.specs.client_base.Handshakes.{own_at_pubrec, is_sent_with, pubrec_answered, takes_in}
-use Rattle.byte_world.specs.client_base.Keeper.{Keeper}
-use Rattle.byte_world.specs.client_base.Written.{plain, resent_written, sent_all, writing}
-use Rattle.byte_world.specs.exactly_once.Sides.{ClientConnection, Side}
+use Rattle.packet.specs.declared.connack.Connack.TheVariants as connacks
+use Rattle.packet.specs.declared.delivery.Delivery.{Delivery}
+use Rattle.packet.specs.declared.delivery.Delivery.TheVariants as deliveries
+use Rattle.packet.specs.declared.packet.Packet.{Packet}
+use Rattle.packet.specs.declared.packet.Packet.TheVariants as packets
+use Rattle.session_base.specs.declared.publication.Publication.{Publication}
+use Rattle.session_base.specs.Publication.{publication_of}
+use Rattle.lists.specs.Lists.{has_id}
+use Rattle.client_base.specs.Handled.{confirmed, discarded, packet_handled, handled_first, handled_online}
+use Rattle.client_base.specs.Handshakes.{own_at_pubrec, is_sent_with, pubrec_answered, takes_in}
+use Rattle.client_base.specs.Keeper.{Keeper}
+use Rattle.client_base.specs.Written.{plain, resent_written, sent_all, writing}
+use Rattle.exactly_once.specs.Sides.{ClientConnection, Side}
 use Rattle.headline.proofs.Untaken.{untaken_connection}
 
 abbrev pub untaken_side : Side → Side

@@ -34,8 +34,8 @@ pub mod ServedNode
 pub mod ClientServed
 pub mod PublicationAccepted
 pub use Rattle.byte_world.proofs as of_byte_world
-pub use Rattle.byte_world.proofs.of_exactly_once as of_exactly_once
-pub use Rattle.byte_world.proofs.of_node_group as of_node_group
+pub use Rattle.exactly_once.proofs as of_exactly_once
+pub use Rattle.node_group.proofs as of_node_group
 pub use Rattle.byte_world.proofs.of_node_moves as of_node_moves
-pub use Rattle.byte_world.proofs.of_packet_world as of_packet_world
-pub use Rattle.byte_world.proofs.of_snapshots as of_snapshots
+pub use Rattle.packet_world.proofs as of_packet_world
+pub use Rattle.snapshots.proofs as of_snapshots

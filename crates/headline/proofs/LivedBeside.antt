@@ -1,20 +1,20 @@
 -- To each client of a world, and to each list on which its nodes agree, there is a life that it lived.
 use Rattle.std.proofs.Common.{◌≡◌, ℕ, List, Some, ap, ◌∙◌}
 use Rattle.std.specs.Prelude.{slice_get}
-use Rattle.byte_world.specs.ballot_base.declared.config.Config.{Config}
-use Rattle.byte_world.specs.broker_spec.declared.command.Command.{Command}
-use Rattle.byte_world.specs.broker_spec.Commands.{past_of, usual_limits}
-use Rattle.byte_world.specs.broker_spec.Place.{Client}
-use Rattle.byte_world.specs.exactly_once.Lives.{Lived}
-use Rattle.byte_world.specs.exactly_once.Story.{Story}
-use Rattle.byte_world.specs.packet_world.World.{ClientsAreApart, ClientEnds, story_of}
-use Rattle.byte_world.proofs.of_packet_world.Holds.{IsTold}
-use Rattle.byte_world.proofs.of_packet_world.Lists.{each_get}
-use Rattle.byte_world.proofs.of_packet_world.WorldsExact.{reached_holds}
-use Rattle.byte_world.specs.node_group.Steps.{GroupTrace}
+use Rattle.ballot_base.specs.declared.config.Config.{Config}
+use Rattle.broker_spec.specs.declared.command.Command.{Command}
+use Rattle.broker_spec.specs.Commands.{past_of, usual_limits}
+use Rattle.broker_spec.specs.Place.{Client}
+use Rattle.exactly_once.specs.Lives.{Lived}
+use Rattle.exactly_once.specs.Story.{Story}
+use Rattle.packet_world.specs.World.{ClientsAreApart, ClientEnds, story_of}
+use Rattle.packet_world.proofs.Holds.{IsTold}
+use Rattle.packet_world.proofs.Lists.{each_get}
+use Rattle.packet_world.proofs.WorldsExact.{reached_holds}
+use Rattle.node_group.specs.Steps.{GroupTrace}
 use Rattle.byte_world.specs.World.{ClientPipes, World}
-use Rattle.byte_world.proofs.of_node_group.CarriedInOrder.{IsAgreedSo}
-use Rattle.byte_world.proofs.of_node_group.Placed.{get_mapped}
+use Rattle.node_group.proofs.CarriedInOrder.{IsAgreedSo}
+use Rattle.node_group.proofs.Placed.{get_mapped}
 use Rattle.headline.proofs.Beside.{Alone, Beside, ends_alone}
 use Rattle.headline.proofs.GoesBeside.{GoesBeside}
 use Rattle.headline.proofs.Places.{map_back}

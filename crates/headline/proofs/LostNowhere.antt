@@ -2,16 +2,16 @@
 use Rattle.std.proofs.Common.{◌≡◌, Bool, true, false, if◌then◌else◌, ◌||◌, [], ◌∷◌, Option, Some, None, refl, ap, ap₂, sym, ◌∙◌, subst, arith}
 use Rattle.std.specs.List.{AllByRecursion}
 use Rattle.std.proofs.lemmas.Bool.{both_ways}
-use Rattle.byte_world.specs.broker_spec.declared.command.Command.TheVariants as commands
-use Rattle.byte_world.specs.broker_spec.Commands.{usual_limits}
-use Rattle.byte_world.specs.broker_spec.Connection.{ConnectionName, is_connection_name, same_connection}
-use Rattle.byte_world.specs.broker_spec.Place.{Mark, Place}
+use Rattle.broker_spec.specs.declared.command.Command.TheVariants as commands
+use Rattle.broker_spec.specs.Commands.{usual_limits}
+use Rattle.broker_spec.specs.Connection.{ConnectionName, is_connection_name, same_connection}
+use Rattle.broker_spec.specs.Place.{Mark, Place}
 use Rattle.byte_world.specs.broker_base.ClientSession.{ClientSession}
 use Rattle.byte_world.specs.broker_base.SessionStep.{kept_after}
 use Rattle.byte_world.specs.broker_base.State.{Sessions, State, keyed}
 use Rattle.byte_world.specs.broker_base.Step.{sessions_left, step}
-use Rattle.byte_world.proofs.of_broker_spec.ConnectionNames.{same_name}
-use Rattle.byte_world.specs.broker_spec.Past.{any_connection}
+use Rattle.broker_spec.proofs.ConnectionNames.{same_name}
+use Rattle.broker_spec.specs.Past.{any_connection}
 use Rattle.byte_world.specs.broker_form.InRange.{IsBrokerState, IsNamed, IsSession}
 use Rattle.byte_world.proofs.of_broker_form.States.{stays_in_range}
 

@@ -1,36 +1,36 @@
 -- Each name that a node of a group gives is one that a connection may have.
 use Rattle.std.proofs.Common.{◌≡◌, Bool, true, false, not, ◌&&◌, if◌then◌else◌, ℕ, List, [], ◌∷◌, ◌++◌, length, refl, sym, subst}
 use Rattle.std.specs.List.{list_any}
-use Rattle.byte_world.specs.ballot_base.declared.config.Config.{Config}
-use Rattle.byte_world.specs.ballot_base.declared.message.Effect.{Effect}
-use Rattle.byte_world.specs.broker_spec.declared.command.Command.{Command}
-use Rattle.byte_world.specs.broker_spec.declared.command.Output.{Output}
-use Rattle.byte_world.specs.broker_spec.Connection.{ConnectionName, IsConnectionName, is_connection_name}
-use Rattle.byte_world.proofs.of_broker_spec.ConnectionNames.{same_name}
-use Rattle.byte_world.specs.lists.Lists.{Each, In}
-use Rattle.byte_world.specs.lists.Lists.In.{here, there}
-use Rattle.byte_world.proofs.of_lists.OfEach.{each_append, each_then}
+use Rattle.ballot_base.specs.declared.config.Config.{Config}
+use Rattle.ballot_base.specs.declared.message.Effect.{Effect}
+use Rattle.broker_spec.specs.declared.command.Command.{Command}
+use Rattle.broker_spec.specs.declared.command.Output.{Output}
+use Rattle.broker_spec.specs.Connection.{ConnectionName, IsConnectionName, is_connection_name}
+use Rattle.broker_spec.proofs.ConnectionNames.{same_name}
+use Rattle.lists.specs.Lists.{Each, In}
+use Rattle.lists.specs.Lists.In.{here, there}
+use Rattle.lists.proofs.OfEach.{each_append, each_then}
 use Rattle.byte_world.specs.agreement.MasterState.{refusal}
-use Rattle.byte_world.proofs.of_packet_world.Lists.{each_set}
-use Rattle.byte_world.specs.node_core.declared.Connection.{Connection}
-use Rattle.byte_world.specs.node_core.declared.item.Item.{Item}
-use Rattle.byte_world.specs.node_core.declared.item.Item.TheVariants.{Peer, Tick, Opened, Bytes, Ended, Expel, Cut, Crash}
-use Rattle.byte_world.specs.node_core.declared.Port.{Port}
+use Rattle.packet_world.proofs.Lists.{each_set}
+use Rattle.node_core.specs.declared.Connection.{Connection}
+use Rattle.node_core.specs.declared.item.Item.{Item}
+use Rattle.node_core.specs.declared.item.Item.TheVariants.{Peer, Tick, Opened, Bytes, Ended, Expel, Cut, Crash}
+use Rattle.node_core.specs.declared.Port.{Port}
 use Rattle.byte_world.specs.node_connections.Connections.{fresh, is_at}
-use Rattle.byte_world.specs.node_core.Core.{CoreState, StepOutcome, serves}
-use Rattle.byte_world.specs.node_core.LossyStep.{RunsOn}
-use Rattle.byte_world.specs.node_core.Step.{acts_on, next_name, with_next_connection, does_item}
+use Rattle.node_core.specs.Core.{CoreState, StepOutcome, serves}
+use Rattle.node_core.specs.LossyStep.{RunsOn}
+use Rattle.node_core.specs.Step.{acts_on, next_name, with_next_connection, does_item}
 use Rattle.byte_world.specs.node_moves.Moves.{NodeCall, done}
 use Rattle.byte_world.specs.node_moves.Moves.NodeCall.{takes, gives}
 use Rattle.byte_world.proofs.of_node_moves.EachKept.{IsKept, each_repeated, each_settled}
 use Rattle.byte_world.proofs.of_node_moves.Kept.{named, put_out_name}
 use Rattle.byte_world.proofs.of_node_moves.Views.{found_each, found_passes}
-use Rattle.byte_world.specs.node_group.Group.{Group, opening_cores}
-use Rattle.byte_world.specs.node_group.Steps.{GroupStep, GroupTrace, groups_on_trace}
-use Rattle.byte_world.specs.node_group.Steps.GroupStep.{node_acts, node_loses, master_assigns, master_hears, assigns_unheard, answers_unheard}
-use Rattle.byte_world.specs.node_group.Steps.GroupTrace.{opened, then_went}
-use Rattle.byte_world.proofs.of_node_group.NamesInGroups.{each_got}
-use Rattle.byte_world.proofs.of_node_group.CarriedInOrder.{assigned_nodes, no_connections}
+use Rattle.node_group.specs.Group.{Group, opening_cores}
+use Rattle.node_group.specs.Steps.{GroupStep, GroupTrace, groups_on_trace}
+use Rattle.node_group.specs.Steps.GroupStep.{node_acts, node_loses, master_assigns, master_hears, assigns_unheard, answers_unheard}
+use Rattle.node_group.specs.Steps.GroupTrace.{opened, then_went}
+use Rattle.node_group.proofs.NamesInGroups.{each_got}
+use Rattle.node_group.proofs.CarriedInOrder.{assigned_nodes, no_connections}
 use Rattle.byte_world.specs.Apart.{HasName}
 use Rattle.byte_world.proofs.PortsKept.{IsLater, each_done}
 use Rattle.byte_world.proofs.PortsLosing.{each_lost}

@@ -4,21 +4,21 @@ use Rattle.std.specs.Prelude.{slice_get}
 use Rattle.std.proofs.lemmas.Bool.{both_ways}
 use Rattle.std.proofs.lemmas.List.{map-append}
 use Rattle.std.proofs.lemmas.Option.{none-some}
-use Rattle.byte_world.specs.packet.declared.packet.Packet.TheVariants as packets
-use Rattle.byte_world.specs.packet.declared.publish.Publish.{Publish}
-use Rattle.byte_world.specs.session_base.Publication.{publication_of}
-use Rattle.byte_world.specs.session_base.declared.publication.Publication.{Publication}
-use Rattle.byte_world.specs.broker_spec.declared.command.Command.{Command}
-use Rattle.byte_world.specs.broker_spec.declared.command.Command.TheVariants as commands
-use Rattle.byte_world.specs.broker_spec.Marks.{is_refused, mark_of, packet_mark_of}
-use Rattle.byte_world.specs.broker_spec.Owner.{owner_of}
-use Rattle.byte_world.specs.broker_spec.Place.{Client, Limits, Mark, Past, same_client}
-use Rattle.byte_world.specs.broker_spec.Received.{is_exactly_once, is_new, is_repeat}
-use Rattle.byte_world.proofs.of_broker_spec.ClientsInOrder.{same_is, same_self}
-use Rattle.byte_world.proofs.of_broker_spec.MarksOfPlaces.{AreMarked}
-use Rattle.byte_world.specs.exactly_once.Carried.{carries, more_by, new_numbers}
-use Rattle.byte_world.specs.exactly_once.Sides.{ClientConnection}
-use Rattle.byte_world.proofs.of_exactly_once.carrying.PlacesSay.{PlacesSay, Says}
+use Rattle.packet.specs.declared.packet.Packet.TheVariants as packets
+use Rattle.packet.specs.declared.publish.Publish.{Publish}
+use Rattle.session_base.specs.Publication.{publication_of}
+use Rattle.session_base.specs.declared.publication.Publication.{Publication}
+use Rattle.broker_spec.specs.declared.command.Command.{Command}
+use Rattle.broker_spec.specs.declared.command.Command.TheVariants as commands
+use Rattle.broker_spec.specs.Marks.{is_refused, mark_of, packet_mark_of}
+use Rattle.broker_spec.specs.Owner.{owner_of}
+use Rattle.broker_spec.specs.Place.{Client, Limits, Mark, Past, same_client}
+use Rattle.broker_spec.specs.Received.{is_exactly_once, is_new, is_repeat}
+use Rattle.broker_spec.proofs.ClientsInOrder.{same_is, same_self}
+use Rattle.broker_spec.proofs.MarksOfPlaces.{AreMarked}
+use Rattle.exactly_once.specs.Carried.{carries, more_by, new_numbers}
+use Rattle.exactly_once.specs.Sides.{ClientConnection}
+use Rattle.exactly_once.proofs.carrying.PlacesSay.{PlacesSay, Says}
 use Rattle.headline.specs.Shown.{new_at, new_of}
 use Rattle.headline.proofs.OwnCarried.{CarriesOwn, OwnAreCarried}
 

@@ -3,14 +3,14 @@
 use Rattle.std.proofs.Common.{◌≡◌, ℕ, suc, Bool, true, false, if◌then◌else◌, List, [], ◌∷◌, ◌++◌, map, Option, Some, refl, sym, ap, ap₂, ◌∙◌}
 use Rattle.std.specs.Prelude.{slice_get}
 use Rattle.std.proofs.lemmas.List.{map-append}
-use Rattle.byte_world.specs.lists.Lists.{IsPrefixOf}
-use Rattle.byte_world.specs.session_base.declared.publication.Publication.{Publication}
-use Rattle.byte_world.specs.client_base.Keeper.{Own, all_own, number_in}
-use Rattle.byte_world.proofs.of_client_base.NumbersStay.{AreAllNumbered, joined_numbers}
-use Rattle.byte_world.specs.client_base.OrderLaws.{AreNumbered}
-use Rattle.byte_world.specs.exactly_once.Carried.{is_two, new_numbers, own_publication, own_publications, own_qos2_numbers}
-use Rattle.byte_world.specs.exactly_once.Story.{Story}
-use Rattle.byte_world.proofs.of_exactly_once.Ends.{Split, split_map}
+use Rattle.lists.specs.Lists.{IsPrefixOf}
+use Rattle.session_base.specs.declared.publication.Publication.{Publication}
+use Rattle.client_base.specs.Keeper.{Own, all_own, number_in}
+use Rattle.client_base.proofs.NumbersStay.{AreAllNumbered, joined_numbers}
+use Rattle.client_base.specs.OrderLaws.{AreNumbered}
+use Rattle.exactly_once.specs.Carried.{is_two, new_numbers, own_publication, own_publications, own_qos2_numbers}
+use Rattle.exactly_once.specs.Story.{Story}
+use Rattle.exactly_once.proofs.Ends.{Split, split_map}
 use Rattle.headline.specs.Shown.{at_two}
 use Rattle.headline.proofs.StillKept.{StandFrom, after, first_is, some_of, whole_stands}
 

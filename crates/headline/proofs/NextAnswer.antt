@@ -2,10 +2,10 @@
 use Rattle.std.proofs.Common.{◌≡◌, ℕ, false, List, [], ◌∷◌, ◌++◌, length, Some, Ok, ap, sym, ◌∙◌, append_assoc}
 use Rattle.std.specs.Prelude.{slice_get}
 use Rattle.std.proofs.lemmas.List.{append_cancel_left}
-use Rattle.byte_world.specs.lists.Lists.{Each, IsPrefixOf}
-use Rattle.byte_world.specs.packet.declared.packet.Packet.{Packet}
-use Rattle.byte_world.specs.packet.Spelling.{IsPacket, Spells, spelling}
-use Rattle.byte_world.proofs.of_packet.OneSpelling.{none_begins, spelling_is}
+use Rattle.lists.specs.Lists.{Each, IsPrefixOf}
+use Rattle.packet.specs.declared.packet.Packet.{Packet}
+use Rattle.packet.specs.Spelling.{IsPacket, Spells, spelling}
+use Rattle.packet.proofs.OneSpelling.{none_begins, spelling_is}
 use Rattle.byte_world.specs.cutter.Stream.{GoesOnWith, Stream, Takes}
 use Rattle.byte_world.specs.node_moves.Puts.{spelled}
 

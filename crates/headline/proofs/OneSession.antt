@@ -3,18 +3,18 @@ use Rattle.std.proofs.Common.{◌≡◌, ℕ, Bool, true, List, [], ◌∷◌, �
 use Rattle.std.specs.List.{flat_map}
 use Rattle.std.proofs.lemmas.Bool.{both_ways}
 use Rattle.std.proofs.lemmas.List.{append-nil}
-use Rattle.byte_world.specs.session_base.declared.publication.Publication.{Publication}
-use Rattle.byte_world.specs.broker_spec.Commands.{usual_limits}
-use Rattle.byte_world.specs.broker_spec.Past.{session_of, session_start}
-use Rattle.byte_world.specs.broker_spec.Place.{Client, Past}
-use Rattle.byte_world.specs.broker_spec.Readings.{publication_in}
-use Rattle.byte_world.specs.client_base.State.{ClientState}
-use Rattle.byte_world.specs.exactly_once.Acceptance.{two_entries}
-use Rattle.byte_world.specs.exactly_once.InStep.{IsFirstSession, starts_of}
-use Rattle.byte_world.proofs.of_exactly_once.sessions.LastingAccepts.{entries_now}
-use Rattle.byte_world.proofs.of_exactly_once.sessions.Openings.{session_began}
-use Rattle.byte_world.proofs.of_exactly_once.sessions.Turns.{IsLastOf, started_last}
-use Rattle.byte_world.proofs.of_exactly_once.subscribing.places.Quiet.{no_entries}
+use Rattle.session_base.specs.declared.publication.Publication.{Publication}
+use Rattle.broker_spec.specs.Commands.{usual_limits}
+use Rattle.broker_spec.specs.Past.{session_of, session_start}
+use Rattle.broker_spec.specs.Place.{Client, Past}
+use Rattle.broker_spec.specs.Readings.{publication_in}
+use Rattle.client_base.specs.State.{ClientState}
+use Rattle.exactly_once.specs.Acceptance.{two_entries}
+use Rattle.exactly_once.specs.InStep.{IsFirstSession, starts_of}
+use Rattle.exactly_once.proofs.sessions.LastingAccepts.{entries_now}
+use Rattle.exactly_once.proofs.sessions.Openings.{session_began}
+use Rattle.exactly_once.proofs.sessions.Turns.{IsLastOf, started_last}
+use Rattle.exactly_once.proofs.subscribing.places.Quiet.{no_entries}
 use Rattle.headline.specs.OneSession.{OneSessionIsPromised, PromiseOfOne}
 use Rattle.headline.specs.Promise.{PromiseInStep}
 

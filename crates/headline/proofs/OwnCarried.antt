@@ -2,44 +2,44 @@
 use Rattle.std.proofs.Common.{◌≡◌, ℕ, zero, suc, Bool, true, false, ◌||◌, if◌then◌else◌, List, [], ◌∷◌, ◌++◌, Option, Some, None, refl, sym, ap, ◌∙◌, subst}
 use Rattle.std.specs.Prelude.{slice_get}
 use Rattle.std.proofs.lemmas.Bool.{both_ways}
-use Rattle.byte_world.specs.packet.declared.packet.Packet.{Packet}
-use Rattle.byte_world.specs.packet.declared.packet.Packet.TheVariants as packets
-use Rattle.byte_world.specs.packet.declared.publish.Publish.{Publish}
-use Rattle.byte_world.specs.broker_spec.declared.command.Command.{Command}
-use Rattle.byte_world.specs.broker_spec.declared.command.Command.TheVariants as commands
-use Rattle.byte_world.specs.broker_spec.Commands.{place_of}
-use Rattle.byte_world.specs.broker_spec.Connection.{ConnectionName, same_connection}
-use Rattle.byte_world.specs.broker_spec.EndingLaws.{StandsAt}
-use Rattle.byte_world.specs.broker_spec.Owner.{owner_of}
-use Rattle.byte_world.specs.broker_spec.Past.{current_connection}
-use Rattle.byte_world.specs.broker_spec.Place.{Client, Limits, Mark, Past, Place, same_client}
-use Rattle.byte_world.proofs.of_broker_spec.ClientsInOrder.{same_self}
-use Rattle.byte_world.specs.client_base.Called.{written_for}
-use Rattle.byte_world.specs.client_base.Keeper.{Written}
-use Rattle.byte_world.specs.client_base.Written.{plain, writes_first}
-use Rattle.byte_world.specs.lists.Lists.{Each}
-use Rattle.byte_world.specs.exactly_once.Carried.{carries, connection_named, written_number_at}
-use Rattle.byte_world.specs.exactly_once.Sides.{ClientConnection}
-use Rattle.byte_world.specs.exactly_once.Story.{StoryStep, Story}
-use Rattle.byte_world.specs.exactly_once.StoryCommands.{any_named, command_of, with_one_counted, packet_count, is_packet_of, names_client}
-use Rattle.byte_world.specs.exactly_once.Lives.{Lived}
-use Rattle.byte_world.specs.exactly_once.Lives.Lived.{opens, goes_on, is_expelled}
-use Rattle.byte_world.specs.exactly_once.Story.StoryStep.{takes, others_take, receives, opens_anew, loses, disconnects, publishes_one, subscribes, unsubscribes}
-use Rattle.byte_world.proofs.of_exactly_once.carrying.KeepsNumbers.{numbers_keep}
-use Rattle.byte_world.proofs.of_exactly_once.keeping.CurrentOnes.{none_opened}
-use Rattle.byte_world.proofs.of_exactly_once.publishing.Grown.{handled_grows}
-use Rattle.byte_world.proofs.of_exactly_once.places.Owned.{owner_is_other}
-use Rattle.byte_world.proofs.of_exactly_once.publishing.Last.{each_there}
-use Rattle.byte_world.proofs.of_exactly_once.publishing.events.Receives.{each_at}
-use Rattle.byte_world.proofs.of_exactly_once.publishing.events.TakesTwo.{carries_it}
-use Rattle.byte_world.proofs.of_exactly_once.publishing.kept.Numbers.{SameNumbers, same_carries}
-use Rattle.byte_world.proofs.of_exactly_once.carrying.PlacesSay.{numbers_below}
-use Rattle.byte_world.proofs.of_exactly_once.sessions.EachSession.{life_opens}
-use Rattle.byte_world.proofs.of_exactly_once.sessions.Life.{IsCounted, IsLife}
-use Rattle.byte_world.proofs.of_exactly_once.sessions.LifeExpelled.{life_expelled}
-use Rattle.byte_world.proofs.of_exactly_once.sessions.LifeGoes.{life_goes}
-use Rattle.byte_world.proofs.of_exactly_once.sessions.LifePlaces.{life_command}
-use Rattle.byte_world.proofs.of_exactly_once.sessions.NumberedGoes.{counted_all_within}
+use Rattle.packet.specs.declared.packet.Packet.{Packet}
+use Rattle.packet.specs.declared.packet.Packet.TheVariants as packets
+use Rattle.packet.specs.declared.publish.Publish.{Publish}
+use Rattle.broker_spec.specs.declared.command.Command.{Command}
+use Rattle.broker_spec.specs.declared.command.Command.TheVariants as commands
+use Rattle.broker_spec.specs.Commands.{place_of}
+use Rattle.broker_spec.specs.Connection.{ConnectionName, same_connection}
+use Rattle.broker_spec.specs.EndingLaws.{StandsAt}
+use Rattle.broker_spec.specs.Owner.{owner_of}
+use Rattle.broker_spec.specs.Past.{current_connection}
+use Rattle.broker_spec.specs.Place.{Client, Limits, Mark, Past, Place, same_client}
+use Rattle.broker_spec.proofs.ClientsInOrder.{same_self}
+use Rattle.client_base.specs.Called.{written_for}
+use Rattle.client_base.specs.Keeper.{Written}
+use Rattle.client_base.specs.Written.{plain, writes_first}
+use Rattle.lists.specs.Lists.{Each}
+use Rattle.exactly_once.specs.Carried.{carries, connection_named, written_number_at}
+use Rattle.exactly_once.specs.Sides.{ClientConnection}
+use Rattle.exactly_once.specs.Story.{StoryStep, Story}
+use Rattle.exactly_once.specs.StoryCommands.{any_named, command_of, with_one_counted, packet_count, is_packet_of, names_client}
+use Rattle.exactly_once.specs.Lives.{Lived}
+use Rattle.exactly_once.specs.Lives.Lived.{opens, goes_on, is_expelled}
+use Rattle.exactly_once.specs.Story.StoryStep.{takes, others_take, receives, opens_anew, loses, disconnects, publishes_one, subscribes, unsubscribes}
+use Rattle.exactly_once.proofs.carrying.KeepsNumbers.{numbers_keep}
+use Rattle.exactly_once.proofs.keeping.CurrentOnes.{none_opened}
+use Rattle.exactly_once.proofs.publishing.Grown.{handled_grows}
+use Rattle.exactly_once.proofs.places.Owned.{owner_is_other}
+use Rattle.exactly_once.proofs.publishing.Last.{each_there}
+use Rattle.exactly_once.proofs.publishing.events.Receives.{each_at}
+use Rattle.exactly_once.proofs.publishing.events.TakesTwo.{carries_it}
+use Rattle.exactly_once.proofs.publishing.kept.Numbers.{SameNumbers, same_carries}
+use Rattle.exactly_once.proofs.carrying.PlacesSay.{numbers_below}
+use Rattle.exactly_once.proofs.sessions.EachSession.{life_opens}
+use Rattle.exactly_once.proofs.sessions.Life.{IsCounted, IsLife}
+use Rattle.exactly_once.proofs.sessions.LifeExpelled.{life_expelled}
+use Rattle.exactly_once.proofs.sessions.LifeGoes.{life_goes}
+use Rattle.exactly_once.proofs.sessions.LifePlaces.{life_command}
+use Rattle.exactly_once.proofs.sessions.NumberedGoes.{counted_all_within}
 use Rattle.headline.proofs.CurrentNamed.{IsCurrentNamed, stays_named, taken_named}
 use Rattle.headline.proofs.AllNumbered.{AreNumbered, IsNumbered, happens_numbered, is_unnumbered}
 

@@ -3,29 +3,29 @@ use Rattle.std.proofs.Common.{◌≡◌, ◌==◌, ℕ, Bool, true, false, if◌
 use Rattle.std.specs.Prelude.{slice_get}
 use Rattle.std.proofs.lemmas.Bool.{both_ways}
 use Rattle.std.proofs.lemmas.List.{append_assoc, append-nil, map-append}
-use Rattle.byte_world.specs.packet.declared.packet.Packet.{Packet}
-use Rattle.byte_world.specs.session_base.Identifiers.{least_free}
-use Rattle.byte_world.specs.session_base.Publication.{is_answered}
-use Rattle.byte_world.specs.session_base.declared.publication.Publication.{Publication}
-use Rattle.byte_world.specs.ballot_base.declared.config.Config.{Config}
-use Rattle.byte_world.proofs.of_snapshots.PastsAgree.{has_agreed}
-use Rattle.byte_world.specs.broker_spec.Commands.{usual_limits}
-use Rattle.byte_world.specs.broker_spec.Place.{Client}
-use Rattle.byte_world.specs.client_base.Called.{adds_own}
-use Rattle.byte_world.specs.client_base.Handled.{packet_handled}
-use Rattle.byte_world.specs.client_base.Keeper.{Keeper, Own, all_own, ids_in_use, next_own_number}
-use Rattle.byte_world.specs.client_base.OrderLaws.{AreNumbered}
-use Rattle.byte_world.specs.exactly_once.Carried.{own_publication, own_publications}
-use Rattle.byte_world.specs.exactly_once.Sides.{ClientConnection, Side}
-use Rattle.byte_world.specs.exactly_once.Story.{StoryStep, Story}
-use Rattle.byte_world.specs.exactly_once.Story.StoryStep.{takes, others_take, receives, opens_anew, loses, disconnects, publishes_one, subscribes, unsubscribes}
-use Rattle.byte_world.proofs.of_exactly_once.carrying.Handles.{handles as handles_kept}
-use Rattle.byte_world.specs.packet_world.World.{ClientsAreApart}
-use Rattle.byte_world.specs.packet_world.Steps.{is_call}
-use Rattle.byte_world.proofs.of_packet_world.Lists.{each_by, each_get, set_get}
-use Rattle.byte_world.specs.node_core.Core.{rules}
-use Rattle.byte_world.specs.node_group.Group.{moment_of_nodes}
-use Rattle.byte_world.specs.node_group.Steps.{GroupTrace}
+use Rattle.packet.specs.declared.packet.Packet.{Packet}
+use Rattle.session_base.specs.Identifiers.{least_free}
+use Rattle.session_base.specs.Publication.{is_answered}
+use Rattle.session_base.specs.declared.publication.Publication.{Publication}
+use Rattle.ballot_base.specs.declared.config.Config.{Config}
+use Rattle.snapshots.proofs.PastsAgree.{has_agreed}
+use Rattle.broker_spec.specs.Commands.{usual_limits}
+use Rattle.broker_spec.specs.Place.{Client}
+use Rattle.client_base.specs.Called.{adds_own}
+use Rattle.client_base.specs.Handled.{packet_handled}
+use Rattle.client_base.specs.Keeper.{Keeper, Own, all_own, ids_in_use, next_own_number}
+use Rattle.client_base.specs.OrderLaws.{AreNumbered}
+use Rattle.exactly_once.specs.Carried.{own_publication, own_publications}
+use Rattle.exactly_once.specs.Sides.{ClientConnection, Side}
+use Rattle.exactly_once.specs.Story.{StoryStep, Story}
+use Rattle.exactly_once.specs.Story.StoryStep.{takes, others_take, receives, opens_anew, loses, disconnects, publishes_one, subscribes, unsubscribes}
+use Rattle.exactly_once.proofs.carrying.Handles.{handles as handles_kept}
+use Rattle.packet_world.specs.World.{ClientsAreApart}
+use Rattle.packet_world.specs.Steps.{is_call}
+use Rattle.packet_world.proofs.Lists.{each_by, each_get, set_get}
+use Rattle.node_core.specs.Core.{rules}
+use Rattle.node_group.specs.Group.{moment_of_nodes}
+use Rattle.node_group.specs.Steps.{GroupTrace}
 use Rattle.byte_world.specs.Carried.{trace_of}
 use Rattle.byte_world.specs.Steps.{Reached, WorldStep}
 use Rattle.byte_world.specs.Steps.Reached.{begins, goes_on}
@@ -34,7 +34,7 @@ use Rattle.byte_world.specs.Published.{from_client, published_by_call, published
 use Rattle.byte_world.specs.World.{ClientPipes, World, new_client}
 use Rattle.headline.proofs.GoesBeside.{GoesBeside}
 use Rattle.headline.proofs.LivedBeside.{lived_beside}
-use Rattle.byte_world.proofs.of_exactly_once.sessions.LivedIsLife.{lived_is_life}
+use Rattle.exactly_once.proofs.sessions.LivedIsLife.{lived_is_life}
 use Rattle.headline.proofs.AllBeside.{goes_beside}
 use Rattle.headline.proofs.Places.{each_of_made}
 

@@ -1,8 +1,8 @@
 -- Lists that are mapped, and lists that are written at a place.
 use Rattle.std.proofs.Common.{◌≡◌, ℕ, zero, suc, List, [], ◌∷◌, length, map, set, take, Some, refl, sym, ap, ◌∙◌}
 use Rattle.std.specs.Prelude.{slice_get}
-use Rattle.byte_world.specs.lists.Lists.{Each}
-use Rattle.byte_world.proofs.of_node_group.Placed.{get_mapped, set_mapped}
+use Rattle.lists.specs.Lists.{Each}
+use Rattle.node_group.proofs.Placed.{get_mapped, set_mapped}
 
 pub take_whole : {X : Type 0} (xs : List X) → take (length xs) xs ≡ xs
 take_whole [] = refl

@@ -1,49 +1,49 @@
 -- What is promised for a client that is in step holds in each of its lives.
 use Rattle.std.proofs.Common.{◌≡◌, ◌≤◌, ℕ, Bool, true, false, if◌then◌else◌, List, [], ◌∷◌, ◌++◌, filter, length, map, Option, Some, refl, sym, ap, ap₂, ◌∙◌, subst, inl, inr, ◌⊎◌, arith}
 use Rattle.std.specs.Prelude.{slice_get}
-use Rattle.byte_world.specs.lists.Lists.{In}
-use Rattle.byte_world.specs.lists.Lists.In.{here, there}
-use Rattle.byte_world.proofs.of_lists.Members.{in_at, in_left, in_right}
-use Rattle.byte_world.specs.packet.declared.packet.Packet.{Packet}
-use Rattle.byte_world.specs.packet.declared.packet.Packet.TheVariants as packets
-use Rattle.byte_world.specs.packet.declared.publish.Publish.{Publish}
-use Rattle.byte_world.specs.session_base.Publication.{publication_of}
-use Rattle.byte_world.specs.session_base.declared.publication.Publication.{Publication}
-use Rattle.byte_world.specs.broker_spec.AnswersInOrder.{answers_at}
-use Rattle.byte_world.specs.broker_spec.declared.command.Command.{Command}
-use Rattle.byte_world.specs.broker_spec.declared.command.Command.TheVariants as commands
-use Rattle.byte_world.specs.broker_spec.Commands.{usual_limits}
-use Rattle.byte_world.specs.broker_spec.Connection.{ConnectionName}
-use Rattle.byte_world.specs.broker_spec.EndingLaws.{EndsWithTheSession, StandsAt, connects_of}
-use Rattle.byte_world.specs.broker_spec.OriginLaws.{is_from_publish}
-use Rattle.byte_world.specs.broker_spec.declared.command.Output.TheVariants.{Send}
-use Rattle.byte_world.specs.broker_spec.Place.{Client, Mark, Past, Place}
-use Rattle.byte_world.specs.broker_spec.Readings.{publication_in}
-use Rattle.byte_world.specs.broker_spec.Received.{is_exactly_once, is_new}
-use Rattle.byte_world.specs.broker_spec.TakenLaws.{takes_publication}
-use Rattle.byte_world.specs.broker_spec.Times.{entries_of}
-use Rattle.byte_world.proofs.of_broker_spec.EntersOnce.{enters_once}
-use Rattle.byte_world.proofs.of_broker_spec.EntersWhereTaken.{enters_where_taken}
-use Rattle.byte_world.proofs.of_broker_spec.MarksOfPlaces.{AreMarked}
-use Rattle.byte_world.proofs.of_broker_spec.PacketOfNobody.{window_is_steady}
-use Rattle.byte_world.specs.client_base.History as history
-use Rattle.byte_world.specs.client_base.Keeper.{all_own}
-use Rattle.byte_world.specs.client_base.State.{ClientState}
-use Rattle.byte_world.specs.exactly_once.Carried.{carries, more_by, new_numbers, own_publications}
-use Rattle.byte_world.specs.exactly_once.InStep.{IsInStep, accepted_in, starts_of}
-use Rattle.byte_world.specs.exactly_once.Lives.{Lived}
-use Rattle.byte_world.specs.exactly_once.LivesAreExact.{ExactlyOnceOverSessions}
-use Rattle.byte_world.specs.exactly_once.Acceptance.{accepted_on}
-use Rattle.byte_world.specs.exactly_once.Sides.{ClientConnection}
-use Rattle.byte_world.specs.exactly_once.Story.{Story}
-use Rattle.byte_world.proofs.of_exactly_once.Entering.{entering_as}
-use Rattle.byte_world.proofs.of_exactly_once.Packets.{at_packet}
-use Rattle.byte_world.proofs.of_exactly_once.carrying.Acknowledging.{acknowledges, pubrec_two, says_at}
-use Rattle.byte_world.proofs.of_exactly_once.carrying.Answered.{acknowledged_is_taken}
-use Rattle.byte_world.proofs.of_exactly_once.carrying.KeepsPlaces.{IsCarried}
-use Rattle.byte_world.proofs.of_exactly_once.carrying.PlacesSay.{PlacesSay, Says, is_again}
-use Rattle.byte_world.proofs.of_exactly_once.sessions.InTurn.{flat_map_same}
-use Rattle.byte_world.proofs.of_exactly_once.sessions.LivesExact.{all_well, lives_exact}
+use Rattle.lists.specs.Lists.{In}
+use Rattle.lists.specs.Lists.In.{here, there}
+use Rattle.lists.proofs.Members.{in_at, in_left, in_right}
+use Rattle.packet.specs.declared.packet.Packet.{Packet}
+use Rattle.packet.specs.declared.packet.Packet.TheVariants as packets
+use Rattle.packet.specs.declared.publish.Publish.{Publish}
+use Rattle.session_base.specs.Publication.{publication_of}
+use Rattle.session_base.specs.declared.publication.Publication.{Publication}
+use Rattle.broker_spec.specs.AnswersInOrder.{answers_at}
+use Rattle.broker_spec.specs.declared.command.Command.{Command}
+use Rattle.broker_spec.specs.declared.command.Command.TheVariants as commands
+use Rattle.broker_spec.specs.Commands.{usual_limits}
+use Rattle.broker_spec.specs.Connection.{ConnectionName}
+use Rattle.broker_spec.specs.EndingLaws.{EndsWithTheSession, StandsAt, connects_of}
+use Rattle.broker_spec.specs.OriginLaws.{is_from_publish}
+use Rattle.broker_spec.specs.declared.command.Output.TheVariants.{Send}
+use Rattle.broker_spec.specs.Place.{Client, Mark, Past, Place}
+use Rattle.broker_spec.specs.Readings.{publication_in}
+use Rattle.broker_spec.specs.Received.{is_exactly_once, is_new}
+use Rattle.broker_spec.specs.TakenLaws.{takes_publication}
+use Rattle.broker_spec.specs.Times.{entries_of}
+use Rattle.broker_spec.proofs.EntersOnce.{enters_once}
+use Rattle.broker_spec.proofs.EntersWhereTaken.{enters_where_taken}
+use Rattle.broker_spec.proofs.MarksOfPlaces.{AreMarked}
+use Rattle.broker_spec.proofs.PacketOfNobody.{window_is_steady}
+use Rattle.client_base.specs.History as history
+use Rattle.client_base.specs.Keeper.{all_own}
+use Rattle.client_base.specs.State.{ClientState}
+use Rattle.exactly_once.specs.Carried.{carries, more_by, new_numbers, own_publications}
+use Rattle.exactly_once.specs.InStep.{IsInStep, accepted_in, starts_of}
+use Rattle.exactly_once.specs.Lives.{Lived}
+use Rattle.exactly_once.specs.LivesAreExact.{ExactlyOnceOverSessions}
+use Rattle.exactly_once.specs.Acceptance.{accepted_on}
+use Rattle.exactly_once.specs.Sides.{ClientConnection}
+use Rattle.exactly_once.specs.Story.{Story}
+use Rattle.exactly_once.proofs.Entering.{entering_as}
+use Rattle.exactly_once.proofs.Packets.{at_packet}
+use Rattle.exactly_once.proofs.carrying.Acknowledging.{acknowledges, pubrec_two, says_at}
+use Rattle.exactly_once.proofs.carrying.Answered.{acknowledged_is_taken}
+use Rattle.exactly_once.proofs.carrying.KeepsPlaces.{IsCarried}
+use Rattle.exactly_once.proofs.carrying.PlacesSay.{PlacesSay, Says, is_again}
+use Rattle.exactly_once.proofs.sessions.InTurn.{flat_map_same}
+use Rattle.exactly_once.proofs.sessions.LivesExact.{all_well, lives_exact}
 use Rattle.headline.specs.Promise.{PromiseBy, PromiseInStep}
 use Rattle.headline.specs.Shown.{AcceptsInSessionOrder, IsAnswered, new_of}
 use Rattle.byte_world.specs.Accepted.{accepted_once}

@@ -5,12 +5,12 @@ use Rattle.std.specs.Str.{chars, is_utf8}
 use lib.Utf8.{encode}
 use Rattle.std.proofs.Common.{◌≡◌, ℕ, zero, suc, List, [], ◌++◌, refl, sym, arith}
 use Rattle.std.proofs.lemmas.List.{append-nil}
-use Rattle.byte_world.specs.packet.declared.packet.Packet.TheVariants as packets
-use Rattle.byte_world.specs.packet.Spelling.{IsPacket, spelling}
-use Rattle.byte_world.specs.packet.Subscribe.{FitsSubscription}
+use Rattle.packet.specs.declared.packet.Packet.TheVariants as packets
+use Rattle.packet.specs.Spelling.{IsPacket, spelling}
+use Rattle.packet.specs.Subscribe.{FitsSubscription}
 use Rattle.byte_world.specs.packet_base.Spelling.{IsId}
-use Rattle.byte_world.specs.exactly_once.Rows.{asks_for_news, news}
-use Rattle.byte_world.specs.exactly_once.Story.StoryStep.{publishes_one, subscribes}
+use Rattle.exactly_once.specs.Rows.{asks_for_news, news}
+use Rattle.exactly_once.specs.Story.StoryStep.{publishes_one, subscribes}
 use Rattle.headline.specs.Rows.{APublicationIsAccepted, list_done}
 use Rattle.headline.proofs.RowGoes.{row_arrives, row_calls, row_down, row_handles, row_up}
 use Rattle.headline.proofs.ServedNode.{both, it_completes, it_grants, it_hands, it_releases, it_takes, list_published, list_released, list_subscribed, publish, serving, suback, subscribe}

@@ -1,31 +1,31 @@
 -- A world of one node and one client with one connection: what may happen in it, each with what the
 -- node keeps after it.
 use Rattle.std.proofs.Common.{◌≡◌, ℕ, true, false, List, [], ◌∷◌, ◌++◌, Some, slice_get, refl, sym, ap, ◌∙◌, subst}
-use Rattle.byte_world.specs.packet.Spelling.{IsPacket, spelling}
-use Rattle.byte_world.specs.packet.Verdict.{verdict}
-use Rattle.byte_world.specs.packet.declared.packet.Packet.{Packet}
-use Rattle.byte_world.proofs.of_packet.OneSpelling.{spelling_is}
-use Rattle.byte_world.proofs.of_packet.PacketReads.{verdict_again}
-use Rattle.byte_world.specs.broker_spec.Commands.{usual_limits}
-use Rattle.byte_world.specs.broker_spec.Connection.{ConnectionName}
-use Rattle.byte_world.specs.client_base.Handled.{packet_handled}
-use Rattle.byte_world.specs.client_base.Keeper.{Keeper}
-use Rattle.byte_world.specs.exactly_once.Rows.{writer}
-use Rattle.byte_world.specs.exactly_once.Sides.{ClientConnection, Side}
-use Rattle.byte_world.specs.exactly_once.Story.{StoryStep, Story}
-use Rattle.byte_world.specs.packet_world.Steps.{is_call}
-use Rattle.byte_world.specs.node_core.declared.item.Item.TheVariants.{Bytes}
-use Rattle.byte_world.specs.node_core.declared.Port.{Port}
-use Rattle.byte_world.specs.node_core.Core.{CoreState}
+use Rattle.packet.specs.Spelling.{IsPacket, spelling}
+use Rattle.packet.specs.Verdict.{verdict}
+use Rattle.packet.specs.declared.packet.Packet.{Packet}
+use Rattle.packet.proofs.OneSpelling.{spelling_is}
+use Rattle.packet.proofs.PacketReads.{verdict_again}
+use Rattle.broker_spec.specs.Commands.{usual_limits}
+use Rattle.broker_spec.specs.Connection.{ConnectionName}
+use Rattle.client_base.specs.Handled.{packet_handled}
+use Rattle.client_base.specs.Keeper.{Keeper}
+use Rattle.exactly_once.specs.Rows.{writer}
+use Rattle.exactly_once.specs.Sides.{ClientConnection, Side}
+use Rattle.exactly_once.specs.Story.{StoryStep, Story}
+use Rattle.packet_world.specs.Steps.{is_call}
+use Rattle.node_core.specs.declared.item.Item.TheVariants.{Bytes}
+use Rattle.node_core.specs.declared.Port.{Port}
+use Rattle.node_core.specs.Core.{CoreState}
 use Rattle.byte_world.specs.node_moves.Moves.{NodeCall, done}
 use Rattle.byte_world.specs.node_moves.Moves.NodeCall.{takes, gives}
 use Rattle.byte_world.specs.node_moves.Puts.{spelled}
-use Rattle.byte_world.specs.node_group.Group.{Group, group_after_outcome, with_record}
-use Rattle.byte_world.specs.node_group.Putting.{recorded_in}
-use Rattle.byte_world.specs.node_group.Steps.{all_given}
-use Rattle.byte_world.specs.node_group.Steps.GroupStep.{node_acts}
-use Rattle.byte_world.proofs.of_node_group.Placed.{get_of_set}
-use Rattle.byte_world.specs.node_group.Streams.{goes_down}
+use Rattle.node_group.specs.Group.{Group, group_after_outcome, with_record}
+use Rattle.node_group.specs.Putting.{recorded_in}
+use Rattle.node_group.specs.Steps.{all_given}
+use Rattle.node_group.specs.Steps.GroupStep.{node_acts}
+use Rattle.node_group.proofs.Placed.{get_of_set}
+use Rattle.node_group.specs.Streams.{goes_down}
 use Rattle.byte_world.specs.NodeCalls.{NodeCallWasSent}
 use Rattle.byte_world.specs.Steps.{DoesCall, Reached, going_with}
 use Rattle.byte_world.specs.ClientSteps.{WritesCanBeSpelled, story_alone}

@@ -3,38 +3,38 @@
 use Rattle.std.specs.Str.{chars, is_utf8}
 use lib.Utf8.{encode}
 use Rattle.std.proofs.Common.{◌≡◌, ℕ, false, List, [], ◌∷◌, ◌++◌, length, refl}
-use Rattle.byte_world.specs.packet.declared.connack.Connack.TheVariants as connacks
-use Rattle.byte_world.specs.packet.declared.packet.Packet.{Packet}
-use Rattle.byte_world.specs.packet.declared.packet.Packet.TheVariants as packets
+use Rattle.packet.specs.declared.connack.Connack.TheVariants as connacks
+use Rattle.packet.specs.declared.packet.Packet.{Packet}
+use Rattle.packet.specs.declared.packet.Packet.TheVariants as packets
 use Rattle.byte_world.specs.packet.packet_base.declared.qos.QoS.TheVariants as qualities
-use Rattle.byte_world.specs.packet.declared.suback.SubackCode.TheVariants as codes
-use Rattle.byte_world.specs.packet.Connect.{connect_of}
-use Rattle.byte_world.specs.packet.Delivery.{delivery_at}
-use Rattle.byte_world.specs.packet.IdAlone.{id_alone_of}
-use Rattle.byte_world.specs.packet.Publish.{publish_of as publish_read}
-use Rattle.byte_world.specs.packet.Spelling.{spelling}
-use Rattle.byte_world.specs.packet.Subscribe.{subscribe_of, subscription_at}
-use Rattle.byte_world.specs.packet.Verdict.{verdict}
+use Rattle.packet.specs.declared.suback.SubackCode.TheVariants as codes
+use Rattle.packet.specs.Connect.{connect_of}
+use Rattle.packet.specs.Delivery.{delivery_at}
+use Rattle.packet.specs.IdAlone.{id_alone_of}
+use Rattle.packet.specs.Publish.{publish_of as publish_read}
+use Rattle.packet.specs.Spelling.{spelling}
+use Rattle.packet.specs.Subscribe.{subscribe_of, subscription_at}
+use Rattle.packet.specs.Verdict.{verdict}
 use Rattle.byte_world.specs.packet_base.Lists.{items_of}
 use Rattle.byte_world.specs.packet_base.Reading.{id_at, length_at, number_at, text_at}
 use Rattle.byte_world.specs.packet_base.TopicFields.{filter_at, topic_at}
-use Rattle.byte_world.specs.session_base.Publication.{publish_for}
-use Rattle.byte_world.specs.ballot_base.Serving.{added, commit, commit_at, proposed}
+use Rattle.session_base.specs.Publication.{publish_for}
+use Rattle.ballot_base.specs.Serving.{added, commit, commit_at, proposed}
 use Rattle.byte_world.specs.machine.Machine.{replay}
-use Rattle.byte_world.specs.broker_spec.declared.command.Command.{Command}
-use Rattle.byte_world.specs.broker_spec.declared.command.Command.TheVariants as commands
-use Rattle.byte_world.specs.node_core.declared.ConnectionStage.TheVariants.{Proposed}
-use Rattle.byte_world.specs.node_core.declared.item.Item.TheVariants.{Opened, Bytes}
+use Rattle.broker_spec.specs.declared.command.Command.{Command}
+use Rattle.broker_spec.specs.declared.command.Command.TheVariants as commands
+use Rattle.node_core.specs.declared.ConnectionStage.TheVariants.{Proposed}
+use Rattle.node_core.specs.declared.item.Item.TheVariants.{Opened, Bytes}
 use Rattle.byte_world.specs.node_connections.Connections.{fresh}
-use Rattle.byte_world.specs.node_core.Core.{CoreState, opening_core, rules}
-use Rattle.byte_world.specs.node_core.Failing.{loses_failed}
-use Rattle.byte_world.specs.node_core.Handing.{hands_over}
-use Rattle.byte_world.specs.node_core.Reading.{changes, reads_next}
-use Rattle.byte_world.specs.node_core.Step.{with_next_connection, settled}
-use Rattle.byte_world.specs.node_core.Effects.{changes_named, proposes, repeated}
+use Rattle.node_core.specs.Core.{CoreState, opening_core, rules}
+use Rattle.node_core.specs.Failing.{loses_failed}
+use Rattle.node_core.specs.Handing.{hands_over}
+use Rattle.node_core.specs.Reading.{changes, reads_next}
+use Rattle.node_core.specs.Step.{with_next_connection, settled}
+use Rattle.node_core.specs.Effects.{changes_named, proposes, repeated}
 use Rattle.byte_world.specs.node_moves.Moves.{done}
 use Rattle.byte_world.specs.node_moves.Moves.NodeCall.{takes, gives}
-use Rattle.byte_world.specs.exactly_once.Rows.{asks_for_news, first_name, news, writer}
+use Rattle.exactly_once.specs.Rows.{asks_for_news, first_name, news, writer}
 use Rattle.headline.specs.Rows.{list_done, one_node, said}
 use Rattle.headline.proofs.RowGoes.{the_port}
 

@@ -1,18 +1,18 @@
 -- What of a client's QoS 2 publications is not new yet, it still keeps.
 use Rattle.std.proofs.Common.{◌≡◌, ◌+◌, ℕ, suc, Bool, true, false, if◌then◌else◌, List, [], ◌∷◌, ◌++◌, map, Option, Some, refl, sym, ap, ap₂, ◌∙◌, subst, arith}
 use Rattle.std.specs.Prelude.{slice_get}
-use Rattle.byte_world.specs.session_base.declared.publication.Publication.{Publication}
-use Rattle.byte_world.specs.client_base.History as history
-use Rattle.byte_world.specs.client_base.History.{IsSentFirst, sent_of, unsent_of}
-use Rattle.byte_world.specs.client_base.Keeper.{Keeper, Own}
-use Rattle.byte_world.specs.client_base.State.{ClientState}
-use Rattle.byte_world.specs.client_base.declared.unacknowledged_publication.UnacknowledgedPublication.{UnacknowledgedPublication}
-use Rattle.byte_world.specs.exactly_once.Items.{SenderItem, value_of}
-use Rattle.byte_world.specs.exactly_once.HandshakeInvariant.{IsNew}
-use Rattle.byte_world.specs.lists.Lists.{Each}
-use Rattle.byte_world.specs.exactly_once.Carried.{is_two, own_publication, own_publications}
-use Rattle.byte_world.specs.exactly_once.Inside.Projections.{items_of_own}
-use Rattle.byte_world.specs.exactly_once.Inside.Shape.{AreNumberedFrom}
+use Rattle.session_base.specs.declared.publication.Publication.{Publication}
+use Rattle.client_base.specs.History as history
+use Rattle.client_base.specs.History.{IsSentFirst, sent_of, unsent_of}
+use Rattle.client_base.specs.Keeper.{Keeper, Own}
+use Rattle.client_base.specs.State.{ClientState}
+use Rattle.client_base.specs.declared.unacknowledged_publication.UnacknowledgedPublication.{UnacknowledgedPublication}
+use Rattle.exactly_once.specs.Items.{SenderItem, value_of}
+use Rattle.exactly_once.specs.HandshakeInvariant.{IsNew}
+use Rattle.lists.specs.Lists.{Each}
+use Rattle.exactly_once.specs.Carried.{is_two, own_publication, own_publications}
+use Rattle.exactly_once.specs.Inside.Projections.{items_of_own}
+use Rattle.exactly_once.specs.Inside.Shape.{AreNumberedFrom}
 use Rattle.headline.specs.Shown.{at_two, unacknowledged_of}
 
 -- ---- of a handshake

@@ -1,7 +1,7 @@
 -- Connections that are the same, except how much of what was written on them is in the list of
 -- commands.
 use Rattle.std.specs.Prelude.{◌≡◌, List, map}
-use Rattle.byte_world.specs.exactly_once.Sides.{ClientConnection}
+use Rattle.exactly_once.specs.Sides.{ClientConnection}
 
 abbrev pub untaken_connection : ClientConnection → ClientConnection
 untaken_connection κ = record κ { taken = 0 }

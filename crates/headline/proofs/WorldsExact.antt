@@ -1,27 +1,27 @@
 -- Every world that is reached is exact.
 use Rattle.std.proofs.Common.{◌≡◌, ◌≤◌, ℕ, List, Some, sym, ap, ◌∙◌, subst}
 use Rattle.std.specs.Prelude.{slice_get}
-use Rattle.byte_world.specs.session_base.declared.publication.Publication.{Publication}
-use Rattle.byte_world.specs.ballot_base.declared.config.Config.{Config}
-use Rattle.byte_world.specs.broker_spec.declared.command.Command.{Command}
-use Rattle.byte_world.specs.broker_spec.Commands.{past_of, usual_limits}
-use Rattle.byte_world.specs.broker_spec.EndingLaws.{EndsWithTheSession, connects_of}
-use Rattle.byte_world.specs.broker_spec.Place.{Client, Past}
-use Rattle.byte_world.specs.client_base.History as history
-use Rattle.byte_world.specs.client_base.Keeper.{Keeper, all_own}
-use Rattle.byte_world.specs.client_base.State.{ClientState}
-use Rattle.byte_world.specs.exactly_once.Carried.{own_publications}
-use Rattle.byte_world.specs.exactly_once.Unexpelled.{IsUnexpelled}
-use Rattle.byte_world.proofs.of_exactly_once.sessions.FirstSession.{unexpelled_in_step}
-use Rattle.byte_world.proofs.of_snapshots.PastsAgree.{has_agreed}
-use Rattle.byte_world.specs.packet_world.Exact.{IsExactInStep as IsExactBeside}
-use Rattle.byte_world.specs.packet_world.World.{ClientsAreApart, ClientEnds, story_of as story_beside}
-use Rattle.byte_world.proofs.of_packet_world.Lists.{each_by, each_get}
-use Rattle.byte_world.proofs.of_packet_world.WorldsExact.{worlds_are_exact as worlds_beside_are_exact}
-use Rattle.byte_world.specs.node_core.Core.{rules}
-use Rattle.byte_world.specs.node_group.Group.{moment_of_nodes}
-use Rattle.byte_world.specs.node_group.Steps.{GroupTrace}
-use Rattle.byte_world.proofs.of_node_group.Placed.{get_mapped}
+use Rattle.session_base.specs.declared.publication.Publication.{Publication}
+use Rattle.ballot_base.specs.declared.config.Config.{Config}
+use Rattle.broker_spec.specs.declared.command.Command.{Command}
+use Rattle.broker_spec.specs.Commands.{past_of, usual_limits}
+use Rattle.broker_spec.specs.EndingLaws.{EndsWithTheSession, connects_of}
+use Rattle.broker_spec.specs.Place.{Client, Past}
+use Rattle.client_base.specs.History as history
+use Rattle.client_base.specs.Keeper.{Keeper, all_own}
+use Rattle.client_base.specs.State.{ClientState}
+use Rattle.exactly_once.specs.Carried.{own_publications}
+use Rattle.exactly_once.specs.Unexpelled.{IsUnexpelled}
+use Rattle.exactly_once.proofs.sessions.FirstSession.{unexpelled_in_step}
+use Rattle.snapshots.proofs.PastsAgree.{has_agreed}
+use Rattle.packet_world.specs.Exact.{IsExactInStep as IsExactBeside}
+use Rattle.packet_world.specs.World.{ClientsAreApart, ClientEnds, story_of as story_beside}
+use Rattle.packet_world.proofs.Lists.{each_by, each_get}
+use Rattle.packet_world.proofs.WorldsExact.{worlds_are_exact as worlds_beside_are_exact}
+use Rattle.node_core.specs.Core.{rules}
+use Rattle.node_group.specs.Group.{moment_of_nodes}
+use Rattle.node_group.specs.Steps.{GroupTrace}
+use Rattle.node_group.proofs.Placed.{get_mapped}
 use Rattle.byte_world.specs.Carried.{trace_of}
 use Rattle.byte_world.specs.Published.{published_of, published_on_way}
 use Rattle.byte_world.specs.World.{ClientPipes, World}
@@ -32,14 +32,14 @@ use Rattle.headline.proofs.AllBeside.{goes_beside}
 use Rattle.headline.proofs.Beside.{Alone, Beside, ends_alone}
 use Rattle.headline.proofs.ExactUntaken.{exactly_once_untaken, in_step_untaken, one_session_untaken, same_accepted_on, same_welcome}
 use Rattle.headline.proofs.GoesBeside.{GoesBeside}
-use Rattle.byte_world.proofs.of_node_group.CarriedInOrder.{IsAgreedSo}
+use Rattle.node_group.proofs.CarriedInOrder.{IsAgreedSo}
 use Rattle.headline.proofs.OwnPublished.{own_published}
 use Rattle.headline.proofs.Places.{map_back}
 use Rattle.headline.proofs.PromisesKept.{promise_kept}
 use Rattle.headline.proofs.LivedBeside.{lived_beside}
 use Rattle.headline.proofs.Untaken.{AreSameUntaken}
 use Rattle.headline.proofs.WorldsWrite.{clients_alone, pipes_alone}
-use Rattle.byte_world.specs.exactly_once.Sides.{ClientConnection}
+use Rattle.exactly_once.specs.Sides.{ClientConnection}
 
 exact_by : {nodes : ℕ} {config : Config} {cs : List Client} → ClientsAreApart cs → (w : World) (went : GroupTrace nodes config w.group) (s : GoesBeside nodes config cs w went) (agreed : List Command) → IsAgreedSo s.so agreed
     → IsExactBy agreed w

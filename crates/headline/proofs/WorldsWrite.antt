@@ -2,29 +2,29 @@
 use Rattle.std.proofs.Common.{◌≡◌, ◌≤◌, ◌⊎◌, inl, inr, ℕ, suc, Bool, true, false, if◌then◌else◌, List, [], ◌∷◌, ◌++◌, filter, length, map, Some, refl, sym, ap, ◌∙◌, subst}
 use Rattle.std.specs.Prelude.{slice_get}
 use Rattle.std.proofs.lemmas.Bool.{both_ways}
-use Rattle.byte_world.specs.ballot_base.declared.config.Config.{Config}
-use Rattle.byte_world.specs.broker_spec.declared.command.Command.{Command}
-use Rattle.byte_world.specs.broker_spec.declared.command.Command.TheVariants as commands
-use Rattle.byte_world.specs.broker_spec.Connection.{ConnectionName}
-use Rattle.byte_world.specs.client_base.Keeper.{Written}
-use Rattle.byte_world.specs.lists.Lists.{Each, In, IsPrefixOf}
-use Rattle.byte_world.specs.lists.Lists.In.{here, there}
-use Rattle.byte_world.specs.exactly_once.Sides.{ClientConnection}
-use Rattle.byte_world.specs.exactly_once.StoryCommands.{command_of, is_packet_of}
-use Rattle.byte_world.proofs.of_exactly_once.Takes.{same_name_self}
-use Rattle.byte_world.specs.packet_world.Exact.{commands_from}
-use Rattle.byte_world.specs.packet_world.Steps.{is_of_connection}
-use Rattle.byte_world.proofs.of_packet_world.Answers.{of_name}
-use Rattle.byte_world.proofs.of_packet_world.Lists.{each_get, stands_within, there_is}
+use Rattle.ballot_base.specs.declared.config.Config.{Config}
+use Rattle.broker_spec.specs.declared.command.Command.{Command}
+use Rattle.broker_spec.specs.declared.command.Command.TheVariants as commands
+use Rattle.broker_spec.specs.Connection.{ConnectionName}
+use Rattle.client_base.specs.Keeper.{Written}
+use Rattle.lists.specs.Lists.{Each, In, IsPrefixOf}
+use Rattle.lists.specs.Lists.In.{here, there}
+use Rattle.exactly_once.specs.Sides.{ClientConnection}
+use Rattle.exactly_once.specs.StoryCommands.{command_of, is_packet_of}
+use Rattle.exactly_once.proofs.Takes.{same_name_self}
+use Rattle.packet_world.specs.Exact.{commands_from}
+use Rattle.packet_world.specs.Steps.{is_of_connection}
+use Rattle.packet_world.proofs.Answers.{of_name}
+use Rattle.packet_world.proofs.Lists.{each_get, stands_within, there_is}
 use Rattle.byte_world.specs.node_moves.Ends.{packet_commands_from}
-use Rattle.byte_world.specs.node_group.Steps.{GroupTrace}
-use Rattle.byte_world.specs.node_group.Order.{packet_commands as packets_in_list}
-use Rattle.byte_world.proofs.of_node_group.Placed.{get_mapped}
+use Rattle.node_group.specs.Steps.{GroupTrace}
+use Rattle.node_group.specs.Order.{packet_commands as packets_in_list}
+use Rattle.node_group.proofs.Placed.{get_mapped}
 use Rattle.byte_world.specs.World.{ClientPipes, HasPipe, Pipe, World, packets_of}
 use Rattle.byte_world.proofs.WorldsHold.{Holds, IsKnown, IsUnheard}
 use Rattle.headline.proofs.Untaken.{untaken_connection}
 use Rattle.headline.proofs.Beside.{Alone, IsOfWritten, alone}
-use Rattle.byte_world.proofs.of_node_group.CarriedInOrder.{CarriedSo, IsAgreedSo, carries_each}
+use Rattle.node_group.proofs.CarriedInOrder.{CarriedSo, IsAgreedSo, carries_each}
 use Rattle.headline.proofs.Places.{map_back}
 
 abbrev pub pipes_alone : ClientPipes → Alone

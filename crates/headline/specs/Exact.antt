@@ -1,26 +1,26 @@
 -- What holds for every world of clients and a group of nodes: the headline for each client, by the
 -- list on which the nodes agree.
 use Rattle.std.specs.Prelude.{◌≡◌, ◌≤◌, ℕ, List, ◌∷◌, Some, slice_get}
-use Rattle.byte_world.specs.lists.Lists.{Each}
-use Rattle.byte_world.specs.ballot_base.declared.config.Config.{Config}
-use Rattle.byte_world.specs.broker_spec.declared.command.Command.{Command}
-use Rattle.byte_world.specs.broker_spec.Commands.{past_of, usual_limits}
-use Rattle.byte_world.specs.broker_spec.Connection.{ConnectionName}
-use Rattle.byte_world.specs.broker_spec.EndingLaws.{EndsWithTheSession, connects_of}
-use Rattle.byte_world.specs.broker_spec.Place.{Client}
-use Rattle.byte_world.specs.client_base.History as history
-use Rattle.byte_world.specs.client_base.State.{ClientState}
-use Rattle.byte_world.specs.exactly_once.Acceptance.{accepted_on}
-use Rattle.byte_world.specs.exactly_once.InStep.{IsInStep}
-use Rattle.byte_world.specs.exactly_once.LivesAreExact.{ExactlyOnceOverSessions}
-use Rattle.byte_world.specs.exactly_once.Unexpelled.{HasOneSession, IsUnexpelled}
-use Rattle.byte_world.specs.exactly_once.Sides.{ClientConnection}
-use Rattle.byte_world.specs.exactly_once.Story.{Story}
-use Rattle.byte_world.specs.snapshots.Moments.{IsAgreed}
-use Rattle.byte_world.specs.packet_world.World.{ClientsAreApart}
-use Rattle.byte_world.specs.node_group.Group.{moment_of_nodes}
-use Rattle.byte_world.specs.node_group.Steps.{all_proposed, groups_on_trace}
-use Rattle.byte_world.specs.node_group.Pasts.{HasPast}
+use Rattle.lists.specs.Lists.{Each}
+use Rattle.ballot_base.specs.declared.config.Config.{Config}
+use Rattle.broker_spec.specs.declared.command.Command.{Command}
+use Rattle.broker_spec.specs.Commands.{past_of, usual_limits}
+use Rattle.broker_spec.specs.Connection.{ConnectionName}
+use Rattle.broker_spec.specs.EndingLaws.{EndsWithTheSession, connects_of}
+use Rattle.broker_spec.specs.Place.{Client}
+use Rattle.client_base.specs.History as history
+use Rattle.client_base.specs.State.{ClientState}
+use Rattle.exactly_once.specs.Acceptance.{accepted_on}
+use Rattle.exactly_once.specs.InStep.{IsInStep}
+use Rattle.exactly_once.specs.LivesAreExact.{ExactlyOnceOverSessions}
+use Rattle.exactly_once.specs.Unexpelled.{HasOneSession, IsUnexpelled}
+use Rattle.exactly_once.specs.Sides.{ClientConnection}
+use Rattle.exactly_once.specs.Story.{Story}
+use Rattle.snapshots.specs.Moments.{IsAgreed}
+use Rattle.packet_world.specs.World.{ClientsAreApart}
+use Rattle.node_group.specs.Group.{moment_of_nodes}
+use Rattle.node_group.specs.Steps.{all_proposed, groups_on_trace}
+use Rattle.node_group.specs.Pasts.{HasPast}
 use Rattle.byte_world.specs.World.{ClientPipes, HasPipe, Pipe, World}
 use Rattle.byte_world.specs.Carried.{trace_of}
 use Rattle.byte_world.specs.Accepted.{accepted_once}

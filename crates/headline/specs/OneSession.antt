@@ -1,15 +1,15 @@
 -- What a client that has had one session is promised: no less than if no session is ever ended.
 use Rattle.std.specs.Prelude.{◌≡◌, false, List, ◌++◌, map}
-use Rattle.byte_world.specs.lists.Lists.{Each}
-use Rattle.byte_world.specs.session_base.declared.publication.Publication.{Publication}
-use Rattle.byte_world.specs.broker_spec.Commands.{usual_limits}
-use Rattle.byte_world.specs.broker_spec.Entries.{Entry}
-use Rattle.byte_world.specs.broker_spec.Place.{Client, Past}
-use Rattle.byte_world.specs.broker_spec.Readings.{publication_in}
-use Rattle.byte_world.specs.broker_spec.Times.{entries_of}
-use Rattle.byte_world.specs.client_base.State.{ClientState}
-use Rattle.byte_world.specs.exactly_once.Acceptance.{is_entry_released, two_entries}
-use Rattle.byte_world.specs.exactly_once.InStep.{IsFirstSession}
+use Rattle.lists.specs.Lists.{Each}
+use Rattle.session_base.specs.declared.publication.Publication.{Publication}
+use Rattle.broker_spec.specs.Commands.{usual_limits}
+use Rattle.broker_spec.specs.Entries.{Entry}
+use Rattle.broker_spec.specs.Place.{Client, Past}
+use Rattle.broker_spec.specs.Readings.{publication_in}
+use Rattle.broker_spec.specs.Times.{entries_of}
+use Rattle.client_base.specs.State.{ClientState}
+use Rattle.exactly_once.specs.Acceptance.{is_entry_released, two_entries}
+use Rattle.exactly_once.specs.InStep.{IsFirstSession}
 use Rattle.headline.specs.Promise.{PromiseInStep}
 use Rattle.headline.specs.Shown.{at_two, new_of, unacknowledged_of}
 use Rattle.byte_world.specs.Accepted.{accepted_once}

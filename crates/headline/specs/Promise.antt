@@ -1,25 +1,25 @@
 -- What is promised for one client, by the publications that it was asked for, the list on which the
 -- nodes agree, and what it shows.
 use Rattle.std.specs.Prelude.{◌≡◌, ◌≤◌, ℕ, if◌then◌else◌, List, ◌∷◌, ◌++◌, filter, length, map}
-use Rattle.byte_world.specs.lists.Lists.{In, IsPrefixOf}
-use Rattle.byte_world.specs.packet.declared.packet.Packet.TheVariants as packets
-use Rattle.byte_world.specs.packet.declared.publish.Publish.{Publish}
-use Rattle.byte_world.specs.session_base.Publication.{publication_of}
-use Rattle.byte_world.specs.session_base.declared.publication.Publication.{Publication}
-use Rattle.byte_world.specs.broker_spec.declared.command.Command.{Command}
-use Rattle.byte_world.specs.broker_spec.declared.command.Command.TheVariants as commands
-use Rattle.byte_world.specs.broker_spec.Commands.{past_of, usual_limits}
-use Rattle.byte_world.specs.broker_spec.Connection.{ConnectionName}
-use Rattle.byte_world.specs.broker_spec.EndingLaws.{EndsWithTheSession, StandsAt, connects_of}
-use Rattle.byte_world.specs.broker_spec.OriginLaws.{is_from_publish}
-use Rattle.byte_world.specs.broker_spec.Place.{Client, Mark, Past, Place}
-use Rattle.byte_world.specs.broker_spec.Readings.{publication_in}
-use Rattle.byte_world.specs.broker_spec.Subscriptions.{effective_qos}
-use Rattle.byte_world.specs.broker_spec.TakenLaws.{queued_at, takes_publication}
-use Rattle.byte_world.specs.broker_spec.Times.{entries_of}
-use Rattle.byte_world.specs.client_base.State.{ClientState}
-use Rattle.byte_world.specs.exactly_once.InStep.{AreWelcome, IsFirstSession, sessions_begun}
-use Rattle.byte_world.specs.exactly_once.Sides.{ClientConnection}
+use Rattle.lists.specs.Lists.{In, IsPrefixOf}
+use Rattle.packet.specs.declared.packet.Packet.TheVariants as packets
+use Rattle.packet.specs.declared.publish.Publish.{Publish}
+use Rattle.session_base.specs.Publication.{publication_of}
+use Rattle.session_base.specs.declared.publication.Publication.{Publication}
+use Rattle.broker_spec.specs.declared.command.Command.{Command}
+use Rattle.broker_spec.specs.declared.command.Command.TheVariants as commands
+use Rattle.broker_spec.specs.Commands.{past_of, usual_limits}
+use Rattle.broker_spec.specs.Connection.{ConnectionName}
+use Rattle.broker_spec.specs.EndingLaws.{EndsWithTheSession, StandsAt, connects_of}
+use Rattle.broker_spec.specs.OriginLaws.{is_from_publish}
+use Rattle.broker_spec.specs.Place.{Client, Mark, Past, Place}
+use Rattle.broker_spec.specs.Readings.{publication_in}
+use Rattle.broker_spec.specs.Subscriptions.{effective_qos}
+use Rattle.broker_spec.specs.TakenLaws.{queued_at, takes_publication}
+use Rattle.broker_spec.specs.Times.{entries_of}
+use Rattle.client_base.specs.State.{ClientState}
+use Rattle.exactly_once.specs.InStep.{AreWelcome, IsFirstSession, sessions_begun}
+use Rattle.exactly_once.specs.Sides.{ClientConnection}
 use Rattle.headline.specs.Shown.{AcceptsInSessionOrder, AreNewInOrder, AreUnacknowledged, IsAnswered, at_two, new_of, unacknowledged_of}
 
 -- for a client, as long as it is in step, by the places of the list

@@ -2,30 +2,30 @@
 -- which the nodes agree.
 use Rattle.std.specs.Prelude.{◌≡◌, ◌&&◌, ℕ, Bool, false, if◌then◌else◌, List, [], ◌∷◌, ◌++◌, Some, filter, map, slice_get}
 use Rattle.std.specs.List.{flat_map}
-use Rattle.byte_world.specs.lists.Lists.{Each, In}
-use Rattle.byte_world.specs.packet.declared.packet.Packet.{Packet}
-use Rattle.byte_world.specs.packet.declared.packet.Packet.TheVariants as packets
-use Rattle.byte_world.specs.packet.declared.publish.Publish.{Publish}
-use Rattle.byte_world.specs.session_base.Publication.{publication_of}
-use Rattle.byte_world.specs.session_base.declared.publication.Publication.{Publication}
-use Rattle.byte_world.specs.broker_spec.AnswersInOrder.{answers_at}
-use Rattle.byte_world.specs.broker_spec.declared.command.Command.{Command}
-use Rattle.byte_world.specs.broker_spec.declared.command.Command.TheVariants as commands
-use Rattle.byte_world.specs.broker_spec.Commands.{usual_limits}
-use Rattle.byte_world.specs.broker_spec.Connection.{ConnectionName}
-use Rattle.byte_world.specs.broker_spec.EndingLaws.{StandsAt}
-use Rattle.byte_world.specs.broker_spec.Entries.{Entry}
-use Rattle.byte_world.specs.broker_spec.declared.command.Output.TheVariants.{Send}
-use Rattle.byte_world.specs.broker_spec.Owner.{owner_of}
-use Rattle.byte_world.specs.broker_spec.Place.{Client, Mark, Past, Place, same_client}
-use Rattle.byte_world.specs.broker_spec.Readings.{publication_in}
-use Rattle.byte_world.specs.broker_spec.Received.{is_exactly_once}
-use Rattle.byte_world.specs.client_base.State.{ClientState}
-use Rattle.byte_world.specs.client_base.declared.unacknowledged_publication.UnacknowledgedPublication.{UnacknowledgedPublication}
-use Rattle.byte_world.specs.exactly_once.Carried.{is_two}
-use Rattle.byte_world.specs.exactly_once.Acceptance.{is_entry_released, two_entries}
-use Rattle.byte_world.specs.exactly_once.InStep.{entries_in, starts_of}
-use Rattle.byte_world.specs.exactly_once.Lives.{NumbersRise}
+use Rattle.lists.specs.Lists.{Each, In}
+use Rattle.packet.specs.declared.packet.Packet.{Packet}
+use Rattle.packet.specs.declared.packet.Packet.TheVariants as packets
+use Rattle.packet.specs.declared.publish.Publish.{Publish}
+use Rattle.session_base.specs.Publication.{publication_of}
+use Rattle.session_base.specs.declared.publication.Publication.{Publication}
+use Rattle.broker_spec.specs.AnswersInOrder.{answers_at}
+use Rattle.broker_spec.specs.declared.command.Command.{Command}
+use Rattle.broker_spec.specs.declared.command.Command.TheVariants as commands
+use Rattle.broker_spec.specs.Commands.{usual_limits}
+use Rattle.broker_spec.specs.Connection.{ConnectionName}
+use Rattle.broker_spec.specs.EndingLaws.{StandsAt}
+use Rattle.broker_spec.specs.Entries.{Entry}
+use Rattle.broker_spec.specs.declared.command.Output.TheVariants.{Send}
+use Rattle.broker_spec.specs.Owner.{owner_of}
+use Rattle.broker_spec.specs.Place.{Client, Mark, Past, Place, same_client}
+use Rattle.broker_spec.specs.Readings.{publication_in}
+use Rattle.broker_spec.specs.Received.{is_exactly_once}
+use Rattle.client_base.specs.State.{ClientState}
+use Rattle.client_base.specs.declared.unacknowledged_publication.UnacknowledgedPublication.{UnacknowledgedPublication}
+use Rattle.exactly_once.specs.Carried.{is_two}
+use Rattle.exactly_once.specs.Acceptance.{is_entry_released, two_entries}
+use Rattle.exactly_once.specs.InStep.{entries_in, starts_of}
+use Rattle.exactly_once.specs.Lives.{NumbersRise}
 use Rattle.byte_world.specs.Accepted.{accepted_once}
 
 -- ---- of its publications

@@ -2,25 +2,25 @@
 use Rattle.std.proofs.Common.{◌≡◌, ℕ, Bool, true, false, List, [], ◌∷◌, Option, Some, None, refl, sym, ◌∙◌, ap, ap₂, subst, inl, inr, ◌⊎◌}
 use Rattle.std.specs.Prelude.{slice_get}
 use Rattle.std.proofs.lemmas.Bool.{both_ways}
-use Rattle.client_base.specs.packet.declared.publish.Publish.{Publish}
-use Rattle.client_base.specs.packet.declared.packet.Packet.{Packet}
-use Rattle.client_base.specs.packet.declared.packet.Packet.TheVariants as packets
-use Rattle.client_base.specs.session_base.declared.publication.Publication.{Publication}
-use Rattle.client_base.specs.session_base.Publication.{publication_of}
-use Rattle.broker_base.specs.broker_spec.Connection.{ConnectionName}
-use Rattle.broker_base.specs.broker_spec.Place.{Client, Mark, Place, Past, Limits}
-use Rattle.broker_base.specs.broker_spec.Received.{is_new, is_exactly_once}
-use Rattle.broker_base.specs.broker_spec.Marks.{mark_of}
-use Rattle.broker_base.specs.broker_spec.AnswersInOrder.{answers_at}
-use Rattle.broker_base.specs.broker_spec.AnswerLaws.{is_unasked}
-use Rattle.broker_base.specs.broker_spec.EndingLaws.{StandsAt}
-use Rattle.broker_base.specs.broker_spec.declared.command.Command.{Command}
-use Rattle.broker_base.specs.broker_spec.declared.command.Command.TheVariants as commands
-use Rattle.broker_base.specs.broker_spec.declared.command.Output.TheVariants.{Send}
-use Rattle.broker_base.proofs.of_broker_spec.MarksOfPlaces.{mark_is}
-use Rattle.client_base.specs.lists.Lists.{In}
-use Rattle.client_base.specs.lists.Lists.In.{here, there}
-use Rattle.client_base.proofs.of_lists.Members.{in_left, in_right, in_append}
+use Rattle.packet.specs.declared.publish.Publish.{Publish}
+use Rattle.packet.specs.declared.packet.Packet.{Packet}
+use Rattle.packet.specs.declared.packet.Packet.TheVariants as packets
+use Rattle.session_base.specs.declared.publication.Publication.{Publication}
+use Rattle.session_base.specs.Publication.{publication_of}
+use Rattle.broker_spec.specs.Connection.{ConnectionName}
+use Rattle.broker_spec.specs.Place.{Client, Mark, Place, Past, Limits}
+use Rattle.broker_spec.specs.Received.{is_new, is_exactly_once}
+use Rattle.broker_spec.specs.Marks.{mark_of}
+use Rattle.broker_spec.specs.AnswersInOrder.{answers_at}
+use Rattle.broker_spec.specs.AnswerLaws.{is_unasked}
+use Rattle.broker_spec.specs.EndingLaws.{StandsAt}
+use Rattle.broker_spec.specs.declared.command.Command.{Command}
+use Rattle.broker_spec.specs.declared.command.Command.TheVariants as commands
+use Rattle.broker_spec.specs.declared.command.Output.TheVariants.{Send}
+use Rattle.broker_spec.proofs.MarksOfPlaces.{mark_is}
+use Rattle.lists.specs.Lists.{In}
+use Rattle.lists.specs.Lists.In.{here, there}
+use Rattle.lists.proofs.Members.{in_left, in_right, in_append}
 use Rattle.exactly_once.specs.Sides.{ClientConnection}
 use Rattle.exactly_once.specs.Story.{Story}
 use Rattle.exactly_once.specs.Carried.{carries, more_by, new_numbers, own_publications}

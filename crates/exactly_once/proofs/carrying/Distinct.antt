@@ -2,11 +2,11 @@
 use Rattle.std.proofs.Common.{◌≡◌, ◌≤◌, ◌<◌, ◌+◌, ℕ, suc, Bool, true, false, ◌==◌, if◌then◌else◌, List, [], ◌∷◌, ◌++◌, Some, refl, ap, subst, arith, inl, inr, ◌⊎◌}
 use Rattle.std.specs.Prelude.{slice_get}
 use Rattle.std.proofs.lemmas.Bool.{cases_Bool}
-use Rattle.client_base.specs.session_base.declared.publication.Publication.{Publication}
-use Rattle.broker_base.proofs.of_broker_spec.EntersOnce.{one_if}
-use Rattle.client_base.specs.lists.Lists.{In, has_id, IsDistinct}
-use Rattle.client_base.specs.lists.Lists.In.{here, there}
-use Rattle.client_base.proofs.of_lists.Tests.{none_or, or_none, eq_turn}
+use Rattle.session_base.specs.declared.publication.Publication.{Publication}
+use Rattle.broker_spec.proofs.EntersOnce.{one_if}
+use Rattle.lists.specs.Lists.{In, has_id, IsDistinct}
+use Rattle.lists.specs.Lists.In.{here, there}
+use Rattle.lists.proofs.Tests.{none_or, or_none, eq_turn}
 use Rattle.client_base.specs.Keeper.{Own, number_in}
 use Rattle.exactly_once.specs.Carried.{is_two, own_qos2_numbers, own_publications, own_publication}
 use Rattle.client_base.specs.OrderLaws.{AreNumbered}

@@ -1,8 +1,8 @@
 -- No event changes which publications the places of the list carry.
 use Rattle.std.proofs.Common.{Bool, true, false, if◌then◌else◌, List, [], ◌∷◌, refl, sym, subst, ◌≤◌, length}
-use Rattle.client_base.specs.packet.declared.packet.Packet.TheVariants as packets
-use Rattle.broker_base.specs.broker_spec.Place.{Past, Limits}
-use Rattle.client_base.specs.lists.Lists.{Each}
+use Rattle.packet.specs.declared.packet.Packet.TheVariants as packets
+use Rattle.broker_spec.specs.Place.{Past, Limits}
+use Rattle.lists.specs.Lists.{Each}
 use Rattle.client_base.specs.Keeper.{Written}
 use Rattle.client_base.specs.Written.{plain, writes, writes_first}
 use Rattle.client_base.specs.Called.{written_for}
@@ -17,7 +17,7 @@ use Rattle.exactly_once.specs.Inside.ConnectionShape.{ConnectionInShape}
 use Rattle.exactly_once.proofs.publishing.First.{counted_within}
 use Rattle.exactly_once.proofs.publishing.Grown.{handled_grows}
 use Rattle.exactly_once.proofs.publishing.kept.Numbers.{SameNumbers, same_written, same_counted, same_opened}
-use Rattle.client_base.proofs.of_lists.OfEach.{each_then}
+use Rattle.lists.proofs.OfEach.{each_then}
 
 -- nothing changes
 pub same_itself : (past : Past) (connections : List ClientConnection) → SameNumbers connections connections past

@@ -1,15 +1,15 @@
 -- In every story each place says what it carries, and each PUBLISH that is written is of the client's.
 use Rattle.std.proofs.Common.{◌≡◌, false, if◌then◌else◌, List, [], ◌∷◌, Some, None, refl, sym, ◌∙◌, ap, subst, ◌++◌, length}
-use Rattle.client_base.specs.packet.declared.packet.Packet.TheVariants as packets
-use Rattle.broker_base.specs.broker_spec.Connection.{ConnectionName, same_connection}
-use Rattle.broker_base.specs.broker_spec.Place.{Client, Past, Limits}
-use Rattle.broker_base.specs.broker_spec.Commands.{place_of, past_of}
-use Rattle.broker_base.specs.broker_spec.NobodyLaws.{IsSteady}
-use Rattle.broker_base.specs.broker_spec.declared.command.Command.{Command}
-use Rattle.broker_base.specs.broker_spec.declared.command.Command.TheVariants as commands
-use Rattle.broker_base.proofs.of_broker_spec.MarksOfPlaces.{AreMarked, past_is_marked}
-use Rattle.client_base.specs.lists.Lists.{Each}
-use Rattle.client_base.proofs.of_lists.Tests.{or_none}
+use Rattle.packet.specs.declared.packet.Packet.TheVariants as packets
+use Rattle.broker_spec.specs.Connection.{ConnectionName, same_connection}
+use Rattle.broker_spec.specs.Place.{Client, Past, Limits}
+use Rattle.broker_spec.specs.Commands.{place_of, past_of}
+use Rattle.broker_spec.specs.NobodyLaws.{IsSteady}
+use Rattle.broker_spec.specs.declared.command.Command.{Command}
+use Rattle.broker_spec.specs.declared.command.Command.TheVariants as commands
+use Rattle.broker_spec.proofs.MarksOfPlaces.{AreMarked, past_is_marked}
+use Rattle.lists.specs.Lists.{Each}
+use Rattle.lists.proofs.Tests.{or_none}
 use Rattle.exactly_once.specs.Sides.{ClientConnection}
 use Rattle.exactly_once.specs.Story.{Story, StoryStep}
 use Rattle.exactly_once.specs.StoryCommands.{any_named, is_packet_of, with_one_counted, command_of}
@@ -27,7 +27,7 @@ use Rattle.exactly_once.proofs.carrying.KeepsWritten.{events_say, events_keep_of
 use Rattle.exactly_once.proofs.carrying.KeepsNumbers.{AreWithin, numbers_keep, shape_within}
 use Rattle.exactly_once.proofs.carrying.PlacesSay.{PlacesSay, says_nothing, places_later, Says}
 use Rattle.exactly_once.proofs.carrying.SaysTaken.{taken_says}
-use Rattle.client_base.specs.session_base.declared.publication.Publication.{Publication}
+use Rattle.session_base.specs.declared.publication.Publication.{Publication}
 use Rattle.client_base.specs.Keeper.{all_own}
 use Rattle.client_base.proofs.NumbersStay.{AreAllNumbered}
 use Rattle.exactly_once.proofs.carrying.NumbersGoOn.{numbers_go_on}

@@ -2,15 +2,15 @@
 use Rattle.std.proofs.Common.{◌≡◌, ℕ, zero, suc, Bool, true, false, if◌then◌else◌, List, [], ◌∷◌, ◌++◌, length, Some, refl, ap, sym, ◌∙◌, subst, append_assoc}
 use Rattle.std.specs.Prelude.{slice_get}
 use Rattle.std.proofs.lemmas.List.{map-append, length-map, length-append}
-use Rattle.client_base.specs.packet.declared.packet.Packet.TheVariants as packets
-use Rattle.client_base.specs.session_base.declared.publication.Publication.{Publication}
-use Rattle.client_base.specs.session_base.Publication.{is_answered, publication_of, publish_for}
-use Rattle.client_base.specs.session_base.Identifiers.{least_free}
-use Rattle.broker_base.specs.broker_spec.Place.{Limits}
-use Rattle.client_base.specs.lists.Lists.{Each, IsPrefixOf}
-use Rattle.client_base.proofs.of_lists.Prefixes.{prefix_same}
-use Rattle.client_base.proofs.of_lists.OfEach.{each_append, each_then}
-use Rattle.client_base.proofs.of_lists.Places.{get_pushed}
+use Rattle.packet.specs.declared.packet.Packet.TheVariants as packets
+use Rattle.session_base.specs.declared.publication.Publication.{Publication}
+use Rattle.session_base.specs.Publication.{is_answered, publication_of, publish_for}
+use Rattle.session_base.specs.Identifiers.{least_free}
+use Rattle.broker_spec.specs.Place.{Limits}
+use Rattle.lists.specs.Lists.{Each, IsPrefixOf}
+use Rattle.lists.proofs.Prefixes.{prefix_same}
+use Rattle.lists.proofs.OfEach.{each_append, each_then}
+use Rattle.lists.proofs.Places.{get_pushed}
 use Rattle.client_base.specs.Keeper.{Own, Written, Keeper, ids_in_use, all_own, next_own_number}
 use Rattle.client_base.specs.Written.{plain, written_publish, writes_first}
 use Rattle.client_base.specs.Called.{adds_own, written_for}

@@ -1,7 +1,7 @@
 -- Every event keeps the numbers of a client's publications: each has that of its place, over all sessions.
 use Rattle.exactly_once.specs.Story.{Story, StoryStep}
 use Rattle.exactly_once.specs.Story.StoryStep.{takes, others_take, receives, opens_anew, loses, disconnects, publishes_one, subscribes, unsubscribes}
-use Rattle.broker_base.specs.broker_spec.Place.{Limits}
+use Rattle.broker_spec.specs.Place.{Limits}
 use Rattle.client_base.proofs.NumbersStay.{AreAllNumbered, publishes_numbers, handled_numbers}
 
 pub numbers_go_on : (limits : Limits) (s t : Story) → StoryStep limits s t → AreAllNumbered s.keeper → AreAllNumbered t.keeper

@@ -1,15 +1,15 @@
 -- What a place that carries a publication of the client says about it, in every later story too.
 use Rattle.std.proofs.Common.{◌≡◌, ℕ, Bool, true, false, List, [], ◌∷◌, Some, None, sym, ◌∙◌, subst, arith}
 use Rattle.std.specs.Prelude.{slice_get}
-use Rattle.client_base.specs.packet.declared.publish.Publish.{Publish}
-use Rattle.client_base.specs.packet.declared.packet.Packet.TheVariants as packets
-use Rattle.client_base.specs.session_base.declared.publication.Publication.{Publication}
-use Rattle.client_base.specs.session_base.Publication.{publication_of}
-use Rattle.broker_base.specs.broker_spec.Connection.{ConnectionName}
-use Rattle.broker_base.specs.broker_spec.Place.{Client, Mark, Place, Past}
-use Rattle.broker_base.specs.broker_spec.declared.command.Command.TheVariants as commands
-use Rattle.client_base.specs.lists.Lists.{In, IsPrefixOf}
-use Rattle.client_base.proofs.of_lists.Prefixes.{prefix_get}
+use Rattle.packet.specs.declared.publish.Publish.{Publish}
+use Rattle.packet.specs.declared.packet.Packet.TheVariants as packets
+use Rattle.session_base.specs.declared.publication.Publication.{Publication}
+use Rattle.session_base.specs.Publication.{publication_of}
+use Rattle.broker_spec.specs.Connection.{ConnectionName}
+use Rattle.broker_spec.specs.Place.{Client, Mark, Place, Past}
+use Rattle.broker_spec.specs.declared.command.Command.TheVariants as commands
+use Rattle.lists.specs.Lists.{In, IsPrefixOf}
+use Rattle.lists.proofs.Prefixes.{prefix_get}
 use Rattle.exactly_once.specs.Sides.{ClientConnection}
 use Rattle.exactly_once.specs.Carried.{carries, new_numbers}
 use Rattle.exactly_once.proofs.places.Counts.{counted_still}

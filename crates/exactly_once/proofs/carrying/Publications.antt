@@ -1,16 +1,16 @@
 -- What a client published, by number, and the packets that it wrote of it.
 use Rattle.std.proofs.Common.{◌≡◌, ◌+◌, ℕ, suc, Bool, true, false, not, ◌&&◌, ◌==◌, if◌then◌else◌, List, [], ◌∷◌, ◌++◌, map, Option, Some, None, refl, ap, ap₂, sym, ◌∙◌, subst, arith, length}
 use Rattle.std.specs.Prelude.{slice_get}
-use Rattle.client_base.specs.packet.packet_base.declared.qos.QoS.{QoS}
-use Rattle.client_base.specs.packet.packet_base.declared.qos.QoS.TheVariants as qualities
-use Rattle.client_base.specs.packet.Delivery.{delivery_qos}
-use Rattle.client_base.specs.packet.declared.packet.Packet.{Packet}
-use Rattle.client_base.specs.packet.declared.packet.Packet.TheVariants as packets
-use Rattle.client_base.specs.session_base.declared.publication.Publication.{Publication}
-use Rattle.client_base.specs.session_base.Publication.{publication_of, publish_for, delivery_with, is_acknowledged}
-use Rattle.client_base.specs.lists.Lists.{Each, IsPrefixOf}
-use Rattle.client_base.proofs.of_lists.Prefixes.{prefix_get}
-use Rattle.client_base.proofs.of_lists.OfEach.{each_append}
+use Rattle.packet_base.specs.declared.qos.QoS.{QoS}
+use Rattle.packet_base.specs.declared.qos.QoS.TheVariants as qualities
+use Rattle.packet.specs.Delivery.{delivery_qos}
+use Rattle.packet.specs.declared.packet.Packet.{Packet}
+use Rattle.packet.specs.declared.packet.Packet.TheVariants as packets
+use Rattle.session_base.specs.declared.publication.Publication.{Publication}
+use Rattle.session_base.specs.Publication.{publication_of, publish_for, delivery_with, is_acknowledged}
+use Rattle.lists.specs.Lists.{Each, IsPrefixOf}
+use Rattle.lists.proofs.Prefixes.{prefix_get}
+use Rattle.lists.proofs.OfEach.{each_append}
 use Rattle.client_base.specs.Keeper.{Own, Written, Keeper, all_own}
 use Rattle.client_base.specs.Written.{plain, written_again, written_first, sent_all, resent_written}
 use Rattle.client_base.specs.Handshakes.{own_at_puback, own_at_pubrec, own_at_pubcomp}

@@ -2,22 +2,22 @@
 use Rattle.std.proofs.Common.{◌≡◌, ℕ, zero, suc, Bool, true, false, if◌then◌else◌, List, ◌∷◌, drop, Option, Some, None, refl, sym, ◌∙◌, ap, ap₂, subst, inl, inr, ◌⊎◌}
 use Rattle.std.specs.Prelude.{slice_get}
 use Rattle.std.proofs.lemmas.Bool.{both_ways}
-use Rattle.client_base.specs.packet.declared.delivery.Delivery.{Delivery}
-use Rattle.client_base.specs.packet.declared.delivery.Delivery.TheVariants as deliveries
-use Rattle.client_base.specs.packet.declared.connect.Connect.{Connect}
-use Rattle.client_base.specs.packet.declared.publish.Publish.{Publish}
-use Rattle.client_base.specs.packet.declared.packet.Packet.{Packet}
-use Rattle.client_base.specs.packet.declared.packet.Packet.TheVariants as packets
-use Rattle.client_base.specs.session_base.declared.publication.Publication.{Publication}
-use Rattle.client_base.specs.session_base.Publication.{publication_of}
-use Rattle.broker_base.specs.broker_spec.Connection.{ConnectionName}
-use Rattle.broker_base.specs.broker_spec.Place.{Client, Mark, Past, Limits}
-use Rattle.broker_base.specs.broker_spec.Past.{current_connection}
-use Rattle.broker_base.specs.broker_spec.Received.{is_repeat}
-use Rattle.broker_base.specs.broker_spec.Marks.{is_refused, packet_mark, packet_mark_of, mark_of}
-use Rattle.broker_base.specs.broker_spec.Commands.{place_of}
-use Rattle.broker_base.specs.broker_spec.declared.command.Command.TheVariants as commands
-use Rattle.client_base.specs.lists.Lists.{In}
+use Rattle.packet.specs.declared.delivery.Delivery.{Delivery}
+use Rattle.packet.specs.declared.delivery.Delivery.TheVariants as deliveries
+use Rattle.packet.specs.declared.connect.Connect.{Connect}
+use Rattle.packet.specs.declared.publish.Publish.{Publish}
+use Rattle.packet.specs.declared.packet.Packet.{Packet}
+use Rattle.packet.specs.declared.packet.Packet.TheVariants as packets
+use Rattle.session_base.specs.declared.publication.Publication.{Publication}
+use Rattle.session_base.specs.Publication.{publication_of}
+use Rattle.broker_spec.specs.Connection.{ConnectionName}
+use Rattle.broker_spec.specs.Place.{Client, Mark, Past, Limits}
+use Rattle.broker_spec.specs.Past.{current_connection}
+use Rattle.broker_spec.specs.Received.{is_repeat}
+use Rattle.broker_spec.specs.Marks.{is_refused, packet_mark, packet_mark_of, mark_of}
+use Rattle.broker_spec.specs.Commands.{place_of}
+use Rattle.broker_spec.specs.declared.command.Command.TheVariants as commands
+use Rattle.lists.specs.Lists.{In}
 use Rattle.exactly_once.specs.Handshake.{Forward, Backward}
 use Rattle.exactly_once.specs.Exact.{next_of}
 use Rattle.exactly_once.specs.HandshakeInvariant.{IsGood}
@@ -30,7 +30,7 @@ use Rattle.exactly_once.specs.Carried.{connection_named, written_number_at, new_
 use Rattle.exactly_once.specs.Inside.Projections.{forward_of_own, forward_of_one, backward_of_own, to_come, is_current, transit_of_own, as_publisher}
 use Rattle.exactly_once.specs.Inside.Shape.{HasShape}
 use Rattle.exactly_once.specs.Inside.ConnectionShape.{ConnectionInShape}
-use Rattle.broker_base.proofs.of_broker_spec.ConnectionNames.{same_itself}
+use Rattle.broker_spec.proofs.ConnectionNames.{same_itself}
 use Rattle.exactly_once.proofs.places.Owned.{own_owner, none_owns}
 use Rattle.exactly_once.proofs.publishing.First.{story_by}
 use Rattle.exactly_once.proofs.publishing.Last.{each_there, is_named}

@@ -2,26 +2,26 @@
 use Rattle.std.proofs.Common.{◌≡◌, ◌⊎◌, inl, inr, Bool, true, false, not, if◌then◌else◌, List, [], ◌∷◌, length, Option, Some, None, refl, ap, sym, ◌∙◌, subst, arith}
 use Rattle.std.specs.Prelude.{flat_map}
 use Rattle.std.proofs.lemmas.Bool.{both_ways, cases_Bool}
-use Rattle.client_base.specs.packet.declared.packet.Packet.{Packet}
-use Rattle.client_base.specs.packet.declared.packet.Packet.TheVariants as packets
-use Rattle.broker_base.specs.broker_spec.Connection.{ConnectionName, same_connection}
-use Rattle.broker_base.specs.broker_spec.Place.{Client, Mark, Place, Past, Limits}
-use Rattle.broker_base.specs.broker_spec.Past.{current_connection, begins}
-use Rattle.broker_base.specs.broker_spec.Owner.{clients}
-use Rattle.broker_base.specs.broker_spec.Times.{entries_of}
-use Rattle.broker_base.specs.broker_spec.Sends.{resent_outputs, deliveries_to}
-use Rattle.broker_base.specs.broker_spec.Answers.{close_outputs, welcome, acknowledged, codes_of, packet_answers, connect_answers, answers_by}
-use Rattle.broker_base.specs.broker_spec.AnswersInOrder.{answers_at}
-use Rattle.broker_base.specs.broker_spec.declared.command.Command.{Command}
-use Rattle.broker_base.specs.broker_spec.declared.command.Command.TheVariants as commands
-use Rattle.broker_base.specs.broker_spec.declared.command.Output.{Output}
-use Rattle.broker_base.specs.broker_spec.declared.command.Output.TheVariants.{Send, Close}
-use Rattle.client_base.specs.lists.Lists.{Each}
-use Rattle.client_base.proofs.of_lists.OfEach.{each_append}
+use Rattle.packet.specs.declared.packet.Packet.{Packet}
+use Rattle.packet.specs.declared.packet.Packet.TheVariants as packets
+use Rattle.broker_spec.specs.Connection.{ConnectionName, same_connection}
+use Rattle.broker_spec.specs.Place.{Client, Mark, Place, Past, Limits}
+use Rattle.broker_spec.specs.Past.{current_connection, begins}
+use Rattle.broker_spec.specs.Owner.{clients}
+use Rattle.broker_spec.specs.Times.{entries_of}
+use Rattle.broker_spec.specs.Sends.{resent_outputs, deliveries_to}
+use Rattle.broker_spec.specs.Answers.{close_outputs, welcome, acknowledged, codes_of, packet_answers, connect_answers, answers_by}
+use Rattle.broker_spec.specs.AnswersInOrder.{answers_at}
+use Rattle.broker_spec.specs.declared.command.Command.{Command}
+use Rattle.broker_spec.specs.declared.command.Command.TheVariants as commands
+use Rattle.broker_spec.specs.declared.command.Output.{Output}
+use Rattle.broker_spec.specs.declared.command.Output.TheVariants.{Send, Close}
+use Rattle.lists.specs.Lists.{Each}
+use Rattle.lists.proofs.OfEach.{each_append}
 use Rattle.exactly_once.specs.Sends.{sends_to}
 use Rattle.exactly_once.specs.StoryCommands.{is_packet_of, packet_count}
 use Rattle.exactly_once.specs.Inside.ConnectionShape.{is_connack, no_connacks}
-use Rattle.broker_base.proofs.of_broker_spec.ConnectionNames.{same_name, same_itself}
+use Rattle.broker_spec.proofs.ConnectionNames.{same_name, same_itself}
 use Rattle.exactly_once.proofs.places.Counts.{current_counted}
 use Rattle.exactly_once.proofs.connections.Answers.{is_connect_of, GoesRight, MayBeSent, each_flat, resent_right, deliveries_right, acknowledged_right, handled_right}
 

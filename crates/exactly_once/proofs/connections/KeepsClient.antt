@@ -1,6 +1,6 @@
 -- Each event keeps the client.
 use Rattle.std.proofs.Common.{◌≡◌, refl}
-use Rattle.broker_base.specs.broker_spec.Place.{Limits}
+use Rattle.broker_spec.specs.Place.{Limits}
 use Rattle.exactly_once.specs.Story.{Story, StoryStep}
 use Rattle.exactly_once.specs.Story.StoryStep.{takes, others_take, receives, opens_anew, loses, disconnects, publishes_one, subscribes, unsubscribes}
 use Rattle.exactly_once.proofs.subscribing.Given.{stays_handled}

@@ -1,8 +1,8 @@
 -- Each event keeps the shape of the client's connections.
 use Rattle.std.proofs.Common.{List, [], ◌∷◌, sym, subst}
-use Rattle.broker_base.specs.broker_spec.Place.{Client, Past, Limits}
-use Rattle.client_base.specs.lists.Lists.{Each}
-use Rattle.client_base.proofs.of_lists.OfEach.{each_then}
+use Rattle.broker_spec.specs.Place.{Client, Past, Limits}
+use Rattle.lists.specs.Lists.{Each}
+use Rattle.lists.proofs.OfEach.{each_then}
 use Rattle.exactly_once.specs.Sides.{ClientConnection}
 use Rattle.exactly_once.specs.Story.{Story, StoryStep}
 use Rattle.exactly_once.specs.Inside.Shape.{HasShape}

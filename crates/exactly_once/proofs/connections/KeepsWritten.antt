@@ -2,11 +2,11 @@
 use Rattle.std.proofs.Common.{◌≡◌, ◌≤◌, ℕ, zero, suc, Bool, true, false, if◌then◌else◌, List, [], ◌∷◌, ◌++◌, refl, ap, sym, ◌∙◌, subst, arith}
 use Rattle.std.proofs.lemmas.Bool.{both_ways}
 use Rattle.std.proofs.lemmas.List.{append-nil}
-use Rattle.client_base.specs.packet.declared.packet.Packet.TheVariants as packets
-use Rattle.client_base.specs.session_base.Identifiers.{least_free}
-use Rattle.broker_base.specs.broker_spec.Place.{Client, Past, Limits}
-use Rattle.client_base.specs.lists.Lists.{Each}
-use Rattle.client_base.proofs.of_lists.OfEach.{each_append, each_then}
+use Rattle.packet.specs.declared.packet.Packet.TheVariants as packets
+use Rattle.session_base.specs.Identifiers.{least_free}
+use Rattle.broker_spec.specs.Place.{Client, Past, Limits}
+use Rattle.lists.specs.Lists.{Each}
+use Rattle.lists.proofs.OfEach.{each_append, each_then}
 use Rattle.client_base.specs.Keeper.{Written, Keeper, ids_in_use, next_own_number}
 use Rattle.exactly_once.specs.Sides.{ClientConnection}
 use Rattle.client_base.specs.Written.{plain, written_publish, writes}

@@ -1,29 +1,29 @@
 -- The list takes the CONNECT of a connection of the client: its first answer is a CONNACK, and no other is.
 use Rattle.std.proofs.Common.{◌≡◌, ◌≤◌, inl, ℕ, zero, suc, Bool, true, false, ◌||◌, nat_lt, not, if◌then◌else◌, List, [], ◌∷◌, ◌++◌, length, Option, Some, None, refl, ap, sym, ◌∙◌, subst, arith}
 use Rattle.std.specs.Prelude.{slice_get, is_some}
-use Rattle.client_base.specs.packet.declared.packet.Packet.{Packet}
-use Rattle.client_base.specs.packet.declared.packet.Packet.TheVariants as packets
-use Rattle.broker_base.specs.broker_spec.Connection.{ConnectionName}
-use Rattle.broker_base.specs.broker_spec.Place.{Client, Mark, Place, Past, Limits}
-use Rattle.broker_base.specs.broker_spec.Past.{current_connection, begins, session_of}
-use Rattle.broker_base.specs.broker_spec.Owner.{clients, owner_of}
-use Rattle.broker_base.specs.broker_spec.Times.{entries_of}
-use Rattle.broker_base.specs.broker_spec.Sends.{resent_outputs}
-use Rattle.broker_base.specs.broker_spec.Answers.{close_outputs, welcome, turned_away}
-use Rattle.broker_base.specs.broker_spec.AnswersInOrder.{answers_at}
-use Rattle.broker_base.specs.broker_spec.Marks.{connect_mark}
-use Rattle.broker_base.specs.broker_spec.Commands.{place_of}
-use Rattle.broker_base.specs.broker_spec.declared.command.Command.TheVariants as commands
-use Rattle.broker_base.specs.broker_spec.declared.command.Output.{Output}
-use Rattle.broker_base.specs.broker_spec.declared.command.Output.TheVariants.{Close}
-use Rattle.client_base.proofs.of_lists.OfEach.{each_append}
+use Rattle.packet.specs.declared.packet.Packet.{Packet}
+use Rattle.packet.specs.declared.packet.Packet.TheVariants as packets
+use Rattle.broker_spec.specs.Connection.{ConnectionName}
+use Rattle.broker_spec.specs.Place.{Client, Mark, Place, Past, Limits}
+use Rattle.broker_spec.specs.Past.{current_connection, begins, session_of}
+use Rattle.broker_spec.specs.Owner.{clients, owner_of}
+use Rattle.broker_spec.specs.Times.{entries_of}
+use Rattle.broker_spec.specs.Sends.{resent_outputs}
+use Rattle.broker_spec.specs.Answers.{close_outputs, welcome, turned_away}
+use Rattle.broker_spec.specs.AnswersInOrder.{answers_at}
+use Rattle.broker_spec.specs.Marks.{connect_mark}
+use Rattle.broker_spec.specs.Commands.{place_of}
+use Rattle.broker_spec.specs.declared.command.Command.TheVariants as commands
+use Rattle.broker_spec.specs.declared.command.Output.{Output}
+use Rattle.broker_spec.specs.declared.command.Output.TheVariants.{Close}
+use Rattle.lists.proofs.OfEach.{each_append}
 use Rattle.exactly_once.specs.Sends.{sends_to, put_to}
 use Rattle.client_base.specs.Keeper.{Written}
 use Rattle.exactly_once.specs.Sides.{ClientConnection}
 use Rattle.exactly_once.specs.StoryCommands.{command_of}
 use Rattle.exactly_once.specs.Inside.Projections.{backward_of_own}
 use Rattle.exactly_once.specs.Inside.ConnectionShape.{is_connack, no_connacks, ConnackFirst, ConnectionInShape}
-use Rattle.broker_base.proofs.of_broker_spec.ConnectionNames.{same_itself}
+use Rattle.broker_spec.proofs.ConnectionNames.{same_itself}
 use Rattle.exactly_once.proofs.places.Counts.{current_counted}
 use Rattle.exactly_once.proofs.publishing.AtPlaces.{put_more}
 use Rattle.exactly_once.proofs.publishing.Elsewhere.{connect_none}

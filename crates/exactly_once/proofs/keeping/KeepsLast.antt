@@ -1,11 +1,11 @@
 -- The row of shape that the current connection is the last confirmed one, or an unconfirmed one, is kept by every event.
 use Rattle.std.proofs.Common.{Bool, true, false, if◌then◌else◌, [], ◌∷◌, refl, sym, subst}
-use Rattle.client_base.specs.packet.declared.packet.Packet.TheVariants as packets
-use Rattle.broker_base.specs.broker_spec.Place.{Client, Limits}
-use Rattle.broker_base.specs.broker_spec.Past.{current_connection}
-use Rattle.broker_base.specs.broker_spec.Marks.{mark_of}
-use Rattle.broker_base.specs.broker_spec.Commands.{place_of}
-use Rattle.client_base.specs.lists.Lists.{Each}
+use Rattle.packet.specs.declared.packet.Packet.TheVariants as packets
+use Rattle.broker_spec.specs.Place.{Client, Limits}
+use Rattle.broker_spec.specs.Past.{current_connection}
+use Rattle.broker_spec.specs.Marks.{mark_of}
+use Rattle.broker_spec.specs.Commands.{place_of}
+use Rattle.lists.specs.Lists.{Each}
 use Rattle.exactly_once.specs.Sends.{put_to}
 use Rattle.exactly_once.specs.Sides.{Side}
 use Rattle.client_base.specs.Written.{plain}

@@ -1,11 +1,11 @@
 -- The row of shape that a client that was served has a session, and it is not clean, is kept by every event.
 use Rattle.std.proofs.Common.{◌≡◌, ℕ, zero, suc, true, false, List, [], ◌∷◌, Some, sym, subst, ◌⊎◌, inl, inr}
 use Rattle.std.specs.Prelude.{slice_get}
-use Rattle.client_base.specs.packet.declared.packet.Packet.{Packet}
-use Rattle.broker_base.specs.broker_spec.Place.{Client, Limits}
-use Rattle.broker_base.specs.broker_spec.Past.{session_of}
-use Rattle.broker_base.specs.broker_spec.Commands.{place_of}
-use Rattle.client_base.specs.lists.Lists.{Each}
+use Rattle.packet.specs.declared.packet.Packet.{Packet}
+use Rattle.broker_spec.specs.Place.{Client, Limits}
+use Rattle.broker_spec.specs.Past.{session_of}
+use Rattle.broker_spec.specs.Commands.{place_of}
+use Rattle.lists.specs.Lists.{Each}
 use Rattle.exactly_once.specs.Sends.{put_to}
 use Rattle.exactly_once.specs.Sides.{Side}
 use Rattle.exactly_once.specs.Story.{Story, StoryStep}

@@ -1,25 +1,25 @@
 -- No answer to a packet is a CONNACK: only a Connect is answered with one.
 use Rattle.std.proofs.Common.{◌≡◌, ℕ, suc, Bool, true, false, ◌==◌, if◌then◌else◌, List, [], ◌∷◌, ◌++◌, length, map, take, drop, Option, Some, None, refl}
 use Rattle.std.specs.Prelude.{flat_map}
-use Rattle.client_base.specs.packet.declared.delivery.Delivery.{Delivery}
-use Rattle.client_base.specs.packet.declared.delivery.Delivery.TheVariants as deliveries
-use Rattle.client_base.specs.packet.declared.packet.Packet.{Packet}
-use Rattle.client_base.specs.packet.declared.packet.Packet.TheVariants as packets
-use Rattle.client_base.specs.session_base.declared.publication.Publication.{Publication}
-use Rattle.client_base.specs.session_base.Publication.{is_answered}
-use Rattle.client_base.specs.lists.Lists.{has_id, Each}
-use Rattle.broker_base.specs.broker_spec.Connection.{ConnectionName, same_connection}
-use Rattle.broker_base.specs.broker_spec.Place.{Client, Mark, Place, Past, Limits}
-use Rattle.broker_base.specs.broker_spec.Past.{current_connection}
-use Rattle.broker_base.specs.broker_spec.Owner.{clients}
-use Rattle.broker_base.specs.broker_spec.Entries.{Entry, copies_at}
-use Rattle.broker_base.specs.broker_spec.Readings.{made_at, released_below}
-use Rattle.broker_base.specs.broker_spec.Times.{entries_of}
-use Rattle.broker_base.specs.broker_spec.Sends.{publish_output, first_output, repeated_output, all_started, resent_outputs, copy_outputs, handed_to, deliveries_to}
-use Rattle.broker_base.specs.broker_spec.Answers.{close_outputs, acknowledged, other_answers, packet_answers}
-use Rattle.broker_base.specs.broker_spec.declared.command.Output.{Output}
-use Rattle.broker_base.specs.broker_spec.declared.command.Output.TheVariants.{Send, Close}
-use Rattle.client_base.proofs.of_lists.OfEach.{each_append}
+use Rattle.packet.specs.declared.delivery.Delivery.{Delivery}
+use Rattle.packet.specs.declared.delivery.Delivery.TheVariants as deliveries
+use Rattle.packet.specs.declared.packet.Packet.{Packet}
+use Rattle.packet.specs.declared.packet.Packet.TheVariants as packets
+use Rattle.session_base.specs.declared.publication.Publication.{Publication}
+use Rattle.session_base.specs.Publication.{is_answered}
+use Rattle.lists.specs.Lists.{has_id, Each}
+use Rattle.broker_spec.specs.Connection.{ConnectionName, same_connection}
+use Rattle.broker_spec.specs.Place.{Client, Mark, Place, Past, Limits}
+use Rattle.broker_spec.specs.Past.{current_connection}
+use Rattle.broker_spec.specs.Owner.{clients}
+use Rattle.broker_spec.specs.Entries.{Entry, copies_at}
+use Rattle.broker_spec.specs.Readings.{made_at, released_below}
+use Rattle.broker_spec.specs.Times.{entries_of}
+use Rattle.broker_spec.specs.Sends.{publish_output, first_output, repeated_output, all_started, resent_outputs, copy_outputs, handed_to, deliveries_to}
+use Rattle.broker_spec.specs.Answers.{close_outputs, acknowledged, other_answers, packet_answers}
+use Rattle.broker_spec.specs.declared.command.Output.{Output}
+use Rattle.broker_spec.specs.declared.command.Output.TheVariants.{Send, Close}
+use Rattle.lists.proofs.OfEach.{each_append}
 use Rattle.exactly_once.specs.Sends.{sends_to}
 use Rattle.exactly_once.specs.Inside.ConnectionShape.{is_connack}
 

@@ -2,10 +2,10 @@
 use Rattle.std.proofs.Common.{◌≡◌, ℕ, zero, suc, true, false, if◌then◌else◌, List, [], ◌∷◌, Option, Some, ap, sym, ◌∙◌, subst, ◌⊎◌, inl, inr}
 use Rattle.std.specs.Prelude.{slice_get}
 use Rattle.std.proofs.lemmas.Bool.{both_ways, cases_Bool}
-use Rattle.broker_base.specs.broker_spec.Connection.{ConnectionName, same_connection}
-use Rattle.client_base.specs.lists.Lists.{Each}
-use Rattle.client_base.proofs.of_lists.Tests.{or_none}
-use Rattle.client_base.proofs.of_lists.OfEach.{each_then}
+use Rattle.broker_spec.specs.Connection.{ConnectionName, same_connection}
+use Rattle.lists.specs.Lists.{Each}
+use Rattle.lists.proofs.Tests.{or_none}
+use Rattle.lists.proofs.OfEach.{each_then}
 use Rattle.client_base.specs.Keeper.{Written}
 use Rattle.exactly_once.specs.Sides.{ClientConnection}
 use Rattle.exactly_once.specs.StoryCommands.{any_named, with_one_counted}
@@ -13,7 +13,7 @@ use Rattle.client_base.specs.Written.{writes_first}
 use Rattle.exactly_once.specs.Inside.Projections.{last_confirmed}
 use Rattle.exactly_once.specs.Inside.Shape.{NamesApart}
 use Rattle.exactly_once.proofs.Takes.{same_name_self}
-use Rattle.broker_base.proofs.of_broker_spec.ConnectionNames.{same_name}
+use Rattle.broker_spec.proofs.ConnectionNames.{same_name}
 use Rattle.exactly_once.proofs.subscribing.Newest.{Unconfirmed}
 use Rattle.exactly_once.proofs.subscribing.Counted.{named_at}
 

@@ -1,11 +1,11 @@
 -- What one more place leaves of a client's connection, session and received identifiers, if its
 -- session is not clean.
 use Rattle.std.proofs.Common.{◌≡◌, Bool, true, false, [], ◌∷◌, Option, Some, None, ap, ap₂, sym, ◌∙◌, inl, inr, ◌⊎◌}
-use Rattle.broker_base.specs.broker_spec.Connection.{ConnectionName}
-use Rattle.broker_base.specs.broker_spec.Place.{Client, Place, Past}
-use Rattle.broker_base.specs.broker_spec.Past.{accepts, expels, ends_any, newest_connection, newest_session, current_connection, session_of, is_beginning, in_session}
-use Rattle.broker_base.specs.broker_spec.Received.{received_by, received_of}
-use Rattle.broker_base.specs.broker_spec.declared.command.Command.{Command}
+use Rattle.broker_spec.specs.Connection.{ConnectionName}
+use Rattle.broker_spec.specs.Place.{Client, Place, Past}
+use Rattle.broker_spec.specs.Past.{accepts, expels, ends_any, newest_connection, newest_session, current_connection, session_of, is_beginning, in_session}
+use Rattle.broker_spec.specs.Received.{received_by, received_of}
+use Rattle.broker_spec.specs.declared.command.Command.{Command}
 use Rattle.exactly_once.proofs.places.Sessions.{received_outside}
 
 -- the client has no session, or one that is not clean

@@ -2,13 +2,13 @@
 -- there.
 use Rattle.std.proofs.Common.{◌≡◌, ◌≤◌, ◌<◌, suc, Bool, true, false, not, if◌then◌else◌, [], ◌∷◌, Option, Some, None, refl, subst, arith, inl, inr, ◌⊎◌}
 use Rattle.std.proofs.lemmas.Bool.{both_ways}
-use Rattle.broker_base.specs.broker_spec.Connection.{ConnectionName}
-use Rattle.broker_base.specs.broker_spec.Place.{Client, Mark, Place, Past, only_if, same_client}
-use Rattle.broker_base.specs.broker_spec.Past.{accepts, ends_any, newest_connection, current_connection}
-use Rattle.broker_base.specs.broker_spec.declared.command.Command.{Command}
-use Rattle.broker_base.specs.broker_spec.declared.command.Command.TheVariants as commands
+use Rattle.broker_spec.specs.Connection.{ConnectionName}
+use Rattle.broker_spec.specs.Place.{Client, Mark, Place, Past, only_if, same_client}
+use Rattle.broker_spec.specs.Past.{accepts, ends_any, newest_connection, current_connection}
+use Rattle.broker_spec.specs.declared.command.Command.{Command}
+use Rattle.broker_spec.specs.declared.command.Command.TheVariants as commands
 use Rattle.exactly_once.specs.StoryCommands.{is_packet_of, packet_count}
-use Rattle.broker_base.proofs.of_broker_spec.ConnectionNames.{same_itself}
+use Rattle.broker_spec.proofs.ConnectionNames.{same_itself}
 
 -- a packet of x counts
 pub counted_here : (x : ConnectionName) (place : Place) (past : Past) → is_packet_of place.command x ≡ true → packet_count x past < packet_count x (place ∷ past)

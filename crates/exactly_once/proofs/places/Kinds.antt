@@ -1,21 +1,21 @@
 -- A client's connection and received identifiers after one more place, for each kind of command.
 use Rattle.std.proofs.Common.{◌≡◌, ℕ, Bool, true, false, ◌&&◌, if◌then◌else◌, List, ◌∷◌, Option, Some, None, refl, ap, ◌∙◌, inr}
-use Rattle.client_base.specs.packet.declared.publish.Publish.{Publish}
-use Rattle.client_base.specs.packet.declared.packet.Packet.{Packet}
-use Rattle.client_base.specs.packet.declared.packet.Packet.TheVariants as packets
-use Rattle.broker_base.specs.broker_spec.Connection.{ConnectionName, same_connection}
-use Rattle.broker_base.specs.broker_spec.Place.{Client, Mark, Place, Past, Limits, only_if}
-use Rattle.broker_base.specs.broker_spec.Past.{accepts, any_connection, expels, ends_any, is_leaving, current_connection, session_of}
-use Rattle.broker_base.specs.broker_spec.Received.{receives, received_by, received_of}
-use Rattle.client_base.specs.session_base.Identifiers.{without_id}
-use Rattle.broker_base.specs.broker_spec.Marks.{packet_mark, packet_mark_of}
-use Rattle.broker_base.specs.broker_spec.Commands.{place_of}
-use Rattle.broker_base.specs.broker_spec.declared.command.Command.TheVariants as commands
-use Rattle.broker_base.proofs.of_broker_spec.ClientsInOrder.{same_self}
+use Rattle.packet.specs.declared.publish.Publish.{Publish}
+use Rattle.packet.specs.declared.packet.Packet.{Packet}
+use Rattle.packet.specs.declared.packet.Packet.TheVariants as packets
+use Rattle.broker_spec.specs.Connection.{ConnectionName, same_connection}
+use Rattle.broker_spec.specs.Place.{Client, Mark, Place, Past, Limits, only_if}
+use Rattle.broker_spec.specs.Past.{accepts, any_connection, expels, ends_any, is_leaving, current_connection, session_of}
+use Rattle.broker_spec.specs.Received.{receives, received_by, received_of}
+use Rattle.session_base.specs.Identifiers.{without_id}
+use Rattle.broker_spec.specs.Marks.{packet_mark, packet_mark_of}
+use Rattle.broker_spec.specs.Commands.{place_of}
+use Rattle.broker_spec.specs.declared.command.Command.TheVariants as commands
+use Rattle.broker_spec.proofs.ClientsInOrder.{same_self}
 use Rattle.exactly_once.specs.Sides.{ClientConnection}
 use Rattle.exactly_once.specs.StoryCommands.{any_named}
 use Rattle.exactly_once.proofs.Packets.{at_packet}
-use Rattle.broker_base.proofs.of_broker_spec.ConnectionNames.{same_itself}
+use Rattle.broker_spec.proofs.ConnectionNames.{same_itself}
 use Rattle.exactly_once.proofs.places.After.{IsKeptSession, current_stays, current_ends, current_opens, session_stays, session_opens, received_live, received_stays, received_opens}
 use Rattle.exactly_once.proofs.places.Owned.{NobodyElse, none_owns, own_owner}
 

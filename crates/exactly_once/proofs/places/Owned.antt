@@ -3,14 +3,14 @@
 use Rattle.std.proofs.Common.{◌≡◌, Bool, true, false, List, Option, Some, None, refl, ap, sym, subst}
 use Rattle.std.specs.Prelude.{is_some}
 use Rattle.std.proofs.lemmas.Bool.{both_ways}
-use Rattle.broker_base.specs.broker_spec.Connection.{ConnectionName, same_connection}
-use Rattle.broker_base.specs.broker_spec.Place.{Client, Past, same_client}
-use Rattle.broker_base.specs.broker_spec.Past.{any_connection, current_connection}
-use Rattle.broker_base.specs.broker_spec.Owner.{owner_of}
-use Rattle.broker_base.proofs.of_broker_spec.ClientsInOrder.{same_is}
+use Rattle.broker_spec.specs.Connection.{ConnectionName, same_connection}
+use Rattle.broker_spec.specs.Place.{Client, Past, same_client}
+use Rattle.broker_spec.specs.Past.{any_connection, current_connection}
+use Rattle.broker_spec.specs.Owner.{owner_of}
+use Rattle.broker_spec.proofs.ClientsInOrder.{same_is}
 use Rattle.exactly_once.specs.Sides.{ClientConnection}
 use Rattle.exactly_once.specs.StoryCommands.{any_named}
-use Rattle.broker_base.proofs.of_broker_spec.ConnectionNames.{same_name, same_itself}
+use Rattle.broker_spec.proofs.ConnectionNames.{same_name, same_itself}
 use Rattle.exactly_once.proofs.places.Owners.{owner_has, owner_there}
 
 -- no other client is on one of these connections

@@ -3,11 +3,11 @@
 use Rattle.std.proofs.Common.{◌≡◌, Bool, true, false, if◌then◌else◌, List, [], ◌∷◌, filter, Some, None, refl, ap, sym, ◌∙◌, subst, inl, inr, ◌⊎◌}
 use Rattle.std.specs.Prelude.{is_some}
 use Rattle.std.proofs.lemmas.Bool.{both_ways, cases_Bool}
-use Rattle.broker_base.specs.broker_spec.Connection.{ConnectionName, same_connection}
-use Rattle.broker_base.specs.broker_spec.Place.{Client, Past}
-use Rattle.broker_base.specs.broker_spec.Past.{any_connection, current_connection, session_of}
-use Rattle.broker_base.specs.broker_spec.Owner.{named, clients, first_client, owner_of}
-use Rattle.broker_base.proofs.of_broker_spec.ClientsInOrder.{IsNamed, session_is_named}
+use Rattle.broker_spec.specs.Connection.{ConnectionName, same_connection}
+use Rattle.broker_spec.specs.Place.{Client, Past}
+use Rattle.broker_spec.specs.Past.{any_connection, current_connection, session_of}
+use Rattle.broker_spec.specs.Owner.{named, clients, first_client, owner_of}
+use Rattle.broker_spec.proofs.ClientsInOrder.{IsNamed, session_is_named}
 use Rattle.exactly_once.proofs.places.Sessions.{current_has_session}
 
 -- the first of which it holds

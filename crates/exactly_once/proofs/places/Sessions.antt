@@ -1,10 +1,10 @@
 -- A client with a current connection has a session, and without one nothing is received.
 use Rattle.std.proofs.Common.{◌≡◌, Bool, true, false, not, ◌||◌, [], ◌∷◌, Option, Some, None, refl}
 use Rattle.std.specs.Prelude.{is_some}
-use Rattle.broker_base.specs.broker_spec.Connection.{ConnectionName}
-use Rattle.broker_base.specs.broker_spec.Place.{Client, Past}
-use Rattle.broker_base.specs.broker_spec.Past.{accepts, any_connection, ends, expels, ends_any, newest_connection, newest_session, current_connection, session_of, begins, in_session}
-use Rattle.broker_base.specs.broker_spec.Received.{received_by, received_of}
+use Rattle.broker_spec.specs.Connection.{ConnectionName}
+use Rattle.broker_spec.specs.Place.{Client, Past}
+use Rattle.broker_spec.specs.Past.{accepts, any_connection, ends, expels, ends_any, newest_connection, newest_session, current_connection, session_of, begins, in_session}
+use Rattle.broker_spec.specs.Received.{received_by, received_of}
 use Rattle.exactly_once.proofs.places.Counts.{only_there}
 
 -- a session stays while its connection does

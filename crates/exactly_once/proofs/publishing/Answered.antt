@@ -3,21 +3,21 @@ use Rattle.std.proofs.Common.{◌≡◌, ℕ, suc, Bool, true, false, ◌==◌, 
 use Rattle.std.specs.Prelude.{slice_get}
 use Rattle.std.proofs.lemmas.List.{append-nil}
 use Rattle.std.proofs.lemmas.Bool.{both_ways}
-use Rattle.client_base.specs.packet.declared.packet.Packet.TheVariants as packets
-use Rattle.client_base.specs.lists.Lists.{has_id}
-use Rattle.broker_base.specs.broker_spec.Place.{Past, Limits}
-use Rattle.broker_base.specs.broker_spec.Past.{current_connection}
+use Rattle.packet.specs.declared.packet.Packet.TheVariants as packets
+use Rattle.lists.specs.Lists.{has_id}
+use Rattle.broker_spec.specs.Place.{Past, Limits}
+use Rattle.broker_spec.specs.Past.{current_connection}
 use Rattle.exactly_once.specs.Items.{SenderItem, has_sent}
 use Rattle.exactly_once.specs.Handshake.{Forward, Backward, Transit, Handshake, sender_hears, reply}
 use Rattle.exactly_once.specs.HandshakeInvariant.{IsGood, IsDue, FitsTransit}
-use Rattle.client_base.proofs.of_lists.Tests.{or_then}
+use Rattle.lists.proofs.Tests.{or_then}
 use Rattle.exactly_once.specs.Sends.{put_to}
 use Rattle.exactly_once.specs.Sides.{ClientConnection, Side}
 use Rattle.client_base.specs.Keeper.{Keeper}
 use Rattle.client_base.specs.Written.{plain, writing}
 use Rattle.client_base.specs.Handled.{handled_online}
 use Rattle.client_base.specs.Handshakes.{own_at_pubrec, own_at_pubcomp, is_sent_with}
-use Rattle.client_base.specs.session_base.Identifiers.{without_id}
+use Rattle.session_base.specs.Identifiers.{without_id}
 use Rattle.exactly_once.specs.Story.{with_side}
 use Rattle.exactly_once.specs.Inside.Projections.{forward_of_own, backward_of_own, to_be_taken, is_current, as_publisher, GoesTo}
 use Rattle.exactly_once.specs.Inside.ConnectionShape.{ConnectionInShape}

@@ -2,12 +2,12 @@
 -- the handshake is taken.
 use Rattle.std.proofs.Common.{◌≡◌, ◌≤◌, ℕ, Bool, true, false, List, ◌∷◌, ◌++◌, length, drop, Option, Some, None, refl, ap, ap₂, sym, ◌∙◌, subst, inl, inr, ◌⊎◌}
 use Rattle.std.proofs.lemmas.List.{append-nil}
-use Rattle.client_base.specs.lists.Lists.{has_id, Each}
-use Rattle.broker_base.specs.broker_spec.Place.{Place, Past, Limits}
-use Rattle.broker_base.specs.broker_spec.Past.{current_connection}
-use Rattle.broker_base.specs.broker_spec.Connection.{ConnectionName}
-use Rattle.broker_base.specs.broker_spec.Received.{is_new, received_of}
-use Rattle.broker_base.specs.broker_spec.AnswersInOrder.{answers_at}
+use Rattle.lists.specs.Lists.{has_id, Each}
+use Rattle.broker_spec.specs.Place.{Place, Past, Limits}
+use Rattle.broker_spec.specs.Past.{current_connection}
+use Rattle.broker_spec.specs.Connection.{ConnectionName}
+use Rattle.broker_spec.specs.Received.{is_new, received_of}
+use Rattle.broker_spec.specs.AnswersInOrder.{answers_at}
 use Rattle.exactly_once.specs.Handshake.{Forward, Backward, Transit, Handshake}
 use Rattle.exactly_once.specs.Sends.{sends_to, put_to}
 use Rattle.exactly_once.specs.Sides.{ClientConnection}

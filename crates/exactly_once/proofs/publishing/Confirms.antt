@@ -2,16 +2,16 @@
 use Rattle.std.proofs.Common.{◌≡◌, ◌≤◌, ℕ, zero, suc, Bool, true, false, not, ◌&&◌, ◌==◌, if◌then◌else◌, List, [], ◌∷◌, ◌++◌, map, drop, length, Some, refl, ap, sym, ◌∙◌, subst, arith, ◌⊎◌}
 use Rattle.std.specs.Prelude.{slice_get}
 use Rattle.std.proofs.lemmas.Bool.{cases_Bool}
-use Rattle.client_base.specs.packet.declared.connack.Connack.TheVariants as connacks
-use Rattle.client_base.specs.packet.declared.packet.Packet.TheVariants as packets
-use Rattle.client_base.specs.lists.Lists.{has_id, IsDistinct, Each}
-use Rattle.broker_base.specs.broker_spec.Place.{Past, Limits}
-use Rattle.broker_base.specs.broker_spec.Past.{current_connection}
+use Rattle.packet.specs.declared.connack.Connack.TheVariants as connacks
+use Rattle.packet.specs.declared.packet.Packet.TheVariants as packets
+use Rattle.lists.specs.Lists.{has_id, IsDistinct, Each}
+use Rattle.broker_spec.specs.Place.{Past, Limits}
+use Rattle.broker_spec.specs.Past.{current_connection}
 use Rattle.exactly_once.specs.Items.{SenderItem, has_released}
 use Rattle.exactly_once.specs.Handshake.{Forward, Transit, Handshake, sender_resends}
 use Rattle.exactly_once.specs.HandshakeSteps.Advances.{parts, restarts}
-use Rattle.client_base.proofs.of_lists.Tests.{eq_same, or_left, or_right}
-use Rattle.client_base.proofs.of_lists.Identifiers.{distinct_front}
+use Rattle.lists.proofs.Tests.{eq_same, or_left, or_right}
+use Rattle.lists.proofs.Identifiers.{distinct_front}
 use Rattle.exactly_once.specs.Sends.{put_to}
 use Rattle.client_base.specs.Keeper.{Written, Keeper, Own, ids_of_own}
 use Rattle.exactly_once.specs.Sides.{ClientConnection}

@@ -1,19 +1,19 @@
 -- No answer to a Connect is of a handshake in which a client publishes.
 use Rattle.std.proofs.Common.{◌≡◌, ℕ, Bool, true, false, ◌==◌, not, if◌then◌else◌, List, [], ◌∷◌, ◌++◌, length, map, Option, Some, None, refl, ap, ◌∙◌}
 use Rattle.std.specs.Prelude.{flat_map}
-use Rattle.client_base.specs.packet.declared.packet.Packet.{Packet}
-use Rattle.client_base.specs.packet.declared.packet.Packet.TheVariants as packets
-use Rattle.client_base.specs.session_base.Publication.{publish_for}
-use Rattle.broker_base.specs.broker_spec.Connection.{ConnectionName, same_connection}
-use Rattle.broker_base.specs.broker_spec.Place.{Client, Mark, Place, Past, Limits}
-use Rattle.broker_base.specs.broker_spec.Past.{current_connection, begins}
-use Rattle.broker_base.specs.broker_spec.Entries.{Entry}
-use Rattle.broker_base.specs.broker_spec.Readings.{released_below}
-use Rattle.broker_base.specs.broker_spec.Times.{entries_of}
-use Rattle.broker_base.specs.broker_spec.Sends.{publish_output, repeated_output, all_started, resent_outputs}
-use Rattle.broker_base.specs.broker_spec.Answers.{close_outputs, welcome, turned_away, connect_answers}
-use Rattle.broker_base.specs.broker_spec.declared.command.Output.{Output}
-use Rattle.broker_base.specs.broker_spec.declared.command.Output.TheVariants.{Send, Close}
+use Rattle.packet.specs.declared.packet.Packet.{Packet}
+use Rattle.packet.specs.declared.packet.Packet.TheVariants as packets
+use Rattle.session_base.specs.Publication.{publish_for}
+use Rattle.broker_spec.specs.Connection.{ConnectionName, same_connection}
+use Rattle.broker_spec.specs.Place.{Client, Mark, Place, Past, Limits}
+use Rattle.broker_spec.specs.Past.{current_connection, begins}
+use Rattle.broker_spec.specs.Entries.{Entry}
+use Rattle.broker_spec.specs.Readings.{released_below}
+use Rattle.broker_spec.specs.Times.{entries_of}
+use Rattle.broker_spec.specs.Sends.{publish_output, repeated_output, all_started, resent_outputs}
+use Rattle.broker_spec.specs.Answers.{close_outputs, welcome, turned_away, connect_answers}
+use Rattle.broker_spec.specs.declared.command.Output.{Output}
+use Rattle.broker_spec.specs.declared.command.Output.TheVariants.{Send, Close}
 use Rattle.exactly_once.specs.Sends.{sends_to}
 use Rattle.exactly_once.specs.Inside.Projections.{backward_of_own}
 use Rattle.exactly_once.proofs.Deliveries.{sends_append}

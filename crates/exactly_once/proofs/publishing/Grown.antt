@@ -2,15 +2,15 @@
 -- more may be written.
 use Rattle.std.proofs.Common.{◌≡◌, ℕ, suc, Bool, true, false, not, ◌&&◌, if◌then◌else◌, List, [], ◌∷◌, ◌++◌, map, refl, sym}
 use Rattle.std.proofs.lemmas.List.{append-nil}
-use Rattle.client_base.specs.packet.declared.connack.Connack.TheVariants as connacks
-use Rattle.client_base.specs.packet.declared.delivery.Delivery.{Delivery}
-use Rattle.client_base.specs.packet.declared.delivery.Delivery.TheVariants as deliveries
-use Rattle.client_base.specs.packet.declared.packet.Packet.{Packet}
-use Rattle.client_base.specs.packet.declared.packet.Packet.TheVariants as packets
-use Rattle.client_base.specs.session_base.declared.publication.Publication.{Publication}
-use Rattle.client_base.specs.lists.Lists.{has_id, Each}
-use Rattle.client_base.specs.session_base.Publication.{publication_of}
-use Rattle.client_base.proofs.of_lists.OfEach.{each_append}
+use Rattle.packet.specs.declared.connack.Connack.TheVariants as connacks
+use Rattle.packet.specs.declared.delivery.Delivery.{Delivery}
+use Rattle.packet.specs.declared.delivery.Delivery.TheVariants as deliveries
+use Rattle.packet.specs.declared.packet.Packet.{Packet}
+use Rattle.packet.specs.declared.packet.Packet.TheVariants as packets
+use Rattle.session_base.specs.declared.publication.Publication.{Publication}
+use Rattle.lists.specs.Lists.{has_id, Each}
+use Rattle.session_base.specs.Publication.{publication_of}
+use Rattle.lists.proofs.OfEach.{each_append}
 use Rattle.client_base.specs.Keeper.{Own, Written, Keeper}
 use Rattle.exactly_once.specs.Sides.{ClientConnection, Side}
 use Rattle.client_base.specs.Written.{plain, writing, written_again, written_first, resent_written}

@@ -1,7 +1,7 @@
 -- The transit of a publisher by two tests, and what a run does to a handshake's items and transit.
 use Rattle.std.proofs.Common.{◌≡◌, ℕ, Bool, true, false, if◌then◌else◌, List, [], ◌∷◌, ◌++◌, Option, Some, None, refl, ap, ◌∙◌}
-use Rattle.broker_base.specs.broker_spec.Connection.{ConnectionName}
-use Rattle.broker_base.specs.broker_spec.Place.{Past, Limits}
+use Rattle.broker_spec.specs.Connection.{ConnectionName}
+use Rattle.broker_spec.specs.Place.{Past, Limits}
 use Rattle.exactly_once.specs.Items.{SenderItem}
 use Rattle.exactly_once.specs.Handshake.{Forward, Backward, Transit, Handshake, with_items, sender_hears, reply}
 use Rattle.exactly_once.specs.HandshakeSteps.{HandshakeRun, Advances}

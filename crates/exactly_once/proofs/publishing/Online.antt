@@ -2,14 +2,14 @@
 use Rattle.std.proofs.Common.{◌≡◌, suc, Bool, true, false, if◌then◌else◌, List, [], ◌∷◌, ◌++◌, map, filter, Some, refl, ap, sym, ◌∙◌}
 use Rattle.std.specs.Prelude.{slice_get}
 use Rattle.std.proofs.lemmas.List.{append-nil}
-use Rattle.client_base.specs.packet.declared.delivery.Delivery.{Delivery}
-use Rattle.client_base.specs.packet.declared.delivery.Delivery.TheVariants as deliveries
-use Rattle.client_base.specs.packet.declared.packet.Packet.{Packet}
-use Rattle.client_base.specs.packet.declared.packet.Packet.TheVariants as packets
-use Rattle.client_base.specs.session_base.declared.publication.Publication.{Publication}
-use Rattle.client_base.specs.lists.Lists.{has_id}
-use Rattle.client_base.specs.session_base.Publication.{publication_of}
-use Rattle.broker_base.specs.broker_spec.Place.{Past, Limits}
+use Rattle.packet.specs.declared.delivery.Delivery.{Delivery}
+use Rattle.packet.specs.declared.delivery.Delivery.TheVariants as deliveries
+use Rattle.packet.specs.declared.packet.Packet.{Packet}
+use Rattle.packet.specs.declared.packet.Packet.TheVariants as packets
+use Rattle.session_base.specs.declared.publication.Publication.{Publication}
+use Rattle.lists.specs.Lists.{has_id}
+use Rattle.session_base.specs.Publication.{publication_of}
+use Rattle.broker_spec.specs.Place.{Past, Limits}
 use Rattle.exactly_once.specs.HandshakeInvariant.{IsGood}
 use Rattle.exactly_once.specs.Sends.{put_to}
 use Rattle.client_base.specs.Keeper.{Written, Keeper}
@@ -17,7 +17,7 @@ use Rattle.exactly_once.specs.Sides.{ClientConnection}
 use Rattle.client_base.specs.Written.{plain, writing}
 use Rattle.client_base.specs.Handled.{not_subscribes, not_unsubscribes, lost, handled_online}
 use Rattle.client_base.specs.Handshakes.{own_at_puback, takes_in}
-use Rattle.client_base.specs.session_base.Identifiers.{without_id}
+use Rattle.session_base.specs.Identifiers.{without_id}
 use Rattle.exactly_once.specs.Story.{with_side}
 use Rattle.exactly_once.specs.Inside.Projections.{items_of_own, forward_of_own, backward_of_own, as_publisher, GoesTo}
 use Rattle.exactly_once.specs.Inside.ConnectionShape.{ConnectionInShape}

@@ -3,19 +3,19 @@
 use Rattle.std.proofs.Common.{◌≡◌, suc, Bool, true, false, if◌then◌else◌, [], ◌∷◌, length, refl, ap, sym, ◌∙◌}
 use Rattle.std.specs.Prelude.{flat_map}
 use Rattle.std.proofs.lemmas.List.{append-nil}
-use Rattle.client_base.specs.packet.declared.delivery.Delivery.{Delivery}
-use Rattle.client_base.specs.packet.declared.delivery.Delivery.TheVariants as deliveries
-use Rattle.client_base.specs.packet.declared.packet.Packet.{Packet}
-use Rattle.client_base.specs.packet.declared.packet.Packet.TheVariants as packets
-use Rattle.client_base.specs.lists.Lists.{has_id}
-use Rattle.broker_base.specs.broker_spec.Connection.{ConnectionName, same_connection}
-use Rattle.broker_base.specs.broker_spec.Place.{Client, Mark, Place, Past, Limits}
-use Rattle.broker_base.specs.broker_spec.Owner.{clients}
-use Rattle.broker_base.specs.broker_spec.Readings.{released_below}
-use Rattle.broker_base.specs.broker_spec.Times.{entries_of}
-use Rattle.broker_base.specs.broker_spec.Sends.{deliveries_to}
-use Rattle.broker_base.specs.broker_spec.Answers.{acknowledged, codes_of, other_answers, packet_answers}
-use Rattle.broker_base.specs.broker_spec.declared.command.Output.TheVariants.{Send}
+use Rattle.packet.specs.declared.delivery.Delivery.{Delivery}
+use Rattle.packet.specs.declared.delivery.Delivery.TheVariants as deliveries
+use Rattle.packet.specs.declared.packet.Packet.{Packet}
+use Rattle.packet.specs.declared.packet.Packet.TheVariants as packets
+use Rattle.lists.specs.Lists.{has_id}
+use Rattle.broker_spec.specs.Connection.{ConnectionName, same_connection}
+use Rattle.broker_spec.specs.Place.{Client, Mark, Place, Past, Limits}
+use Rattle.broker_spec.specs.Owner.{clients}
+use Rattle.broker_spec.specs.Readings.{released_below}
+use Rattle.broker_spec.specs.Times.{entries_of}
+use Rattle.broker_spec.specs.Sends.{deliveries_to}
+use Rattle.broker_spec.specs.Answers.{acknowledged, codes_of, other_answers, packet_answers}
+use Rattle.broker_spec.specs.declared.command.Output.TheVariants.{Send}
 use Rattle.exactly_once.specs.Sends.{sends_to}
 use Rattle.exactly_once.specs.Inside.Projections.{backward_of_own}
 use Rattle.exactly_once.proofs.Packets.{started_none, copies_none}

@@ -1,9 +1,9 @@
 -- A PUBLISH that the client writes belongs to the handshake if it is at QoS 2.
 use Rattle.std.proofs.Common.{◌≡◌, ℕ, Bool, if◌then◌else◌, List, ◌∷◌, Some, refl}
-use Rattle.client_base.specs.packet.packet_base.declared.qos.QoS.{QoS}
-use Rattle.client_base.specs.packet.packet_base.declared.qos.QoS.TheVariants as qualities
-use Rattle.client_base.specs.session_base.declared.publication.Publication.{Publication}
-use Rattle.client_base.specs.session_base.Publication.{delivery_with}
+use Rattle.packet_base.specs.declared.qos.QoS.{QoS}
+use Rattle.packet_base.specs.declared.qos.QoS.TheVariants as qualities
+use Rattle.session_base.specs.declared.publication.Publication.{Publication}
+use Rattle.session_base.specs.Publication.{delivery_with}
 use Rattle.exactly_once.specs.Handshake.{Forward}
 use Rattle.client_base.specs.Keeper.{Written}
 use Rattle.client_base.specs.Written.{written_publish}

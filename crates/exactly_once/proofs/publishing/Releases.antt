@@ -2,7 +2,7 @@
 use Rattle.std.proofs.Common.{◌≡◌, ℕ, Bool, true, false, not, ◌&&◌, ◌||◌, ◌==◌, List, [], ◌∷◌, map, refl, ap, sym, ◌∙◌, arith, inl, inr, ◌⊎◌}
 use Rattle.std.proofs.lemmas.Bool.{cases_Bool}
 use Rattle.exactly_once.specs.Items.{SenderItem, has_sent, has_released, item_released, finishing}
-use Rattle.client_base.proofs.of_lists.Tests.{eq_is}
+use Rattle.lists.proofs.Tests.{eq_is}
 use Rattle.exactly_once.proofs.ItemsReleased.{now_released}
 
 -- a PUBCOMP takes one away

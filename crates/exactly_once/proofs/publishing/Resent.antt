@@ -1,7 +1,7 @@
 -- What a client writes after a CONNACK 0 is what a handshake sends again, and then what starts.
 use Rattle.std.proofs.Common.{◌≡◌, ℕ, Bool, true, false, if◌then◌else◌, List, [], ◌∷◌, ◌++◌, map, refl, ap, ap₂, sym, ◌∙◌}
-use Rattle.client_base.specs.packet.declared.packet.Packet.TheVariants as packets
-use Rattle.client_base.specs.session_base.declared.publication.Publication.{Publication}
+use Rattle.packet.specs.declared.packet.Packet.TheVariants as packets
+use Rattle.session_base.specs.declared.publication.Publication.{Publication}
 use Rattle.exactly_once.specs.Items.{SenderItem, sent}
 use Rattle.exactly_once.specs.Handshake.{Forward, publishing, sender_resends}
 use Rattle.client_base.specs.Keeper.{Own, Keeper}

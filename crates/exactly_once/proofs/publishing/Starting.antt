@@ -1,10 +1,10 @@
 -- The first item that waits starts.
 use Rattle.std.proofs.Common.{◌≡◌, ℕ, Bool, true, false, List, [], ◌∷◌, ◌++◌, Some, refl, ap, sym, ◌∙◌, subst, append_assoc}
-use Rattle.client_base.specs.lists.Lists.{has_id}
+use Rattle.lists.specs.Lists.{has_id}
 use Rattle.exactly_once.specs.Items.{SenderItem, busy, start_first, first_waiting}
 use Rattle.exactly_once.specs.Handshake.{sender_sends, Forward, Backward, Handshake}
 use Rattle.exactly_once.specs.HandshakeSteps.Advances.{starts}
-use Rattle.client_base.proofs.of_lists.Identifiers.{has_join}
+use Rattle.lists.proofs.Identifiers.{has_join}
 use Rattle.exactly_once.proofs.BusyIdentifiers.{busy_append}
 use Rattle.exactly_once.proofs.publishing.Links.{link_by, Reaches, reaches_by}
 

@@ -1,11 +1,11 @@
 -- All publications that a client did not send start, in order.
 use Rattle.std.proofs.Common.{◌≡◌, ℕ, Bool, true, false, ◌==◌, if◌then◌else◌, List, [], ◌∷◌, ◌++◌, refl, ap, sym, ◌∙◌, subst, append_assoc}
 use Rattle.std.proofs.lemmas.List.{append-nil}
-use Rattle.client_base.specs.lists.Lists.{has_id, IsDistinct}
+use Rattle.lists.specs.Lists.{has_id, IsDistinct}
 use Rattle.exactly_once.specs.Items.{SenderItem, busy}
 use Rattle.exactly_once.specs.Handshake.{Forward, Backward, Transit, Handshake}
-use Rattle.client_base.proofs.of_lists.Identifiers.{has_join, other_id}
-use Rattle.client_base.proofs.of_lists.Tests.{or_none, or_left, or_right, none_or, eq_turn, eq_same}
+use Rattle.lists.proofs.Identifiers.{has_join, other_id}
+use Rattle.lists.proofs.Tests.{or_none, or_left, or_right, none_or, eq_turn, eq_same}
 use Rattle.exactly_once.proofs.BusyIdentifiers.{busy_append}
 use Rattle.client_base.specs.Keeper.{Own, ids_of_own}
 use Rattle.client_base.specs.Written.{sent_all, written_first}

@@ -2,8 +2,8 @@
 use Rattle.std.proofs.Common.{◌≡◌, ◌≤◌, ℕ, zero, suc, List, [], ◌∷◌, ◌++◌, length, drop, Some, refl, ap, ◌∙◌}
 use Rattle.std.specs.Prelude.{slice_get}
 use Rattle.std.proofs.lemmas.List.{drop-append-le}
-use Rattle.client_base.specs.packet.declared.packet.Packet.{Packet}
-use Rattle.client_base.specs.packet.declared.packet.Packet.TheVariants as packets
+use Rattle.packet.specs.declared.packet.Packet.{Packet}
+use Rattle.packet.specs.declared.packet.Packet.TheVariants as packets
 use Rattle.exactly_once.specs.Handshake.{Backward}
 use Rattle.client_base.specs.Keeper.{Written}
 use Rattle.exactly_once.specs.Inside.Projections.{forward_of_own, backward_of_own}

@@ -2,19 +2,19 @@
 -- session present, and the client awaits it.
 use Rattle.std.proofs.Common.{◌≡◌, ℕ, zero, suc, true, false, not, ◌&&◌, ◌||◌, if◌then◌else◌, List, [], ◌∷◌, ◌++◌, Some, None, refl, ◌∙◌, ap, ap₂, subst, length, arith}
 use Rattle.std.specs.Prelude.{slice_get}
-use Rattle.client_base.specs.lists.Lists.{IsDistinct}
-use Rattle.client_base.specs.packet.declared.packet.Packet.{Packet}
-use Rattle.broker_base.specs.broker_spec.Connection.{ConnectionName}
-use Rattle.broker_base.specs.broker_spec.Place.{Client, Mark, Place, Past, Limits}
-use Rattle.broker_base.specs.broker_spec.Past.{begins, is_beginning, current_connection, session_of}
-use Rattle.broker_base.specs.broker_spec.Marks.{mark_of}
-use Rattle.broker_base.specs.broker_spec.Commands.{place_of, past_of}
-use Rattle.broker_base.specs.broker_spec.Answers.{welcome}
-use Rattle.broker_base.specs.broker_spec.AnswersInOrder.{answers_at}
-use Rattle.broker_base.specs.broker_spec.Sends.{resent_outputs}
-use Rattle.broker_base.specs.broker_spec.Times.{entries_of}
-use Rattle.broker_base.specs.broker_spec.declared.command.Command.{Command}
-use Rattle.broker_base.specs.broker_spec.declared.command.Command.TheVariants as commands
+use Rattle.lists.specs.Lists.{IsDistinct}
+use Rattle.packet.specs.declared.packet.Packet.{Packet}
+use Rattle.broker_spec.specs.Connection.{ConnectionName}
+use Rattle.broker_spec.specs.Place.{Client, Mark, Place, Past, Limits}
+use Rattle.broker_spec.specs.Past.{begins, is_beginning, current_connection, session_of}
+use Rattle.broker_spec.specs.Marks.{mark_of}
+use Rattle.broker_spec.specs.Commands.{place_of, past_of}
+use Rattle.broker_spec.specs.Answers.{welcome}
+use Rattle.broker_spec.specs.AnswersInOrder.{answers_at}
+use Rattle.broker_spec.specs.Sends.{resent_outputs}
+use Rattle.broker_spec.specs.Times.{entries_of}
+use Rattle.broker_spec.specs.declared.command.Command.{Command}
+use Rattle.broker_spec.specs.declared.command.Command.TheVariants as commands
 use Rattle.client_base.specs.Keeper.{Keeper, ids_in_use}
 use Rattle.client_base.specs.Connected.{opening_connect}
 use Rattle.exactly_once.specs.Sides.{ClientConnection}

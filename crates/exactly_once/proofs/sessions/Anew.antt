@@ -1,14 +1,14 @@
 -- A session that begins again: its story opens the connections of which nothing was taken, and begins there.
 use Rattle.std.proofs.Common.{◌≡◌, ℕ, zero, suc, Bool, true, false, List, [], ◌∷◌, None, refl, sym, subst, length}
-use Rattle.client_base.specs.lists.Lists.{Each, IsDistinct}
-use Rattle.client_base.specs.packet.declared.connack.Connack.TheVariants as connacks
-use Rattle.client_base.specs.packet.declared.packet.Packet.{Packet}
-use Rattle.client_base.specs.packet.declared.packet.Packet.TheVariants as packets
-use Rattle.broker_base.specs.broker_spec.Connection.{same_connection}
-use Rattle.broker_base.specs.broker_spec.Place.{Client, Past, Limits}
-use Rattle.broker_base.specs.broker_spec.Past.{session_of}
-use Rattle.broker_base.specs.broker_spec.Commands.{past_of}
-use Rattle.broker_base.specs.broker_spec.declared.command.Command.{Command}
+use Rattle.lists.specs.Lists.{Each, IsDistinct}
+use Rattle.packet.specs.declared.connack.Connack.TheVariants as connacks
+use Rattle.packet.specs.declared.packet.Packet.{Packet}
+use Rattle.packet.specs.declared.packet.Packet.TheVariants as packets
+use Rattle.broker_spec.specs.Connection.{same_connection}
+use Rattle.broker_spec.specs.Place.{Client, Past, Limits}
+use Rattle.broker_spec.specs.Past.{session_of}
+use Rattle.broker_spec.specs.Commands.{past_of}
+use Rattle.broker_spec.specs.declared.command.Command.{Command}
 use Rattle.client_base.specs.Keeper.{Own, Keeper, ids_in_use, all_own}
 use Rattle.client_base.specs.Connected.{new_connection}
 use Rattle.client_base.specs.Handled.{packet_handled}

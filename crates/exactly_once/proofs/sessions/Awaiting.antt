@@ -2,12 +2,12 @@
 -- client, and what the client still keeps goes with that CONNACK.
 use Rattle.std.proofs.Common.{◌≡◌, ℕ, zero, suc, Bool, true, false, if◌then◌else◌, List, [], ◌∷◌, ◌++◌, Some, refl, sym, ◌∙◌, ap, ap₂, subst, inl, inr, ◌⊎◌}
 use Rattle.std.specs.Prelude.{slice_get}
-use Rattle.client_base.specs.packet.declared.packet.Packet.{Packet}
-use Rattle.client_base.specs.packet.declared.packet.Packet.TheVariants as packets
-use Rattle.broker_base.specs.broker_spec.Connection.{ConnectionName}
-use Rattle.broker_base.specs.broker_spec.Place.{Client, Place, Past, Limits}
-use Rattle.broker_base.specs.broker_spec.AnswersInOrder.{answers_at}
-use Rattle.broker_base.specs.broker_spec.Commands.{place_of}
+use Rattle.packet.specs.declared.packet.Packet.{Packet}
+use Rattle.packet.specs.declared.packet.Packet.TheVariants as packets
+use Rattle.broker_spec.specs.Connection.{ConnectionName}
+use Rattle.broker_spec.specs.Place.{Client, Place, Past, Limits}
+use Rattle.broker_spec.specs.AnswersInOrder.{answers_at}
+use Rattle.broker_spec.specs.Commands.{place_of}
 use Rattle.client_base.specs.Keeper.{Written, Keeper, ids_in_use, next_own_number, Own, all_own}
 use Rattle.client_base.specs.Handled.{packet_handled, lost}
 use Rattle.client_base.specs.Written.{plain, writes_first, written_publish}
@@ -24,8 +24,8 @@ use Rattle.exactly_once.proofs.sessions.StepsBefore.{began_stays}
 use Rattle.exactly_once.proofs.sessions.Beside.{kept_of, IsHeadKept, AreGone, HasBeside, IsKept, IsLeft, flags_after, with_connections, none_kept, gone_counted, goes_received, find, later_other, later_named}
 use Rattle.exactly_once.proofs.sessions.Anew.{waiting, session_lost, settles}
 use Rattle.std.proofs.lemmas.List.{append-nil}
-use Rattle.client_base.specs.lists.Lists.{Each}
-use Rattle.client_base.specs.session_base.Identifiers.{least_free}
+use Rattle.lists.specs.Lists.{Each}
+use Rattle.session_base.specs.Identifiers.{least_free}
 use Rattle.client_base.specs.OrderLaws.{AreNumbered}
 use Rattle.client_base.proofs.NumbersStay.{AreAllNumbered, joined_numbers}
 

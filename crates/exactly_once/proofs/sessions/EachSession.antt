@@ -1,11 +1,11 @@
 -- In each of its sessions a client that is in step accepts a prefix of the QoS 2 entries, in order,
 -- and each that is released.
 use Rattle.std.proofs.Common.{ℕ, [], ◌∷◌, length, refl, ◌∙◌, ap, subst, inl, inr, ◌⊎◌}
-use Rattle.broker_base.specs.broker_spec.Place.{Client, Limits}
-use Rattle.broker_base.specs.broker_spec.Past.{current_connection, session_of, session_start}
-use Rattle.broker_base.specs.broker_spec.NobodyLaws.{IsSteady}
-use Rattle.broker_base.specs.broker_spec.Commands.{place_of, past_from}
-use Rattle.broker_base.specs.broker_spec.declared.command.Command.TheVariants as commands
+use Rattle.broker_spec.specs.Place.{Client, Limits}
+use Rattle.broker_spec.specs.Past.{current_connection, session_of, session_start}
+use Rattle.broker_spec.specs.NobodyLaws.{IsSteady}
+use Rattle.broker_spec.specs.Commands.{place_of, past_from}
+use Rattle.broker_spec.specs.declared.command.Command.TheVariants as commands
 use Rattle.exactly_once.specs.Story.{Story, StoryStep, no_story}
 use Rattle.exactly_once.specs.StoryTrace.StoryTrace.{begins}
 use Rattle.exactly_once.specs.InStep.{IsInStep, entries_in, accepted_in}

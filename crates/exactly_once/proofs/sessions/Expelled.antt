@@ -4,13 +4,13 @@ use Rattle.std.proofs.Common.{◌≡◌, ◌≤◌, ℕ, zero, suc, Bool, true, 
 use Rattle.std.specs.Prelude.{is_some}
 use Rattle.std.proofs.lemmas.Bool.{both_ways}
 use Rattle.std.proofs.lemmas.List.{append-nil}
-use Rattle.client_base.proofs.of_lists.Tests.{or_right}
-use Rattle.broker_base.specs.broker_spec.Connection.{ConnectionName}
-use Rattle.broker_base.specs.broker_spec.Place.{Client, Place, Past, Limits}
-use Rattle.broker_base.specs.broker_spec.Past.{accepts, session_of, session_start, current_connection, begins}
-use Rattle.broker_base.specs.broker_spec.NobodyLaws.{IsSteady}
-use Rattle.broker_base.specs.broker_spec.Commands.{place_of}
-use Rattle.broker_base.specs.broker_spec.declared.command.Command.TheVariants as commands
+use Rattle.lists.proofs.Tests.{or_right}
+use Rattle.broker_spec.specs.Connection.{ConnectionName}
+use Rattle.broker_spec.specs.Place.{Client, Place, Past, Limits}
+use Rattle.broker_spec.specs.Past.{accepts, session_of, session_start, current_connection, begins}
+use Rattle.broker_spec.specs.NobodyLaws.{IsSteady}
+use Rattle.broker_spec.specs.Commands.{place_of}
+use Rattle.broker_spec.specs.declared.command.Command.TheVariants as commands
 use Rattle.client_base.specs.Keeper.{Keeper}
 use Rattle.exactly_once.specs.Sides.{ClientConnection}
 use Rattle.exactly_once.specs.Sends.{put_to}

@@ -4,11 +4,11 @@ use Rattle.std.specs.Prelude.{◌==◌}
 use Rattle.std.specs.List.{flat_map}
 use Rattle.std.proofs.lemmas.Grind.{flat_map-append}
 use Rattle.std.proofs.lemmas.List.{append_assoc, append-nil}
-use Rattle.client_base.specs.lists.Lists.{Each}
-use Rattle.client_base.proofs.of_lists.Tests.{eq_same}
-use Rattle.client_base.specs.session_base.declared.publication.Publication.{Publication}
-use Rattle.broker_base.specs.broker_spec.Place.{Client, Place, Past}
-use Rattle.broker_base.specs.broker_spec.Past.{begins}
+use Rattle.lists.specs.Lists.{Each}
+use Rattle.lists.proofs.Tests.{eq_same}
+use Rattle.session_base.specs.declared.publication.Publication.{Publication}
+use Rattle.broker_spec.specs.Place.{Client, Place, Past}
+use Rattle.broker_spec.specs.Past.{begins}
 use Rattle.client_base.specs.Keeper.{Written}
 use Rattle.client_base.specs.Written.{writes_first}
 use Rattle.exactly_once.specs.Sides.{ClientConnection}

@@ -1,14 +1,14 @@
 -- What a packet or a call leaves of a client that was never served.
 use Rattle.std.proofs.Common.{◌≡◌, ◌+◌, ℕ, suc, Bool, true, false, if◌then◌else◌, List, [], ◌∷◌, ◌++◌, length, refl, sym, ◌∙◌, ap, subst, arith, inl}
 use Rattle.std.proofs.lemmas.Bool.{both_ways}
-use Rattle.client_base.specs.packet.declared.connack.Connack.TheVariants as connacks
-use Rattle.client_base.specs.packet.declared.packet.Packet.{Packet}
-use Rattle.client_base.specs.packet.declared.packet.Packet.TheVariants as packets
-use Rattle.client_base.specs.session_base.declared.publication.Publication.{Publication}
-use Rattle.client_base.specs.session_base.Publication.{is_answered}
-use Rattle.client_base.specs.session_base.Identifiers.{least_free}
-use Rattle.client_base.specs.lists.Lists.{IsDistinct}
-use Rattle.broker_base.specs.broker_spec.Place.{Client}
+use Rattle.packet.specs.declared.connack.Connack.TheVariants as connacks
+use Rattle.packet.specs.declared.packet.Packet.{Packet}
+use Rattle.packet.specs.declared.packet.Packet.TheVariants as packets
+use Rattle.session_base.specs.declared.publication.Publication.{Publication}
+use Rattle.session_base.specs.Publication.{is_answered}
+use Rattle.session_base.specs.Identifiers.{least_free}
+use Rattle.lists.specs.Lists.{IsDistinct}
+use Rattle.broker_spec.specs.Place.{Client}
 use Rattle.client_base.specs.Keeper.{Own, Keeper, ids_in_use}
 use Rattle.client_base.specs.Called.{adds_own}
 use Rattle.client_base.specs.Handled.{packet_handled, handled_online, handled_first, lost}

@@ -2,13 +2,13 @@
 -- each place.
 use Rattle.std.proofs.Common.{◌≡◌, ℕ, zero, suc, Bool, true, false, if◌then◌else◌, List, [], ◌∷◌, length, Option, Some, None, refl, sym, ◌∙◌, ap, inl, inr, ◌⊎◌}
 use Rattle.std.proofs.lemmas.Bool.{both_ways}
-use Rattle.client_base.specs.lists.Lists.{Each}
-use Rattle.client_base.proofs.of_lists.OfEach.{each_then}
-use Rattle.client_base.proofs.of_lists.Tests.{none_or}
-use Rattle.broker_base.specs.broker_spec.Connection.{ConnectionName}
-use Rattle.broker_base.specs.broker_spec.Place.{Client, Place, Past, Limits}
-use Rattle.broker_base.specs.broker_spec.Past.{accepts, session_of, session_start, begins}
-use Rattle.broker_base.specs.broker_spec.Times.{entries_of}
+use Rattle.lists.specs.Lists.{Each}
+use Rattle.lists.proofs.OfEach.{each_then}
+use Rattle.lists.proofs.Tests.{none_or}
+use Rattle.broker_spec.specs.Connection.{ConnectionName}
+use Rattle.broker_spec.specs.Place.{Client, Place, Past, Limits}
+use Rattle.broker_spec.specs.Past.{accepts, session_of, session_start, begins}
+use Rattle.broker_spec.specs.Times.{entries_of}
 use Rattle.exactly_once.specs.Sides.{ClientConnection}
 use Rattle.exactly_once.specs.StoryCommands.{with_one_counted}
 use Rattle.exactly_once.specs.Acceptance.{accepted_on}

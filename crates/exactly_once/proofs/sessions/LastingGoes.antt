@@ -1,10 +1,10 @@
 -- While a session of a client lasts each event keeps what the client accepted in it and before it.
 use Rattle.std.proofs.Common.{◌≡◌, ℕ, Bool, true, false, if◌then◌else◌, List, [], ◌∷◌, ◌++◌, length, Some, None, refl, sym, ◌∙◌, ap, ap₂, subst, inl, inr, ◌⊎◌}
-use Rattle.client_base.proofs.of_lists.Tests.{eq_same}
-use Rattle.client_base.specs.packet.declared.packet.Packet.TheVariants as packets
-use Rattle.broker_base.specs.broker_spec.Place.{Client, Place, Past, Limits}
-use Rattle.broker_base.specs.broker_spec.Past.{accepts, session_start}
-use Rattle.broker_base.specs.broker_spec.Commands.{place_of}
+use Rattle.lists.proofs.Tests.{eq_same}
+use Rattle.packet.specs.declared.packet.Packet.TheVariants as packets
+use Rattle.broker_spec.specs.Place.{Client, Place, Past, Limits}
+use Rattle.broker_spec.specs.Past.{accepts, session_start}
+use Rattle.broker_spec.specs.Commands.{place_of}
 use Rattle.client_base.specs.Keeper.{Written}
 use Rattle.client_base.specs.Called.{written_for}
 use Rattle.client_base.specs.Connected.{new_connection}
@@ -31,7 +31,7 @@ use Rattle.exactly_once.proofs.sessions.AcceptedShares.{accepts_same, accepted_h
 use Rattle.exactly_once.proofs.sessions.Life.{AreShutUnopened, IsLife}
 use Rattle.exactly_once.proofs.sessions.LifePlaces.{life_command, own_opens, own_spares}
 use Rattle.exactly_once.proofs.sessions.Lasting.{IsHeadOpened, after_first, Lasts, lasts_placed}
-use Rattle.client_base.specs.lists.Lists.{Each}
+use Rattle.lists.specs.Lists.{Each}
 
 -- ---- the whole of this session
 

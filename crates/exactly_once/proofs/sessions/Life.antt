@@ -1,13 +1,13 @@
 -- What holds for a client's life at any time, whichever of its sessions lasts.
 use Rattle.std.proofs.Common.{◌≡◌, Bool, true, false, List, [], ◌∷◌, None, ◌≤◌, length}
-use Rattle.client_base.specs.packet.declared.connack.Connack.TheVariants as connacks
-use Rattle.client_base.specs.packet.declared.packet.Packet.{Packet}
-use Rattle.client_base.specs.packet.declared.packet.Packet.TheVariants as packets
-use Rattle.client_base.specs.lists.Lists.{Each, IsDistinct}
-use Rattle.broker_base.specs.broker_spec.Place.{Client, Past, Limits}
-use Rattle.broker_base.specs.broker_spec.Past.{session_of}
-use Rattle.broker_base.specs.broker_spec.Commands.{past_of}
-use Rattle.broker_base.specs.broker_spec.declared.command.Command.{Command}
+use Rattle.packet.specs.declared.connack.Connack.TheVariants as connacks
+use Rattle.packet.specs.declared.packet.Packet.{Packet}
+use Rattle.packet.specs.declared.packet.Packet.TheVariants as packets
+use Rattle.lists.specs.Lists.{Each, IsDistinct}
+use Rattle.broker_spec.specs.Place.{Client, Past, Limits}
+use Rattle.broker_spec.specs.Past.{session_of}
+use Rattle.broker_spec.specs.Commands.{past_of}
+use Rattle.broker_spec.specs.declared.command.Command.{Command}
 use Rattle.client_base.specs.Keeper.{Keeper, ids_in_use}
 use Rattle.exactly_once.specs.Sides.{ClientConnection}
 use Rattle.exactly_once.specs.Sends.{put_to}

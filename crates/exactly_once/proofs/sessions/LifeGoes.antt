@@ -1,9 +1,9 @@
 -- Every event keeps what holds for a client's life.
 use Rattle.std.proofs.Common.{false, [], ◌∷◌, refl, sym, ap, subst, arith}
 use Rattle.std.proofs.lemmas.Bool.{both_ways}
-use Rattle.client_base.specs.packet.declared.packet.Packet.TheVariants as packets
-use Rattle.client_base.specs.session_base.Identifiers.{least_free}
-use Rattle.broker_base.specs.broker_spec.Place.{Client, Limits}
+use Rattle.packet.specs.declared.packet.Packet.TheVariants as packets
+use Rattle.session_base.specs.Identifiers.{least_free}
+use Rattle.broker_spec.specs.Place.{Client, Limits}
 use Rattle.client_base.specs.Keeper.{Keeper, ids_in_use, next_own_number}
 use Rattle.client_base.specs.Called.{adds_own, written_for}
 use Rattle.client_base.specs.Connected.{new_connection, opening_connect}

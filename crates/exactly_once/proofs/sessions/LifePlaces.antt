@@ -1,14 +1,14 @@
 -- A place keeps what holds for a client's life: of a packet that it wrote, and of another command.
 use Rattle.std.proofs.Common.{◌≡◌, ℕ, zero, suc, false, List, [], ◌∷◌, ◌++◌, Some, refl, sym, ◌∙◌, ap, subst, inl, inr}
 use Rattle.std.specs.Prelude.{slice_get}
-use Rattle.client_base.specs.packet.declared.packet.Packet.{Packet}
-use Rattle.client_base.proofs.of_lists.Tests.{or_right}
-use Rattle.broker_base.specs.broker_spec.Place.{Client, Place, Past, Limits}
-use Rattle.broker_base.specs.broker_spec.Past.{expels, begins}
-use Rattle.broker_base.specs.broker_spec.Marks.{mark_of}
-use Rattle.broker_base.specs.broker_spec.Commands.{place_of, past_from, past_of}
-use Rattle.broker_base.specs.broker_spec.declared.command.Command.{Command}
-use Rattle.broker_base.specs.broker_spec.declared.command.Command.TheVariants as commands
+use Rattle.packet.specs.declared.packet.Packet.{Packet}
+use Rattle.lists.proofs.Tests.{or_right}
+use Rattle.broker_spec.specs.Place.{Client, Place, Past, Limits}
+use Rattle.broker_spec.specs.Past.{expels, begins}
+use Rattle.broker_spec.specs.Marks.{mark_of}
+use Rattle.broker_spec.specs.Commands.{place_of, past_from, past_of}
+use Rattle.broker_spec.specs.declared.command.Command.{Command}
+use Rattle.broker_spec.specs.declared.command.Command.TheVariants as commands
 use Rattle.client_base.specs.Keeper.{Written, Keeper}
 use Rattle.exactly_once.specs.Sides.{ClientConnection}
 use Rattle.exactly_once.specs.Story.{Story}
@@ -24,7 +24,7 @@ use Rattle.exactly_once.proofs.sessions.EachPlaced.{each_other, IsOwnCommand, ow
 use Rattle.exactly_once.proofs.sessions.Placed.{untouched_other, shut_other}
 use Rattle.exactly_once.proofs.sessions.Life.{IsShutUnopened, IsHeld, HasConnections, HasKeeper, IsLife, IsCounted}
 use Rattle.client_base.specs.Connected.{opening_connect}
-use Rattle.client_base.specs.lists.Lists.{Each}
+use Rattle.lists.specs.Lists.{Each}
 
 -- ---- the list
 

@@ -2,7 +2,7 @@
 use Rattle.std.proofs.Common.{◌≡◌, Bool, true, false, if◌then◌else◌, List, [], ◌∷◌, refl, sym, ◌∙◌, ap, subst, ◌≤◌, length, arith, ◌++◌}
 use Rattle.std.proofs.lemmas.Bool.{both_ways}
 use Rattle.std.proofs.lemmas.List.{append-nil, length-append}
-use Rattle.broker_base.specs.broker_spec.Place.{Client, Past, Limits}
+use Rattle.broker_spec.specs.Place.{Client, Past, Limits}
 use Rattle.client_base.specs.Keeper.{Written, Keeper}
 use Rattle.client_base.specs.Written.{writes_first}
 use Rattle.client_base.specs.Handled.{lost}
@@ -13,7 +13,7 @@ use Rattle.exactly_once.proofs.sessions.Anew.{AreUntouched}
 use Rattle.exactly_once.proofs.sessions.KeepsKeeper.{unserved_lost}
 use Rattle.exactly_once.proofs.sessions.Life.{AreShutUnopened, IsHeld, HasConnections, HasKeeper, IsCounted, IsUnserved}
 use Rattle.client_base.specs.Connected.{opening_connect}
-use Rattle.client_base.specs.lists.Lists.{Each}
+use Rattle.lists.specs.Lists.{Each}
 
 -- while it is online
 untouched_written : (limits : Limits) (past : Past) (c : Client) (keeper : Keeper) (more : List Written) (connections : List ClientConnection) → keeper.is_online ≡ true → IsHeld keeper connections

@@ -1,5 +1,5 @@
 -- What holds for a client's life at any time holds for every life, in step or not.
-use Rattle.broker_base.specs.broker_spec.Place.{Client, Limits}
+use Rattle.broker_spec.specs.Place.{Client, Limits}
 use Rattle.exactly_once.specs.Story.{Story}
 use Rattle.exactly_once.specs.Lives.{Lived}
 use Rattle.exactly_once.specs.Lives.Lived.{opens, goes_on, is_expelled}

@@ -1,11 +1,11 @@
 -- A client that is in step is promised all, over all its sessions.
 use Rattle.std.proofs.Common.{◌≡◌, ◌≤◌, ℕ, true, List, [], ◌∷◌, length, Option, Some, None, refl, sym, ◌∙◌, ap, subst, inl, inr, ◌⊎◌, Bool, ◌++◌}
-use Rattle.client_base.specs.lists.Lists.{Each}
-use Rattle.broker_base.specs.broker_spec.Place.{Client, Past, Limits}
-use Rattle.broker_base.specs.broker_spec.Past.{session_of, session_start}
-use Rattle.broker_base.specs.broker_spec.NobodyLaws.{IsSteady}
-use Rattle.broker_base.specs.broker_spec.Commands.{place_of}
-use Rattle.broker_base.specs.broker_spec.declared.command.Command.TheVariants as commands
+use Rattle.lists.specs.Lists.{Each}
+use Rattle.broker_spec.specs.Place.{Client, Past, Limits}
+use Rattle.broker_spec.specs.Past.{session_of, session_start}
+use Rattle.broker_spec.specs.NobodyLaws.{IsSteady}
+use Rattle.broker_spec.specs.Commands.{place_of}
+use Rattle.broker_spec.specs.declared.command.Command.TheVariants as commands
 use Rattle.client_base.specs.Keeper.{all_own}
 use Rattle.exactly_once.specs.Sides.{ClientConnection}
 use Rattle.exactly_once.specs.Story.{Story, StoryStep, no_story}

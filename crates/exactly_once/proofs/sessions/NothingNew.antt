@@ -1,14 +1,14 @@
 -- Connections of which nothing was taken, or on which only a CONNECT was written, bring nothing new.
 use Rattle.std.proofs.Common.{◌≡◌, ◌≤◌, ◌+◌, ℕ, zero, suc, Bool, true, false, ◌||◌, if◌then◌else◌, List, [], ◌∷◌, ◌++◌, Some, None, refl, ◌∙◌, ap, ap₂, arith}
 use Rattle.std.specs.Prelude.{slice_get}
-use Rattle.client_base.specs.packet.declared.packet.Packet.TheVariants as packets
-use Rattle.client_base.specs.lists.Lists.{Each}
-use Rattle.broker_base.specs.broker_spec.Connection.{ConnectionName, same_connection}
-use Rattle.broker_base.specs.broker_spec.Place.{Client, Mark, Past, Limits}
-use Rattle.broker_base.specs.broker_spec.Past.{session_of, begins}
-use Rattle.broker_base.specs.broker_spec.Received.{is_new}
-use Rattle.broker_base.specs.broker_spec.declared.command.Command.{Command}
-use Rattle.broker_base.specs.broker_spec.declared.command.Command.TheVariants as commands
+use Rattle.packet.specs.declared.packet.Packet.TheVariants as packets
+use Rattle.lists.specs.Lists.{Each}
+use Rattle.broker_spec.specs.Connection.{ConnectionName, same_connection}
+use Rattle.broker_spec.specs.Place.{Client, Mark, Past, Limits}
+use Rattle.broker_spec.specs.Past.{session_of, begins}
+use Rattle.broker_spec.specs.Received.{is_new}
+use Rattle.broker_spec.specs.declared.command.Command.{Command}
+use Rattle.broker_spec.specs.declared.command.Command.TheVariants as commands
 use Rattle.client_base.specs.Connected.{opening_connect}
 use Rattle.exactly_once.specs.Sides.{ClientConnection}
 use Rattle.exactly_once.specs.StoryCommands.{any_named, packet_count, is_packet_of}

@@ -1,10 +1,10 @@
 -- Which of a client's publications are new in the list: those of sessions that are over, and after
 -- them those of the session that lasts; so their numbers rise.
 use Rattle.std.proofs.Common.{◌≡◌, ◌<◌, ◌≤◌, ℕ, Bool, List, [], ◌∷◌, ◌++◌, length, refl, sym, ◌∙◌, ap, subst, arith, inl, inr}
-use Rattle.client_base.specs.lists.Lists.{Each, IsPrefixOf}
-use Rattle.client_base.proofs.of_lists.OfEach.{each_append, each_then}
-use Rattle.broker_base.specs.broker_spec.Place.{Client, Past, Limits}
-use Rattle.broker_base.specs.broker_spec.NobodyLaws.{IsSteady}
+use Rattle.lists.specs.Lists.{Each, IsPrefixOf}
+use Rattle.lists.proofs.OfEach.{each_append, each_then}
+use Rattle.broker_spec.specs.Place.{Client, Past, Limits}
+use Rattle.broker_spec.specs.NobodyLaws.{IsSteady}
 use Rattle.client_base.specs.Keeper.{Own, Keeper, all_own, next_own_number}
 use Rattle.client_base.specs.OrderLaws.{AreNumbered}
 use Rattle.std.proofs.lemmas.List.{append-nil}

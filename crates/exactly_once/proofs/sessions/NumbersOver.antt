@@ -3,18 +3,18 @@
 use Rattle.std.proofs.Common.{◌≡◌, ◌<◌, ℕ, List, [], ◌∷◌, ◌++◌, Some, None, sym, ◌∙◌, ap, ap₂, subst, arith, inl, inr}
 use Rattle.std.specs.Prelude.{slice_get}
 use Rattle.std.proofs.lemmas.List.{append-nil}
-use Rattle.client_base.specs.lists.Lists.{Each, IsPrefixOf}
-use Rattle.client_base.proofs.of_lists.Prefixes.{prefix_then}
-use Rattle.client_base.proofs.of_lists.OfEach.{each_then}
-use Rattle.broker_base.specs.broker_spec.Connection.{ConnectionName}
-use Rattle.broker_base.specs.broker_spec.Place.{Client, Past, Limits}
-use Rattle.broker_base.specs.broker_spec.Past.{current_connection, session_of}
-use Rattle.broker_base.specs.broker_spec.Received.{is_new}
-use Rattle.broker_base.specs.broker_spec.Marks.{mark_of}
-use Rattle.broker_base.specs.broker_spec.Commands.{place_of}
-use Rattle.broker_base.specs.broker_spec.declared.command.Command.{Command}
+use Rattle.lists.specs.Lists.{Each, IsPrefixOf}
+use Rattle.lists.proofs.Prefixes.{prefix_then}
+use Rattle.lists.proofs.OfEach.{each_then}
+use Rattle.broker_spec.specs.Connection.{ConnectionName}
+use Rattle.broker_spec.specs.Place.{Client, Past, Limits}
+use Rattle.broker_spec.specs.Past.{current_connection, session_of}
+use Rattle.broker_spec.specs.Received.{is_new}
+use Rattle.broker_spec.specs.Marks.{mark_of}
+use Rattle.broker_spec.specs.Commands.{place_of}
+use Rattle.broker_spec.specs.declared.command.Command.{Command}
 use Rattle.broker_base.proofs.QuietPasts.{no_connection}
-use Rattle.client_base.specs.session_base.declared.publication.Publication.{Publication}
+use Rattle.session_base.specs.declared.publication.Publication.{Publication}
 use Rattle.client_base.specs.Keeper.{Written, all_own, next_own_number}
 use Rattle.exactly_once.specs.Sides.{ClientConnection}
 use Rattle.exactly_once.specs.Story.{Story, StoryStep}

@@ -2,12 +2,12 @@
 use Rattle.std.proofs.Common.{◌≡◌, ◌<◌, ℕ, suc, Bool, true, false, ◌||◌, if◌then◌else◌, [], ◌∷◌, length, Option, Some, None, refl, sym, ◌∙◌, ap, ap₂, arith, inl, inr, ◌⊎◌}
 use Rattle.std.specs.Prelude.{is_some}
 use Rattle.std.proofs.lemmas.Bool.{both_ways, cases_Bool}
-use Rattle.client_base.proofs.of_lists.Tests.{or_right}
-use Rattle.broker_base.specs.broker_spec.Connection.{ConnectionName, same_connection}
-use Rattle.broker_base.specs.broker_spec.Place.{Client, Mark, Place, Past, only_if}
-use Rattle.broker_base.specs.broker_spec.Past.{accepts, expels, ends_any, newest_session, is_beginning, current_connection, session_of, session_start, begins}
-use Rattle.broker_base.specs.broker_spec.declared.command.Command.{Command}
-use Rattle.broker_base.proofs.of_broker_spec.ConnectionNames.{same_name}
+use Rattle.lists.proofs.Tests.{or_right}
+use Rattle.broker_spec.specs.Connection.{ConnectionName, same_connection}
+use Rattle.broker_spec.specs.Place.{Client, Mark, Place, Past, only_if}
+use Rattle.broker_spec.specs.Past.{accepts, expels, ends_any, newest_session, is_beginning, current_connection, session_of, session_start, begins}
+use Rattle.broker_spec.specs.declared.command.Command.{Command}
+use Rattle.broker_spec.proofs.ConnectionNames.{same_name}
 use Rattle.exactly_once.specs.StoryCommands.{is_packet_of, packet_count}
 use Rattle.exactly_once.specs.InStep.{has_begun, opens_on, opened_in}
 use Rattle.exactly_once.proofs.places.Counts.{accepted_counts}

@@ -1,16 +1,16 @@
 -- No event loses a number of what a client published, nor the next number.
 use Rattle.std.proofs.Common.{◌≡◌, ◌≤◌, ◌+◌, ℕ, suc, Bool, true, false, if◌then◌else◌, List, [], ◌∷◌, ◌++◌, length, map, refl, sym, ◌∙◌, ap, ap₂, arith}
 use Rattle.std.proofs.lemmas.List.{length-map, length-append}
-use Rattle.client_base.specs.packet.declared.connack.Connack.TheVariants as connacks
-use Rattle.client_base.specs.packet.declared.delivery.Delivery.{Delivery}
-use Rattle.client_base.specs.packet.declared.delivery.Delivery.TheVariants as deliveries
-use Rattle.client_base.specs.packet.declared.packet.Packet.{Packet}
-use Rattle.client_base.specs.packet.declared.packet.Packet.TheVariants as packets
-use Rattle.client_base.specs.session_base.declared.publication.Publication.{Publication}
-use Rattle.client_base.specs.session_base.Publication.{publication_of}
-use Rattle.client_base.specs.lists.Lists.{IsPrefixOf, has_id}
-use Rattle.client_base.proofs.of_lists.Prefixes.{prefix_length}
-use Rattle.broker_base.specs.broker_spec.Place.{Limits}
+use Rattle.packet.specs.declared.connack.Connack.TheVariants as connacks
+use Rattle.packet.specs.declared.delivery.Delivery.{Delivery}
+use Rattle.packet.specs.declared.delivery.Delivery.TheVariants as deliveries
+use Rattle.packet.specs.declared.packet.Packet.{Packet}
+use Rattle.packet.specs.declared.packet.Packet.TheVariants as packets
+use Rattle.session_base.specs.declared.publication.Publication.{Publication}
+use Rattle.session_base.specs.Publication.{publication_of}
+use Rattle.lists.specs.Lists.{IsPrefixOf, has_id}
+use Rattle.lists.proofs.Prefixes.{prefix_length}
+use Rattle.broker_spec.specs.Place.{Limits}
 use Rattle.client_base.specs.Keeper.{Own, Keeper, all_own, next_own_number}
 use Rattle.client_base.specs.OrderLaws.{AreNumbered}
 use Rattle.client_base.specs.Written.{plain, writing}

@@ -1,9 +1,9 @@
 -- Numbers that rise: of publications by their places, of a prefix of these, of some below a bound
 -- and others from it on.
 use Rattle.std.proofs.Common.{◌≡◌, ◌<◌, ◌≤◌, ◌+◌, ℕ, suc, Bool, true, false, ◌==◌, if◌then◌else◌, List, [], ◌∷◌, ◌++◌, length, refl, subst, arith}
-use Rattle.client_base.specs.lists.Lists.{has_id, IsDistinct, IsPrefixOf, Each}
-use Rattle.client_base.proofs.of_lists.OfEach.{each_then, each_left}
-use Rattle.client_base.proofs.of_lists.Tests.{none_or}
+use Rattle.lists.specs.Lists.{has_id, IsDistinct, IsPrefixOf, Each}
+use Rattle.lists.proofs.OfEach.{each_then, each_left}
+use Rattle.lists.proofs.Tests.{none_or}
 use Rattle.client_base.specs.Keeper.{Own, number_in}
 use Rattle.client_base.specs.OrderLaws.{AreNumbered}
 use Rattle.exactly_once.specs.Carried.{is_two, own_qos2_numbers, own_publication}

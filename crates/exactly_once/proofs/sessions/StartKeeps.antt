@@ -1,9 +1,9 @@
 -- A place that is no Expel of the client keeps the session that is there.
 use Rattle.std.proofs.Common.{◌≡◌, ℕ, Bool, false, ◌∷◌, Option, Some, None, refl, sym, ◌∙◌, ap, ap₂, inl, inr}
 use Rattle.std.specs.Prelude.{is_some}
-use Rattle.broker_base.specs.broker_spec.Connection.{ConnectionName}
-use Rattle.broker_base.specs.broker_spec.Place.{Client, Place, Past}
-use Rattle.broker_base.specs.broker_spec.Past.{accepts, session_of, session_start, begins_session, is_beginning}
+use Rattle.broker_spec.specs.Connection.{ConnectionName}
+use Rattle.broker_spec.specs.Place.{Client, Place, Past}
+use Rattle.broker_spec.specs.Past.{accepts, session_of, session_start, begins_session, is_beginning}
 use Rattle.exactly_once.proofs.places.After.{IsKeptSession, IsSpared, session_spared, session_opens}
 use Rattle.exactly_once.proofs.publishing.kept.KeepsNames.{OpensKept}
 use Rattle.exactly_once.proofs.sessions.Openings.{no_start, start_stays}

@@ -2,10 +2,10 @@
 use Rattle.std.proofs.Common.{◌≡◌, ◌<◌, ℕ, suc, Bool, true, false, if◌then◌else◌, List, [], ◌∷◌, ◌++◌, length, Option, Some, None, refl, ap, ◌∙◌, subst, arith}
 use Rattle.std.specs.Prelude.{◌==◌, is_some}
 use Rattle.std.proofs.lemmas.List.{append-nil}
-use Rattle.client_base.specs.lists.Lists.{Each}
-use Rattle.client_base.proofs.of_lists.OfEach.{each_append, each_then}
-use Rattle.broker_base.specs.broker_spec.Place.{Client, Place, Past, only_if}
-use Rattle.broker_base.specs.broker_spec.Past.{accepts, begins, is_beginning, session_of, session_start}
+use Rattle.lists.specs.Lists.{Each}
+use Rattle.lists.proofs.OfEach.{each_append, each_then}
+use Rattle.broker_spec.specs.Place.{Client, Place, Past, only_if}
+use Rattle.broker_spec.specs.Past.{accepts, begins, is_beginning, session_of, session_start}
 use Rattle.exactly_once.specs.InStep.{starts_of}
 
 -- ---- below a place

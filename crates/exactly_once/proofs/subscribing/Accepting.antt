@@ -2,14 +2,14 @@
 use Rattle.std.proofs.Common.{◌≡◌, ℕ, suc, Bool, true, false, ◌||◌, ◌==◌, List, [], ◌∷◌, ◌++◌, refl, ap, sym, ◌∙◌, ◌⊎◌, inl, inr}
 use Rattle.std.proofs.lemmas.List.{append-nil}
 use Rattle.std.proofs.lemmas.Bool.{both_ways, cases_Bool}
-use Rattle.client_base.specs.packet.declared.delivery.Delivery.{Delivery}
-use Rattle.client_base.specs.packet.declared.delivery.Delivery.TheVariants as deliveries
-use Rattle.client_base.specs.packet.declared.publish.Publish.{Publish}
-use Rattle.client_base.specs.packet.declared.packet.Packet.TheVariants as packets
-use Rattle.client_base.specs.session_base.declared.publication.Publication.{Publication}
-use Rattle.client_base.specs.session_base.Publication.{publication_of}
-use Rattle.client_base.specs.lists.Lists.{has_id}
-use Rattle.broker_base.specs.broker_spec.Place.{Limits}
+use Rattle.packet.specs.declared.delivery.Delivery.{Delivery}
+use Rattle.packet.specs.declared.delivery.Delivery.TheVariants as deliveries
+use Rattle.packet.specs.declared.publish.Publish.{Publish}
+use Rattle.packet.specs.declared.packet.Packet.TheVariants as packets
+use Rattle.session_base.specs.declared.publication.Publication.{Publication}
+use Rattle.session_base.specs.Publication.{publication_of}
+use Rattle.lists.specs.Lists.{has_id}
+use Rattle.broker_spec.specs.Place.{Limits}
 use Rattle.exactly_once.specs.Handshake.{Forward, Transit, Handshake, receiver_takes, receiver_accepts}
 use Rattle.exactly_once.specs.Sides.{ClientConnection, Side}
 use Rattle.client_base.specs.Written.{plain, writing}

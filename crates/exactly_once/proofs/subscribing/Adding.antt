@@ -2,13 +2,13 @@
 use Rattle.std.proofs.Common.{◌≡◌, ℕ, suc, Bool, true, false, if◌then◌else◌, List, [], ◌∷◌, ◌++◌, map, Option, Some, None, refl, ap, sym, ◌∙◌, append_assoc}
 use Rattle.std.proofs.lemmas.List.{append-nil}
 use Rattle.std.specs.List.{AllByRecursion}
-use Rattle.client_base.specs.session_base.declared.publication.Publication.{Publication}
-use Rattle.broker_base.specs.broker_spec.Connection.{ConnectionName}
-use Rattle.broker_base.specs.broker_spec.Entries.{Entry}
-use Rattle.broker_base.specs.broker_spec.Times.{started}
-use Rattle.broker_base.specs.broker_spec.IdentifierLaws.{WaitingAreLast, IsWaitingEntry}
-use Rattle.broker_base.proofs.of_broker_spec.SoundEntries.{AllWait, InOrder, Sound}
-use Rattle.broker_base.proofs.of_broker_spec.SoundStarts.{sound_new}
+use Rattle.session_base.specs.declared.publication.Publication.{Publication}
+use Rattle.broker_spec.specs.Connection.{ConnectionName}
+use Rattle.broker_spec.specs.Entries.{Entry}
+use Rattle.broker_spec.specs.Times.{started}
+use Rattle.broker_spec.specs.IdentifierLaws.{WaitingAreLast, IsWaitingEntry}
+use Rattle.broker_spec.proofs.SoundEntries.{AllWait, InOrder, Sound}
+use Rattle.broker_spec.proofs.SoundStarts.{sound_new}
 use Rattle.exactly_once.specs.Items.{SenderItem}
 use Rattle.exactly_once.specs.Handshake.{Handshake, with_items}
 use Rattle.exactly_once.specs.HandshakeSteps.{HandshakeRun}

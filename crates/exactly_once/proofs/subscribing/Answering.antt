@@ -1,10 +1,10 @@
 -- The list takes a PUBACK or a PUBCOMP of the client's current connection.
 use Rattle.std.proofs.Common.{◌≡◌, ℕ, List, [], ◌∷◌, ◌++◌, length, map, refl, ap, ap₂, sym, ◌∙◌, subst}
-use Rattle.client_base.specs.packet.declared.packet.Packet.{Packet}
-use Rattle.client_base.specs.packet.declared.packet.Packet.TheVariants as packets
-use Rattle.broker_base.specs.broker_spec.Place.{Limits}
-use Rattle.broker_base.specs.broker_spec.Past.{current_connection}
-use Rattle.broker_base.specs.broker_spec.Times.{at_puback, at_pubcomp, window_at, entries_of}
+use Rattle.packet.specs.declared.packet.Packet.{Packet}
+use Rattle.packet.specs.declared.packet.Packet.TheVariants as packets
+use Rattle.broker_spec.specs.Place.{Limits}
+use Rattle.broker_spec.specs.Past.{current_connection}
+use Rattle.broker_spec.specs.Times.{at_puback, at_pubcomp, window_at, entries_of}
 use Rattle.exactly_once.specs.Handshake.{Backward, sender_hears, reply, with_items}
 use Rattle.exactly_once.specs.HandshakeSteps.HandshakeRun.{stays}
 use Rattle.client_base.specs.Keeper.{Written}

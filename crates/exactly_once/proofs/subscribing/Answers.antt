@@ -1,17 +1,17 @@
 -- What the place of a client's PUBACK, PUBREC or PUBCOMP does to its entries.
 use Rattle.std.proofs.Common.{◌≡◌, ℕ, Bool, true, false, if◌then◌else◌, List, [], ◌∷◌, ◌++◌, length, map, Option, Some, None, refl, ap, sym, ◌∙◌}
-use Rattle.client_base.specs.packet.declared.packet.Packet.{Packet}
-use Rattle.client_base.specs.session_base.declared.publication.Publication.{Publication}
-use Rattle.broker_base.specs.broker_spec.Connection.{ConnectionName, same_connection}
-use Rattle.broker_base.specs.broker_spec.Place.{Client, same_client, Mark, Place, Past, Limits}
-use Rattle.broker_base.specs.broker_spec.Past.{current_connection, session_of}
-use Rattle.broker_base.specs.broker_spec.Entries.{Entry, copies_at, queued}
-use Rattle.broker_base.specs.broker_spec.Times.{answered_by, start_all, started, window_at, entries_of}
-use Rattle.broker_base.specs.broker_spec.Sends.{all_started}
-use Rattle.broker_base.specs.broker_spec.declared.command.Command.TheVariants as commands
-use Rattle.broker_base.proofs.of_broker_spec.ClientsInOrder.{same_self}
+use Rattle.packet.specs.declared.packet.Packet.{Packet}
+use Rattle.session_base.specs.declared.publication.Publication.{Publication}
+use Rattle.broker_spec.specs.Connection.{ConnectionName, same_connection}
+use Rattle.broker_spec.specs.Place.{Client, same_client, Mark, Place, Past, Limits}
+use Rattle.broker_spec.specs.Past.{current_connection, session_of}
+use Rattle.broker_spec.specs.Entries.{Entry, copies_at, queued}
+use Rattle.broker_spec.specs.Times.{answered_by, start_all, started, window_at, entries_of}
+use Rattle.broker_spec.specs.Sends.{all_started}
+use Rattle.broker_spec.specs.declared.command.Command.TheVariants as commands
+use Rattle.broker_spec.proofs.ClientsInOrder.{same_self}
 use Rattle.broker_base.proofs.ConnectionsOfSessions.{same_turned}
-use Rattle.broker_base.proofs.of_broker_spec.EntriesStartedBefore.{before_below, before_answered, before_new}
+use Rattle.broker_spec.proofs.EntriesStartedBefore.{before_below, before_answered, before_new}
 use Rattle.broker_base.proofs.QueueAfter.{sound_entries, sound_answered}
 use Rattle.broker_base.proofs.QuietPasts.{no_connection, entries_next}
 use Rattle.exactly_once.specs.Handshake.{Forward, publishing}

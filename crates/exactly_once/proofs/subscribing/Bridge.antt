@@ -1,18 +1,18 @@
 -- The copies that a place sends are the PUBLISHes of all that starts there, since nothing waited in vain before.
 use Rattle.std.proofs.Common.{◌≡◌, ◌≤◌, ℕ, Bool, true, false, ◌==◌, nat_lt, if◌then◌else◌, List, [], ◌∷◌, ◌++◌, length, map, take, drop, refl, ap, sym, ◌∙◌, ◌⊎◌, inl, inr, arith}
 use Rattle.std.proofs.lemmas.Bool.{both_ways, cases_Bool}
-use Rattle.client_base.specs.packet.packet_base.declared.qos.QoS.{QoS}
-use Rattle.client_base.specs.packet.packet_base.declared.qos.QoS.TheVariants as qualities
-use Rattle.client_base.specs.session_base.declared.publication.Publication.{Publication}
-use Rattle.client_base.specs.session_base.Publication.{is_answered}
-use Rattle.client_base.specs.session_base.Identifiers.{least_free}
-use Rattle.broker_base.specs.broker_spec.Connection.{ConnectionName}
-use Rattle.broker_base.specs.broker_spec.Entries.{Entry, queued}
-use Rattle.broker_base.specs.broker_spec.Readings.{made_at, waiting_of, busy_ids}
-use Rattle.broker_base.specs.broker_spec.Times.{start_all}
-use Rattle.broker_base.specs.broker_spec.Sends.{publish_output, all_started, copy_outputs}
-use Rattle.client_base.proofs.of_session_base.CountedIdentifiers.{count, same_length}
-use Rattle.broker_base.proofs.of_broker_spec.SoundEntries.{Sound}
+use Rattle.packet_base.specs.declared.qos.QoS.{QoS}
+use Rattle.packet_base.specs.declared.qos.QoS.TheVariants as qualities
+use Rattle.session_base.specs.declared.publication.Publication.{Publication}
+use Rattle.session_base.specs.Publication.{is_answered}
+use Rattle.session_base.specs.Identifiers.{least_free}
+use Rattle.broker_spec.specs.Connection.{ConnectionName}
+use Rattle.broker_spec.specs.Entries.{Entry, queued}
+use Rattle.broker_spec.specs.Readings.{made_at, waiting_of, busy_ids}
+use Rattle.broker_spec.specs.Times.{start_all}
+use Rattle.broker_spec.specs.Sends.{publish_output, all_started, copy_outputs}
+use Rattle.session_base.proofs.CountedIdentifiers.{count, same_length}
+use Rattle.broker_spec.proofs.SoundEntries.{Sound}
 use Rattle.broker_base.proofs.flights.IdentifiersInFlight.{append_none}
 use Rattle.broker_base.proofs.flights.SendsOfCopies.{starts_full}
 use Rattle.broker_base.proofs.flights.EntriesOfPlaces.{busy_from, busy_from_is, made_here}

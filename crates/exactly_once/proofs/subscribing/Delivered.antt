@@ -1,12 +1,12 @@
 -- The copies that a place makes for a client, read as the handshake: what starts of its entries.
 use Rattle.std.proofs.Common.{◌≡◌, ℕ, Bool, true, false, if◌then◌else◌, List, [], ◌∷◌, ◌++◌, length, map, Option, Some, None, refl, ap, sym, ◌∙◌, subst}
-use Rattle.broker_base.specs.broker_spec.Connection.{ConnectionName, same_connection}
-use Rattle.broker_base.specs.broker_spec.Place.{Client, Place, Past, Limits}
-use Rattle.broker_base.specs.broker_spec.Past.{any_connection, current_connection}
-use Rattle.broker_base.specs.broker_spec.Entries.{Entry, copies_at, queued}
-use Rattle.broker_base.specs.broker_spec.Readings.{made_at}
-use Rattle.broker_base.specs.broker_spec.Times.{started, window_at, entries_of}
-use Rattle.broker_base.specs.broker_spec.Sends.{copy_outputs, handed_to, deliveries_to}
+use Rattle.broker_spec.specs.Connection.{ConnectionName, same_connection}
+use Rattle.broker_spec.specs.Place.{Client, Place, Past, Limits}
+use Rattle.broker_spec.specs.Past.{any_connection, current_connection}
+use Rattle.broker_spec.specs.Entries.{Entry, copies_at, queued}
+use Rattle.broker_spec.specs.Readings.{made_at}
+use Rattle.broker_spec.specs.Times.{started, window_at, entries_of}
+use Rattle.broker_spec.specs.Sends.{copy_outputs, handed_to, deliveries_to}
 use Rattle.broker_base.proofs.ConnectionsOfSessions.{same_turned}
 use Rattle.broker_base.proofs.QueueAfter.{sound_entries}
 use Rattle.broker_base.proofs.QuietPasts.{QuietEntries, quiet_entries}

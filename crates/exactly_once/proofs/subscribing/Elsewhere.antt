@@ -1,26 +1,26 @@
 -- A packet on a connection of another client makes copies for this one at most.
 use Rattle.std.proofs.Common.{◌≡◌, ℕ, suc, Bool, true, false, ◌&&◌, if◌then◌else◌, List, [], ◌∷◌, length, map, Option, Some, None, refl, ap, sym, ◌∙◌}
 use Rattle.std.proofs.lemmas.Bool.{both_ways}
-use Rattle.client_base.specs.packet.declared.publish.Publish.{Publish}
-use Rattle.client_base.specs.packet.declared.packet.Packet.{Packet}
-use Rattle.client_base.specs.packet.declared.packet.Packet.TheVariants as packets
-use Rattle.client_base.specs.lists.Lists.{has_id}
-use Rattle.client_base.specs.session_base.Publication.{publication_of}
-use Rattle.broker_base.specs.broker_spec.Connection.{ConnectionName, same_connection}
-use Rattle.broker_base.specs.broker_spec.Place.{Client, same_client, Mark, Place, Past, Limits}
-use Rattle.broker_base.specs.broker_spec.Past.{is_leaving, ends_any}
-use Rattle.broker_base.specs.broker_spec.Subscriptions.{subscriptions_of}
-use Rattle.broker_base.specs.broker_spec.Received.{is_repeat}
-use Rattle.broker_base.specs.broker_spec.Retained.{retained_publications}
-use Rattle.broker_base.specs.broker_spec.Marks.{is_refused, grants, packet_mark}
-use Rattle.broker_base.specs.broker_spec.Entries.{Entry, copies_at}
-use Rattle.broker_base.specs.broker_spec.Readings.{released_below}
-use Rattle.broker_base.specs.broker_spec.Times.{at_puback, at_pubrec, at_pubcomp, answered_by, entries_of, room_of}
-use Rattle.broker_base.specs.broker_spec.Sends.{deliveries_to}
-use Rattle.broker_base.specs.broker_spec.AnswersInOrder.{answers_at}
-use Rattle.broker_base.specs.broker_spec.declared.command.Command.TheVariants as commands
-use Rattle.broker_base.specs.broker_spec.declared.command.Output.{Output}
-use Rattle.broker_base.specs.broker_spec.declared.command.Output.TheVariants.{Send}
+use Rattle.packet.specs.declared.publish.Publish.{Publish}
+use Rattle.packet.specs.declared.packet.Packet.{Packet}
+use Rattle.packet.specs.declared.packet.Packet.TheVariants as packets
+use Rattle.lists.specs.Lists.{has_id}
+use Rattle.session_base.specs.Publication.{publication_of}
+use Rattle.broker_spec.specs.Connection.{ConnectionName, same_connection}
+use Rattle.broker_spec.specs.Place.{Client, same_client, Mark, Place, Past, Limits}
+use Rattle.broker_spec.specs.Past.{is_leaving, ends_any}
+use Rattle.broker_spec.specs.Subscriptions.{subscriptions_of}
+use Rattle.broker_spec.specs.Received.{is_repeat}
+use Rattle.broker_spec.specs.Retained.{retained_publications}
+use Rattle.broker_spec.specs.Marks.{is_refused, grants, packet_mark}
+use Rattle.broker_spec.specs.Entries.{Entry, copies_at}
+use Rattle.broker_spec.specs.Readings.{released_below}
+use Rattle.broker_spec.specs.Times.{at_puback, at_pubrec, at_pubcomp, answered_by, entries_of, room_of}
+use Rattle.broker_spec.specs.Sends.{deliveries_to}
+use Rattle.broker_spec.specs.AnswersInOrder.{answers_at}
+use Rattle.broker_spec.specs.declared.command.Command.TheVariants as commands
+use Rattle.broker_spec.specs.declared.command.Output.{Output}
+use Rattle.broker_spec.specs.declared.command.Output.TheVariants.{Send}
 use Rattle.exactly_once.specs.Sends.{sends_to}
 use Rattle.exactly_once.specs.Inside.AsSubscriber.{forward_of}
 use Rattle.exactly_once.proofs.Deliveries.{started_elsewhere}

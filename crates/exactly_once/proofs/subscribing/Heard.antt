@@ -1,14 +1,14 @@
 -- The list takes an answer of the client: the sender receives it.
 use Rattle.std.proofs.Common.{◌≡◌, ℕ, true, false, ◌==◌, List, [], ◌∷◌, ◌++◌, Some, None, refl, ap, sym, ◌∙◌, subst, inl, inr}
 use Rattle.std.proofs.lemmas.Bool.{both_ways}
-use Rattle.client_base.specs.session_base.declared.publication.Publication.{Publication}
+use Rattle.session_base.specs.declared.publication.Publication.{Publication}
 use Rattle.exactly_once.specs.Items.{SenderItem, has_sent}
 use Rattle.exactly_once.specs.Handshake.{Forward, Backward, Transit, Handshake, sender_hears, reply, with_items}
 use Rattle.exactly_once.specs.HandshakeSteps.{HandshakeRun}
 use Rattle.exactly_once.specs.HandshakeSteps.Advances.{hears, hears_alone}
 use Rattle.exactly_once.specs.HandshakeSteps.HandshakeRun.{stays, goes_on}
 use Rattle.exactly_once.specs.HandshakeInvariant.{IsGood, FitsTransit, IsJoined, IsBehind}
-use Rattle.client_base.proofs.of_lists.Tests.{or_then}
+use Rattle.lists.proofs.Tests.{or_then}
 use Rattle.exactly_once.proofs.subscribing.Standing.{Stands}
 use Rattle.exactly_once.proofs.subscribing.Views.{View, link_as, grown}
 

@@ -3,16 +3,16 @@
 use Rattle.std.proofs.Common.{◌≡◌, ◌≤◌, ℕ, zero, suc, Bool, true, false, ◌||◌, nat_lt, if◌then◌else◌, List, [], ◌∷◌, length, Option, Some, None, is_some, refl, ap, sym, ◌∙◌, subst, ◌⊎◌, inl, inr, arith}
 use Rattle.std.specs.Prelude.{slice_get}
 use Rattle.std.proofs.lemmas.Bool.{both_ways, cases_Bool}
-use Rattle.client_base.specs.packet.declared.packet.Packet.TheVariants as packets
-use Rattle.broker_base.specs.broker_spec.Connection.{ConnectionName, same_connection}
-use Rattle.broker_base.specs.broker_spec.Place.{Client, same_client, Mark, Past, Limits}
-use Rattle.broker_base.specs.broker_spec.Past.{accepts, current_connection, session_of}
-use Rattle.broker_base.specs.broker_spec.Owner.{clients, owner_of}
-use Rattle.broker_base.specs.broker_spec.Marks.{mark_of, connect_mark}
-use Rattle.broker_base.specs.broker_spec.Commands.{place_of}
-use Rattle.broker_base.specs.broker_spec.declared.command.Command.{Command}
-use Rattle.broker_base.specs.broker_spec.declared.command.Command.TheVariants as commands
-use Rattle.broker_base.proofs.of_broker_spec.ClientsInOrder.{same_is}
+use Rattle.packet.specs.declared.packet.Packet.TheVariants as packets
+use Rattle.broker_spec.specs.Connection.{ConnectionName, same_connection}
+use Rattle.broker_spec.specs.Place.{Client, same_client, Mark, Past, Limits}
+use Rattle.broker_spec.specs.Past.{accepts, current_connection, session_of}
+use Rattle.broker_spec.specs.Owner.{clients, owner_of}
+use Rattle.broker_spec.specs.Marks.{mark_of, connect_mark}
+use Rattle.broker_spec.specs.Commands.{place_of}
+use Rattle.broker_spec.specs.declared.command.Command.{Command}
+use Rattle.broker_spec.specs.declared.command.Command.TheVariants as commands
+use Rattle.broker_spec.proofs.ClientsInOrder.{same_is}
 use Rattle.broker_base.proofs.QuietPasts.{no_connection}
 use Rattle.client_base.specs.Keeper.{Written}
 use Rattle.exactly_once.specs.Sides.{ClientConnection, Side}

@@ -1,21 +1,21 @@
 -- The list takes a packet of the client's current connection that answers none of its entries.
 use Rattle.std.proofs.Common.{◌≡◌, ℕ, suc, Bool, true, false, ◌&&◌, if◌then◌else◌, List, [], ◌∷◌, length, Option, Some, None, refl, ap, ap₂, sym, ◌∙◌}
 use Rattle.std.specs.Prelude.{slice_get}
-use Rattle.client_base.specs.packet.declared.publish.Publish.{Publish}
-use Rattle.client_base.specs.packet.declared.packet.Packet.{Packet}
-use Rattle.client_base.specs.packet.declared.packet.Packet.TheVariants as packets
-use Rattle.client_base.specs.session_base.Publication.{publication_of}
-use Rattle.broker_base.specs.broker_spec.Connection.{ConnectionName, same_connection}
-use Rattle.broker_base.specs.broker_spec.Place.{Client, Mark, Place, Limits}
-use Rattle.broker_base.specs.broker_spec.Past.{is_leaving, ends_any, current_connection}
-use Rattle.broker_base.specs.broker_spec.Received.{is_repeat}
-use Rattle.broker_base.specs.broker_spec.Marks.{is_refused, packet_mark}
-use Rattle.broker_base.specs.broker_spec.Entries.{copies_at}
-use Rattle.broker_base.specs.broker_spec.Times.{answered_by, entries_of}
-use Rattle.broker_base.specs.broker_spec.Sends.{deliveries_to}
-use Rattle.broker_base.specs.broker_spec.AnswersInOrder.{answers_at}
-use Rattle.broker_base.specs.broker_spec.NobodyLaws.{IsSteady}
-use Rattle.broker_base.specs.broker_spec.declared.command.Command.TheVariants as commands
+use Rattle.packet.specs.declared.publish.Publish.{Publish}
+use Rattle.packet.specs.declared.packet.Packet.{Packet}
+use Rattle.packet.specs.declared.packet.Packet.TheVariants as packets
+use Rattle.session_base.specs.Publication.{publication_of}
+use Rattle.broker_spec.specs.Connection.{ConnectionName, same_connection}
+use Rattle.broker_spec.specs.Place.{Client, Mark, Place, Limits}
+use Rattle.broker_spec.specs.Past.{is_leaving, ends_any, current_connection}
+use Rattle.broker_spec.specs.Received.{is_repeat}
+use Rattle.broker_spec.specs.Marks.{is_refused, packet_mark}
+use Rattle.broker_spec.specs.Entries.{copies_at}
+use Rattle.broker_spec.specs.Times.{answered_by, entries_of}
+use Rattle.broker_spec.specs.Sends.{deliveries_to}
+use Rattle.broker_spec.specs.AnswersInOrder.{answers_at}
+use Rattle.broker_spec.specs.NobodyLaws.{IsSteady}
+use Rattle.broker_spec.specs.declared.command.Command.TheVariants as commands
 use Rattle.exactly_once.specs.Handshake.{Backward}
 use Rattle.exactly_once.specs.Sends.{sends_to}
 use Rattle.client_base.specs.Keeper.{Written}

@@ -1,13 +1,13 @@
 -- A place that ends the client's connection.
 use Rattle.std.proofs.Common.{◌≡◌, ℕ, zero, suc, Bool, true, false, ◌||◌, if◌then◌else◌, List, [], ◌∷◌, ◌++◌, Option, Some, None, refl, ap, ap₂, sym, ◌∙◌}
 use Rattle.std.proofs.lemmas.List.{append-nil}
-use Rattle.client_base.specs.session_base.declared.publication.Publication.{Publication}
-use Rattle.broker_base.specs.broker_spec.Connection.{ConnectionName, same_connection}
-use Rattle.broker_base.specs.broker_spec.Place.{Client, Place, Past, Limits}
-use Rattle.broker_base.specs.broker_spec.Past.{current_connection}
-use Rattle.broker_base.specs.broker_spec.Times.{entries_of}
-use Rattle.broker_base.specs.broker_spec.AnswersInOrder.{answers_at}
-use Rattle.client_base.specs.lists.Lists.{Each}
+use Rattle.session_base.specs.declared.publication.Publication.{Publication}
+use Rattle.broker_spec.specs.Connection.{ConnectionName, same_connection}
+use Rattle.broker_spec.specs.Place.{Client, Place, Past, Limits}
+use Rattle.broker_spec.specs.Past.{current_connection}
+use Rattle.broker_spec.specs.Times.{entries_of}
+use Rattle.broker_spec.specs.AnswersInOrder.{answers_at}
+use Rattle.lists.specs.Lists.{Each}
 use Rattle.exactly_once.specs.Handshake.{Backward, Transit, Handshake, with_items}
 use Rattle.exactly_once.specs.HandshakeSteps.Advances.{sender_leaves, parts}
 use Rattle.exactly_once.specs.HandshakeSteps.HandshakeRun.{stays, goes_on}

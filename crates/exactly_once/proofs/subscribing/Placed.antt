@@ -1,13 +1,13 @@
 -- One place more in the list: what it adds and starts is a run of the handshake in which the client subscribes.
 use Rattle.std.proofs.Common.{◌≡◌, ℕ, suc, true, false, List, ◌∷◌, ◌++◌, length, map, Option, Some, None, refl, ap, sym, ◌∙◌, append_assoc}
-use Rattle.client_base.specs.session_base.declared.publication.Publication.{Publication}
-use Rattle.client_base.specs.lists.Lists.{has_id}
-use Rattle.broker_base.specs.broker_spec.Connection.{ConnectionName}
-use Rattle.broker_base.specs.broker_spec.Place.{Place, Limits}
-use Rattle.broker_base.specs.broker_spec.Past.{current_connection}
-use Rattle.broker_base.specs.broker_spec.Entries.{Entry}
-use Rattle.broker_base.specs.broker_spec.Times.{started, window_at, entries_of}
-use Rattle.broker_base.proofs.of_broker_spec.SoundEntries.{Sound}
+use Rattle.session_base.specs.declared.publication.Publication.{Publication}
+use Rattle.lists.specs.Lists.{has_id}
+use Rattle.broker_spec.specs.Connection.{ConnectionName}
+use Rattle.broker_spec.specs.Place.{Place, Limits}
+use Rattle.broker_spec.specs.Past.{current_connection}
+use Rattle.broker_spec.specs.Entries.{Entry}
+use Rattle.broker_spec.specs.Times.{started, window_at, entries_of}
+use Rattle.broker_spec.proofs.SoundEntries.{Sound}
 use Rattle.exactly_once.specs.Handshake.{Forward, Backward, Handshake, publishing}
 use Rattle.exactly_once.specs.HandshakeSteps.{HandshakeRun}
 use Rattle.exactly_once.specs.Sides.{ClientConnection}

@@ -2,18 +2,18 @@
 use Rattle.std.proofs.Common.{◌≡◌, ◌≤◌, ◌+◌, ℕ, zero, suc, Bool, true, false, ◌||◌, ◌==◌, if◌then◌else◌, List, [], ◌∷◌, ◌++◌, map, refl, ap, sym, ◌∙◌, ◌⊎◌, inl, inr, arith}
 use Rattle.std.proofs.lemmas.List.{map-append}
 use Rattle.std.proofs.lemmas.Bool.{cases_Bool}
-use Rattle.client_base.specs.session_base.declared.publication.Publication.{Publication}
-use Rattle.broker_base.specs.broker_spec.Entries.{Entry}
-use Rattle.broker_base.specs.broker_spec.Readings.{released_at, released_below}
+use Rattle.session_base.specs.declared.publication.Publication.{Publication}
+use Rattle.broker_spec.specs.Entries.{Entry}
+use Rattle.broker_spec.specs.Readings.{released_at, released_below}
 use Rattle.broker_base.specs.ClientSession.{sent_flights, released_flight, flights_below}
-use Rattle.client_base.specs.session_base.Queue.{Flight, ids_of}
-use Rattle.client_base.proofs.of_session_base.CountedIdentifiers.{one_if, count, count-append}
-use Rattle.broker_base.proofs.of_broker_spec.SoundEntries.{Sound}
+use Rattle.session_base.specs.Queue.{Flight, ids_of}
+use Rattle.session_base.proofs.CountedIdentifiers.{one_if, count, count-append}
+use Rattle.broker_spec.proofs.SoundEntries.{Sound}
 use Rattle.broker_base.proofs.flights.IdentifiersInFlight.{same_ids}
-use Rattle.client_base.specs.lists.Lists.{has_id, IsDistinct, Each}
+use Rattle.lists.specs.Lists.{has_id, IsDistinct, Each}
 use Rattle.exactly_once.specs.Items.{SenderItem, has_released}
-use Rattle.client_base.proofs.of_lists.OfEach.{each_append, each_then}
-use Rattle.client_base.proofs.of_lists.Tests.{or_right, or_left, none_or, eq_same}
+use Rattle.lists.proofs.OfEach.{each_append, each_then}
+use Rattle.lists.proofs.Tests.{or_right, or_left, none_or, eq_same}
 use Rattle.exactly_once.specs.Carried.{is_two}
 use Rattle.exactly_once.specs.Inside.AsSubscriber.{items_of_entries}
 use Rattle.exactly_once.proofs.subscribing.Queued.{AreKept}

@@ -1,21 +1,21 @@
 -- What a client that comes back is sent is the resending of the handshake, and then what starts.
 use Rattle.std.proofs.Common.{◌≡◌, ◌<◌, ℕ, Bool, true, false, ◌==◌, nat_lt, if◌then◌else◌, List, [], ◌∷◌, ◌++◌, length, map, refl, ap, ap₂, sym, ◌∙◌, arith}
 use Rattle.std.specs.Prelude.{flat_map}
-use Rattle.client_base.specs.packet.declared.packet.Packet.TheVariants as packets
-use Rattle.client_base.specs.session_base.declared.publication.Publication.{Publication}
-use Rattle.client_base.specs.session_base.Identifiers.{least_free}
-use Rattle.broker_base.specs.broker_spec.Connection.{ConnectionName}
-use Rattle.broker_base.specs.broker_spec.Entries.{Entry}
-use Rattle.broker_base.specs.broker_spec.Readings.{released_below}
-use Rattle.broker_base.specs.broker_spec.Times.{start_all}
-use Rattle.broker_base.specs.broker_spec.Sends.{repeated_output, all_started, resent_outputs}
-use Rattle.broker_base.specs.broker_spec.declared.command.Output.{Output}
-use Rattle.broker_base.specs.broker_spec.declared.command.Output.TheVariants.{Send}
+use Rattle.packet.specs.declared.packet.Packet.TheVariants as packets
+use Rattle.session_base.specs.declared.publication.Publication.{Publication}
+use Rattle.session_base.specs.Identifiers.{least_free}
+use Rattle.broker_spec.specs.Connection.{ConnectionName}
+use Rattle.broker_spec.specs.Entries.{Entry}
+use Rattle.broker_spec.specs.Readings.{released_below}
+use Rattle.broker_spec.specs.Times.{start_all}
+use Rattle.broker_spec.specs.Sends.{repeated_output, all_started, resent_outputs}
+use Rattle.broker_spec.specs.declared.command.Output.{Output}
+use Rattle.broker_spec.specs.declared.command.Output.TheVariants.{Send}
 use Rattle.broker_base.proofs.flights.StartsInFlight.{released_started}
-use Rattle.broker_base.proofs.of_broker_spec.EntriesStartedBefore.{StartedBefore}
+use Rattle.broker_spec.proofs.EntriesStartedBefore.{StartedBefore}
 use Rattle.exactly_once.specs.Handshake.{Forward, publishing, sender_resends}
 use Rattle.exactly_once.specs.Items.{SenderItem, sent}
-use Rattle.client_base.proofs.of_lists.Tests.{eq_same}
+use Rattle.lists.proofs.Tests.{eq_same}
 use Rattle.exactly_once.specs.Sends.{sends_to}
 use Rattle.exactly_once.specs.Carried.{is_two}
 use Rattle.exactly_once.specs.Inside.AsSubscriber.{items_of_entries, forward_of}

@@ -1,10 +1,10 @@
 -- The state of the transit of the handshake in which a client subscribes: with the connection that the
 -- client holds, or with what may still come on the broker's.
 use Rattle.std.proofs.Common.{◌≡◌, ◌≤◌, ℕ, zero, suc, Bool, true, false, if◌then◌else◌, List, [], ◌∷◌, drop, Option, Some, None, refl, ap, ◌∙◌, ◌⊎◌, inl, inr, arith}
-use Rattle.client_base.specs.session_base.declared.publication.Publication.{Publication}
-use Rattle.broker_base.specs.broker_spec.Connection.{ConnectionName, same_connection}
-use Rattle.broker_base.specs.broker_spec.Place.{Client, Past, Limits}
-use Rattle.client_base.specs.lists.Lists.{Each}
+use Rattle.session_base.specs.declared.publication.Publication.{Publication}
+use Rattle.broker_spec.specs.Connection.{ConnectionName, same_connection}
+use Rattle.broker_spec.specs.Place.{Client, Past, Limits}
+use Rattle.lists.specs.Lists.{Each}
 use Rattle.exactly_once.specs.Handshake.{Forward, Backward, Transit}
 use Rattle.client_base.specs.Keeper.{Written, Keeper}
 use Rattle.exactly_once.specs.Sides.{ClientConnection}

@@ -1,14 +1,14 @@
 -- The client writes what is no answer: it publishes, subscribes, unsubscribes.
 use Rattle.std.proofs.Common.{◌≡◌, ℕ, zero, suc, Bool, true, false, if◌then◌else◌, List, [], ◌∷◌, ◌++◌, Option, None, refl, ap, sym}
-use Rattle.client_base.specs.packet.declared.subscribe.Subscribe.{Subscribe}
-use Rattle.client_base.specs.packet.declared.unsubscribe.Unsubscribe.{Unsubscribe}
-use Rattle.client_base.specs.packet.declared.packet.Packet.TheVariants as packets
-use Rattle.client_base.specs.session_base.declared.publication.Publication.{Publication}
-use Rattle.client_base.specs.session_base.Identifiers.{least_free}
-use Rattle.broker_base.specs.broker_spec.Connection.{ConnectionName}
-use Rattle.broker_base.specs.broker_spec.Place.{Client, Past, Limits}
-use Rattle.broker_base.specs.broker_spec.Past.{current_connection}
-use Rattle.client_base.specs.lists.Lists.{Each}
+use Rattle.packet.specs.declared.subscribe.Subscribe.{Subscribe}
+use Rattle.packet.specs.declared.unsubscribe.Unsubscribe.{Unsubscribe}
+use Rattle.packet.specs.declared.packet.Packet.TheVariants as packets
+use Rattle.session_base.specs.declared.publication.Publication.{Publication}
+use Rattle.session_base.specs.Identifiers.{least_free}
+use Rattle.broker_spec.specs.Connection.{ConnectionName}
+use Rattle.broker_spec.specs.Place.{Client, Past, Limits}
+use Rattle.broker_spec.specs.Past.{current_connection}
+use Rattle.lists.specs.Lists.{Each}
 use Rattle.exactly_once.specs.Handshake.{Backward, Transit}
 use Rattle.exactly_once.specs.HandshakeSteps.HandshakeRun.{stays}
 use Rattle.client_base.specs.Keeper.{Own, Written, Keeper, ids_in_use, next_own_number}

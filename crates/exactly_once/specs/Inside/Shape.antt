@@ -1,12 +1,12 @@
 -- What every story keeps besides its two handshakes, and what is left to show for each event.
 use Rattle.std.specs.Prelude.{◌≡◌, ◌≤◌, ◌⊎◌, ℕ, suc, Bool, true, false, List, [], ◌∷◌, length, Option, Some, None}
-use Rattle.client_base.specs.packet.declared.connack.Connack.TheVariants as connacks
-use Rattle.client_base.specs.packet.declared.packet.Packet.{Packet}
-use Rattle.client_base.specs.packet.declared.packet.Packet.TheVariants as packets
-use Rattle.client_base.specs.lists.Lists.{has_id, IsDistinct, Each}
-use Rattle.broker_base.specs.broker_spec.Connection.{ConnectionName, same_connection}
-use Rattle.broker_base.specs.broker_spec.Place.{Client, Past, Limits, same_client}
-use Rattle.broker_base.specs.broker_spec.Past.{current_connection, session_of}
+use Rattle.packet.specs.declared.connack.Connack.TheVariants as connacks
+use Rattle.packet.specs.declared.packet.Packet.{Packet}
+use Rattle.packet.specs.declared.packet.Packet.TheVariants as packets
+use Rattle.lists.specs.Lists.{has_id, IsDistinct, Each}
+use Rattle.broker_spec.specs.Connection.{ConnectionName, same_connection}
+use Rattle.broker_spec.specs.Place.{Client, Past, Limits, same_client}
+use Rattle.broker_spec.specs.Past.{current_connection, session_of}
 use Rattle.exactly_once.specs.Items.{has_released}
 use Rattle.exactly_once.specs.HandshakeInvariant.{IsGood}
 use Rattle.exactly_once.specs.Sends.{put_to}

@@ -1,5 +1,5 @@
-use Rattle.broker_base.proofs.of_broker_spec.PacketOfNobody.{window_is_steady}
-use Rattle.broker_base.specs.broker_spec.Commands.{usual_limits}
+use Rattle.broker_spec.proofs.PacketOfNobody.{window_is_steady}
+use Rattle.broker_spec.specs.Commands.{usual_limits}
 use Rattle.exactly_once.proofs.sessions.EachSession.{lives_accept}
 use Rattle.exactly_once.proofs.laws.lives_accept_in_each_session.Goals as goal
 

@@ -1,5 +1,5 @@
-use Rattle.broker_base.proofs.of_broker_spec.PacketOfNobody.{window_is_steady}
-use Rattle.broker_base.specs.broker_spec.Commands.{usual_limits}
+use Rattle.broker_spec.proofs.PacketOfNobody.{window_is_steady}
+use Rattle.broker_spec.specs.Commands.{usual_limits}
 use Rattle.exactly_once.proofs.StoriesExact.{told_stories_are_exact}
 use Rattle.exactly_once.proofs.laws.stories_are_exact.Goals as goal
 

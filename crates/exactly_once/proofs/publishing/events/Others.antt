@@ -3,22 +3,22 @@
 use Rattle.std.proofs.Common.{◌≡◌, ℕ, Bool, true, false, if◌then◌else◌, List, [], ◌∷◌, ◌++◌, Option, Some, None, refl, ap, sym, ◌∙◌, subst, inl, inr, ◌⊎◌}
 use Rattle.std.proofs.lemmas.List.{append-nil}
 use Rattle.std.proofs.lemmas.Bool.{cases_Bool}
-use Rattle.client_base.specs.packet.declared.packet.Packet.{Packet}
-use Rattle.client_base.specs.packet.declared.packet.Packet.TheVariants as packets
-use Rattle.client_base.specs.session_base.Publication.{publication_of}
-use Rattle.broker_base.specs.broker_spec.Connection.{ConnectionName, same_connection}
-use Rattle.broker_base.specs.broker_spec.Place.{Client, Mark, Place, Past, Limits, same_client, only_if}
-use Rattle.broker_base.specs.broker_spec.Past.{accepts, ends_any, current_connection}
-use Rattle.broker_base.specs.broker_spec.Owner.{owner_of}
-use Rattle.broker_base.specs.broker_spec.Received.{is_new, is_repeat, receives, received_by, received_of}
-use Rattle.client_base.specs.session_base.Identifiers.{without_id}
-use Rattle.broker_base.specs.broker_spec.Marks.{is_refused, packet_mark, packet_mark_of}
-use Rattle.broker_base.specs.broker_spec.Commands.{place_of}
-use Rattle.broker_base.specs.broker_spec.declared.command.Command.{Command}
-use Rattle.broker_base.specs.broker_spec.declared.command.Command.TheVariants as commands
-use Rattle.broker_base.proofs.of_broker_spec.ClientsInOrder.{same_is}
+use Rattle.packet.specs.declared.packet.Packet.{Packet}
+use Rattle.packet.specs.declared.packet.Packet.TheVariants as packets
+use Rattle.session_base.specs.Publication.{publication_of}
+use Rattle.broker_spec.specs.Connection.{ConnectionName, same_connection}
+use Rattle.broker_spec.specs.Place.{Client, Mark, Place, Past, Limits, same_client, only_if}
+use Rattle.broker_spec.specs.Past.{accepts, ends_any, current_connection}
+use Rattle.broker_spec.specs.Owner.{owner_of}
+use Rattle.broker_spec.specs.Received.{is_new, is_repeat, receives, received_by, received_of}
+use Rattle.session_base.specs.Identifiers.{without_id}
+use Rattle.broker_spec.specs.Marks.{is_refused, packet_mark, packet_mark_of}
+use Rattle.broker_spec.specs.Commands.{place_of}
+use Rattle.broker_spec.specs.declared.command.Command.{Command}
+use Rattle.broker_spec.specs.declared.command.Command.TheVariants as commands
+use Rattle.broker_spec.proofs.ClientsInOrder.{same_is}
 use Rattle.broker_base.proofs.ConnectionsOfSessions.{same_turned}
-use Rattle.client_base.proofs.of_lists.Tests.{or_none}
+use Rattle.lists.proofs.Tests.{or_none}
 use Rattle.exactly_once.specs.Sides.{ClientConnection}
 use Rattle.client_base.specs.Keeper.{Keeper}
 use Rattle.exactly_once.specs.StoryCommands.{any_named, is_packet_of, packet_count, names_client}
@@ -34,7 +34,7 @@ use Rattle.exactly_once.proofs.publishing.Last.{each_last, none_named}
 use Rattle.exactly_once.proofs.publishing.Elsewhere.{connect_none, NoneSent}
 use Rattle.exactly_once.proofs.publishing.PacketAnswers.{packet_none}
 use Rattle.exactly_once.proofs.publishing.AtPlaces.{NoneToLast, come_same, StaysOrLeaves, goes_place}
-use Rattle.broker_base.specs.broker_spec.Answers.{close_outputs}
+use Rattle.broker_spec.specs.Answers.{close_outputs}
 
 -- ---- it carries none of the client's publications
 

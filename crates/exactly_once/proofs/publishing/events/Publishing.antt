@@ -1,10 +1,10 @@
 -- Each event of a story is a run of the handshake in which the client publishes.
 use Rattle.std.proofs.Common.{◌≡◌, true, List, [], ◌∷◌, ◌++◌, Some, refl, sym, subst}
 use Rattle.std.specs.Prelude.{slice_get}
-use Rattle.client_base.specs.packet.declared.packet.Packet.{Packet}
-use Rattle.client_base.specs.packet.declared.packet.Packet.TheVariants as packets
-use Rattle.broker_base.specs.broker_spec.Place.{Limits}
-use Rattle.client_base.specs.lists.Lists.{Each}
+use Rattle.packet.specs.declared.packet.Packet.{Packet}
+use Rattle.packet.specs.declared.packet.Packet.TheVariants as packets
+use Rattle.broker_spec.specs.Place.{Limits}
+use Rattle.lists.specs.Lists.{Each}
 use Rattle.exactly_once.specs.HandshakeInvariant.{IsGood}
 use Rattle.exactly_once.specs.Sends.{put_to}
 use Rattle.exactly_once.specs.Sides.{ClientConnection}

@@ -3,11 +3,11 @@ use Rattle.std.proofs.Common.{◌≡◌, ℕ, zero, suc, Bool, true, false, if�
 use Rattle.std.specs.Prelude.{slice_get}
 use Rattle.std.proofs.lemmas.Bool.{cases_Bool}
 use Rattle.std.proofs.lemmas.List.{append-nil}
-use Rattle.client_base.specs.packet.declared.connack.Connack.TheVariants as connacks
-use Rattle.client_base.specs.packet.declared.packet.Packet.{Packet}
-use Rattle.client_base.specs.packet.declared.packet.Packet.TheVariants as packets
-use Rattle.broker_base.specs.broker_spec.Place.{Past, Limits}
-use Rattle.client_base.specs.lists.Lists.{Each}
+use Rattle.packet.specs.declared.connack.Connack.TheVariants as connacks
+use Rattle.packet.specs.declared.packet.Packet.{Packet}
+use Rattle.packet.specs.declared.packet.Packet.TheVariants as packets
+use Rattle.broker_spec.specs.Place.{Past, Limits}
+use Rattle.lists.specs.Lists.{Each}
 use Rattle.exactly_once.specs.Handshake.{Handshake}
 use Rattle.exactly_once.specs.HandshakeInvariant.{IsGood}
 use Rattle.exactly_once.specs.Sends.{put_to}

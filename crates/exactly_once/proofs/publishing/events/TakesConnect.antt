@@ -2,14 +2,14 @@
 use Rattle.std.proofs.Common.{◌≡◌, ℕ, Bool, true, false, ◌||◌, if◌then◌else◌, nat_lt, List, [], ◌∷◌, length, Option, Some, None, refl, ap, ap₂, sym, ◌∙◌, subst, arith, inl, inr, ◌⊎◌}
 use Rattle.std.specs.Prelude.{slice_get, is_some}
 use Rattle.std.proofs.lemmas.Bool.{both_ways, cases_Bool}
-use Rattle.broker_base.specs.broker_spec.Connection.{ConnectionName, same_connection}
-use Rattle.broker_base.specs.broker_spec.Place.{Client, Mark, Place, Past, Limits, only_if}
-use Rattle.broker_base.specs.broker_spec.Past.{any_connection, current_connection, session_of}
-use Rattle.broker_base.specs.broker_spec.Marks.{connect_mark}
-use Rattle.broker_base.specs.broker_spec.Owner.{clients}
-use Rattle.broker_base.specs.broker_spec.Commands.{place_of}
-use Rattle.broker_base.specs.broker_spec.declared.command.Command.TheVariants as commands
-use Rattle.broker_base.proofs.of_broker_spec.ClientsInOrder.{same_self}
+use Rattle.broker_spec.specs.Connection.{ConnectionName, same_connection}
+use Rattle.broker_spec.specs.Place.{Client, Mark, Place, Past, Limits, only_if}
+use Rattle.broker_spec.specs.Past.{any_connection, current_connection, session_of}
+use Rattle.broker_spec.specs.Marks.{connect_mark}
+use Rattle.broker_spec.specs.Owner.{clients}
+use Rattle.broker_spec.specs.Commands.{place_of}
+use Rattle.broker_spec.specs.declared.command.Command.TheVariants as commands
+use Rattle.broker_spec.proofs.ClientsInOrder.{same_self}
 use Rattle.exactly_once.specs.Handshake.{Handshake}
 use Rattle.exactly_once.specs.Sends.{put_to}
 use Rattle.client_base.specs.Keeper.{Written, Keeper}
@@ -19,7 +19,7 @@ use Rattle.client_base.specs.Connected.{opening_connect}
 use Rattle.exactly_once.specs.Inside.Projections.{last_confirmed, as_publisher, GoesTo}
 use Rattle.exactly_once.specs.Inside.Shape.{HasShape}
 use Rattle.exactly_once.specs.Inside.ConnectionShape.{ConnackFirst, ConnectionInShape}
-use Rattle.broker_base.proofs.of_broker_spec.ConnectionNames.{same_name}
+use Rattle.broker_spec.proofs.ConnectionNames.{same_name}
 use Rattle.exactly_once.proofs.places.Counts.{current_counted}
 use Rattle.exactly_once.proofs.places.After.{current_stays, current_opens, received_stays, received_opens}
 use Rattle.exactly_once.proofs.places.Owned.{none_owns}

@@ -2,13 +2,13 @@
 -- which it continues.
 use Rattle.std.proofs.Common.{◌≡◌, ℕ, suc, Bool, true, false, ◌&&◌, List, [], ◌∷◌, ◌++◌, drop, Option, Some, refl, ap, ap₂, sym, ◌∙◌, subst, inl, inr}
 use Rattle.std.specs.Prelude.{slice_get}
-use Rattle.client_base.specs.lists.Lists.{has_id}
-use Rattle.broker_base.specs.broker_spec.Connection.{ConnectionName, same_connection}
-use Rattle.broker_base.specs.broker_spec.Place.{Mark, Place, Past, Limits}
-use Rattle.broker_base.specs.broker_spec.Past.{any_connection, current_connection, session_of, is_leaving}
-use Rattle.broker_base.specs.broker_spec.Received.{is_new, received_by, received_of}
-use Rattle.broker_base.specs.broker_spec.Answers.{packet_answers}
-use Rattle.broker_base.specs.broker_spec.declared.command.Command.TheVariants as commands
+use Rattle.lists.specs.Lists.{has_id}
+use Rattle.broker_spec.specs.Connection.{ConnectionName, same_connection}
+use Rattle.broker_spec.specs.Place.{Mark, Place, Past, Limits}
+use Rattle.broker_spec.specs.Past.{any_connection, current_connection, session_of, is_leaving}
+use Rattle.broker_spec.specs.Received.{is_new, received_by, received_of}
+use Rattle.broker_spec.specs.Answers.{packet_answers}
+use Rattle.broker_spec.specs.declared.command.Command.TheVariants as commands
 use Rattle.exactly_once.specs.Handshake.{Forward, Backward, Transit, Handshake, answer, receiver_takes, receiver_accepts}
 use Rattle.exactly_once.specs.HandshakeSteps.{HandshakeRun}
 use Rattle.exactly_once.specs.HandshakeSteps.Advances.{takes, takes_alone}
@@ -21,7 +21,7 @@ use Rattle.exactly_once.specs.Inside.Projections.{forward_of_own, forward_of_one
 use Rattle.exactly_once.specs.Inside.Shape.{HasShape}
 use Rattle.exactly_once.specs.Inside.ConnectionShape.{ConnectionInShape}
 use Rattle.exactly_once.proofs.Packets.{at_packet, current_packet}
-use Rattle.broker_base.proofs.of_broker_spec.ConnectionNames.{same_itself}
+use Rattle.broker_spec.proofs.ConnectionNames.{same_itself}
 use Rattle.exactly_once.proofs.places.After.{current_ends, received_live}
 use Rattle.exactly_once.proofs.publishing.Links.{link_by, current_last, forward_last, link_is}
 use Rattle.exactly_once.proofs.publishing.Written.{dropped_next}

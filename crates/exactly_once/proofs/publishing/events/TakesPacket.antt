@@ -2,16 +2,16 @@
 use Rattle.std.proofs.Common.{◌≡◌, ℕ, suc, true, false, List, [], ◌∷◌, Option, Some, None, refl, ap, sym, ◌∙◌, subst, inl, inr, ◌⊎◌}
 use Rattle.std.specs.Prelude.{slice_get, is_some}
 use Rattle.std.proofs.lemmas.Bool.{both_ways, cases_Bool}
-use Rattle.client_base.specs.packet.declared.delivery.Delivery.{Delivery}
-use Rattle.client_base.specs.packet.declared.delivery.Delivery.TheVariants as deliveries
-use Rattle.client_base.specs.packet.declared.packet.Packet.{Packet}
-use Rattle.client_base.specs.packet.declared.packet.Packet.TheVariants as packets
-use Rattle.broker_base.specs.broker_spec.Connection.{ConnectionName, same_connection}
-use Rattle.broker_base.specs.broker_spec.Place.{Client, Mark, Past, Limits}
-use Rattle.broker_base.specs.broker_spec.Past.{current_connection, session_of}
-use Rattle.broker_base.specs.broker_spec.Received.{is_new, received_by, received_of}
-use Rattle.broker_base.specs.broker_spec.Marks.{packet_mark}
-use Rattle.broker_base.specs.broker_spec.declared.command.Command.TheVariants as commands
+use Rattle.packet.specs.declared.delivery.Delivery.{Delivery}
+use Rattle.packet.specs.declared.delivery.Delivery.TheVariants as deliveries
+use Rattle.packet.specs.declared.packet.Packet.{Packet}
+use Rattle.packet.specs.declared.packet.Packet.TheVariants as packets
+use Rattle.broker_spec.specs.Connection.{ConnectionName, same_connection}
+use Rattle.broker_spec.specs.Place.{Client, Mark, Past, Limits}
+use Rattle.broker_spec.specs.Past.{current_connection, session_of}
+use Rattle.broker_spec.specs.Received.{is_new, received_by, received_of}
+use Rattle.broker_spec.specs.Marks.{packet_mark}
+use Rattle.broker_spec.specs.declared.command.Command.TheVariants as commands
 use Rattle.exactly_once.specs.Handshake.{Forward}
 use Rattle.client_base.specs.Keeper.{Written, Keeper}
 use Rattle.exactly_once.specs.Sides.{ClientConnection}
@@ -21,7 +21,7 @@ use Rattle.exactly_once.specs.Inside.Projections.{forward_of_one, last_confirmed
 use Rattle.exactly_once.specs.Inside.Shape.{HasShape, LastIsCurrent}
 use Rattle.exactly_once.specs.Inside.ConnectionShape.{ConnectionInShape, is_two_unnumbered}
 use Rattle.exactly_once.proofs.Packets.{at_packet}
-use Rattle.broker_base.proofs.of_broker_spec.ConnectionNames.{same_itself}
+use Rattle.broker_spec.proofs.ConnectionNames.{same_itself}
 use Rattle.exactly_once.proofs.places.Sessions.{current_has_session}
 use Rattle.exactly_once.proofs.places.After.{IsKeptSession}
 use Rattle.exactly_once.proofs.publishing.First.{story_by}

@@ -1,21 +1,21 @@
 -- The list takes a PUBLISH or a PUBREL of the client's current connection.
 use Rattle.std.proofs.Common.{◌≡◌, ℕ, Bool, true, false, if◌then◌else◌, List, [], ◌∷◌, Option, refl, ap, sym, ◌∙◌, subst}
 use Rattle.std.specs.Prelude.{flat_map}
-use Rattle.client_base.specs.packet.declared.publish.Publish.{Publish}
-use Rattle.client_base.specs.packet.declared.packet.Packet.{Packet}
-use Rattle.client_base.specs.packet.declared.packet.Packet.TheVariants as packets
-use Rattle.client_base.specs.lists.Lists.{has_id}
-use Rattle.client_base.specs.session_base.Publication.{publication_of}
-use Rattle.broker_base.specs.broker_spec.Connection.{ConnectionName}
-use Rattle.broker_base.specs.broker_spec.Place.{Mark, Past, Limits, same_client}
-use Rattle.broker_base.specs.broker_spec.Received.{receives, received_of, is_exactly_once, is_repeat}
-use Rattle.client_base.specs.session_base.Identifiers.{without_id}
-use Rattle.broker_base.specs.broker_spec.Owner.{clients}
-use Rattle.broker_base.specs.broker_spec.Marks.{is_refused, packet_mark}
-use Rattle.broker_base.specs.broker_spec.Sends.{deliveries_to}
-use Rattle.broker_base.specs.broker_spec.Answers.{acknowledged}
-use Rattle.broker_base.specs.broker_spec.declared.command.Output.TheVariants.{Send}
-use Rattle.broker_base.proofs.of_broker_spec.ClientsInOrder.{same_self}
+use Rattle.packet.specs.declared.publish.Publish.{Publish}
+use Rattle.packet.specs.declared.packet.Packet.{Packet}
+use Rattle.packet.specs.declared.packet.Packet.TheVariants as packets
+use Rattle.lists.specs.Lists.{has_id}
+use Rattle.session_base.specs.Publication.{publication_of}
+use Rattle.broker_spec.specs.Connection.{ConnectionName}
+use Rattle.broker_spec.specs.Place.{Mark, Past, Limits, same_client}
+use Rattle.broker_spec.specs.Received.{receives, received_of, is_exactly_once, is_repeat}
+use Rattle.session_base.specs.Identifiers.{without_id}
+use Rattle.broker_spec.specs.Owner.{clients}
+use Rattle.broker_spec.specs.Marks.{is_refused, packet_mark}
+use Rattle.broker_spec.specs.Sends.{deliveries_to}
+use Rattle.broker_spec.specs.Answers.{acknowledged}
+use Rattle.broker_spec.specs.declared.command.Output.TheVariants.{Send}
+use Rattle.broker_spec.proofs.ClientsInOrder.{same_self}
 use Rattle.exactly_once.specs.Handshake.{Forward, Handshake}
 use Rattle.exactly_once.specs.Sends.{sends_to}
 use Rattle.client_base.specs.Keeper.{Written, Keeper}
@@ -23,13 +23,13 @@ use Rattle.exactly_once.specs.Sides.{ClientConnection}
 use Rattle.exactly_once.specs.StoryCommands.{with_one_counted}
 use Rattle.exactly_once.specs.Inside.Projections.{forward_of_one, backward_of_own, as_publisher, GoesTo}
 use Rattle.exactly_once.proofs.Packets.{at_packet, copies_none}
-use Rattle.broker_base.proofs.of_broker_spec.ConnectionNames.{same_itself}
+use Rattle.broker_spec.proofs.ConnectionNames.{same_itself}
 use Rattle.exactly_once.proofs.publishing.kept.Numbers.{same_counted}
 use Rattle.exactly_once.proofs.publishing.First.{story_by}
 use Rattle.exactly_once.proofs.publishing.Elsewhere.{NoneSent, none_both}
 use Rattle.exactly_once.proofs.publishing.AtPlaces.{no_number}
 use Rattle.exactly_once.proofs.publishing.events.TakesOwn.{OnCurrent, after_place, passes, ends_current, takes_one}
-use Rattle.client_base.proofs.of_session_base.KeptIdentifiers.{has_without}
+use Rattle.session_base.proofs.KeptIdentifiers.{has_without}
 
 -- one packet to its own connection
 pub own_send : (x : ConnectionName) (packet : Packet) → sends_to x (Send x packet ∷ []) ≡ packet ∷ []

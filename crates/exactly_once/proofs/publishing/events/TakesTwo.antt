@@ -2,19 +2,19 @@
 use Rattle.std.proofs.Common.{◌≡◌, ℕ, zero, suc, Bool, true, false, ◌||◌, ◌==◌, if◌then◌else◌, List, [], ◌∷◌, ◌++◌, Some, refl, ap, ap₂, sym, ◌∙◌, subst, inl, inr, ◌⊎◌}
 use Rattle.std.specs.Prelude.{slice_get, flat_map}
 use Rattle.std.proofs.lemmas.Bool.{both_ways, cases_Bool}
-use Rattle.client_base.specs.packet.declared.delivery.Delivery.TheVariants as deliveries
-use Rattle.client_base.specs.packet.declared.publish.Publish.{Publish}
-use Rattle.client_base.specs.packet.declared.packet.Packet.TheVariants as packets
-use Rattle.client_base.specs.lists.Lists.{has_id}
-use Rattle.client_base.specs.session_base.Publication.{publication_of}
-use Rattle.broker_base.specs.broker_spec.Connection.{same_connection}
-use Rattle.broker_base.specs.broker_spec.Place.{Client, Mark, Past, Limits}
-use Rattle.broker_base.specs.broker_spec.Received.{receives, received_of}
-use Rattle.broker_base.specs.broker_spec.Owner.{clients}
-use Rattle.broker_base.specs.broker_spec.Marks.{is_refused, packet_mark}
-use Rattle.broker_base.specs.broker_spec.Sends.{deliveries_to}
-use Rattle.broker_base.specs.broker_spec.declared.command.Output.TheVariants.{Send}
-use Rattle.broker_base.proofs.of_broker_spec.ClientsInOrder.{same_self}
+use Rattle.packet.specs.declared.delivery.Delivery.TheVariants as deliveries
+use Rattle.packet.specs.declared.publish.Publish.{Publish}
+use Rattle.packet.specs.declared.packet.Packet.TheVariants as packets
+use Rattle.lists.specs.Lists.{has_id}
+use Rattle.session_base.specs.Publication.{publication_of}
+use Rattle.broker_spec.specs.Connection.{same_connection}
+use Rattle.broker_spec.specs.Place.{Client, Mark, Past, Limits}
+use Rattle.broker_spec.specs.Received.{receives, received_of}
+use Rattle.broker_spec.specs.Owner.{clients}
+use Rattle.broker_spec.specs.Marks.{is_refused, packet_mark}
+use Rattle.broker_spec.specs.Sends.{deliveries_to}
+use Rattle.broker_spec.specs.declared.command.Output.TheVariants.{Send}
+use Rattle.broker_spec.proofs.ClientsInOrder.{same_self}
 use Rattle.exactly_once.specs.Handshake.{Forward, Transit, Handshake, receiver_accepts}
 use Rattle.exactly_once.specs.Sends.{sends_to}
 use Rattle.client_base.specs.Keeper.{Written, Keeper}
@@ -24,8 +24,8 @@ use Rattle.exactly_once.specs.Carried.{connection_named, written_number_at, writ
 use Rattle.exactly_once.specs.Inside.Projections.{backward_of_own, as_publisher, GoesTo}
 use Rattle.exactly_once.specs.Inside.Shape.{NamesApart}
 use Rattle.exactly_once.proofs.Packets.{at_packet, copies_none}
-use Rattle.client_base.proofs.of_session_base.KeptIdentifiers.{has_with}
-use Rattle.broker_base.proofs.of_broker_spec.ConnectionNames.{same_itself}
+use Rattle.session_base.proofs.KeptIdentifiers.{has_with}
+use Rattle.broker_spec.proofs.ConnectionNames.{same_itself}
 use Rattle.exactly_once.proofs.places.Counts.{counted_here}
 use Rattle.exactly_once.proofs.publishing.Last.{each_there, none_named}
 use Rattle.exactly_once.proofs.Deliveries.{sends_append}

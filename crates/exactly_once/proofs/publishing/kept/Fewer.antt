@@ -1,8 +1,8 @@
 -- Identifiers of which some are removed stay distinct.
 use Rattle.std.proofs.Common.{◌≡◌, ℕ, Bool, true, false, not, ◌&&◌, ◌==◌, if◌then◌else◌, List, [], ◌∷◌, ◌++◌, map, filter}
-use Rattle.client_base.specs.lists.Lists.{has_id, IsDistinct}
-use Rattle.client_base.specs.session_base.Publication.{is_acknowledged}
-use Rattle.client_base.proofs.of_lists.Tests.{or_none, none_or}
+use Rattle.lists.specs.Lists.{has_id, IsDistinct}
+use Rattle.session_base.specs.Publication.{is_acknowledged}
+use Rattle.lists.proofs.Tests.{or_none, none_or}
 use Rattle.client_base.specs.Keeper.{Own, ids_of_own}
 use Rattle.client_base.specs.declared.request.Request.{Request}
 use Rattle.client_base.specs.Handshakes.{own_at_puback, own_at_pubrec, own_at_pubcomp}

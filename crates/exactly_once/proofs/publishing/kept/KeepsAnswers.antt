@@ -1,22 +1,22 @@
 -- PUBACK, PUBREC and PUBCOMP keep the shape of a client's publications.
 use Rattle.std.proofs.Common.{◌≡◌, ℕ, Bool, true, false, not, ◌&&◌, ◌||◌, ◌==◌, if◌then◌else◌, List, [], ◌∷◌, ◌++◌, map, refl, ap, sym, ◌∙◌, inl, length}
 use Rattle.std.proofs.lemmas.Bool.{both_ways}
-use Rattle.client_base.specs.session_base.Publication.{is_acknowledged}
-use Rattle.client_base.specs.lists.Lists.{IsDistinct}
+use Rattle.session_base.specs.Publication.{is_acknowledged}
+use Rattle.lists.specs.Lists.{IsDistinct}
 use Rattle.exactly_once.specs.Items.{busy, has_sent, has_released}
-use Rattle.client_base.proofs.of_lists.Identifiers.{has_append, distinct_front, distinct_push}
+use Rattle.lists.proofs.Identifiers.{has_append, distinct_front, distinct_push}
 use Rattle.exactly_once.proofs.BusyIdentifiers.{sent_not_released}
 use Rattle.client_base.specs.Keeper.{Own, Keeper, ids_of_own, ids_in_use}
 use Rattle.client_base.specs.State.{id_of_request}
 use Rattle.client_base.specs.Handshakes.{own_at_puback, own_at_pubrec, own_at_pubcomp}
-use Rattle.client_base.specs.session_base.Identifiers.{without_id}
+use Rattle.session_base.specs.Identifiers.{without_id}
 use Rattle.exactly_once.specs.Inside.Projections.{items_of_own}
 use Rattle.exactly_once.specs.Inside.Shape.{OwnInShape, none_unsent}
 use Rattle.exactly_once.proofs.publishing.Own.{items_acknowledged, items_released, items_finished}
 use Rattle.exactly_once.proofs.publishing.kept.Fewer.{fewer_itself, fewer_both, fewer_distinct, fewer_puback, fewer_pubrec, fewer_pubcomp, fewer_filtered, IsFewer}
 use Rattle.exactly_once.proofs.publishing.Releases.{released_finished, released_more}
 use Rattle.exactly_once.proofs.publishing.kept.Numbered.{numbered_puback, numbered_pubcomp, numbered_pubrec}
-use Rattle.client_base.proofs.of_session_base.KeptIdentifiers.{has_without}
+use Rattle.session_base.proofs.KeptIdentifiers.{has_without}
 
 -- an answer makes none unsent
 unsent_by : (g : Own → Own) (own : List Own) → ((o : Own) → none_unsent (o ∷ []) ≡ true → none_unsent (g o ∷ []) ≡ true) → none_unsent own ≡ true → none_unsent (map g own) ≡ true

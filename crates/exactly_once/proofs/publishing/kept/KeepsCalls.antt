@@ -3,16 +3,16 @@ use Rattle.std.proofs.Common.{◌≡◌, ℕ, Bool, true, false, if◌then◌els
 use Rattle.std.specs.Prelude.{slice_get}
 use Rattle.std.proofs.lemmas.List.{map-append, append-nil}
 use Rattle.std.proofs.lemmas.Bool.{both_ways}
-use Rattle.client_base.specs.packet.declared.packet.Packet.{Packet}
-use Rattle.client_base.specs.session_base.declared.publication.Publication.{Publication}
-use Rattle.client_base.specs.session_base.Identifiers.{least_free}
-use Rattle.client_base.specs.session_base.Publication.{is_answered}
-use Rattle.broker_base.specs.broker_spec.Place.{Limits}
-use Rattle.client_base.specs.lists.Lists.{has_id, IsDistinct}
-use Rattle.broker_base.proofs.of_broker_spec.LeastFree.{least-is-free}
+use Rattle.packet.specs.declared.packet.Packet.{Packet}
+use Rattle.session_base.specs.declared.publication.Publication.{Publication}
+use Rattle.session_base.specs.Identifiers.{least_free}
+use Rattle.session_base.specs.Publication.{is_answered}
+use Rattle.broker_spec.specs.Place.{Limits}
+use Rattle.lists.specs.Lists.{has_id, IsDistinct}
+use Rattle.broker_spec.proofs.LeastFree.{least-is-free}
 use Rattle.exactly_once.specs.Items.{SenderItem, has_released}
 use Rattle.exactly_once.specs.HandshakeInvariant.{IsGood}
-use Rattle.client_base.proofs.of_lists.Identifiers.{has_split, distinct_insert, distinct_push}
+use Rattle.lists.proofs.Identifiers.{has_split, distinct_insert, distinct_push}
 use Rattle.exactly_once.specs.Sends.{put_to}
 use Rattle.client_base.specs.Keeper.{Own, Keeper, ids_of_own, ids_in_use, next_own_number}
 use Rattle.client_base.specs.declared.request.Request.{Request}

@@ -1,8 +1,8 @@
 -- Losses, requests and a CONNACK 0 keep the shape of a client's publications.
 use Rattle.std.proofs.Common.{ℕ, Bool, true, false, if◌then◌else◌, List, [], ◌∷◌, ◌++◌, map, filter, refl, ◌∙◌, subst, length}
 use Rattle.std.proofs.lemmas.Bool.{both_ways}
-use Rattle.client_base.specs.lists.Lists.{IsDistinct}
-use Rattle.client_base.proofs.of_lists.Identifiers.{distinct_after}
+use Rattle.lists.specs.Lists.{IsDistinct}
+use Rattle.lists.proofs.Identifiers.{distinct_after}
 use Rattle.client_base.specs.declared.request.Request.{Request}
 use Rattle.client_base.specs.Keeper.{Keeper, ids_of_own, ids_in_use}
 use Rattle.client_base.specs.State.{id_of_request}

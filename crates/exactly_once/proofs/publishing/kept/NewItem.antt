@@ -1,11 +1,11 @@
 -- A client's publications with one more after them, as items of a handshake.
 use Rattle.std.proofs.Common.{◌≡◌, ℕ, Bool, true, false, if◌then◌else◌, List, [], ◌∷◌, ◌++◌, map, refl, ap}
 use Rattle.std.proofs.lemmas.Bool.{both_ways}
-use Rattle.client_base.specs.session_base.Identifiers.{least_free}
-use Rattle.broker_base.proofs.of_broker_spec.LeastFree.{least-is-free}
+use Rattle.session_base.specs.Identifiers.{least_free}
+use Rattle.broker_spec.proofs.LeastFree.{least-is-free}
 use Rattle.exactly_once.specs.Items.{SenderItem, busy}
-use Rattle.client_base.specs.lists.Lists.{has_id}
-use Rattle.client_base.proofs.of_lists.Identifiers.{has_split}
+use Rattle.lists.specs.Lists.{has_id}
+use Rattle.lists.proofs.Identifiers.{has_split}
 use Rattle.client_base.specs.Keeper.{Own, Keeper, ids_of_own, ids_in_use}
 use Rattle.client_base.specs.State.{id_of_request}
 use Rattle.exactly_once.specs.Carried.{is_two}

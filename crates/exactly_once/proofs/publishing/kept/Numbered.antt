@@ -1,10 +1,10 @@
 -- The answers keep the numbers of a client's publications, and what a PUBREC releases is of QoS 2.
 use Rattle.std.proofs.Common.{◌≡◌, ℕ, suc, Bool, true, false, not, ◌&&◌, ◌==◌, if◌then◌else◌, List, [], ◌∷◌, map, refl, ap, sym, ◌∙◌, subst, inl, inr, ◌⊎◌}
 use Rattle.std.proofs.lemmas.Bool.{both_ways, cases_Bool}
-use Rattle.client_base.specs.session_base.Publication.{is_acknowledged}
-use Rattle.client_base.specs.lists.Lists.{has_id, IsDistinct}
+use Rattle.session_base.specs.Publication.{is_acknowledged}
+use Rattle.lists.specs.Lists.{has_id, IsDistinct}
 use Rattle.exactly_once.specs.Items.{SenderItem, busy, has_sent}
-use Rattle.client_base.proofs.of_lists.Tests.{or_none, or_second, eq_is}
+use Rattle.lists.proofs.Tests.{or_none, or_second, eq_is}
 use Rattle.exactly_once.proofs.BusyIdentifiers.{sent_busy}
 use Rattle.client_base.specs.Keeper.{Own, ids_of_own}
 use Rattle.client_base.specs.Handshakes.{own_at_pubrec, own_at_puback, own_at_pubcomp}

@@ -1,15 +1,15 @@
 -- A packet that is not of this client's connections comes next in the list.
 use Rattle.std.proofs.Common.{◌≡◌, true, false, List, length, Option, Some, None, refl, sym, ◌∙◌, subst, ◌⊎◌, inl, inr}
 use Rattle.std.proofs.lemmas.Bool.{both_ways, cases_Bool}
-use Rattle.client_base.specs.packet.declared.packet.Packet.{Packet}
-use Rattle.broker_base.specs.broker_spec.Connection.{ConnectionName, same_connection}
-use Rattle.broker_base.specs.broker_spec.Place.{Client, same_client, Mark, Limits}
-use Rattle.broker_base.specs.broker_spec.Past.{current_connection}
-use Rattle.broker_base.specs.broker_spec.Owner.{owner_of}
-use Rattle.broker_base.specs.broker_spec.Marks.{packet_mark, packet_mark_of}
-use Rattle.broker_base.specs.broker_spec.Times.{entries_of}
-use Rattle.broker_base.specs.broker_spec.NobodyLaws.{IsSteady}
-use Rattle.broker_base.proofs.of_broker_spec.ClientsInOrder.{same_is}
+use Rattle.packet.specs.declared.packet.Packet.{Packet}
+use Rattle.broker_spec.specs.Connection.{ConnectionName, same_connection}
+use Rattle.broker_spec.specs.Place.{Client, same_client, Mark, Limits}
+use Rattle.broker_spec.specs.Past.{current_connection}
+use Rattle.broker_spec.specs.Owner.{owner_of}
+use Rattle.broker_spec.specs.Marks.{packet_mark, packet_mark_of}
+use Rattle.broker_spec.specs.Times.{entries_of}
+use Rattle.broker_spec.specs.NobodyLaws.{IsSteady}
+use Rattle.broker_spec.proofs.ClientsInOrder.{same_is}
 use Rattle.broker_base.proofs.ConnectionsOfSessions.{same_turned}
 use Rattle.exactly_once.specs.Sides.{ClientConnection}
 use Rattle.exactly_once.specs.Story.{Story}

@@ -1,15 +1,15 @@
 -- Another command comes next in the list.
 use Rattle.std.proofs.Common.{◌≡◌, ℕ, true, false, ◌||◌, [], ◌∷◌, Option, Some, None, refl, ap, sym, ◌∙◌, ◌⊎◌, inl, inr}
 use Rattle.std.proofs.lemmas.Bool.{cases_Bool}
-use Rattle.broker_base.specs.broker_spec.Connection.{ConnectionName}
-use Rattle.broker_base.specs.broker_spec.Place.{Client, Mark, Place, Past, Limits}
-use Rattle.broker_base.specs.broker_spec.Past.{ends_any, current_connection}
-use Rattle.broker_base.specs.broker_spec.Owner.{owner_of}
-use Rattle.broker_base.specs.broker_spec.Marks.{mark_of}
-use Rattle.broker_base.specs.broker_spec.Commands.{place_of}
-use Rattle.broker_base.specs.broker_spec.NobodyLaws.{IsSteady}
-use Rattle.broker_base.specs.broker_spec.declared.command.Command.{Command}
-use Rattle.broker_base.specs.broker_spec.declared.command.Command.TheVariants as commands
+use Rattle.broker_spec.specs.Connection.{ConnectionName}
+use Rattle.broker_spec.specs.Place.{Client, Mark, Place, Past, Limits}
+use Rattle.broker_spec.specs.Past.{ends_any, current_connection}
+use Rattle.broker_spec.specs.Owner.{owner_of}
+use Rattle.broker_spec.specs.Marks.{mark_of}
+use Rattle.broker_spec.specs.Commands.{place_of}
+use Rattle.broker_spec.specs.NobodyLaws.{IsSteady}
+use Rattle.broker_spec.specs.declared.command.Command.{Command}
+use Rattle.broker_spec.specs.declared.command.Command.TheVariants as commands
 use Rattle.exactly_once.specs.Sends.{sends_to}
 use Rattle.exactly_once.specs.Story.{Story}
 use Rattle.exactly_once.specs.StoryCommands.{names_client, is_packet_of, any_named}
@@ -27,7 +27,7 @@ use Rattle.exactly_once.proofs.subscribing.places.Quiet.{current_same, current_o
 use Rattle.exactly_once.proofs.places.Spared.{other_spares}
 use Rattle.exactly_once.proofs.places.After.{IsSpared, none_opens}
 use Rattle.broker_base.proofs.QuietPasts.{no_connection}
-use Rattle.broker_base.specs.broker_spec.Answers.{close_outputs}
+use Rattle.broker_spec.specs.Answers.{close_outputs}
 
 -- a connection's loss
 abbrev pub at_lost : ConnectionName → Place

@@ -2,18 +2,18 @@
 use Rattle.std.proofs.Common.{◌≡◌, ℕ, suc, Bool, true, false, if◌then◌else◌, List, [], ◌∷◌, length, Option, Some, None, refl, ap, sym, ◌∙◌, subst, ◌⊎◌, inl, inr}
 use Rattle.std.specs.Prelude.{slice_get}
 use Rattle.std.proofs.lemmas.Bool.{both_ways, cases_Bool}
-use Rattle.client_base.specs.packet.declared.packet.Packet.{Packet}
-use Rattle.client_base.specs.packet.declared.packet.Packet.TheVariants as packets
-use Rattle.broker_base.specs.broker_spec.Connection.{ConnectionName, same_connection}
-use Rattle.broker_base.specs.broker_spec.Place.{Client, Mark, Past, Limits}
-use Rattle.broker_base.specs.broker_spec.Past.{any_connection, current_connection}
-use Rattle.broker_base.specs.broker_spec.Owner.{clients, first_client, owner_of}
-use Rattle.broker_base.specs.broker_spec.Subscriptions.{subscriptions_of}
-use Rattle.broker_base.specs.broker_spec.Retained.{retained_publications}
-use Rattle.broker_base.specs.broker_spec.Marks.{grants, packet_mark, packet_mark_of}
-use Rattle.broker_base.specs.broker_spec.Times.{entries_of, room_of}
-use Rattle.broker_base.specs.broker_spec.NobodyLaws.{IsSteady}
-use Rattle.broker_base.proofs.of_broker_spec.ClientsInOrder.{same_is, IsNamed}
+use Rattle.packet.specs.declared.packet.Packet.{Packet}
+use Rattle.packet.specs.declared.packet.Packet.TheVariants as packets
+use Rattle.broker_spec.specs.Connection.{ConnectionName, same_connection}
+use Rattle.broker_spec.specs.Place.{Client, Mark, Past, Limits}
+use Rattle.broker_spec.specs.Past.{any_connection, current_connection}
+use Rattle.broker_spec.specs.Owner.{clients, first_client, owner_of}
+use Rattle.broker_spec.specs.Subscriptions.{subscriptions_of}
+use Rattle.broker_spec.specs.Retained.{retained_publications}
+use Rattle.broker_spec.specs.Marks.{grants, packet_mark, packet_mark_of}
+use Rattle.broker_spec.specs.Times.{entries_of, room_of}
+use Rattle.broker_spec.specs.NobodyLaws.{IsSteady}
+use Rattle.broker_spec.proofs.ClientsInOrder.{same_is, IsNamed}
 use Rattle.exactly_once.specs.HandshakeInvariant.{IsGood}
 use Rattle.client_base.specs.Keeper.{Written}
 use Rattle.exactly_once.specs.Sides.{ClientConnection}

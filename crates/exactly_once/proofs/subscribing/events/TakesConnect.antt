@@ -1,16 +1,16 @@
 -- The CONNECT of one of the client's connections, by what happens to it.
 use Rattle.std.proofs.Common.{◌≡◌, ℕ, Bool, true, false, ◌||◌, nat_lt, if◌then◌else◌, [], ◌∷◌, length, Option, Some, None, is_some, refl, ap, sym, ◌∙◌, ◌⊎◌, inl, inr, arith}
 use Rattle.std.proofs.lemmas.Bool.{both_ways}
-use Rattle.client_base.specs.packet_base.declared.refusal_code.RefusalCode.TheVariants as refusals
-use Rattle.client_base.specs.packet.declared.connack.Connack.TheVariants as connacks
-use Rattle.client_base.specs.packet.declared.packet.Packet.TheVariants as packets
-use Rattle.broker_base.specs.broker_spec.Connection.{ConnectionName}
-use Rattle.broker_base.specs.broker_spec.Place.{Client, Mark, Place, Past, Limits}
-use Rattle.broker_base.specs.broker_spec.Past.{ends_any, current_connection, session_of}
-use Rattle.broker_base.specs.broker_spec.Owner.{clients, owner_of}
-use Rattle.broker_base.specs.broker_spec.Marks.{connect_mark}
-use Rattle.broker_base.specs.broker_spec.AnswersInOrder.{answers_at}
-use Rattle.broker_base.specs.broker_spec.declared.command.Output.TheVariants.{Close}
+use Rattle.packet_base.specs.declared.refusal_code.RefusalCode.TheVariants as refusals
+use Rattle.packet.specs.declared.connack.Connack.TheVariants as connacks
+use Rattle.packet.specs.declared.packet.Packet.TheVariants as packets
+use Rattle.broker_spec.specs.Connection.{ConnectionName}
+use Rattle.broker_spec.specs.Place.{Client, Mark, Place, Past, Limits}
+use Rattle.broker_spec.specs.Past.{ends_any, current_connection, session_of}
+use Rattle.broker_spec.specs.Owner.{clients, owner_of}
+use Rattle.broker_spec.specs.Marks.{connect_mark}
+use Rattle.broker_spec.specs.AnswersInOrder.{answers_at}
+use Rattle.broker_spec.specs.declared.command.Output.TheVariants.{Close}
 use Rattle.broker_base.proofs.QuietPasts.{no_connection, entries_none}
 use Rattle.exactly_once.specs.Handshake.{Transit, with_items}
 use Rattle.exactly_once.specs.HandshakeSteps.Advances.{parts_ahead}

@@ -3,21 +3,21 @@
 use Rattle.std.proofs.Common.{◌≡◌, ◌≤◌, ℕ, suc, Bool, true, false, not, if◌then◌else◌, List, [], ◌∷◌, ◌++◌, length, map, Option, Some, None, refl, ap, sym, ◌∙◌, subst, ◌⊎◌, inl, inr, arith}
 use Rattle.std.proofs.lemmas.List.{append-nil}
 use Rattle.std.proofs.lemmas.Bool.{both_ways}
-use Rattle.client_base.specs.packet.declared.connack.Connack.TheVariants as connacks
-use Rattle.client_base.specs.packet.declared.packet.Packet.TheVariants as packets
-use Rattle.broker_base.specs.broker_spec.Connection.{ConnectionName, same_connection}
-use Rattle.broker_base.specs.broker_spec.Place.{Client, same_client, Mark, Place, Past, Limits, only_if}
-use Rattle.broker_base.specs.broker_spec.Past.{accepts, expels, ends_any, newest_connection, newest_session, is_beginning, current_connection, session_of, begins, in_session}
-use Rattle.broker_base.specs.broker_spec.Entries.{Entry}
-use Rattle.broker_base.specs.broker_spec.Readings.{released_below}
-use Rattle.broker_base.specs.broker_spec.Times.{start_all, started, window_at, entries_of}
-use Rattle.broker_base.specs.broker_spec.Sends.{resent_outputs}
-use Rattle.broker_base.specs.broker_spec.Answers.{welcome}
-use Rattle.broker_base.specs.broker_spec.AnswersInOrder.{answers_at}
-use Rattle.broker_base.specs.broker_spec.declared.command.Command.{Command}
-use Rattle.broker_base.specs.broker_spec.declared.command.Command.TheVariants as commands
-use Rattle.broker_base.proofs.of_broker_spec.ClientsInOrder.{same_self}
-use Rattle.broker_base.proofs.of_broker_spec.EntriesStartedBefore.{before_below}
+use Rattle.packet.specs.declared.connack.Connack.TheVariants as connacks
+use Rattle.packet.specs.declared.packet.Packet.TheVariants as packets
+use Rattle.broker_spec.specs.Connection.{ConnectionName, same_connection}
+use Rattle.broker_spec.specs.Place.{Client, same_client, Mark, Place, Past, Limits, only_if}
+use Rattle.broker_spec.specs.Past.{accepts, expels, ends_any, newest_connection, newest_session, is_beginning, current_connection, session_of, begins, in_session}
+use Rattle.broker_spec.specs.Entries.{Entry}
+use Rattle.broker_spec.specs.Readings.{released_below}
+use Rattle.broker_spec.specs.Times.{start_all, started, window_at, entries_of}
+use Rattle.broker_spec.specs.Sends.{resent_outputs}
+use Rattle.broker_spec.specs.Answers.{welcome}
+use Rattle.broker_spec.specs.AnswersInOrder.{answers_at}
+use Rattle.broker_spec.specs.declared.command.Command.{Command}
+use Rattle.broker_spec.specs.declared.command.Command.TheVariants as commands
+use Rattle.broker_spec.proofs.ClientsInOrder.{same_self}
+use Rattle.broker_spec.proofs.EntriesStartedBefore.{before_below}
 use Rattle.broker_base.proofs.QueueAfter.{sound_entries}
 use Rattle.exactly_once.specs.Handshake.{publishing, sender_resends}
 use Rattle.exactly_once.specs.Sends.{sends_to}

@@ -1,17 +1,17 @@
 -- What an answer of the client does to its entries, and what its place sends.
 use Rattle.std.proofs.Common.{◌≡◌, ℕ, suc, Bool, true, false, not, ◌&&◌, ◌||◌, ◌==◌, if◌then◌else◌, List, [], ◌∷◌, ◌++◌, map, None, refl, ap, sym, ◌∙◌, ◌⊎◌, inl, inr}
 use Rattle.std.proofs.lemmas.Bool.{both_ways, cases_Bool}
-use Rattle.client_base.specs.packet.packet_base.declared.qos.QoS.{QoS}
-use Rattle.client_base.specs.packet.packet_base.declared.qos.QoS.TheVariants as qualities
-use Rattle.client_base.specs.session_base.declared.publication.Publication.{Publication}
-use Rattle.client_base.specs.session_base.Publication.{is_acknowledged}
-use Rattle.client_base.specs.lists.Lists.{has_id}
-use Rattle.broker_base.specs.broker_spec.Entries.{Entry}
-use Rattle.broker_base.specs.broker_spec.Readings.{released_at}
-use Rattle.broker_base.specs.broker_spec.Times.{at_puback, at_pubrec}
-use Rattle.broker_base.proofs.of_broker_spec.NothingWaits.{IsFull}
+use Rattle.packet_base.specs.declared.qos.QoS.{QoS}
+use Rattle.packet_base.specs.declared.qos.QoS.TheVariants as qualities
+use Rattle.session_base.specs.declared.publication.Publication.{Publication}
+use Rattle.session_base.specs.Publication.{is_acknowledged}
+use Rattle.lists.specs.Lists.{has_id}
+use Rattle.broker_spec.specs.Entries.{Entry}
+use Rattle.broker_spec.specs.Readings.{released_at}
+use Rattle.broker_spec.specs.Times.{at_puback, at_pubrec}
+use Rattle.broker_spec.proofs.NothingWaits.{IsFull}
 use Rattle.exactly_once.specs.Items.{SenderItem, has_sent}
-use Rattle.client_base.proofs.of_lists.Tests.{or_right, or_left, eq_same}
+use Rattle.lists.proofs.Tests.{or_right, or_left, eq_same}
 use Rattle.exactly_once.specs.Carried.{is_two}
 use Rattle.exactly_once.specs.Inside.AsSubscriber.{items_of_entries, two_item}
 use Rattle.exactly_once.proofs.Items.{AllQueued}

@@ -1,11 +1,11 @@
 -- What a place that leaves a client without a connection leaves of its entries.
 use Rattle.std.proofs.Common.{◌≡◌, ℕ, Bool, true, false, List, [], ◌∷◌, ◌++◌, length, map, Option, Some, None, refl, ap₂, sym, ◌∙◌, ◌⊎◌, inl, inr}
 use Rattle.std.proofs.lemmas.List.{append-nil}
-use Rattle.broker_base.specs.broker_spec.Connection.{ConnectionName}
-use Rattle.broker_base.specs.broker_spec.Place.{Client, Place, Past, Limits}
-use Rattle.broker_base.specs.broker_spec.Past.{accepts, expels, ends_any, newest_session, is_beginning, current_connection, session_of, in_session}
-use Rattle.broker_base.specs.broker_spec.Entries.{Entry, copies_at, queued}
-use Rattle.broker_base.specs.broker_spec.Times.{answered_by, started, window_at, entries_of}
+use Rattle.broker_spec.specs.Connection.{ConnectionName}
+use Rattle.broker_spec.specs.Place.{Client, Place, Past, Limits}
+use Rattle.broker_spec.specs.Past.{accepts, expels, ends_any, newest_session, is_beginning, current_connection, session_of, in_session}
+use Rattle.broker_spec.specs.Entries.{Entry, copies_at, queued}
+use Rattle.broker_spec.specs.Times.{answered_by, started, window_at, entries_of}
 use Rattle.broker_base.proofs.QuietPasts.{entries_none}
 use Rattle.exactly_once.proofs.subscribing.places.Quiet.{no_entries}
 

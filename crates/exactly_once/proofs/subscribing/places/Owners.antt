@@ -1,11 +1,11 @@
 -- Whose current connection a connection is.
 use Rattle.std.proofs.Common.{◌≡◌, Bool, true, false, if◌then◌else◌, List, [], ◌∷◌, filter, Option, Some, None, is_some, refl, ap, sym, ◌∙◌, subst, ◌⊎◌, inl, inr}
 use Rattle.std.proofs.lemmas.Bool.{both_ways, cases_Bool}
-use Rattle.broker_base.specs.broker_spec.Connection.{ConnectionName, same_connection}
-use Rattle.broker_base.specs.broker_spec.Place.{Client, Past}
-use Rattle.broker_base.specs.broker_spec.Past.{any_connection, current_connection, session_of}
-use Rattle.broker_base.specs.broker_spec.Owner.{named, clients, first_client, owner_of}
-use Rattle.broker_base.proofs.of_broker_spec.ClientsInOrder.{IsAbove, Rising, rising_named, IsNamed, session_is_named}
+use Rattle.broker_spec.specs.Connection.{ConnectionName, same_connection}
+use Rattle.broker_spec.specs.Place.{Client, Past}
+use Rattle.broker_spec.specs.Past.{any_connection, current_connection, session_of}
+use Rattle.broker_spec.specs.Owner.{named, clients, first_client, owner_of}
+use Rattle.broker_spec.proofs.ClientsInOrder.{IsAbove, Rising, rising_named, IsNamed, session_is_named}
 use Rattle.broker_base.proofs.QuietPasts.{no_connection}
 use Rattle.exactly_once.proofs.subscribing.events.Leaving.{same_name}
 

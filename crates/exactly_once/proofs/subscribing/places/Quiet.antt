@@ -1,14 +1,14 @@
 -- What a place that opens and ends nothing of a client leaves of its connection and its entries.
 use Rattle.std.proofs.Common.{◌≡◌, ◌≤◌, ℕ, Bool, true, false, nat_lt, if◌then◌else◌, List, [], ◌∷◌, ◌++◌, length, map, Option, Some, None, refl, ap, ap₂, sym, subst, ◌⊎◌, inl, inr, arith}
-use Rattle.client_base.specs.session_base.Identifiers.{least_free}
-use Rattle.broker_base.specs.broker_spec.Connection.{ConnectionName}
-use Rattle.broker_base.specs.broker_spec.Place.{Client, Place, Past, Limits}
-use Rattle.broker_base.specs.broker_spec.Past.{accepts, ends_any, newest_connection, current_connection, session_of, begins, in_session}
-use Rattle.broker_base.specs.broker_spec.Entries.{Entry, copies_at, queued}
-use Rattle.broker_base.specs.broker_spec.Times.{answered_by, start_all, started, window_at, entries_of}
-use Rattle.broker_base.specs.broker_spec.Commands.{is_start}
-use Rattle.broker_base.specs.broker_spec.NobodyLaws.{IsSteady}
-use Rattle.broker_base.proofs.of_broker_spec.NothingWaits.{IsFull, full-at}
+use Rattle.session_base.specs.Identifiers.{least_free}
+use Rattle.broker_spec.specs.Connection.{ConnectionName}
+use Rattle.broker_spec.specs.Place.{Client, Place, Past, Limits}
+use Rattle.broker_spec.specs.Past.{accepts, ends_any, newest_connection, current_connection, session_of, begins, in_session}
+use Rattle.broker_spec.specs.Entries.{Entry, copies_at, queued}
+use Rattle.broker_spec.specs.Times.{answered_by, start_all, started, window_at, entries_of}
+use Rattle.broker_spec.specs.Commands.{is_start}
+use Rattle.broker_spec.specs.NobodyLaws.{IsSteady}
+use Rattle.broker_spec.proofs.NothingWaits.{IsFull, full-at}
 use Rattle.exactly_once.proofs.Starts.{rows_started}
 use Rattle.exactly_once.proofs.subscribing.Adding.{rows_at}
 
