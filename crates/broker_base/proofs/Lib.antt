@@ -52,4 +52,3 @@ pub use Rattle.broker_spec.proofs.SentToLive
 pub use Rattle.broker_spec.proofs.CopiesAreUnasked
 pub use Rattle.broker_spec.proofs.EntersWhereTaken
 pub use Rattle.broker_spec.proofs.EntersAsPublished
-pub use Rattle.broker_spec.proofs as of_broker_spec

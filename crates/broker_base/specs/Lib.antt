@@ -45,4 +45,3 @@ pub use Rattle.broker_spec.specs.declared.command.Command
 pub use Rattle.broker_spec.specs.declared.command.Output
 pub use Rattle.broker_spec.specs.declared.connection_name.ConnectionName
 pub use Rattle.broker_spec.specs.declared.sized_packet.SizedPacket
-pub use Rattle.broker_spec.specs as broker_spec

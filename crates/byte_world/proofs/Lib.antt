@@ -18,12 +18,5 @@ pub mod SessionsKept
 pub mod NodeCallsCarry
 pub use Rattle.node_group.proofs.of_broker_base as of_broker_base
 pub use Rattle.node_group.proofs.of_broker_form as of_broker_form
-pub use Rattle.node_group.proofs.of_broker_spec as of_broker_spec
-pub use Rattle.node_group.proofs.of_client_base as of_client_base
-pub use Rattle.node_group.proofs.of_exactly_once as of_exactly_once
-pub use Rattle.node_group.proofs.of_lists as of_lists
 pub use Rattle.node_group.proofs as of_node_group
 pub use Rattle.node_group.proofs.of_node_moves as of_node_moves
-pub use Rattle.node_group.proofs.of_packet as of_packet
-pub use Rattle.node_group.proofs.of_packet_world as of_packet_world
-pub use Rattle.node_group.proofs.of_snapshots as of_snapshots

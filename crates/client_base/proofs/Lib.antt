@@ -15,6 +15,4 @@ pub mod IdentifiersApart
 pub mod IdentifiersStay
 pub mod IdentifiersOfRuns
 pub use Rattle.session_base.proofs.of_lists as of_lists
-pub use Rattle.session_base.proofs.of_packet as of_packet
-pub use Rattle.session_base.proofs.of_packet_base as of_packet_base
 pub use Rattle.session_base.proofs as of_session_base

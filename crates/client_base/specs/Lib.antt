@@ -16,6 +16,4 @@ pub mod HistoryLaws
 pub mod IdentifierLaws
 pub mod OrderLaws
 pub use Rattle.session_base.specs.lists as lists
-pub use Rattle.session_base.specs.packet as packet
-pub use Rattle.session_base.specs.packet_base as packet_base
 pub use Rattle.session_base.specs as session_base

@@ -36,7 +36,6 @@ pub mod Exact
 pub mod Repeats
 pub use Rattle.broker_base.proofs as of_broker_base
 pub use Rattle.broker_spec.proofs as of_broker_spec
-pub use Rattle.client_base.proofs as of_client_base
 pub use Rattle.lists.proofs as of_lists
 pub use Rattle.packet.proofs as of_packet
 pub use Rattle.packet_base.proofs as of_packet_base

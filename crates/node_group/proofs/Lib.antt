@@ -25,7 +25,6 @@ pub mod CarriedInOrder
 pub use Rattle.packet_world.proofs.of_broker_base as of_broker_base
 pub use Rattle.packet_world.proofs.of_broker_form as of_broker_form
 pub use Rattle.packet_world.proofs.of_broker_spec as of_broker_spec
-pub use Rattle.packet_world.proofs.of_client_base as of_client_base
 pub use Rattle.packet_world.proofs.of_exactly_once as of_exactly_once
 pub use Rattle.packet_world.proofs.of_lists as of_lists
 pub use Rattle.node_moves.proofs as of_node_moves

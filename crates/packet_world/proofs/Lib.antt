@@ -22,7 +22,6 @@ pub use Rattle.snapshots.proofs.of_agreement as of_agreement
 pub use Rattle.exactly_once.proofs.of_broker_base as of_broker_base
 pub use Rattle.broker_form.proofs as of_broker_form
 pub use Rattle.exactly_once.proofs.of_broker_spec as of_broker_spec
-pub use Rattle.exactly_once.proofs.of_client_base as of_client_base
 pub use Rattle.exactly_once.proofs as of_exactly_once
 pub use Rattle.snapshots.proofs.of_lists as of_lists
 pub use Rattle.exactly_once.proofs.of_packet as of_packet

@@ -24,5 +24,3 @@ pub mod FollowRead
 pub mod Writable
 pub mod Spelled
 pub use Rattle.lists.proofs as of_lists
-pub use Rattle.packet.proofs as of_packet
-pub use Rattle.packet_base.proofs as of_packet_base
