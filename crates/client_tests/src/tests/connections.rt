@@ -16,8 +16,8 @@ fn after_publish(alloc: Global, bytes: &[u8]) -> Result<Vec<u8>, AllocError> {
 
 // Says whether this piece, a PUBLISH and more, ends the connection, and the PUBLISH stays
 // accepted.
-fn is_the_end(alloc: Global, piece: &[u8], cause: ClientError) -> Result<bool, Fault> {
-    let rows: [Row<'_>; 4] = [
+fn is_the_end<'a>(alloc: Global, piece: &'a [u8], cause: ClientError) -> Result<bool, Fault<'a>> {
+    let rows: [Row<'a>; 4] = [
         (Act::Open, None, CONNECT, 0, 0),
         (Act::Bytes(ACCEPTED), None, NOTHING, 0, 0),
         (Act::Bytes(piece), Some(cause), PUBREC, 0, 1),
@@ -29,18 +29,13 @@ fn is_the_end(alloc: Global, piece: &[u8], cause: ClientError) -> Result<bool, F
     }
 }
 
-// Says whether these bytes after a PUBLISH end the connection, and the PUBLISH stays accepted.
-fn ends(alloc: Global, bytes: &[u8], cause: ClientError) -> Result<bool, Fault> {
-    match after_publish(alloc, bytes) {
-        Ok(piece) => is_the_end(alloc, &piece, cause),
-        Err(_) => Err(Fault::NoMemory),
-    }
-}
-
 #[test]
 fn malformed_bytes_end_the_connection(rt: HostRuntime) {
     let malformed = ClientError::Malformed(MalformedKind::PacketType);
-    assert_eq!(rt; ends(rt.alloc(), &[0xF0, 0x00], malformed), Ok(true));
+    let piece = after_publish(rt.alloc(), &[0xF0, 0x00])
+        .ok()
+        .expect(&rt, "memory is left");
+    assert_eq!(rt; is_the_end(rt.alloc(), &piece, malformed), Ok(true));
 }
 
 /// A CONNECT of another level, which a server would refuse with a code.
@@ -52,8 +47,14 @@ const LEVEL_3: &[u8] = &[
 #[test]
 fn a_fault_ends_the_connection(rt: HostRuntime) {
     for bytes in [ACCEPTED, CONNECT, &[0xC0, 0x00], &[0xE0, 0x00], LEVEL_3] {
-        let ended = ends(rt.alloc(), bytes, Protocol);
-        assert_eq!(rt; ended, Ok(true), "{bytes:?}");
+        let piece = after_publish(rt.alloc(), bytes)
+            .ok()
+            .expect(&rt, "memory is left");
+        assert_eq!(rt;
+            is_the_end(rt.alloc(), &piece, Protocol),
+            Ok(true),
+            "{bytes:?}"
+        );
     }
 }
 

@@ -78,12 +78,16 @@ fn act_again(client: &mut ClientCore, alloc: Global, done: Act<'_>) -> Option<Cl
 }
 
 // Returns the first row whose result differs, done again if memory ran out, and what came.
-fn first_fault_again(client: &mut ClientCore, alloc: Global, rows: &[Row<'_>]) -> Option<Fault> {
+fn first_fault_again<'a>(
+    client: &mut ClientCore,
+    alloc: Global,
+    rows: &[Row<'a>],
+) -> Option<Fault<'a>> {
     for (at, row) in rows.iter().enumerate() {
         let (done, _, _, _, _) = *row;
         let refusal = act_again(client, alloc, done);
         if let Some(came) = came_after(client, alloc, row, refusal) {
-            return Some(Fault::Row(at, None, came));
+            return Some(Fault::Row(at, None, *row, came));
         }
     }
     None

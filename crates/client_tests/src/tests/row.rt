@@ -6,7 +6,7 @@ use std::alloc::Global;
 use topics::{Filter, TopicName};
 
 /// What is done with a client.
-#[derive(Clone, Copy)]
+#[derive(Clone, Copy, Debug, PartialEq, Eq)]
 pub enum Act<'a> {
     Open,
     Lost,
@@ -25,23 +25,27 @@ pub enum Act<'a> {
 /// were accepted.
 pub type Row<'a> = (Act<'a>, Option<ClientError>, &'a [u8], usize, usize);
 
-/// What came of a row: the refusal, how many bytes were written (none if memory ran out), the first
-/// of them, and how many publications are kept and were accepted.
+/// How many bytes are shown at most of what was written instead.
+const SHOWN: usize = 24;
+
+/// What came of a row: the refusal, how many bytes were written (none if memory ran out) and the
+/// first of them (zeros after the last), and how many publications are kept and were accepted.
 #[derive(Clone, Copy, Debug, PartialEq, Eq)]
 pub struct Came {
     refusal: Option<ClientError>,
     written: Option<usize>,
-    first: Option<u8>,
+    front: [u8; SHOWN],
     counts: (usize, usize),
 }
 
 /// Why rows fail.
 #[derive(Clone, Copy, Debug, PartialEq, Eq)]
-pub enum Fault {
-    /// There was no memory for a client, or for its bytes.
+pub enum Fault<'a> {
+    /// There was no memory for a client.
     NoMemory,
-    /// At this row, with each piece cut after this many bytes or whole, this came.
-    Row(usize, Option<usize>, Came),
+    /// At this index, with each piece cut after this many bytes or whole, this row did not hold,
+    /// and this came instead.
+    Row(usize, Option<usize>, Row<'a>, Came),
 }
 
 /// CONNECT of client `a` with CleanSession 0 and keep alive 0 (MQTT 3.1).
@@ -181,6 +185,15 @@ pub fn counts(client: &ClientCore) -> (usize, usize) {
     (client.kept(), client.accepted().len())
 }
 
+// Returns the first of these bytes that are shown, and zeros after the last.
+fn front_of(bytes: &[u8]) -> [u8; SHOWN] {
+    let mut front = [0; SHOWN];
+    for (to, byte) in front.iter_mut().zip(bytes) {
+        *to = *byte;
+    }
+    front
+}
+
 /// Returns what came of a row whose act was refused so, if it is not what the row says.
 pub fn came_after(
     client: &mut ClientCore,
@@ -192,7 +205,7 @@ pub fn came_after(
     let mut came = Came {
         refusal,
         written: None,
-        first: None,
+        front: [0; SHOWN],
         counts: counts(client),
     };
     if let Some(out) = take_written(client, alloc) {
@@ -200,7 +213,7 @@ pub fn came_after(
             return None;
         }
         came.written = Some(out.len());
-        came.first = out.as_slice().first().copied();
+        came.front = front_of(out.as_slice());
     }
     Some(came)
 }
@@ -219,20 +232,24 @@ pub fn came_instead(
 
 /// Does the rows with a client that was never connected, each piece of the server whole or cut in
 /// two. Fails with the first row whose result differs, and what came.
-pub fn play_cut(alloc: Global, rows: &[Row<'_>], cut: Option<usize>) -> Result<ClientCore, Fault> {
+pub fn play_cut<'a>(
+    alloc: Global,
+    rows: &[Row<'a>],
+    cut: Option<usize>,
+) -> Result<ClientCore, Fault<'a>> {
     let Some(mut client) = new_client(alloc) else {
         return Err(Fault::NoMemory);
     };
     for (at, row) in rows.iter().enumerate() {
         if let Some(came) = came_instead(&mut client, alloc, row, cut) {
-            return Err(Fault::Row(at, cut, came));
+            return Err(Fault::Row(at, cut, *row, came));
         }
     }
     Ok(client)
 }
 
 /// Does the rows with every cut of each piece, and at last with none.
-pub fn play(alloc: Global, rows: &[Row<'_>]) -> Result<ClientCore, Fault> {
+pub fn play<'a>(alloc: Global, rows: &[Row<'a>]) -> Result<ClientCore, Fault<'a>> {
     for cut in 0..LONGEST {
         play_cut(alloc, rows, Some(cut))?;
     }
@@ -240,6 +257,6 @@ pub fn play(alloc: Global, rows: &[Row<'_>]) -> Result<ClientCore, Fault> {
 }
 
 /// Returns the first row whose result differs, with some cut or none, and what came.
-pub fn first_fault(alloc: Global, rows: &[Row<'_>]) -> Option<Fault> {
+pub fn first_fault<'a>(alloc: Global, rows: &[Row<'a>]) -> Option<Fault<'a>> {
     play(alloc, rows).err()
 }

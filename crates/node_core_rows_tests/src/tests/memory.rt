@@ -2,7 +2,7 @@
 // turn: all results are as usual, or one step that ran out of memory is counted.
 
 use super::clients::TABLES;
-use super::row::{Act, Row, bring, primary, take};
+use super::row::{Act, Row, SHOWN, bring, front_of, primary, shown, take};
 use node_core::{Handed, Item, NodeCore, Port};
 use std::alloc::Global;
 
@@ -24,14 +24,15 @@ fn comes_at_last(alloc: Global, node: &mut NodeCore, row: &Row<'_>) {
     take(alloc, node, item);
 }
 
-// What a node answered, and how many bytes it handed over; no answer if memory ran out.
-type Came = (Option<Handed>, usize);
+// What a node answered, how many bytes it handed over and the first of them; no answer if memory
+// ran out.
+type Came = (Option<Handed>, usize, [u8; SHOWN]);
 
 // The first row that fails, or how many losses there are.
 #[derive(Clone, Copy, Debug, PartialEq, Eq)]
 enum Fault {
-    // At this row this came, although nothing was lost.
-    Row(usize, Came),
+    // At this index this row did not hold, and this came instead, although nothing was lost.
+    Row(usize, Row<'static>, Came),
     // So many steps ran out of memory.
     Losses(u64),
 }
@@ -47,21 +48,21 @@ fn came_instead(alloc: Global, node: &mut NodeCore, row: &Row<'_>) -> Option<Cam
             if handed == answer && out.as_slice() == bytes {
                 return None;
             }
-            return Some((Some(handed), out.len()));
+            return Some((Some(handed), out.len(), front_of(out.as_slice())));
         }
     }
-    Some((None, 0))
+    Some((None, 0, [0; SHOWN]))
 }
 
 // Returns the first row whose result differs although nothing was lost, or how many steps are
 // counted if there are more than one.
-fn first_fault(alloc: Global, node: &mut NodeCore, rows: &[Row<'_>]) -> Option<Fault> {
+fn first_fault(alloc: Global, node: &mut NodeCore, rows: &[Row<'static>]) -> Option<Fault> {
     let mut fault: Option<Fault> = None;
     for (at, row) in rows.iter().enumerate() {
         comes_at_last(alloc, node, row);
         if let Some(came) = came_instead(alloc, node, row) {
             if fault.is_none() {
-                fault = Some(Fault::Row(at, came));
+                fault = Some(Fault::Row(at, shown(row), came));
             }
         }
     }
@@ -73,7 +74,7 @@ fn first_fault(alloc: Global, node: &mut NodeCore, rows: &[Row<'_>]) -> Option<F
 }
 
 // If memory runs out for a node nothing is asked of it.
-fn first_fault_if_opened(alloc: Global, rows: &[Row<'_>]) -> Option<Fault> {
+fn first_fault_if_opened(alloc: Global, rows: &[Row<'static>]) -> Option<Fault> {
     match primary(alloc, &[1]) {
         Some(mut node) => first_fault(alloc, &mut node, rows),
         None => None,

@@ -7,7 +7,7 @@ use node_core::{
 use std::alloc::Global;
 
 /// What comes.
-#[derive(Clone, Copy)]
+#[derive(Clone, Copy, Debug, PartialEq, Eq)]
 pub enum Act<'a> {
     /// A stream is opened.
     Open,
@@ -33,25 +33,29 @@ pub enum Coming {
     Bytes,
 }
 
+/// How many bytes are shown at most of what comes, of what is awaited, and of what came instead.
+pub const SHOWN: usize = 24;
+
 /// What came at a row: whether no message to another node followed, what the node answered for the
-/// port (none if memory ran out), how many bytes it handed over and the first eight of them (zeros
-/// after the last), and how many steps ran out of memory.
+/// port (none if memory ran out), how many bytes it handed over and the first of them (zeros after
+/// the last), and how many steps ran out of memory.
 #[derive(Clone, Copy, Debug, PartialEq, Eq)]
 pub struct Came {
     is_silent: bool,
     handed: Option<Handed>,
     count: usize,
-    front: [u8; 8],
+    front: [u8; SHOWN],
     losses: u64,
 }
 
 /// Why rows fail.
 #[derive(Clone, Copy, Debug, PartialEq, Eq)]
-pub enum Fault {
-    /// There was no memory for a node, or for the bytes that come.
+pub enum Fault<'a> {
+    /// There was no memory for a node.
     NoMemory,
-    /// At this row, with pieces that come so, this came.
-    Row(usize, Coming, Came),
+    /// At this index, with pieces that come so, this row did not hold, and this came instead. The
+    /// row has the first bytes of its pieces.
+    Row(usize, Coming, Row<'a>, Came),
 }
 
 /// What a node hands out to others.
@@ -182,26 +186,28 @@ fn bring_row(alloc: Global, node: &mut NodeCore, row: &Row<'_>, coming: Coming) 
     take(alloc, node, item).is_empty()
 }
 
-// Returns the byte at an index, or zero after the last.
-fn byte_at(bytes: &[u8], index: usize) -> u8 {
-    match bytes.get(index) {
-        Some(byte) => *byte,
-        None => 0,
+/// Returns the first of these bytes that are shown, and zeros after the last.
+pub fn front_of(bytes: &[u8]) -> [u8; SHOWN] {
+    let mut front = [0; SHOWN];
+    for (to, byte) in front.iter_mut().zip(bytes) {
+        *to = *byte;
     }
+    front
 }
 
-// Returns the first eight of these bytes, and zeros after the last.
-fn front_of(bytes: &[u8]) -> [u8; 8] {
-    [
-        byte_at(bytes, 0),
-        byte_at(bytes, 1),
-        byte_at(bytes, 2),
-        byte_at(bytes, 3),
-        byte_at(bytes, 4),
-        byte_at(bytes, 5),
-        byte_at(bytes, 6),
-        byte_at(bytes, 7),
-    ]
+// Returns as many of these bytes as are shown.
+fn shown_bytes(bytes: &[u8]) -> &[u8] {
+    bytes.get(..SHOWN).unwrap_or(bytes)
+}
+
+/// Returns a row as it is shown, with the first bytes of its pieces.
+pub fn shown<'a>(row: &Row<'a>) -> Row<'a> {
+    let (time, port, act, bytes, open) = *row;
+    let act = match act {
+        Act::Bytes(piece) => Act::Bytes(shown_bytes(piece)),
+        other => other,
+    };
+    (time, port, act, shown_bytes(bytes), open)
 }
 
 // Lets a row come. Returns what came, if it is not what the row says, or something was lost.
@@ -227,15 +233,15 @@ fn came_instead(alloc: Global, node: &mut NodeCore, row: &Row<'_>, coming: Comin
 
 // Goes through the rows with a node, to which pieces come so. Returns the first row whose result
 // differs, and what came.
-fn fault_with(
+fn fault_with<'a>(
     alloc: Global,
     node: &mut NodeCore,
-    rows: &[Row<'_>],
+    rows: &[Row<'a>],
     coming: Coming,
-) -> Option<Fault> {
+) -> Option<Fault<'a>> {
     for (at, row) in rows.iter().enumerate() {
         if let Some(came) = came_instead(alloc, node, row, coming) {
-            return Some(Fault::Row(at, coming, came));
+            return Some(Fault::Row(at, coming, shown(row), came));
         }
     }
     None
@@ -243,7 +249,7 @@ fn fault_with(
 
 /// Goes through the rows with a fresh node, the sole member of ballot 1, to which pieces come so.
 /// Returns the first row whose result differs, and what came.
-pub fn first_fault_so(alloc: Global, rows: &[Row<'_>], coming: Coming) -> Option<Fault> {
+pub fn first_fault_so<'a>(alloc: Global, rows: &[Row<'a>], coming: Coming) -> Option<Fault<'a>> {
     match primary(alloc, &[1]) {
         Some(mut node) => fault_with(alloc, &mut node, rows, coming),
         None => Some(Fault::NoMemory),
@@ -263,7 +269,7 @@ fn longest(rows: &[Row<'_>]) -> usize {
 
 /// Goes through the rows with the pieces whole, cut in two at every byte, and byte by byte. Returns
 /// the first row whose result differs, with which cut, and what came.
-pub fn first_fault(alloc: Global, rows: &[Row<'_>]) -> Option<Fault> {
+pub fn first_fault<'a>(alloc: Global, rows: &[Row<'a>]) -> Option<Fault<'a>> {
     for cut in 0..=longest(rows) {
         let fault = first_fault_so(alloc, rows, Coming::Cut(cut));
         if fault.is_some() {

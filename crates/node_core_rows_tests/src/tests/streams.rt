@@ -27,21 +27,12 @@ fn filled(alloc: Global, first: &[u8], length: usize) -> Option<Vec<u8>> {
     Some(bytes)
 }
 
-// Returns the first row whose result differs if a PUBLISH of this length comes.
-fn fault_with_length(alloc: Global, first: &[u8], length: usize) -> Option<Fault> {
-    let Some(bytes) = filled(alloc, first, length) else {
-        return Some(Fault::NoMemory);
-    };
-    let rows: [Row<'_>; 3] = [
+// Returns the first row whose result differs if this PUBLISH comes.
+fn fault_with_publish<'a>(alloc: Global, publish: &'a [u8]) -> Option<Fault<'a>> {
+    let rows: [Row<'a>; 3] = [
         (0, 1, Act::Open, NOTHING, true),
         (0, 1, Act::Bytes(CONNECT_A), ACCEPTED, true),
-        (
-            0,
-            1,
-            Act::Bytes(bytes.as_slice()),
-            &[0x40, 0x02, 0x00, 0x01],
-            true,
-        ),
+        (0, 1, Act::Bytes(publish), &[0x40, 0x02, 0x00, 0x01], true),
     ];
     first_fault(alloc, &rows)
 }
@@ -49,8 +40,9 @@ fn fault_with_length(alloc: Global, first: &[u8], length: usize) -> Option<Fault
 #[test]
 fn each_length_is_read(rt: HostRuntime) {
     for (first, length) in LENGTHS {
+        let publish = filled(rt.alloc(), first, length).expect(&rt, "memory is left");
         assert_eq!(rt;
-            fault_with_length(rt.alloc(), first, length),
+            fault_with_publish(rt.alloc(), publish.as_slice()),
             None,
             "{length}"
         );
@@ -71,8 +63,8 @@ const FRONTS: [(&[u8], bool); 7] = [
 
 // Returns the first row whose result differs if these bytes come after a CONNECT, and the
 // connection is open then, or not.
-fn fault_after_connect(alloc: Global, bytes: &[u8], open: bool) -> Option<Fault> {
-    let rows: [Row<'_>; 3] = [
+fn fault_after_connect<'a>(alloc: Global, bytes: &'a [u8], open: bool) -> Option<Fault<'a>> {
+    let rows: [Row<'a>; 3] = [
         (0, 1, Act::Open, NOTHING, true),
         (0, 1, Act::Bytes(CONNECT_A), ACCEPTED, true),
         (0, 1, Act::Bytes(bytes), NOTHING, open),
@@ -142,7 +134,7 @@ fn fault_with_filter<'a>(
     subscribe: &'a [u8],
     publish: &'a [u8],
     matches: bool,
-) -> Option<Fault> {
+) -> Option<Fault<'a>> {
     let got = if matches { publish } else { NOTHING };
     let rows: [Row<'a>; 7] = [
         (0, 1, Act::Open, NOTHING, true),
@@ -182,21 +174,21 @@ fn many(alloc: Global, packet: &[u8]) -> Option<Vec<u8>> {
     Some(bytes)
 }
 
-// Returns the first row whose result differs when all PINGREQ come in one piece.
-fn fault_with_pings(alloc: Global) -> Option<Fault> {
-    let (Some(pings), Some(answers)) = (many(alloc, &[0xC0, 0x00]), many(alloc, &[0xD0, 0x00]))
-    else {
-        return Some(Fault::NoMemory);
-    };
-    let rows: [Row<'_>; 3] = [
+// Returns the first row whose result differs when these PINGREQ come in one piece, and these
+// answers are awaited.
+fn fault_with_pings<'a>(alloc: Global, pings: &'a [u8], answers: &'a [u8]) -> Option<Fault<'a>> {
+    let rows: [Row<'a>; 3] = [
         (0, 1, Act::Open, NOTHING, true),
         (0, 1, Act::Bytes(CONNECT_A), ACCEPTED, true),
-        (0, 1, Act::Bytes(pings.as_slice()), answers.as_slice(), true),
+        (0, 1, Act::Bytes(pings), answers, true),
     ];
     first_fault_so(alloc, &rows, Coming::Whole)
 }
 
 #[test]
 fn many_packets_come_in_one_piece(rt: HostRuntime) {
-    assert_eq!(rt; fault_with_pings(rt.alloc()), None);
+    let pings = many(rt.alloc(), &[0xC0, 0x00]).expect(&rt, "memory is left");
+    let answers = many(rt.alloc(), &[0xD0, 0x00]).expect(&rt, "memory is left");
+    let fault = fault_with_pings(rt.alloc(), pings.as_slice(), answers.as_slice());
+    assert_eq!(rt; fault, None);
 }
