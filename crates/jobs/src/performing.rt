@@ -16,7 +16,7 @@ use std::thread::Threads;
 use std::time::Clock;
 
 /// Does a job over one reader and two writers, and returns the exit status. A fault is printed in
-/// one line.
+/// one line, which no clause says.
 pub fn perform<R, I, O, E>(
     rt: &R,
     job: &Job<'_>,
@@ -66,7 +66,7 @@ where
     }
 }
 
-/// Prints a fault in one line, and returns its exit status.
+/// Prints a fault in one line, and returns its exit status. No clause says what is printed.
 pub fn print_fault<E: Write>(faults: &mut E, fault: &JobError) -> u8
     ensures { result ≡ exit_status fault.now }
 {

@@ -12,7 +12,7 @@ use command_line::LineFault;
 use std::io::Write;
 
 /// Prints why a command line gives no job, and returns the exit status. Help and the version go to
-/// the output if they were asked for, everything else to `faults`.
+/// the output if they were asked for, everything else to `faults`. No clause says what is printed.
 pub fn refuse<O: Write, E: Write>(fault: &LineFault, output: &mut O, faults: &mut E) -> u8
     ensures { result ≡ line_status fault.now }
 {

@@ -110,8 +110,7 @@ pub fn escape_text<O: Write>(
     ensures untouched { IsErrOf result JobError.Idle
         → O.contents output.new ≡ O.contents output.old }
 
-    // A text that is no script is refused for its first line that does not have its form; nothing
-    // of it is written.
+    // A text that is no script is refused for its first line that does not have its form.
     ensures refused { (number : ℕ) → IsErrOf result (JobError.Script number)
         → Refuses (lines_of text.now) (Line number) }
 {

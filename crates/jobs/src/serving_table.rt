@@ -63,7 +63,9 @@ fn find_files<R: Files + AllocGlobal>(rt: &R, count: usize) -> Result<(), JobErr
 
 /// Serves clients as a table of nodes says, and obeys the lines of the input, until its end or the
 /// line `quit`. Prints on `faults`, which is standard error, where each node listens, and which
-/// listeners other machines may reach. An input that cannot be read ends it with that fault.
+/// listeners other machines may reach. An input that cannot be read ends it with that fault. No
+/// clause says any of this: the clauses are about texts that are refused, and about `bye` at the
+/// end.
 pub fn serve_table<R, I, O, E>(
     rt: &R,
     text: &str,

@@ -47,6 +47,7 @@ impl<'a, R: Net<Stream = TcpStream> + Clock> Servers for TcpServers<'a, R> {
 }
 
 /// Publishes once, and waits until it is acknowledged. The addresses are tried one after another.
+/// The clauses are about the words of the job alone: none says that anything is sent.
 pub fn publish<R>(rt: &R, job: &Publish<'_>) -> Result<(), JobError>
 where
     R: Clock + AllocGlobal + Net<Stream = TcpStream>,
@@ -70,7 +71,7 @@ where
 }
 
 /// Prints what is published, a line each, until as many came as were asked for. The addresses are
-/// tried one after another.
+/// tried one after another. No clause says that a server sent it.
 pub fn subscribe<R, O>(rt: &R, job: &Subscribe<'_>, output: &mut O) -> Result<(), JobError>
 where
     R: Clock + AllocGlobal + Net<Stream = TcpStream>,

@@ -88,7 +88,8 @@ impl<'a, J: NodeNaming, G: Gate> ServedNode<'a, J, NodeState<J>, G> {
     }
 
     /// Ends the node, whose listener is closed and whose threads have returned. Reports what became
-    /// of the items that were sent to it. The error comes if not all its lanes came back.
+    /// of the items that were sent to it. The error comes if not all its lanes came back. They were
+    /// under a lock, so the clause says only whose report it is.
     pub fn close<R: Wait>(self, rt: &R, _closed: Closed) -> Result<NodeReport, Memory>
         requires { _closed ≡ self.number }
         ensures { IfOk result (λ report. report.number ≡ self.entry.number) }
@@ -110,7 +111,7 @@ impl<'a, J: NodeNaming, G: Gate> ServedNode<'a, J, NodeState<J>, G> {
 
 impl<'a, J: NodeNaming, S: Stated<J>, G: Gate> ServedNode<'a, J, S, G> {
     /// Ends all connections of the node, and admits no more: its threads return. Returns the
-    /// witness that its listener is closed.
+    /// witness that its listener is closed. No clause says more than whose witness it is.
     pub fn close_listener<R: Wait + Clock + Net<Stream = TcpStream>>(&self, rt: &R) -> Closed
         ensures { result ≡ self.now.number }
     {
@@ -124,7 +125,8 @@ where
     S: Stated<J> + Send,
     G: Gate + Sync,
 {
-    /// Works with each lane by a thread of its own, until the listener is closed.
+    /// Works with each lane by a thread of its own, until the listener is closed. No clause says
+    /// so.
     pub fn work<R>(&self, rt: &R, all: &[ServedNode<'a, J, S, G>])
     where
         R: Threads + Wait + Clock + Sync,
@@ -139,7 +141,7 @@ where
 }
 
 /// Returns the nodes that serve, made of those that opened, each with its listener's context. The
-/// error comes if memory ran out, or a node has no listener.
+/// error comes if memory ran out, or a node has no listener; no clause says when it comes.
 pub fn start_all<'a, J: NodeNaming, R: Wait, G: Gate>(
     rt: &R,
     alloc: Global,

@@ -35,7 +35,8 @@ const STOP_MILLIS: u64 = 40;
 const STOP_LOOKS: u32 = 40;
 
 /// The nodes that serve in one program, with what they send each other, and the master that gives
-/// ballots their configurations.
+/// ballots their configurations. Outboxes and master are under locks, so no clause of a call says
+/// what is queued, or what changes.
 #[derive(Drop)]
 pub struct Cluster {
     nodes: Vec<Peer>,
@@ -75,7 +76,7 @@ impl Cluster {
     /// Gives the next ballot to a configuration, and sends it to its primary. Returns the ballot.
     /// It becomes active once each of its members holds all that was agreed. `BadMembers` comes for
     /// members that no ballot may have, and for one that is no node here. If memory runs out,
-    /// nothing changes.
+    /// nothing changes, which no clause says.
     pub fn assign<R: Wait>(&self, rt: &R, config: Config) -> Result<u64, OrderError>
         ensures given { IfOk result (λ ballot. MayGet config ballot) }
         ensures nodes { OnOk result (are_nodes self.now config.members ≡ true) }
@@ -102,7 +103,8 @@ impl Cluster {
     /// Crashes a node, for good. Returns whether there is a node of this number that has not
     /// stopped, and was not ordered to crash before. The order is queued for the node, and then the
     /// call waits until the node has stopped, for 40 ms at most (`STOP_MILLIS`) and the last look.
-    /// If memory runs out, the node is not crashed.
+    /// If memory runs out, the node is not crashed. The clause says only how a number is answered
+    /// that no node has.
     pub fn crash<R: Wait + Clock>(&self, rt: &R, number: u8) -> Result<bool, Memory>
         ensures none { is_node self.now number ≡ false → result ≡ Ok false }
     {
@@ -121,7 +123,8 @@ impl Cluster {
 
     /// Queues the order to end the session of a client for the running active primary of the
     /// highest ballot. That is the one by what each node showed after its last change: no node is
-    /// asked. Returns whether there is such a node. If memory runs out, the order is not queued.
+    /// asked. Returns whether there is such a node. If memory runs out, the order is not queued. No
+    /// clause says any of this.
     pub fn expel<R: Wait + Clock>(&self, rt: &R, client: &ClientId) -> Result<bool, Memory> {
         let shown = self.shown(rt)?;
         let Some(number) = primary_of(shown.as_slice()) else {
@@ -149,7 +152,8 @@ impl Cluster {
     }
 
     /// Returns the status of a node after its last change. There is none if no node has this
-    /// number, or if it is not served within about a second (`STATUS_LOOKS`).
+    /// number, or if it is not served within about a second (`STATUS_LOOKS`). The clause says only
+    /// that some node has the number.
     pub fn status<R: Wait + Clock>(&self, rt: &R, number: u8) -> Option<Status>
         ensures { OnSome result (is_node self.now number ≡ true) }
     {
@@ -197,7 +201,8 @@ impl Cluster {
     /// Queues what steps of a node gave for others, in order. `giver` is that node's state, as
     /// evidence that the caller has its lock: so messages keep the order of the steps. A message
     /// for a number that no node has is lost. A message of a node wakes nobody: the caller has it
-    /// taken, or calls [`Cluster::wake_urgent`], once it has released the lock.
+    /// taken, or calls [`Cluster::wake_urgent`], once it has released the lock. No clause says that
+    /// a message waits in an outbox afterwards.
     pub fn queue_given<J: NodeNaming, R: Wait>(&self, rt: &R, giver: &NodeState<J>, given: Given) {
         // Evidence alone: nothing of it is read.
         let _ = giver;

@@ -38,7 +38,8 @@ impl Model for Entering {
 }
 
 /// A node, and what waits for it. Its own thread takes what waits, and sleeps until something
-/// comes. Another thread may take it too, if it holds the node's lane.
+/// comes. Another thread may take it too, if it holds the node's lane. All but the number is under
+/// locks, so no clause of a call says what waits, or what was shown.
 #[derive(Drop)]
 pub struct Peer {
     /// The node's number.
@@ -196,7 +197,8 @@ impl Peer {
         outbox.number() == self.number && outbox.queue(item)
     }
 
-    /// Takes all that waits now, in the order in which it was queued.
+    /// Takes all that waits now, in the order in which it was queued. The clause says only that
+    /// each item is one that may wait here.
     pub fn take_waiting<R: Wait>(&self, rt: &R, alloc: Global) -> Vec<Item>
         ensures { Each (IsQueued self.now.number) result.items }
     {
@@ -264,7 +266,7 @@ impl Peer {
 
     /// Counts this many bytes of a client as in transit to the node, if it takes more. It takes
     /// none while too much of what it took is not agreed, so that what waits for a member that lags
-    /// is bounded.
+    /// is bounded. No clause says when it takes more.
     pub fn admit<R: Wait>(&self, rt: &R, bytes: u64) -> Option<Entering>
         requires { bytes ≤ PIECE_BYTES }
         ensures { IfSome result (λ entering. entering ≡ bytes) }

@@ -9,7 +9,7 @@ use std::alloc::Global;
 
 /// Takes what a node still holds for a port whose connection it has closed, so that it holds no
 /// more. The node queues nothing more for that port, so what was written there stays a prefix of
-/// what it queued. If memory runs out, the node keeps it.
+/// what it queued. If memory runs out, the node keeps it; the clauses let it do so at any time.
 pub fn forget<J: NodeNaming>(alloc: Global, node: &mut NodeState<J>, port: Port)
     ensures open { standing_of (listed_at port node.old.node.core) ≢ Standing.Closed →
         node.new ≡ node.old }

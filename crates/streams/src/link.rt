@@ -18,7 +18,8 @@ use std::time::Duration;
 /// How long a write waits for a full socket at most, in milliseconds.
 const WRITE_MILLIS: u64 = 1;
 
-/// A connection of the node.
+/// A connection of the node. Its write token is under a lock, so no clause of a call says when
+/// there is one; those of `WriteSlot` do. No clause says what is done to the socket.
 #[derive(Drop)]
 pub struct Link {
     /// The port by which the node knows it.
@@ -66,7 +67,7 @@ impl Link {
     ghost use Rattle.streams.specs.WriteTokens.{IsTokenOf};
 
     /// Returns a connection on whose stream nothing was written. The only error is that memory ran
-    /// out: then the stream is closed.
+    /// out: then the stream is closed, which no clause says.
     pub fn new(
         alloc: Global,
         port: Port,

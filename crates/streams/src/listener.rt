@@ -26,7 +26,9 @@ const PAUSE_MILLIS: u64 = 1;
 /// How many times, at most, the threads that wait for clients are woken when a listener is closed.
 const WAKES: u32 = 10_000;
 
-/// Where a node accepts its clients: its TCP listener and the table of its connections.
+/// Where a node accepts its clients: its TCP listener and the table of its connections. The table
+/// is under locks, so no clause of a call says what is listed, taken or freed there (those of
+/// `Links` do), or that a connection ends.
 #[derive(Drop)]
 pub struct Listener {
     /// The node's number.
@@ -125,7 +127,8 @@ impl Listener {
     }
 
     /// Adds the connections that are listed, from this index on and then those before it, except
-    /// those of idle lanes. If memory runs out for one, it is left out.
+    /// those of idle lanes. If memory runs out for one, it is left out. No clause says which are
+    /// left out.
     pub fn add_busy<R: Wait>(
         &self,
         rt: &R,

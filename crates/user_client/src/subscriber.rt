@@ -74,7 +74,8 @@ impl Subscriber {
 
     /// Prints over the connections of these servers, at most `tries` of them, a line for each
     /// publication, which is flushed before the publication is answered. The fate of the last
-    /// answers and of the DISCONNECT does not matter.
+    /// answers and of the DISCONNECT does not matter. No clause says when a line is flushed, or
+    /// counts the connections of a run that succeeds.
     pub fn run<S: Servers, W: Write + Drop>(
         &mut self,
         servers: &mut S,
