@@ -24,7 +24,7 @@ pub(crate) struct LaneReporter<'e, 'a, J: NodeNaming, S: Stated<J>, G: Gate> {
 impl<'e, 'a, J: NodeNaming, S: Stated<J>, G: Gate> Hearer for LaneReporter<'e, 'a, J, S, G> {
     ghost heard = { λ reporter. reporter.lane.sent };
 
-    // What decides is under a lock, of which no clause speaks: see `OwnLane`.
+    // What decides is under a lock, of which no clause says anything.
     ghost lets = { λ _ _. Unit {0} };
 
     fn now<R: Clock>(&self, rt: &R) -> u64 {

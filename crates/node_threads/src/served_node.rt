@@ -29,6 +29,8 @@ pub struct ServedNode<'a, J: NodeNaming, S: Stated<J>, G: Gate> {
     pub(crate) shared: Shared<'a, J, S, G>,
     /// The lane of everything that does not come from a client. The thread that holds it does the
     /// node's turn with what was queued for the node: its own thread, or one that queued something.
+    /// It is this node's, but it is under a lock, so no clause says that (see [`OwnLane`]). Whoever
+    /// locks it compares the numbers, which are always equal.
     pub(crate) own: Mutex<OwnLane<J>>,
     // The lanes of its connections, while no thread works with them.
     lane_slots: Mutex<LaneSlots<J>>,

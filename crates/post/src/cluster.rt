@@ -306,7 +306,7 @@ struct NodesAndMaster<'a> {
 }
 
 impl<'a> Receivers for NodesAndMaster<'a> {
-    // It queues in outboxes under their locks, of which no clause says anything: see `Outbox`.
+    // It queues in outboxes under their locks, of which no clause says anything.
     ghost queues = { λ _ _ _ _. Unit {0} };
 
     fn queue<R: Wait>(&mut self, rt: &R, addressed: AddressedMessage) {

@@ -44,7 +44,9 @@ impl Model for Entering {
 pub struct Peer {
     /// The node's number.
     pub number: u8,
-    // What the other nodes and the master have for it.
+    // What the other nodes and the master have for it. It is this node's, but it is under a lock,
+    // so no clause says that (see `Outbox`). Whoever locks it compares the numbers, which are
+    // always equal.
     outbox: Mutex<Outbox>,
     // Its status after its last change, and what it takes from its clients.
     intake: Mutex<Intake>,
@@ -88,7 +90,7 @@ impl Peer {
         requires { addressed.receiver ≡ self.now.number }
     {
         let mut outbox = self.outbox.lock(rt);
-        // It is this node's, which no clause says: see `Outbox`.
+        // Always so: see the field.
         if outbox.number() == self.number {
             let _ = addressed.queue_in(&mut outbox);
         } else {
@@ -158,8 +160,7 @@ impl Peer {
     {
         let mut master = master.lock(rt);
         let mut outbox = self.outbox.lock(rt);
-        // It is this node's, which no clause says: see `Outbox`. If it were another's, the answer
-        // would be `Memory` too.
+        // The numbers are equal: see the field `outbox`. If not, the answer is `Memory` too.
         if outbox.number() != self.number {
             return Err(OrderError::Memory);
         }
@@ -180,7 +181,7 @@ impl Peer {
         requires { answer.receiver ≡ self.now.number }
     {
         let mut outbox = self.outbox.lock(rt);
-        // It is this node's, which no clause says: see `Outbox`.
+        // Always so: see the field.
         if outbox.number() == self.number {
             let _ = outbox.queue_answer(answer);
         } else {
@@ -193,7 +194,7 @@ impl Peer {
         requires { IsPosted self.now.number item }
     {
         let mut outbox = self.outbox.lock(rt);
-        // It is this node's, which no clause says: see `Outbox`.
+        // Always so: see the field.
         outbox.number() == self.number && outbox.queue(item)
     }
 
@@ -203,6 +204,7 @@ impl Peer {
         ensures { Each (IsQueued self.now.number) result.items }
     {
         let mut outbox = self.outbox.lock(rt);
+        // Never so: see the field.
         if outbox.number() != self.number {
             return Vec::new(alloc);
         }
