@@ -39,8 +39,8 @@ pub fn report_connection<R: Wait + Clock, H: Hearer, D: Read>(
     ending
 }
 
-// Reports each piece that the device gives, until it ends, for a connection that was opened at a
-// time, if it is accepted.
+// Reports each piece that the device gives, until the device ends, if the hearer lets the
+// connection be read. The connection was reported as opened at the time `opened`.
 fn report_pieces<R: Wait + Clock, H: Hearer, D: Read>(
     rt: &R,
     alloc: Global,

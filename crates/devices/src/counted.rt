@@ -85,8 +85,8 @@ impl<W: Write> Counted<W> {
     }
 
     /// Writes a piece, by one call of the device, which may take a prefix of it. A call that was
-    /// interrupted took nothing, and one that would have to wait, or did so for too long, says that
-    /// the device is full: neither is a fault.
+    /// interrupted took nothing. If the call would have to wait, or waited for too long, the device
+    /// is full. Neither is a fault.
     pub fn write_piece(&mut self, bytes: &[u8]) -> OneWrite
         ensures piece { WritesPiece
             result (W.contents self.old.device) (W.contents self.new.device) bytes.now }

@@ -87,9 +87,9 @@ impl<T: Drop, J: Naming> Lane<T, J> {
         }
     }
 
-    /// Ends the lane, which then sends no more. The receipt that is returned says all that the
-    /// given one said. Its bound on what all lanes will ever send is lower by what this one did not
-    /// send.
+    /// Ends the lane, which then sends no more. Returns the given receipt with what is known now:
+    /// how many items this lane sent, and how many all lanes together will ever send at most. That
+    /// limit is lower by as many as this lane could still have sent.
     pub fn end(self, receipt: Receipt<T, J>) -> Receipt<T, J>
         requires { receipt.inbox ≡ self.inbox }
         ensures { result ≡ record receipt {

@@ -2,9 +2,10 @@
 
 use std::marker::Brand;
 
-/// Which inbox each number means in a run, fixed before the first is named. A function that is
-/// generic in a `Naming` knows from their numbers that a lane and a receiver belong to one inbox,
-/// even under a lock. Its caller passes [`Brand`] and chooses the inboxes that it made.
+/// Which inbox each number means. This is chosen before the first inbox of a run is named. In a
+/// function that is generic in a `Naming`, equal numbers show that a lane and a receiver belong to
+/// one inbox, even if these were under a lock. The caller of the function passes [`Brand`], and
+/// chooses the inboxes that it made.
 pub trait Naming {
     ghost use Rattle.std.specs.Prelude.{ℕ};
     ghost use Rattle.atomic_table.specs.Seated.{TableId};

@@ -16,9 +16,9 @@ const MAX_OPEN_BYTES: u64 = 67_108_864;
 /// How many bytes may be in transit when more are taken.
 const MAX_ENTERING: u64 = 262_144;
 
-/// What a node takes from its clients, and its status. Of the bytes that are not known to be
-/// agreed, those are counted that may be in places that some member does not hold. The type bounds
-/// them.
+/// What a node takes from its clients, and its status. It counts the bytes that are not known to be
+/// agreed: they may be in places of the log that some member does not hold. The type bounds how
+/// many these are.
 #[derive(Drop)]
 pub struct Intake {
     // None before the node is served.

@@ -3,8 +3,9 @@
 use mailbox::Naming;
 use std::marker::Brand;
 
-/// Which node each number of an inbox began with, in a run, fixed before the first is served. Its
-/// caller passes [`Brand`] and chooses the nodes that it opened.
+/// With which state the node of each inbox's number began. This is chosen before the first node of
+/// a run is served: the caller of a function that is generic in a `NodeNaming` passes [`Brand`],
+/// and chooses the nodes that it opened.
 pub trait NodeNaming: Naming {
     ghost use Rattle.std.specs.Prelude.{ℕ};
     ghost use Rattle.node_core.specs.Core.{CountedCore};

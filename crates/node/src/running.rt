@@ -23,8 +23,9 @@ const GATE_ASKS: u32 = 10_000;
 /// How long the thread sleeps after each time that the gate does not open, in milliseconds.
 const ASK_MILLIS: u64 = 1;
 
-/// What the lock of a node holds. Whether it may be handed from thread to thread is proved for it
-/// as a whole. So this is not proved for each part of a node at each thread that is started.
+/// What the lock of a node holds. Code that starts threads is generic in this type. So it is proved
+/// once that the whole may be handed from thread to thread, and not part by part at each thread
+/// that is started.
 pub trait Stated<J: NodeNaming>: Drop {
     /// Returns the node's state.
     fn state(&mut self) -> &mut NodeState<J>;
@@ -102,8 +103,9 @@ impl<'g, J: NodeNaming, G: Gate> Node<'g, J, NodeState<J>, G> {
         ensures whole { All (ArrivesWhole result.taken.items result.left.items) lanes.new }
         ensures lanes { map unmet lanes.new ≡ map unmet lanes.old }
 
-        // It is about a node that was the replay of what was taken. It says how many items of each
-        // lane these were, which are the first that the lane sent, and where its log begins.
+        // The report is about a node that was the replay of what was taken. It says where the log
+        // of this node begins, and how many items of each lane were taken: the first ones that the
+        // lane sent.
         ensures reports { ReportsOn (J.first_of self.entry.number) lanes.new result }
     {
         let Node {

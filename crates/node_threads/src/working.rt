@@ -20,9 +20,10 @@ pub(crate) const LANES: u8 = MAX_CONNECTIONS + 2;
 /// How many threads a node has: one for each lane, and one that continues with full sockets.
 pub const THREADS: usize = LANES as usize + 1;
 
-/// The slot of a thread: its lane, unless it is using that, and the witness with which it returned.
-/// The first is that of the node's own thread, whose lane is under a lock; the last is that of the
-/// thread that continues with full sockets. They have no lane.
+/// The slot of a thread: its lane, while the thread does not use that, and the witness with which
+/// the thread returned. The first slot is that of the node's own thread, and the last that of the
+/// thread that continues with full sockets. These two have no lane in their slots: that of the own
+/// thread is under a lock.
 #[derive(Drop)]
 pub(crate) struct LaneSlot<J: NodeNaming> {
     pub(crate) lane: Option<Lane<Item, J>>,

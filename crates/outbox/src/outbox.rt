@@ -25,11 +25,11 @@ use std::alloc::Global;
 use std::marker::Model;
 use std::mem;
 
-/// How many items wait at most, so that a message of another node is queued: fewer than this.
+/// A message of another node is queued only while fewer items than this wait.
 const MAX_WAITING: usize = 524_288;
 
-/// How many items may wait, at most, for a thread that queued one of them to take them in place of
-/// the node's own thread.
+/// A thread that queued something urgent takes what waits itself only if at most this many items
+/// wait; if more do, it wakes the node's own thread.
 const MAX_HELPED: usize = 16;
 
 /// What the other nodes and the master have for a node, in the order in which it was queued. It is

@@ -279,8 +279,8 @@ fn has_stopped<R: Wait>(rt: &R, node: &Peer) -> bool {
     matches!(node.status(rt), Some(status) if status.stopped)
 }
 
-// Says whether a node that was ordered to crash then had its time to stop. If the clock cannot be
-// read, nobody waits any longer.
+// Says whether the time is over that a node gets to stop, counted from `start`. It is over, too, if
+// the clock cannot be read.
 fn had_its_time<R: Clock>(rt: &R, start: Instant) -> bool {
     match start.elapsed(rt) {
         Ok(time) => time.as_millis() >= u128::from(STOP_MILLIS),

@@ -22,14 +22,14 @@ use std::thread::Threads;
 use std::time::{Clock, Instant};
 use streams::{Closed, Listener};
 
-/// Serves the clients of several nodes, each at its listener, while `attend` runs with these nodes,
-/// and returns what that returned; then all connections are ended. The nodes open in ballot 1 of
+/// Serves the clients of several nodes, each at its listener, while `attend` runs with these nodes.
+/// Then ends all connections, and returns what `attend` returned. The nodes open in ballot 1 of
 /// this configuration.
 ///
-/// The errors are those of the opening, where `BadMembers` comes also if two listeners have one
-/// number, and [`ServeError::Clock`]. [`ServeError::Threads`] comes before anything is served if
-/// fewer threads can be started than the nodes need. It also comes at the end, in place of the
-/// answer, if a node's own thread could not be started later: then that node was not served.
+/// The errors are [`ServeError::Clock`] and those of the opening, where `BadMembers` comes also if
+/// two listeners have one number. [`ServeError::Threads`] comes before anything is served if fewer
+/// threads can be started than the nodes need. It also comes at the end, in place of the answer, if
+/// a node's own thread could not be started later: then that node was not served.
 pub fn serve_while<R, T, F>(
     rt: &R,
     alloc: Global,

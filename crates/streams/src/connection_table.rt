@@ -47,16 +47,16 @@ impl ConnectionTable {
         self.waiting.lock(rt).closed(number)
     }
 
-    /// Counts a thread as waiting for a client. The error is the witness for the listener of this
-    /// number that no more are admitted.
+    /// Counts a thread as waiting for a client. If no more clients are admitted, the error is the
+    /// witness of that, for the listener of this number.
     pub(crate) fn begin_wait<R: Wait>(&self, rt: &R, number: u8) -> Result<(), Closed>
         ensures { IfErr result (λ closed. closed ≡ number) }
     {
         self.waiting.lock(rt).begin(number)
     }
 
-    /// Counts a thread as no longer waiting. The error is the witness for the listener of this
-    /// number that no more are admitted.
+    /// Counts a thread as no longer waiting. If no more clients are admitted, the error is the
+    /// witness of that, for the listener of this number.
     pub(crate) fn end_wait<R: Wait>(&self, rt: &R, number: u8) -> Result<(), Closed>
         ensures { IfErr result (λ closed. closed ≡ number) }
     {

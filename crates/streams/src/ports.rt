@@ -5,8 +5,9 @@ ghost use Rattle.streams.specs.Ports.{port_of};
 
 use node::Port;
 
-/// The ports of a lane's connections are this far apart. A lane's number is below it, and lanes
-/// below 64, of which it is a multiple, are told apart by [`IdleLanes`].
+/// The ports of a lane's connections are this far apart. Each lane's number is below it, so no two
+/// lanes have a port in common. It is a multiple of 64, so [`IdleLanes`] tells lanes below 64 apart
+/// by their ports.
 ///
 /// [`IdleLanes`]: crate::IdleLanes
 const PORTS_APART: u64 = 256;

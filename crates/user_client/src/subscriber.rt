@@ -160,8 +160,8 @@ impl Subscriber {
         self.print_accepted(output)
     }
 
-    // Subscribes to the filter if a connection was accepted: until something is printed, the
-    // subscription may have been lost with the connection before.
+    // Subscribes to the filter if a connection was accepted and nothing is printed yet. Until then
+    // an earlier subscription may have been lost with its connection.
     fn subscribe_if_accepted(&mut self, news: News) -> Result<(), UserClientError>
         ensures asked { OnOk result (PrintsNothing self.old self.new) }
         ensures lost { IfErr result (λ fault. fault ≢ UserClientError.Lost) }

@@ -9,8 +9,8 @@ use std::alloc::Global;
 use std::sync::{Arc, Wait};
 use streams::{IdleLanes, Link, Listener, MAX_CONNECTIONS};
 
-/// For how many connections to write to memory is allocated before a lock is taken. If there are
-/// more, the list grows under the lock of the connections.
+/// Before a lock is taken, memory is allocated for a list of this many connections. If there are
+/// more to write to, the list grows under the lock of the connections.
 const BUSY_CAPACITY: usize = 8;
 
 /// What writes to the connections of a node. It holds no lock while it writes or sleeps.
@@ -41,9 +41,9 @@ impl<'e, 'a, J: NodeNaming, S: Stated<J>, G: Gate> Writer<'e, 'a, J, S, G> {
         }
     }
 
-    // Returns the connections for which something may have been queued. The one at this index is
-    // first. Capacity is allocated before a lock is taken. If memory runs out, idle ones are among
-    // them, or some are missing.
+    // Returns the connections for which something may have been queued, the one at this index
+    // first. Memory is allocated before a lock is taken. If it runs out, idle connections may be
+    // among them, or some may be missing.
     fn busy_links<R: Wait>(&self, rt: &R, first: usize) -> Vec<Arc<Link, Global>> {
         let mut idle = list_with_capacity(self.alloc, usize::from(MAX_CONNECTIONS));
         let mut busy = list_with_capacity(self.alloc, BUSY_CAPACITY);
