@@ -2,7 +2,7 @@
 use Rattle.std.proofs.Common.{◌≡◌, ◌<◌, ◌+◌, ℕ, zero, suc, List, [], ◌∷◌, Option, Some, None, Result, Ok, Err, OnOk, ◌++◌, length, take, drop, get_or, map, ap, refl, sym, ◌∙◌, subst, arith}
 use Rattle.std.specs.List.{position}
 use Rattle.std.proofs.lemmas.List.{append-nil, append_assoc, take_more}
-use Rattle.user_client.specs.client_base.declared.accepted.Accepted.{Accepted}
+use Rattle.client.specs.client_base.declared.accepted.Accepted.{Accepted}
 use Rattle.script.specs.session_base.declared.publication.Publication.{Publication}
 use Rattle.script.specs.declared.script_line.ScriptLine.{ScriptLine}
 use Rattle.play.specs.Lines.{accepted_line}

@@ -5,8 +5,8 @@ ghost use Rattle.play.specs.Lines.{accepted_line, done_line, end_line, idle_line
 
 use client::Accepted;
 use packet::ClientId;
+use printing::{print_line, print_text};
 use std::alloc::{AllocError, Global};
-use user_client::{print_line, print_text};
 
 /// Appends the line of an event that could not happen: `7 idle`.
 pub fn write_idle(alloc: Global, index: u64, text: &mut Vec<u8>) -> Result<(), AllocError>

@@ -5,7 +5,7 @@ use native.Mathlib.Omega.{arith}
 use Rattle.std.specs.Io.KnownBytes.{Appends}
 use Rattle.std.proofs.KnownBytes.{Appends-trans, Appends-nil}
 use Rattle.client.specs.client_base.declared.accepted.Accepted.{Accepted}
-use Rattle.user_client.specs.Printing.{printed_line}
+use Rattle.printing.specs.Printing.{printed_line}
 use Rattle.user_client.specs.Tracing.{Called, Trace}
 use Rattle.user_client.specs.Listening.{Listening, PrintsNothing, PrintsAccepted, Shows, printed_lines}
 use Rattle.user_client.proofs.TracesJoin.{traces_join, traces_follow, traces_end}

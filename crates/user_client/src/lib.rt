@@ -4,14 +4,12 @@
 
 mod caller;
 mod checking;
-mod printing;
 mod publisher;
 mod servers;
 mod subscriber;
 mod user_client_error;
 mod visiting;
 
-pub use printing::{print_line, print_text};
 pub use publisher::Publisher;
 pub use servers::Servers;
 pub use subscriber::Subscriber;

@@ -4,20 +4,20 @@ ghost use Rattle.std.specs.Prelude.{◌≡◌, ◌≢◌, None, true, [], ◌∷
 ghost use Rattle.std.specs.Io.KnownBytes.{Appends};
 ghost use Rattle.client.specs.packet_base.ClientId.{client_fault};
 ghost use Rattle.topics.specs.Text.{filter_fault};
-ghost use Rattle.user_client.specs.Printing.{printed_line};
+ghost use Rattle.printing.specs.Printing.{printed_line};
 ghost use Rattle.user_client.specs.Listening.{PrintsNothing, PrintsAccepted, Shows, listening_anew, new_listening};
 ghost use Rattle.user_client.specs.Losing.{IsGivenUp, IsLostBy};
 ghost use Rattle.user_client.specs.Refusals.{RefusesListener};
 
 use crate::caller::{Caller, News};
 use crate::checking::{checked_filter, checked_id};
-use crate::printing::print_line;
 use crate::servers::Servers;
 use crate::user_client_error::UserClientError;
 use crate::visiting::{disconnect, exchange, next_stream};
 use client::Accepted;
 use devices::{Counted, PIECE_BYTES};
 use packet::QoS;
+use printing::print_line;
 use std::alloc::Global;
 use std::io::{Read, Write};
 use std::marker::Model;

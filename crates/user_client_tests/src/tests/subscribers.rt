@@ -2,10 +2,11 @@
 
 use super::servers::*;
 use packet::QoS;
+use printing::print_text;
 use std::alloc::Global;
 use std::cell::RefCell;
 use std::test::Fail;
-use user_client::{Subscriber, UserClientError, print_text};
+use user_client::{Subscriber, UserClientError};
 
 fn subscribe(
     alloc: Global,

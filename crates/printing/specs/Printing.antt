@@ -1,8 +1,8 @@
 -- How a publication is printed on one line.
 use Rattle.std.specs.Prelude.{ℕ, Bool, not, List, [], ◌∷◌, ◌++◌, ◌+◌, ◌/◌, ◌%◌, ◌==◌, ◌&&◌, nat_le, nat_lt, if◌then◌else◌}
 use Rattle.std.specs.List.{flat_map}
-use Rattle.client.specs.packet.packet_base.QoS.{qos_number}
-use Rattle.client.specs.client_base.declared.accepted.Accepted.{Accepted}
+use Rattle.packet_base.specs.QoS.{qos_number}
+use Rattle.client_base.specs.declared.accepted.Accepted.{Accepted}
 
 -- whether a byte is printed as it is: 0x21 to 0x7E, but not the backslash
 abbrev pub is_plain : ℕ → Bool

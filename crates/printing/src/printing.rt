@@ -1,9 +1,9 @@
 // How a publication is printed.
 
 ghost use Rattle.std.specs.Prelude.{◌≡◌, ◌++◌, ◌<◌, OnOk};
-ghost use Rattle.user_client.specs.Printing.{digit, is_plain, printed_line, printed, printed_byte};
+ghost use Rattle.printing.specs.Printing.{digit, is_plain, printed_line, printed, printed_byte};
 
-use client::Accepted;
+use client_base::Accepted;
 use std::alloc::AllocError;
 
 /// Appends the line of a publication: QoS, RETAIN as 0 or 1, topic and payload, with one space
