@@ -3,6 +3,7 @@
 use super::giving::{Event, has_bytes, is_given};
 use broker::BrokerMachine;
 use machine::Machine;
+use random_numbers::Numbers;
 use std::alloc::Global;
 use std::test::*;
 
@@ -10,22 +11,6 @@ use std::test::*;
 const COMMANDS: u64 = 20_000;
 
 const FROZEN: u64 = 1_000;
-
-// Numbers by a fixed rule: the upper bits of a product's remainder.
-#[derive(Drop)]
-struct Numbers {
-    state: u64,
-}
-
-impl Numbers {
-    fn next(&mut self) -> u64 {
-        self.state = self
-            .state
-            .wrapping_mul(6_364_136_223_846_793_005)
-            .wrapping_add(1_442_695_040_888_963_407);
-        self.state >> 33
-    }
-}
 
 const CLIENTS: [&str; 4] = ["a", "b", "c", "d"];
 
@@ -122,7 +107,7 @@ fn first_fault(
     whole: &mut BrokerMachine,
     thawed: &mut BrokerMachine,
 ) -> Option<usize> {
-    let mut numbers = Numbers { state: 17 };
+    let mut numbers = Numbers::new(17);
     let mut last = [1; 4];
     for count in 1..=COMMANDS {
         if !is_next_alike(alloc, whole, thawed, &mut numbers, count, &mut last) {

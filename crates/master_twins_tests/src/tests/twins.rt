@@ -3,6 +3,7 @@
 use ballot::{Body, Config, Effect, Members};
 use machine::{Tally, TallyCommand};
 use master::{Event, Group};
+use random_numbers::Numbers;
 use std::alloc::Global;
 
 // How many events there are besides the cuts, and how many nodes.
@@ -23,14 +24,13 @@ const NODES: u8 = 7;
 // works them out by the same rules and none of the code; none follows from the others.
 const FIGURES: [u64; 6] = [689, 116, 539, 5_358, 612, 389];
 
-// The group that cuts and the one that does not, the message that comes next, and the last number
-// drawn.
+// The group that cuts and the one that does not, the message that comes next, and what is drawn.
 #[derive(Drop)]
 struct Twins {
     cutting: Group<Tally>,
     keeping: Group<Tally>,
     next: u64,
-    drawn: u64,
+    numbers: Numbers,
     cuts: u64,
 }
 
@@ -52,13 +52,9 @@ fn small(number: u64) -> u8 {
 }
 
 impl Twins {
-    // Draws a number below `limit`, by a fixed rule (Knuth's MMIX).
+    // Draws a number below `limit`.
     fn draw(&mut self, limit: u64) -> u64 {
-        self.drawn = self
-            .drawn
-            .wrapping_mul(6_364_136_223_846_793_005)
-            .wrapping_add(1_442_695_040_888_963_407);
-        match (self.drawn >> 33).checked_rem(limit) {
+        match self.numbers.next().checked_rem(limit) {
             Some(number) => number,
             None => 0,
         }
@@ -243,7 +239,7 @@ fn made(alloc: Global) -> Option<Twins> {
         cutting: opened(alloc)?,
         keeping: opened(alloc)?,
         next: 0,
-        drawn: 1,
+        numbers: Numbers::new(1),
         cuts: 0,
     })
 }

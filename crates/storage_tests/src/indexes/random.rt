@@ -1,6 +1,7 @@
 // A long list of calls by a fixed rule, of both indexes.
 
 use packet::{ClientId, QoS};
+use random_numbers::Numbers;
 use std::alloc::Global;
 use std::test::*;
 use subs::{ListIndex, SubIndex, TreeIndex};
@@ -21,22 +22,6 @@ const TOPICS: [&str; 16] = [
     "a", "a/b", "a/b/c", "a/b/c/d", "b", "b/b", "b/b/c", "ab", "/", "/a", "a/", "a//b", "$s",
     "$s/b", "$s/b/c", "a/$s",
 ];
-
-// Numbers by a fixed rule: the upper bits of a product's remainder.
-#[derive(Drop)]
-struct Numbers {
-    state: u64,
-}
-
-impl Numbers {
-    fn next(&mut self) -> u64 {
-        self.state = self
-            .state
-            .wrapping_mul(6_364_136_223_846_793_005)
-            .wrapping_add(1_442_695_040_888_963_407);
-        self.state >> 33
-    }
-}
 
 // Both indexes, after the same calls.
 #[derive(Drop)]
@@ -108,7 +93,7 @@ fn called_alike(alloc: Global, both: &mut Both, numbers: &mut Numbers) -> Option
 
 // Returns the first call that both do not answer alike. How many rows were granted is added up.
 fn first_fault(alloc: Global, both: &mut Both, rows: &mut usize) -> Option<u32> {
-    let mut numbers = Numbers { state: 23 };
+    let mut numbers = Numbers::new(23);
     for number in 0..CALLS {
         match called_alike(alloc, both, &mut numbers) {
             Some(found) => *rows = rows.saturating_add(found),

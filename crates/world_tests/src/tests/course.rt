@@ -2,6 +2,7 @@
 
 use crate::tests::opening::{config_of, named};
 use packet::{ClientId, Payload, QoS};
+use random_numbers::Numbers;
 use session_base::Publication;
 use std::alloc::Global;
 use topics::{Filter, TopicName};
@@ -20,8 +21,8 @@ const UNTIL_A_CUT: u64 = 61;
 /// How far the run has come.
 #[derive(Drop)]
 pub struct Course {
-    /// The state of the rule.
-    pub state: u64,
+    /// What is drawn.
+    pub numbers: Numbers,
     /// The message that comes next.
     pub next: u64,
     /// How many publications were tried; each carries its number.
@@ -46,7 +47,7 @@ impl Course {
     /// Returns the course of three nodes in ballot 1.
     pub fn new() -> Course {
         Course {
-            state: 30,
+            numbers: Numbers::new(30),
             next: 0,
             published: 0,
             opened: 0,
@@ -59,13 +60,9 @@ impl Course {
         }
     }
 
-    // The next number: the upper bits of a product's remainder.
+    // Draws the next number.
     fn draw(&mut self) -> u64 {
-        self.state = self
-            .state
-            .wrapping_mul(6_364_136_223_846_793_005)
-            .wrapping_add(1_442_695_040_888_963_407);
-        self.state >> 33
+        self.numbers.next()
     }
 
     // A connection, mostly the last one of a client.
