@@ -18,8 +18,14 @@ impl BlockedLinks {
     /// that memory ran out.
     pub fn new(alloc: Global) -> Result<BlockedLinks, AllocError> {
         Ok(BlockedLinks {
-            links: Mutex::new(Vec::with_capacity(alloc, usize::from(MAX_CONNECTIONS))?),
+            links: Mutex::new(empty_list(alloc)?),
             waker: Parker::new(),
         })
     }
+}
+
+/// Returns an empty list with capacity for all connections that a node serves. The error is that
+/// memory ran out.
+pub(crate) fn empty_list(alloc: Global) -> Result<Vec<Blocked>, AllocError> {
+    Vec::with_capacity(alloc, usize::from(MAX_CONNECTIONS))
 }

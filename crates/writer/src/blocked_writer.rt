@@ -4,6 +4,7 @@ ghost use Rattle.std.specs.Prelude.{◌≡◌, ◌<◌, ◌≤◌, ◌*◌, IfSo
 ghost use Rattle.std.specs.Arc.{arc_value};
 ghost use Rattle.streams.specs.WriteTokens.{IsTokenOf};
 
+use crate::blocked_links::empty_list;
 use crate::writer::Writer;
 use node::{Gate, NodeNaming, Standing, Stated};
 use std::alloc::Global;
@@ -81,7 +82,7 @@ impl<'e, 'a, J: NodeNaming, S: Stated<J>, G: Gate> Writer<'e, 'a, J, S, G> {
     // Goes over the connections whose sockets were full. Returns how many there were, and how many
     // are still full.
     fn write_each_blocked<R: Wait>(&self, rt: &R) -> (usize, usize) {
-        let blocked = mem::replace(&mut *self.blocked.links.lock(rt), Vec::new(self.alloc));
+        let blocked = self.take_blocked(rt);
         let tried = blocked.len();
         let mut left = 0usize;
         for one in blocked {
@@ -95,6 +96,15 @@ impl<'e, 'a, J: NodeNaming, S: Stated<J>, G: Gate> Writer<'e, 'a, J, S, G> {
             }
         }
         (tried, left)
+    }
+
+    // Takes the connections whose sockets were full, and leaves a list with capacity for all that
+    // the node serves. If there is no memory for that it takes none, so that they are tried later.
+    fn take_blocked<R: Wait>(&self, rt: &R) -> Vec<Blocked> {
+        match empty_list(self.alloc) {
+            Ok(empty) => mem::replace(&mut *self.blocked.links.lock(rt), empty),
+            Err(_) => Vec::new(self.alloc),
+        }
     }
 
     // Writes as much as the socket takes. Returns the token if the socket is still full. A

@@ -31,8 +31,8 @@ impl<'e, 'a, J: NodeNaming, S: Stated<J>, G: Gate> Outlet<PortTap> for Source<'e
 
 impl<'e, 'a, J: NodeNaming, S: Stated<J>, G: Gate> Writer<'e, 'a, J, S, G> {
     /// Writes what the node queued for a connection, unless another thread writes there: then that
-    /// one will look again. What a full socket does not take is left to the blocked writer. The
-    /// node's own thread does not wait for it.
+    /// one will look again. What a full socket does not take is left to the blocked writer. `waits`
+    /// says whether this thread may sleep a moment for a full socket: the node's own one may not.
     pub(crate) fn flush<R: Wait>(&self, rt: &R, link: &Arc<Link, Global>, waits: bool) {
         let Some(token) = link.take_token(rt) else {
             return;
