@@ -90,7 +90,7 @@ impl Peer {
         requires { addressed.receiver ≡ self.now.number }
     {
         let mut outbox = self.outbox.lock(rt);
-        // Always so: see the field.
+        // Always so: the outbox is this node's (see `Peer::outbox`).
         if outbox.number() == self.number {
             let _ = addressed.queue_in(&mut outbox);
         } else {
@@ -181,7 +181,7 @@ impl Peer {
         requires { answer.receiver ≡ self.now.number }
     {
         let mut outbox = self.outbox.lock(rt);
-        // Always so: see the field.
+        // Always so: the outbox is this node's (see `Peer::outbox`).
         if outbox.number() == self.number {
             let _ = outbox.queue_answer(answer);
         } else {
@@ -194,7 +194,7 @@ impl Peer {
         requires { IsPosted self.now.number item }
     {
         let mut outbox = self.outbox.lock(rt);
-        // Always so: see the field.
+        // Always so: the outbox is this node's (see `Peer::outbox`).
         outbox.number() == self.number && outbox.queue(item)
     }
 
@@ -204,7 +204,7 @@ impl Peer {
         ensures { Each (IsQueued self.now.number) result.items }
     {
         let mut outbox = self.outbox.lock(rt);
-        // Never so: see the field.
+        // Never so: the outbox is this node's (see `Peer::outbox`).
         if outbox.number() != self.number {
             return Vec::new(alloc);
         }
