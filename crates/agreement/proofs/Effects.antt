@@ -24,15 +24,15 @@ outputs-append (Out place o ∷ xs) ys = ap (λ us. (place, o) ∷ us) (outputs-
 -- only messages are missing
 pub thinned_outputs : {C O : Type 0} {xs ys : List (Effect C O)} → Thinned xs ys → outputs xs ≡ outputs ys
 thinned_outputs none = refl
-thinned_outputs (keeps {e = To receiver m} t) = thinned_outputs t
-thinned_outputs (keeps {e = Out place o} t) = ap (λ us. (place, o) ∷ us) (thinned_outputs t)
+thinned_outputs (keeps {effect = To receiver m} t) = thinned_outputs t
+thinned_outputs (keeps {effect = Out place o} t) = ap (λ us. (place, o) ∷ us) (thinned_outputs t)
 thinned_outputs (loses t) = thinned_outputs t
 
 pub thinned_messages : {C O : Type 0} {xs ys : List (Effect C O)} → Thinned xs ys → (x : ℕ × Message C) → In x (messages xs) → In x (messages ys)
 thinned_messages none x i = i
-thinned_messages (keeps {e = To receiver m} t) x here = here
-thinned_messages (keeps {e = To receiver m} t) x (there i) = there (thinned_messages t x i)
-thinned_messages (keeps {e = Out place o} t) x i = thinned_messages t x i
+thinned_messages (keeps {effect = To receiver m} t) x here = here
+thinned_messages (keeps {effect = To receiver m} t) x (there i) = there (thinned_messages t x i)
+thinned_messages (keeps {effect = Out place o} t) x i = thinned_messages t x i
 thinned_messages (loses t) x i = there (thinned_messages t x i)
 
 -- messages to nodes with a progress have no output, and say one thing

@@ -58,12 +58,15 @@ pub data LeadsOn {S C O : Type 0} {rules : Rules S C O} {config : Config} (node 
   -- it is so at the moment itself
   leads_there : IsPrimary moment.world node ballot → LeadsOn node ballot came moment past came
   -- it is so after one more step
-  leads_still : {b c : Moment S C O} {later : List (Moment S C O)}
-      {more : Moments rules config (b ∷ later)} → LeadsOn node ballot came b later more →
-      (step : MayHappen rules b.master b.world c.master c.world) → IsPrimary c.world node ballot →
-      LeadsOn node ballot came c (b ∷ later) (went_on more step)
+  leads_still : {previous next : Moment S C O} {later : List (Moment S C O)}
+      {more : Moments rules config (previous ∷ later)} →
+      LeadsOn node ballot came previous later more →
+      (step : MayHappen rules previous.master previous.world next.master next.world) →
+      IsPrimary next.world node ballot →
+      LeadsOn node ballot came next (previous ∷ later) (went_on more step)
   -- it is so after a node learned something
-  leads_beside : {b c : Moment S C O} {later : List (Moment S C O)}
-      {more : Moments rules config (b ∷ later)} → LeadsOn node ballot came b later more →
-      (learns : Learns rules (b ∷ later) b c) → IsPrimary c.world node ballot →
-      LeadsOn node ballot came c (b ∷ later) (learned more learns)
+  leads_beside : {previous next : Moment S C O} {later : List (Moment S C O)}
+      {more : Moments rules config (previous ∷ later)} →
+      LeadsOn node ballot came previous later more →
+      (learns : Learns rules (previous ∷ later) previous next) → IsPrimary next.world node ballot →
+      LeadsOn node ballot came next (previous ∷ later) (learned more learns)

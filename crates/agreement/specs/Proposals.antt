@@ -102,9 +102,9 @@ pub data IsPartOf {X : Type 0} : List X → List X → Type 0 where
   -- both lists are empty
   nothing_left : IsPartOf [] []
   -- the next one is kept
-  with_one : {x : X} {xs ys : List X} → IsPartOf xs ys → IsPartOf (x ∷ xs) (x ∷ ys)
+  with_one : {one : X} {xs ys : List X} → IsPartOf xs ys → IsPartOf (one ∷ xs) (one ∷ ys)
   -- the next one is left out
-  without_one : {y : X} {xs ys : List X} → IsPartOf xs ys → IsPartOf xs (y ∷ ys)
+  without_one : {other : X} {xs ys : List X} → IsPartOf xs ys → IsPartOf xs (other ∷ ys)
 
 -- the commands of proposals
 abbrev pub commands_of : {C : Type 0} → List (ℕ × C) → List C

@@ -20,30 +20,33 @@ rises member held progress =
 
 -- whether a message has an effect, by its kind
 abbrev pub is_heeded : {S C : Type 0} → ReplicaState S C → ℕ → Body C → Bool
-is_heeded r from (NewBallot ballot members previous previous_members) = nat_lt r.joined ballot
-is_heeded r from (Join ballot previous) = nat_le r.joined ballot && nat_le previous r.held_in
-is_heeded r from (State ballot log) = waits_for r ballot (places log)
-is_heeded r from (Install ballot log) =
-    lacks r ballot (places log) || (r.joined == ballot && r.held_in == ballot)
-is_heeded r from (Installed ballot held) =
-    (r.joined == ballot && is_installing r.role)
-    && list_any (λ member. member == from) r.lacking
-is_heeded r from (Activate ballot) = false
-is_heeded r from (Activated ballot) =
-    (r.joined == ballot && is_installing r.role)
-    && (nat_le (length r.lacking) 0 && nat_lt (places r.log) max_places)
-is_heeded r from (Superseded ballot) = r.joined == ballot && is_installing r.role
-is_heeded r from (Append ballot place command) = follows r ballot && nat_le place (places r.log)
-is_heeded r from (Held ballot held) =
-    leads r ballot
-    && (rises from held r.progress
-    || nat_lt r.committed (least (places r.log) (raised from held r.progress)))
-is_heeded r from (Commit ballot held) =
-    follows r ballot && (nat_le held (places r.log) && nat_lt r.committed held)
+is_heeded replica from (NewBallot ballot members previous previous_members) =
+    nat_lt replica.joined ballot
+is_heeded replica from (Join ballot previous) =
+    nat_le replica.joined ballot && nat_le previous replica.held_in
+is_heeded replica from (State ballot log) = waits_for replica ballot (places log)
+is_heeded replica from (Install ballot log) =
+    lacks replica ballot (places log) || (replica.joined == ballot && replica.held_in == ballot)
+is_heeded replica from (Installed ballot held) =
+    (replica.joined == ballot && is_installing replica.role)
+    && list_any (λ member. member == from) replica.lacking
+is_heeded replica from (Activate ballot) = false
+is_heeded replica from (Activated ballot) =
+    (replica.joined == ballot && is_installing replica.role)
+    && (nat_le (length replica.lacking) 0 && nat_lt (places replica.log) max_places)
+is_heeded replica from (Superseded ballot) = replica.joined == ballot && is_installing replica.role
+is_heeded replica from (Append ballot place command) =
+    follows replica ballot && nat_le place (places replica.log)
+is_heeded replica from (Held ballot held) =
+    leads replica ballot
+    && (rises from held replica.progress
+    || nat_lt replica.committed (least (places replica.log) (raised from held replica.progress)))
+is_heeded replica from (Commit ballot held) =
+    follows replica ballot && (nat_le held (places replica.log) && nat_lt replica.committed held)
 
 -- whether a tick sends something, by the role
 abbrev pub repeats : {S C : Type 0} → ReplicaState S C → Role → Bool
-repeats r Backup = false
-repeats r Fetching = nat_lt 0 (length r.previous_members)
-repeats r Installing = true
-repeats r Active = nat_lt 0 (length r.progress)
+repeats replica Backup = false
+repeats replica Fetching = nat_lt 0 (length replica.previous_members)
+repeats replica Installing = true
+repeats replica Active = nat_lt 0 (length replica.progress)

@@ -14,35 +14,35 @@ use Rattle.ballot_base.specs.Replica.{ReplicaState, is_installing, others, progr
 
 -- an Activate to the master if no member lacks the log any more, and otherwise nothing
 abbrev pub activates : {S C : Type 0} (O : Type 0) → ReplicaState S C → List ℕ → List (Effect C O)
-activates O r [] = message_to O r.id (Activate r.joined) master ∷ []
-activates O r (member ∷ members) = []
+activates O replica [] = message_to O replica.id (Activate replica.joined) master ∷ []
+activates O replica (member ∷ members) = []
 
 -- Installed(ballot, ..): a member that lacked the log of this ballot has it now; with the last one
 -- the master may activate the ballot
 unfoldable pub on_installed : {S C : Type 0} (O : Type 0) → ReplicaState S C → ℕ → ℕ → Outcome S C O
-on_installed O r from ballot =
-    let fewer = record r { lacking = others from r.lacking } in
-    if (r.joined == ballot && is_installing r.role)
-    && list_any (λ member. member == from) r.lacking
+on_installed O replica from ballot =
+    let fewer = record replica { lacking = others from replica.lacking } in
+    if (replica.joined == ballot && is_installing replica.role)
+    && list_any (λ member. member == from) replica.lacking
     then record { state = fewer; effects = activates O fewer fewer.lacking }
-    else nothing_done O r
+    else nothing_done O replica
 
 -- Activated(ballot), if no member lacks the log: its places are applied, their outputs dropped, and
 -- the start of the ballot is appended
 unfoldable pub on_activated : {S C O : Type 0} → Rules S C O → ReplicaState S C → ℕ → Outcome S C O
-on_activated {O = O} rules r ballot =
-    let active = record (applied_to rules r (places r.log)) {
+on_activated {O = O} rules replica ballot =
+    let active = record (applied_to rules replica (places replica.log)) {
       role = Active;
-      progress = progress_at (places r.log) (others r.id r.members);
+      progress = progress_at (places replica.log) (others replica.id replica.members);
     } in
-    if (r.joined == ballot && is_installing r.role)
-    && (nat_le (length r.lacking) 0 && nat_lt (places r.log) max_places)
+    if (replica.joined == ballot && is_installing replica.role)
+    && (nat_le (length replica.lacking) 0 && nat_lt (places replica.log) max_places)
     then added rules active (rules.start_of ballot)
-    else nothing_done O r
+    else nothing_done O replica
 
 -- Superseded(ballot): the new primary of this ballot gives it up, and is a backup then
 unfoldable pub on_superseded : {S C : Type 0} (O : Type 0) → ReplicaState S C → ℕ → Outcome S C O
-on_superseded O r ballot =
-    if r.joined == ballot && is_installing r.role
-    then record { state = record r { role = Backup }; effects = [] }
-    else nothing_done O r
+on_superseded O replica ballot =
+    if replica.joined == ballot && is_installing replica.role
+    then record { state = record replica { role = Backup }; effects = [] }
+    else nothing_done O replica

@@ -8,20 +8,20 @@ use Rattle.ballot_base.specs.Replica.{ReplicaState}
 
 -- the outputs of commands that are done one after another from a state, each with its place
 abbrev pub outputs_from : {S C O : Type 0} → Rules S C O → S → ℕ → List C → List (Effect C O)
-outputs_from rules s place [] = []
-outputs_from rules s place (command ∷ commands) =
-    map (Out place) (rules.gives s command)
-    ++ outputs_from rules (rules.after s command) (place + 1) commands
+outputs_from rules state place [] = []
+outputs_from rules state place (command ∷ commands) =
+    map (Out place) (rules.gives state command)
+    ++ outputs_from rules (rules.after state command) (place + 1) commands
 
 -- the outputs of the places below `held` that are not yet applied
 abbrev pub outputs_to : {S C O : Type 0} → Rules S C O → ReplicaState S C → ℕ → List (Effect C O)
-outputs_to rules r held =
-    outputs_from rules r.machine r.committed (part r.log r.committed held)
+outputs_to rules replica held =
+    outputs_from rules replica.machine replica.committed (part replica.log replica.committed held)
 
 -- the replica with all places below `held` applied
 abbrev pub applied_to : {S C O : Type 0} → Rules S C O → ReplicaState S C → ℕ → ReplicaState S C
-applied_to rules r held =
-    record r {
+applied_to rules replica held =
+    record replica {
       committed = held;
-      machine = replay_from rules r.machine (part r.log r.committed held);
+      machine = replay_from rules replica.machine (part replica.log replica.committed held);
     }

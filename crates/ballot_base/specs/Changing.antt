@@ -15,10 +15,10 @@ use Rattle.ballot_base.specs.Replica.{ReplicaState, is_fetching, others}
 -- a new primary asks the earlier ballot's members, including itself if it is one, for their logs
 unfoldable pub on_new_ballot : {S C : Type 0} (O : Type 0) →
     ReplicaState S C → ℕ → List ℕ → ℕ → List ℕ → Outcome S C O
-on_new_ballot O r ballot members previous previous_members =
-    if nat_lt r.joined ballot
+on_new_ballot O replica ballot members previous previous_members =
+    if nat_lt replica.joined ballot
     then record {
-      state = record r {
+      state = record replica {
         joined = ballot;
         role = Fetching;
         members = members;
@@ -27,40 +27,40 @@ on_new_ballot O r ballot members previous previous_members =
         lacking = [];
         progress = [];
       };
-      effects = message_to_each O r.id (Join ballot previous) previous_members;
-    }
-    else nothing_done O r
+      effects = message_to_each O replica.id (Join ballot previous) previous_members;
+    } else nothing_done O replica
 
 -- Join(ballot, previous): the replica leaves all lower ballots, and sends its log
 unfoldable pub on_join : {S C : Type 0} (O : Type 0) → ReplicaState S C → ℕ → ℕ → ℕ → Outcome S C O
-on_join O r from ballot previous =
-    if nat_le r.joined ballot && nat_le previous r.held_in
+on_join O replica from ballot previous =
+    if nat_le replica.joined ballot && nat_le previous replica.held_in
     then record {
-      state = if nat_lt r.joined ballot then record r { joined = ballot; role = Backup } else r;
-      effects = message_to O r.id (State ballot r.log) from ∷ [];
-    }
-    else nothing_done O r
+      state = if nat_lt replica.joined ballot
+          then record replica { joined = ballot; role = Backup } else replica;
+      effects = message_to O replica.id (State ballot replica.log) from ∷ [];
+    } else nothing_done O replica
 
 -- the log is sent to the members that lack it; if there is none, the master may activate the ballot
 abbrev pub installs : {S C : Type 0} (O : Type 0) → ReplicaState S C → List ℕ → List (Effect C O)
-installs O r [] = message_to O r.id (Activate r.joined) master ∷ []
-installs O r (member ∷ members) =
-    message_to_each O r.id (Install r.joined r.log) (member ∷ members)
+installs O replica [] = message_to O replica.id (Activate replica.joined) master ∷ []
+installs O replica (member ∷ members) =
+    message_to_each O replica.id (Install replica.joined replica.log) (member ∷ members)
 
 -- whether a State is awaited: its ballot is the one joined, no log came yet, and this one lacks no
 -- applied place
 abbrev pub waits_for : {S C : Type 0} → ReplicaState S C → ℕ → ℕ → Bool
-waits_for r ballot held = r.joined == ballot && (is_fetching r.role && nat_le r.committed held)
+waits_for replica ballot held =
+    replica.joined == ballot && (is_fetching replica.role && nat_le replica.committed held)
 
 -- a new primary that took a log sends it to the others; it takes none that cannot be read
 abbrev pub installs_taken : {S C : Type 0} (O : Type 0) →
     ReplicaState S C → ℕ → Option (ReplicaState S C) → Outcome S C O
-installs_taken O r ballot None = nothing_done O r
-installs_taken O r ballot (Some took) =
+installs_taken O replica ballot None = nothing_done O replica
+installs_taken O replica ballot (Some took) =
     let new = record took {
       held_in = ballot;
       role = Installing;
-      lacking = others r.id r.members;
+      lacking = others replica.id replica.members;
     } in
     record { state = new; effects = installs O new new.lacking }
 
@@ -68,50 +68,52 @@ installs_taken O r ballot (Some took) =
 -- other members lack it, and are sent the log as it was taken
 unfoldable pub on_state : {S C O : Type 0} →
     Rules S C O → ReplicaState S C → ℕ → Log C → Outcome S C O
-on_state {O = O} rules r ballot log =
-    if waits_for r ballot (places log)
-    then installs_taken O r ballot (taken rules r log)
-    else nothing_done O r
+on_state {O = O} rules replica ballot log =
+    if waits_for replica ballot (places log)
+    then installs_taken O replica ballot (taken rules replica log)
+    else nothing_done O replica
 
 -- whether an Install is taken: no higher ballot was joined, the ballot's log was not taken yet, and
 -- this one lacks no applied place
 abbrev pub lacks : {S C : Type 0} → ReplicaState S C → ℕ → ℕ → Bool
-lacks r ballot held =
-    (nat_lt r.joined ballot || (r.joined == ballot && nat_lt r.held_in ballot))
-    && nat_le r.committed held
+lacks replica ballot held =
+    (nat_lt replica.joined ballot || (replica.joined == ballot && nat_lt replica.held_in ballot))
+    && nat_le replica.committed held
 
 -- a member that took the log says so; one that could not read it says nothing
 abbrev pub answers_installed : {S C : Type 0} (O : Type 0) →
     ReplicaState S C → ℕ → ℕ → ℕ → Option (ReplicaState S C) → Outcome S C O
-answers_installed O r from ballot held None = nothing_done O r
-answers_installed O r from ballot held (Some took) =
+answers_installed O replica from ballot held None = nothing_done O replica
+answers_installed O replica from ballot held (Some took) =
     record {
       state = record took { joined = ballot; held_in = ballot; role = Backup };
-      effects = message_to O r.id (Installed ballot held) from ∷ [];
+      effects = message_to O replica.id (Installed ballot held) from ∷ [];
     }
 
 -- Install(ballot, log): a log is taken once, unless it lacks an applied place; later it is only
 -- answered, since more may have been added after it
 unfoldable pub on_install : {S C O : Type 0} →
     Rules S C O → ReplicaState S C → ℕ → ℕ → Log C → Outcome S C O
-on_install {O = O} rules r from ballot log =
-    if lacks r ballot (places log)
-    then answers_installed O r from ballot (places log) (taken rules r log)
-    else if r.joined == ballot && r.held_in == ballot
+on_install {O = O} rules replica from ballot log =
+    if lacks replica ballot (places log)
+    then answers_installed O replica from ballot (places log) (taken rules replica log)
+    else if replica.joined == ballot && replica.held_in == ballot
     then record {
-      state = r;
-      effects = message_to O r.id (Installed ballot (places log)) from ∷ [];
+      state = replica;
+      effects = message_to O replica.id (Installed ballot (places log)) from ∷ [];
     }
-    else nothing_done O r
+    else nothing_done O replica
 
 -- a new primary repeats what it waits for
 abbrev pub on_tick_fetching : {S C : Type 0} (O : Type 0) → ReplicaState S C → Outcome S C O
-on_tick_fetching O r =
+on_tick_fetching O replica =
     record {
-      state = r;
-      effects = message_to_each O r.id (Join r.joined r.previous) r.previous_members;
+      state = replica;
+      effects = message_to_each O replica.id (Join replica.joined replica.previous)
+          replica.previous_members;
     }
 
 -- a primary that installs its log sends it at a tick to those that lack it
 abbrev pub on_tick_installing : {S C : Type 0} (O : Type 0) → ReplicaState S C → Outcome S C O
-on_tick_installing O r = record { state = r; effects = installs O r r.lacking }
+on_tick_installing O replica =
+    record { state = replica; effects = installs O replica replica.lacking }

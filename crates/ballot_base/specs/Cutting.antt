@@ -5,16 +5,16 @@ use Rattle.ballot_base.specs.Replica.{ReplicaState}
 
 -- there is something to cut if the replica runs and what is applied is above its base
 abbrev pub can_cut : {S C : Type 0} → ReplicaState S C → Bool
-can_cut r = not r.stopped && nat_lt r.log.base r.committed
+can_cut replica = not replica.stopped && nat_lt replica.log.base replica.committed
 
 -- the snapshot is the frozen machine, and the places below what is applied are dropped. Nothing is
 -- sent.
 abbrev pub cut : {S C O : Type 0} → Rules S C O → ReplicaState S C → ReplicaState S C
-cut rules r =
-    record r {
+cut rules replica =
+    record replica {
       log = record {
-        base = r.committed;
-        snapshot = rules.frozen r.machine;
-        rest = drop (r.committed - r.log.base) r.log.rest;
+        base = replica.committed;
+        snapshot = rules.frozen replica.machine;
+        rest = drop (replica.committed - replica.log.base) replica.log.rest;
       };
     }

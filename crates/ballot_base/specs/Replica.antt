@@ -106,11 +106,11 @@ opening rules id config =
 
 -- what a replica shows of itself
 abbrev pub status_of : {S C : Type 0} → ReplicaState S C → Status
-status_of r =
+status_of replica =
     record {
-      ballot = r.joined;
-      role = r.role;
-      held = places r.log;
-      committed = r.committed;
-      stopped = r.stopped;
+      ballot = replica.joined;
+      role = replica.role;
+      held = places replica.log;
+      committed = replica.committed;
+      stopped = replica.stopped;
     }

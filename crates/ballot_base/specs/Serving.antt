@@ -29,18 +29,17 @@ raised member held progress = map (raised_progress member held) progress
 
 -- places below `held` are applied, their outputs returned, and the other members sent a Commit
 unfoldable pub commit_at : {S C O : Type 0} → Rules S C O → ReplicaState S C → ℕ → Outcome S C O
-commit_at {O = O} rules r held =
-    if nat_lt r.committed held
+commit_at {O = O} rules replica held =
+    if nat_lt replica.committed held
     then record {
-      state = applied_to rules r held;
-      effects =
-          outputs_to rules r held ++ message_to_followed O r.id (Commit r.joined held) r.progress;
-    }
-    else nothing_done O r
+      state = applied_to rules replica held;
+      effects = outputs_to rules replica held
+          ++ message_to_followed O replica.id (Commit replica.joined held) replica.progress;
+    } else nothing_done O replica
 
 -- what every member holds is committed
 unfoldable pub commit : {S C O : Type 0} → Rules S C O → ReplicaState S C → Outcome S C O
-commit rules r = commit_at rules r (least (places r.log) r.progress)
+commit rules replica = commit_at rules replica (least (places replica.log) replica.progress)
 
 -- the most places of a log
 abbrev pub max_places : ℕ
@@ -48,25 +47,25 @@ max_places = 2 ^ 40
 
 -- a command is appended to the log and sent to the other members; what all hold is committed
 unfoldable pub added : {S C O : Type 0} → Rules S C O → ReplicaState S C → C → Outcome S C O
-added {O = O} rules r command =
-    sent_first
-    (message_to_followed O r.id (Append r.joined (places r.log) command) r.progress)
-    (commit rules (record r { log = pushed r.log command }))
+added {O = O} rules replica command =
+    sent_first (message_to_followed O replica.id
+    (Append replica.joined (places replica.log) command) replica.progress)
+    (commit rules (record replica { log = pushed replica.log command }))
 
 -- a proposal counts at an active primary whose log has room
 unfoldable pub proposed : {S C O : Type 0} → Rules S C O → ReplicaState S C → C → Outcome S C O
-proposed {O = O} rules r command =
-    if is_active r.role && nat_lt (places r.log) max_places
-    then added rules r command
-    else nothing_done O r
+proposed {O = O} rules replica command =
+    if is_active replica.role && nat_lt (places replica.log) max_places
+    then added rules replica command else nothing_done O replica
 
 -- whether a replica is a backup that holds the log of a ballot
 abbrev pub follows : {S C : Type 0} → ReplicaState S C → ℕ → Bool
-follows r ballot = (r.joined == ballot && r.held_in == ballot) && is_backup r.role
+follows replica ballot =
+    (replica.joined == ballot && replica.held_in == ballot) && is_backup replica.role
 
 -- whether a replica is the active primary of the ballot
 abbrev pub leads : {S C : Type 0} → ReplicaState S C → ℕ → Bool
-leads r ballot = r.joined == ballot && is_active r.role
+leads replica ballot = replica.joined == ballot && is_active replica.role
 
 -- the log with a command appended, if the command's place is the next one
 abbrev pub extended : {C : Type 0} → ℕ → C → Log C → Log C
@@ -75,28 +74,28 @@ extended place command log = if place == places log then pushed log command else
 -- Append(ballot, place, command)
 unfoldable pub on_append : {S C : Type 0} (O : Type 0) →
     ReplicaState S C → ℕ → ℕ → ℕ → C → Outcome S C O
-on_append O r from ballot place command =
-    let log = extended place command r.log in
-    if follows r ballot && nat_le place (places r.log)
+on_append O replica from ballot place command =
+    let log = extended place command replica.log in
+    if follows replica ballot && nat_le place (places replica.log)
     then record {
-      state = record r { log = log };
-      effects = message_to O r.id (Held ballot (places log)) from ∷ [];
-    } else nothing_done O r
+      state = record replica { log = log };
+      effects = message_to O replica.id (Held ballot (places log)) from ∷ [];
+    } else nothing_done O replica
 
 -- Held(ballot, held)
 unfoldable pub on_held : {S C O : Type 0} →
     Rules S C O → ReplicaState S C → ℕ → ℕ → ℕ → Outcome S C O
-on_held {O = O} rules r from ballot held =
-    if leads r ballot
-    then commit rules (record r { progress = raised from held r.progress })
-    else nothing_done O r
+on_held {O = O} rules replica from ballot held =
+    if leads replica ballot
+    then commit rules (record replica { progress = raised from held replica.progress })
+    else nothing_done O replica
 
 -- Commit(ballot, held): only the primary returns the outputs, a backup drops them
 unfoldable pub on_commit : {S C O : Type 0} → Rules S C O → ReplicaState S C → ℕ → ℕ → Outcome S C O
-on_commit {O = O} rules r ballot held =
-    if follows r ballot && nat_le held (places r.log)
-    then record { state = applied_to rules r (max r.committed held); effects = [] }
-    else nothing_done O r
+on_commit {O = O} rules replica ballot held =
+    if follows replica ballot && nat_le held (places replica.log)
+    then record { state = applied_to rules replica (max replica.committed held); effects = [] }
+    else nothing_done O replica
 
 -- what a member may lack: the command at its progress, if the log keeps it
 abbrev pub append_at : {C : Type 0} (O : Type 0) → ℕ → ℕ → Progress → Option C → List (Effect C O)
@@ -112,9 +111,10 @@ appends_after O id ballot log progress =
 
 -- an active primary repeats what the other members lack, and what is committed
 unfoldable pub on_tick_active : {S C : Type 0} (O : Type 0) → ReplicaState S C → Outcome S C O
-on_tick_active O r =
+on_tick_active O replica =
     record {
-      state = r;
-      effects = appends_after O r.id r.joined r.log r.progress
-          ++ message_to_followed O r.id (Commit r.joined r.committed) r.progress;
+      state = replica;
+      effects = appends_after O replica.id replica.joined replica.log replica.progress
+          ++ message_to_followed O replica.id (Commit replica.joined replica.committed)
+          replica.progress;
     }

@@ -16,19 +16,21 @@ stands_for_none (Some machine) = false
 
 -- the base is above this log's, and the snapshot does not thaw
 abbrev pub reads_none : {S C O : Type 0} → Rules S C O → ReplicaState S C → Log C → Bool
-reads_none rules r log =
-    nat_lt r.log.base log.base && stands_for_none (rules.thawed log.snapshot)
+reads_none rules replica log =
+    nat_lt replica.log.base log.base && stands_for_none (rules.thawed log.snapshot)
 
 -- by the kind of the message
 abbrev pub is_unread : {S C O : Type 0} → Rules S C O → ReplicaState S C → Body C → Bool
-is_unread rules r (NewBallot ballot members previous previous_members) = false
-is_unread rules r (Join ballot previous) = false
-is_unread rules r (State ballot log) = waits_for r ballot (places log) && reads_none rules r log
-is_unread rules r (Install ballot log) = lacks r ballot (places log) && reads_none rules r log
-is_unread rules r (Installed ballot held) = false
-is_unread rules r (Activate ballot) = false
-is_unread rules r (Activated ballot) = false
-is_unread rules r (Superseded ballot) = false
-is_unread rules r (Append ballot place command) = false
-is_unread rules r (Held ballot held) = false
-is_unread rules r (Commit ballot held) = false
+is_unread rules replica (NewBallot ballot members previous previous_members) = false
+is_unread rules replica (Join ballot previous) = false
+is_unread rules replica (State ballot log) =
+    waits_for replica ballot (places log) && reads_none rules replica log
+is_unread rules replica (Install ballot log) =
+    lacks replica ballot (places log) && reads_none rules replica log
+is_unread rules replica (Installed ballot held) = false
+is_unread rules replica (Activate ballot) = false
+is_unread rules replica (Activated ballot) = false
+is_unread rules replica (Superseded ballot) = false
+is_unread rules replica (Append ballot place command) = false
+is_unread rules replica (Held ballot held) = false
+is_unread rules replica (Commit ballot held) = false

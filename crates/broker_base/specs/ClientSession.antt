@@ -22,7 +22,8 @@ pub record ClientSession : Type 0 where
 
 -- the entries that are sent and neither released nor finished, in flight
 abbrev pub sent_flights : List Entry → List Flight
-sent_flights (Entry.Started made p id start ∷ entries) = (id, awaited p) ∷ sent_flights entries
+sent_flights (Entry.Started made publication id start ∷ entries) =
+    (id, awaited publication) ∷ sent_flights entries
 sent_flights (_ ∷ entries) = sent_flights entries
 sent_flights [] = []
 
@@ -30,26 +31,28 @@ sent_flights [] = []
 abbrev pub released_flight : ℕ → Flight
 released_flight id = (id, waits_for.Pubcomp)
 
--- what is in flight of these entries: first the released ones, those released below place n, in the
--- order of release; then the sent ones
+-- what is in flight of these entries: first the released ones, those released below this place, in
+-- the order of release; then the sent ones
 abbrev pub flights_below : ℕ → List Entry → List Flight
-flights_below n entries = map released_flight (released_below n entries) ++ sent_flights entries
+flights_below place entries =
+    map released_flight (released_below place entries) ++ sent_flights entries
 
--- the queue of a session with these entries, none of them released at place n or later
+-- the queue of a session with these entries, none of them released at this place or later
 abbrev pub queue_of : ℕ → List Entry → Queue
-queue_of n entries = record { in_flight = flights_below n entries; waiting = waiting_of entries }
+queue_of place entries =
+    record { in_flight = flights_below place entries; waiting = waiting_of entries }
 
 -- the session of a client that a past leads to, if it has one
 abbrev pub client_session : Limits → Past → Client → Option ClientSession
-client_session limits past c =
+client_session limits past client =
     option_map
     (λ clean. record {
       clean = clean;
-      connection = current_connection past c;
+      connection = current_connection past client;
       state = record {
-        subscriptions = subscriptions_of past c;
-        received = received_of past c;
-        queue = queue_of (length past) (entries_of limits past c);
+        subscriptions = subscriptions_of past client;
+        received = received_of past client;
+        queue = queue_of (length past) (entries_of limits past client);
       };
     })
-    (session_of past c)
+    (session_of past client)

@@ -22,21 +22,25 @@ use Rattle.broker_spec.specs.declared.command.Command.TheVariants as commands
 
 -- whether a session would have to queue the publication but is full
 abbrev pub has_no_room_for : Limits → Publication → Client × ClientSession → Bool
-has_no_room_for limits p row =
-    is_queued_at (option_map (lower_qos p.qos) (granted_qos p.topic row.1.state.subscriptions))
+has_no_room_for limits publication row =
+    is_queued_at
+    (option_map (lower_qos publication.qos)
+    (granted_qos publication.topic row.1.state.subscriptions))
     && (room limits.entries row.1.state.queue == 0)
 
 -- whether a publication would be retained on one topic more than the limit
 abbrev pub is_one_topic_over : Limits → RetainedTopics → Publication → Bool
-is_one_topic_over limits content p =
-    p.retain && not (is_empty p.payload) && is_none (publication_on p.topic content)
+is_one_topic_over limits content publication =
+    publication.retain && not (is_empty publication.payload)
+    && is_none (publication_on publication.topic content)
     && nat_le limits.retained (length content)
 
 -- a publication is refused as a whole if one session has no room for it, or if it cannot be
 -- retained
 abbrev pub refuses : Limits → State → Publication → Bool
-refuses limits state p =
-    list_any (has_no_room_for limits p) state.sessions || is_one_topic_over limits state.retained p
+refuses limits state publication =
+    list_any (has_no_room_for limits publication) state.sessions
+    || is_one_topic_over limits state.retained publication
 
 -- whether a delivery repeats one that the session took
 abbrev pub repeats_taken : ClientSession → Delivery → Bool
@@ -45,12 +49,13 @@ repeats_taken kept _ = false
 
 -- the mark of a packet on the current connection of this session
 abbrev pub owned_mark : Limits → State → Client × ClientSession → Packet → Mark
-owned_mark limits state owner (packets.Publish p) =
-    if repeats_taken owner.1 p.delivery then Mark.Repeat owner.0 else
-    if refuses limits state (publication_of p) then Mark.Refused owner.0 else Mark.Taken owner.0
-owned_mark limits state owner (packets.Subscribe s) =
+owned_mark limits state owner (packets.Publish publish) =
+    if repeats_taken owner.1 publish.delivery then Mark.Repeat owner.0 else
+    if refuses limits state (publication_of publish) then Mark.Refused owner.0
+    else Mark.Taken owner.0
+owned_mark limits state owner (packets.Subscribe subscribe) =
     Mark.Granted owner.0 (grants limits state.retained owner.1.state.subscriptions
-    (room limits.entries owner.1.state.queue) s.filters)
+    (room limits.entries owner.1.state.queue) subscribe.filters)
 owned_mark limits state owner (packets.Connect connect) = Mark.Leaves owner.0
 owned_mark limits state owner (packets.Connack connack) = Mark.Leaves owner.0
 owned_mark limits state owner (packets.Suback suback) = Mark.Leaves owner.0
@@ -67,20 +72,20 @@ packet_mark_in limits state packet None = Mark.NoPart
 -- a Connect on a current connection is a violation; any other is accepted if its client has a
 -- session or one may begin
 abbrev pub connect_mark_in : Limits → State → Client → Option (Client × ClientSession) → Mark
-connect_mark_in limits state c (Some owner) = Mark.Leaves owner.0
-connect_mark_in limits state c None =
-    if is_some (session_in c state.sessions) || nat_lt (length state.sessions) limits.sessions
+connect_mark_in limits state client (Some owner) = Mark.Leaves owner.0
+connect_mark_in limits state client None =
+    if is_some (session_in client state.sessions) || nat_lt (length state.sessions) limits.sessions
     then Mark.Accepted else Mark.Full
 
 -- the mark of a command in this state
 abbrev pub mark_in : Limits → State → Command → Mark
-mark_in limits state (commands.Packet x packet) =
-    packet_mark_in limits state packet (owner_in x state.sessions)
-mark_in limits state (commands.Connect x c clean) =
-    connect_mark_in limits state c (owner_in x state.sessions)
-mark_in limits state (commands.Lost x) = Mark.NoPart
+mark_in limits state (commands.Packet connection packet) =
+    packet_mark_in limits state packet (owner_in connection state.sessions)
+mark_in limits state (commands.Connect connection client clean) =
+    connect_mark_in limits state client (owner_in connection state.sessions)
+mark_in limits state (commands.Lost connection) = Mark.NoPart
 mark_in limits state (commands.Start ballot) = Mark.NoPart
-mark_in limits state (commands.Expel c) = Mark.NoPart
+mark_in limits state (commands.Expel client) = Mark.NoPart
 
 -- the command with its mark
 abbrev pub place_in : Limits → State → Command → Place

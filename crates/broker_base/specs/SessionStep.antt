@@ -1,5 +1,4 @@
--- How one more command changes a client's session (MQTT 3.1.2.4, 3.1.4, 3.3.5, 3.8.4, 4.3, 4.4,
--- 4.6).
+-- How one command changes a client's session (MQTT 3.1.2.4, 3.1.4, 3.3.5, 3.8.4, 4.3, 4.4, 4.6).
 use Rattle.std.specs.Prelude.{ℕ, Bool, not, ◌&&◌, ◌||◌, if◌then◌else◌, List, [], Option, Some}
 use Rattle.std.specs.Prelude.{None, option_map}
 use Rattle.session_base.specs.packet.declared.packet.Packet.TheVariants as packets
@@ -24,50 +23,55 @@ use Rattle.broker_spec.specs.declared.command.Command.TheVariants as commands
 -- the copies that a command makes for a session with these subscriptions
 abbrev pub copies_with : Command → Mark → RetainedTopics → Client → List GrantedFilter →
     List Publication
-copies_with (commands.Packet x (packets.Publish p)) (Mark.Taken d) content c held =
-    copy_of (publication_of p)
-    (option_map (lower_qos (publication_of p).qos) (granted_qos (publication_of p).topic held))
-copies_with (commands.Packet x (packets.Subscribe s)) (Mark.Granted d which) content c held =
-    if same_client d c then copies_for_all content (granted_of s.filters which) else []
-copies_with _ _ content c held = []
+copies_with (commands.Packet connection (packets.Publish publish)) (Mark.Taken sender)
+    content client held =
+    copy_of (publication_of publish) (option_map (lower_qos (publication_of publish).qos)
+    (granted_qos (publication_of publish).topic held))
+copies_with (commands.Packet connection (packets.Subscribe subscribe)) (Mark.Granted sender which)
+    content client held =
+    if same_client sender client
+    then copies_for_all content (granted_of subscribe.filters which) else []
+copies_with _ _ content client held = []
 
 -- a queue is filled only while there is a connection
 abbrev pub filled_on : Option ConnectionName → ℕ → List Flight → List Publication → Queue
-filled_on (Some x) window flights waiting = fill window flights waiting
+filled_on (Some connection) window flights waiting = fill window flights waiting
 filled_on None window flights waiting = record { in_flight = flights; waiting = waiting }
 
 -- the queue after a client's answer: after PUBACK and PUBCOMP, what may start starts (MQTT 4.6)
 abbrev pub answered_queue : ℕ → Command → Mark → Client → Option ConnectionName → Queue → Queue
-answered_queue window (commands.Packet x (packets.Puback id)) (Mark.Handled d) c connection queue =
-    if same_client d c
+answered_queue window (commands.Packet name (packets.Puback id)) (Mark.Handled sender)
+    client connection queue =
+    if same_client sender client
     then filled_on connection window (on_puback id queue.in_flight) queue.waiting else queue
-answered_queue window (commands.Packet x (packets.Pubrec id)) (Mark.Handled d) c connection queue =
-    if same_client d c
+answered_queue window (commands.Packet name (packets.Pubrec id)) (Mark.Handled sender)
+    client connection queue =
+    if same_client sender client
     then record { in_flight = on_pubrec id queue.in_flight; waiting = queue.waiting } else queue
-answered_queue window (commands.Packet x (packets.Pubcomp id)) (Mark.Handled d) c connection queue =
-    if same_client d c
+answered_queue window (commands.Packet name (packets.Pubcomp id)) (Mark.Handled sender)
+    client connection queue =
+    if same_client sender client
     then filled_on connection window (on_pubcomp id queue.in_flight) queue.waiting else queue
-answered_queue window _ _ c connection queue = queue
+answered_queue window _ _ client connection queue = queue
 
 -- the queue after copies are added: with a connection, what may start starts after each copy
 abbrev pub copied_queue : ℕ → Option ConnectionName → List Publication → Queue → Queue
-copied_queue window (Some x) copies queue = copies_left window copies queue
+copied_queue window (Some connection) copies queue = copies_left window copies queue
 copied_queue window None copies queue = copies_waiting copies queue
 
--- the session after a command that is no accepted Connect of its client, with this connection or
--- none
+-- the session after any command but an accepted Connect of its client, on this connection or none
 abbrev pub kept_on : ℕ → Place → RetainedTopics → Client → Option ConnectionName → ClientSession →
     ClientSession
-kept_on window place content c connection old =
+kept_on window place content client connection old =
     record {
       clean = old.clean;
       connection = connection;
       state = record {
-        subscriptions = filters_after place.command place.mark c old.state.subscriptions;
-        received = received_by place.command place.mark c old.state.received;
+        subscriptions = filters_after place.command place.mark client old.state.subscriptions;
+        received = received_by place.command place.mark client old.state.received;
         queue = copied_queue window connection
-            (copies_with place.command place.mark content c old.state.subscriptions)
-            (answered_queue window place.command place.mark c connection old.state.queue);
+            (copies_with place.command place.mark content client old.state.subscriptions)
+            (answered_queue window place.command place.mark client connection old.state.queue);
       };
     }
 
@@ -88,32 +92,29 @@ kept_resumed window opened old =
       };
     }
 
--- the session after an accepted Connect of the client: a session that is not clean continues if the
--- Connect is not clean
+-- the session after the client's accepted Connect, which continues an old one if neither is clean
 abbrev pub kept_connected : ℕ → ConnectionName × Bool → Option ClientSession → ClientSession
 kept_connected window opened None = kept_anew opened
 kept_connected window opened (Some old) =
     if opened.1 || old.clean then kept_anew opened else kept_resumed window opened old
 
--- the session after any other command: its connection may end, and a clean session with it; an
--- Expel of the client ends both
+-- the session after any other command: it ends at an Expel, and if clean, with its connection
 abbrev pub kept_later : ℕ → Place → RetainedTopics → Client → Option ClientSession →
     Option ClientSession
-kept_later window place content c None = None
-kept_later window place content c (Some old) =
-    only_if (not (expels place.command c || (old.clean && ends_any place c old.connection)))
-    (Some (kept_on window place content c
-    (only_if (not (ends_any place c old.connection)) old.connection) old))
+kept_later window place content client None = None
+kept_later window place content client (Some old) =
+    only_if (not (expels place.command client || (old.clean
+    && ends_any place client old.connection))) (Some (kept_on window place content client
+    (only_if (not (ends_any place client old.connection)) old.connection) old))
 
 -- the session after a command, by the connection that the command opens for the client, if any
 abbrev pub kept_by : ℕ → Place → RetainedTopics → Client → Option (ConnectionName × Bool) →
     Option ClientSession → Option ClientSession
-kept_by window place content c (Some opened) old = Some (kept_connected window opened old)
-kept_by window place content c None old = kept_later window place content c old
+kept_by window place content client (Some opened) old = Some (kept_connected window opened old)
+kept_by window place content client None old = kept_later window place content client old
 
--- the client's session after a place, with this window from then on, and these retained
--- publications before it
+-- the client's session after a place, with the window from then on, and what was retained before
 abbrev pub kept_after : ℕ → Place → RetainedTopics → Client → Option ClientSession →
     Option ClientSession
-kept_after window place content c old =
-    kept_by window place content c (accepts place.command place.mark c) old
+kept_after window place content client old =
+    kept_by window place content client (accepts place.command place.mark client) old

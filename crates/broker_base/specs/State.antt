@@ -30,27 +30,28 @@ empty_state window = record { window = window; sessions = []; retained = [] }
 
 -- adds one row in front, if the client has a session
 abbrev pub keyed : Client → Option ClientSession → Sessions → Sessions
-keyed c (Some kept) rows = (c, kept) ∷ rows
-keyed c None rows = rows
+keyed client (Some kept) rows = (client, kept) ∷ rows
+keyed client None rows = rows
 
 -- the rows of those clients that have a session
 abbrev pub table : (Client → Option ClientSession) → List Client → Sessions
-table session (c ∷ others) = keyed c (session c) (table session others)
+table session (client ∷ others) = keyed client (session client) (table session others)
 table session [] = []
 
 -- the session of a client
 abbrev pub session_in : Client → Sessions → Option ClientSession
-session_in c rows = lookup (is_at (by_bytes c)) rows
+session_in client rows = lookup (is_at (by_bytes client)) rows
 
 -- sets a client's session: it replaces the old one, or is inserted in the order of bytes
 abbrev pub put_session : Client → ClientSession → Sessions → Sessions
-put_session c kept rows = insert_entry by_bytes rows c kept
+put_session client kept rows = insert_entry by_bytes rows client kept
 
--- the session whose current connection is x, with its client
+-- the session whose current connection this is, with its client
 abbrev pub owner_in : ConnectionName → Sessions → Option (Client × ClientSession)
-owner_in x (row ∷ rows) =
-    if any_connection (same_connection x) row.1.connection then Some row else owner_in x rows
-owner_in x [] = None
+owner_in connection (row ∷ rows) =
+    if any_connection (same_connection connection) row.1.connection then Some row
+    else owner_in connection rows
+owner_in connection [] = None
 
 -- ---- the state after a past
 

@@ -58,16 +58,19 @@ AllInWindow window rows = AllByRecursion (λ row. FitsWindow window row.1) rows
 abbrev pub AreByClient : Sessions → Type 0
 AreByClient rows = IsStrictlySortedBy by_bytes (keys_of rows)
 
--- x is not the connection of any of these sessions
+-- the connection is not that of any of these sessions
 abbrev pub IsNobodys : ConnectionName → Sessions → Type 0
-IsNobodys x (row ∷ rows) =
-    (any_connection (same_connection x) row.1.connection ≡ false) × IsNobodys x rows
-IsNobodys x [] = Unit {0}
+IsNobodys connection (row ∷ rows) =
+    (any_connection (same_connection connection) row.1.connection ≡ false)
+    × IsNobodys connection rows
+IsNobodys connection [] = Unit {0}
 
 -- a connection belongs to at most one session
 abbrev pub ConnectionsAreApart : Sessions → Type 0
 ConnectionsAreApart (row ∷ rows) =
-    ((x : ConnectionName) → row.1.connection ≡ Some x → IsNobodys x rows) × ConnectionsAreApart rows
+    ((connection : ConnectionName) → row.1.connection ≡ Some connection
+    → IsNobodys connection rows)
+    × ConnectionsAreApart rows
 ConnectionsAreApart [] = Unit {0}
 
 -- ---- the state

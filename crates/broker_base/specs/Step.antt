@@ -21,23 +21,26 @@ use Rattle.broker_spec.specs.declared.command.Output.{Output}
 -- Whether a command concerns this client's session with these subscriptions, apart from the end of
 -- its connection: its client sent it, or it is a taken publication that matches one of them.
 abbrev pub is_about : Command → Mark → Client → List GrantedFilter → Bool
-is_about (commands.Connect x d clean) Mark.Accepted c held = same_client d c
-is_about (commands.Packet x (packets.Publish p)) (Mark.Taken d) c held =
-    same_client d c || is_some (granted_qos p.topic held)
-is_about command (Mark.Granted d which) c held = same_client d c
-is_about command (Mark.Handled d) c held = same_client d c
-is_about _ _ c held = false
+is_about (commands.Connect connection sender clean) Mark.Accepted client held =
+    same_client sender client
+is_about (commands.Packet connection (packets.Publish publish)) (Mark.Taken sender) client held =
+    same_client sender client || is_some (granted_qos publish.topic held)
+is_about command (Mark.Granted sender which) client held = same_client sender client
+is_about command (Mark.Handled sender) client held = same_client sender client
+is_about _ _ client held = false
 
 -- whether a place touches a client's session; every other session stays as it is
 abbrev pub touches : Place → Client → ClientSession → Bool
-touches place c kept =
-    ends_any place c kept.connection || is_about place.command place.mark c kept.state.subscriptions
+touches place client kept =
+    ends_any place client kept.connection
+    || is_about place.command place.mark client kept.state.subscriptions
 
 -- a session after a place, if it still exists
 abbrev pub session_after : ℕ → Place → RetainedTopics → Client → ClientSession →
     Option ClientSession
-session_after window place content c kept =
-    if touches place c kept then kept_after window place content c (Some kept) else Some kept
+session_after window place content client kept =
+    if touches place client kept then kept_after window place content client (Some kept)
+    else Some kept
 
 -- the sessions from before a place that still exist after it
 abbrev pub sessions_left : ℕ → Place → RetainedTopics → Sessions → Sessions
@@ -48,8 +51,8 @@ sessions_left window place content [] = []
 
 -- the sessions that still exist after a place, with that of the client of an accepted Connect
 abbrev pub sessions_with : ℕ → Place → RetainedTopics → Sessions → Command → Mark → Sessions
-sessions_with window place content rows (commands.Connect x c clean) Mark.Accepted =
-    put_session c (kept_connected window (x, clean) (session_in c rows))
+sessions_with window place content rows (commands.Connect connection client clean) Mark.Accepted =
+    put_session client (kept_connected window (connection, clean) (session_in client rows))
     (sessions_left window place content rows)
 sessions_with window place content rows command mark = sessions_left window place content rows
 

@@ -1,5 +1,4 @@
--- What the broker answers to a command, from the state before it (MQTT 3.1.4, 3.2, 3.3.4, 3.8.4,
--- 4.3, 4.4).
+-- What the broker answers to a command in a state (MQTT 3.1.4, 3.2, 3.3.4, 3.8.4, 4.3, 4.4).
 use Rattle.std.specs.Prelude.{ℕ, Bool, not, ◌||◌, if◌then◌else◌, List, [], ◌∷◌, ◌++◌, map, flat_map}
 use Rattle.std.specs.Prelude.{Option, Some, None, option_map}
 use Rattle.session_base.specs.packet.declared.packet.Packet.{Packet}
@@ -21,7 +20,7 @@ use Rattle.broker_spec.specs.declared.command.Output.TheVariants.{Send, Close}
 
 -- packets to a client that is connected
 abbrev pub sent_on : Option ConnectionName → List Packet → List Output
-sent_on (Some x) packets = map (Send x) packets
+sent_on (Some connection) packets = map (Send connection) packets
 sent_on None packets = []
 
 -- what a session's client is sent for the copies that a place makes for it
@@ -33,16 +32,16 @@ copies_answered window place content row =
 
 -- what a client is sent for the copies that a place makes for its session, if it has one
 abbrev pub copies_to : ℕ → Place → RetainedTopics → Client → Option ClientSession → List Output
-copies_to window place content c (Some kept) = copies_answered window place content (c, kept)
-copies_to window place content c None = []
+copies_to window place content client (Some kept) =
+    copies_answered window place content (client, kept)
+copies_to window place content client None = []
 
 -- only while a session's client is connected
 abbrev pub while_connected : Option ConnectionName → List Packet → List Packet
-while_connected (Some x) packets = packets
+while_connected (Some connection) packets = packets
 while_connected None packets = []
 
--- what a client's packet makes its session send on x: what starts after a PUBACK or PUBCOMP, and
--- PUBREL after PUBREC
+-- what a packet makes a session send: PUBREL after PUBREC, what starts after PUBACK and PUBCOMP
 abbrev pub handled_sends : ℕ → Packet → ClientSession → List Packet
 handled_sends window (packets.Puback id) kept =
     while_connected kept.connection
@@ -61,34 +60,36 @@ handled_of window packet None = []
 
 -- the answers to a packet that is no PUBLISH and no SUBSCRIBE, and ends nothing
 abbrev pub handled_in : ℕ → ConnectionName → Option ClientSession → Packet → List Output
-handled_in window x old (packets.Unsubscribe u) = Send x (packets.Unsuback u.id) ∷ []
-handled_in window x old (packets.Pubrel id) = Send x (packets.Pubcomp id) ∷ []
-handled_in window x old packets.Pingreq = Send x packets.Pingresp ∷ []
-handled_in window x old packet = map (Send x) (handled_of window packet old)
+handled_in window connection old (packets.Unsubscribe unsubscribe) =
+    Send connection (packets.Unsuback unsubscribe.id) ∷ []
+handled_in window connection old (packets.Pubrel id) = Send connection (packets.Pubcomp id) ∷ []
+handled_in window connection old packets.Pingreq = Send connection packets.Pingresp ∷ []
+handled_in window connection old packet = map (Send connection) (handled_of window packet old)
 
 -- the answers to a packet, by its mark
 abbrev pub packet_answers_in : ℕ → Place → State → ConnectionName → Packet → Mark → List Output
-packet_answers_in window place state x (packets.Publish p) (Mark.Taken c) =
-    acknowledged x p.delivery
+packet_answers_in window place state connection (packets.Publish publish) (Mark.Taken client) =
+    acknowledged connection publish.delivery
     ++ flat_map (copies_answered window place state.retained) state.sessions
-packet_answers_in window place state x (packets.Publish p) (Mark.Repeat c) =
-    acknowledged x p.delivery
-packet_answers_in window place state x (packets.Subscribe s) (Mark.Granted c which) =
-    Send x (packets.Suback (record { id = s.id; codes = codes_of s.filters which }))
-    ∷ copies_to window place state.retained c (session_in c state.sessions)
-packet_answers_in window place state x packet (Mark.Handled c) =
-    handled_in window x (session_in c state.sessions) packet
-packet_answers_in window place state x packet (Mark.Leaves c) = Close x ∷ []
-packet_answers_in window place state x packet (Mark.Refused c) = Close x ∷ []
-packet_answers_in window place state x packet _ = []
+packet_answers_in window place state connection (packets.Publish publish) (Mark.Repeat client) =
+    acknowledged connection publish.delivery
+packet_answers_in window place state connection (packets.Subscribe subscribe)
+    (Mark.Granted client which) =
+    Send connection
+    (packets.Suback (record { id = subscribe.id; codes = codes_of subscribe.filters which }))
+    ∷ copies_to window place state.retained client (session_in client state.sessions)
+packet_answers_in window place state connection packet (Mark.Handled client) =
+    handled_in window connection (session_in client state.sessions) packet
+packet_answers_in window place state connection packet (Mark.Leaves client) = Close connection ∷ []
+packet_answers_in window place state connection packet (Mark.Refused client) = Close connection ∷ []
+packet_answers_in window place state connection packet _ = []
 
 -- the connection of a session, if there is one
 abbrev pub connection_of : Option ClientSession → Option ConnectionName
 connection_of (Some kept) = kept.connection
 connection_of None = None
 
--- what a client that comes back is sent: what is in flight, then what starts; nothing if its
--- session begins
+-- what a client that comes back is sent if its session continues: what is in flight, what starts
 abbrev pub resumed : ℕ → Bool → Option ClientSession → List Packet
 resumed window clean (Some kept) =
     if clean || kept.clean then []
@@ -99,21 +100,21 @@ resumed window clean None = []
 -- the answers to a Connect, by its mark
 abbrev pub connect_answers_in : ℕ → ConnectionName → Bool → Option ClientSession → Mark →
     List Output
-connect_answers_in window x clean old Mark.Accepted =
-    close_outputs (connection_of old)
-    ++ welcome x (not (begins_session clean
+connect_answers_in window connection clean old Mark.Accepted =
+    close_outputs (connection_of old) ++ welcome connection (not (begins_session clean
     (option_map (λ (kept : ClientSession). kept.clean) old)))
-    ∷ map (Send x) (resumed window clean old)
-connect_answers_in window x clean old Mark.Full = turned_away x ∷ Close x ∷ []
-connect_answers_in window x clean old _ = Close x ∷ []
+    ∷ map (Send connection) (resumed window clean old)
+connect_answers_in window connection clean old Mark.Full =
+    turned_away connection ∷ Close connection ∷ []
+connect_answers_in window connection clean old _ = Close connection ∷ []
 
 -- the answers at a place, with this window from then on
 abbrev pub answers_by_state : ℕ → Place → State → Command → Mark → List Output
-answers_by_state window place state (commands.Packet x packet) mark =
-    packet_answers_in window place state x packet mark
-answers_by_state window place state (commands.Connect x c clean) mark =
-    connect_answers_in window x clean (session_in c state.sessions) mark
-answers_by_state window place state (commands.Lost x) mark = []
+answers_by_state window place state (commands.Packet connection packet) mark =
+    packet_answers_in window place state connection packet mark
+answers_by_state window place state (commands.Connect connection client clean) mark =
+    connect_answers_in window connection clean (session_in client state.sessions) mark
+answers_by_state window place state (commands.Lost connection) mark = []
 answers_by_state window place state (commands.Start ballot) mark = []
-answers_by_state window place state (commands.Expel c) mark =
-    close_outputs (connection_of (session_in c state.sessions))
+answers_by_state window place state (commands.Expel client) mark =
+    close_outputs (connection_of (session_in client state.sessions))

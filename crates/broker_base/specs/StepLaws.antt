@@ -20,31 +20,31 @@ use Rattle.broker_spec.specs.declared.command.Command.{Command}
 abbrev pub StepsEachSession : Type 0
 StepsEachSession =
     (limits : Limits) → (later : ℕ) → IsWindow limits later → (place : Place) → (past : Past) →
-    (c : Client) →
-    client_session limits (place ∷ past) c
-    ≡ kept_after (window_at limits (place ∷ past)) place (retained_publications past) c
-    (client_session limits past c)
+    (client : Client) →
+    client_session limits (place ∷ past) client
+    ≡ kept_after (window_at limits (place ∷ past)) place (retained_publications past) client
+    (client_session limits past client)
 
 -- a session that a place does not touch stays as it is
 abbrev pub OthersStay : Type 0
 OthersStay =
     (limits : Limits) → (later : ℕ) → IsWindow limits later →
-    (place : Place) → (past : Past) → (c : Client) → (kept : ClientSession) →
-    client_session limits past c ≡ Some kept → touches place c kept ≡ false →
-    client_session limits (place ∷ past) c ≡ Some kept
+    (place : Place) → (past : Past) → (client : Client) → (kept : ClientSession) →
+    client_session limits past client ≡ Some kept → touches place client kept ≡ false →
+    client_session limits (place ∷ past) client ≡ Some kept
 
 -- a client that has no session gets one only by an accepted Connect
 abbrev pub NoneBegins : Type 0
 NoneBegins =
-    (limits : Limits) → (place : Place) → (past : Past) → (c : Client) →
-    client_session limits past c ≡ None → accepts place.command place.mark c ≡ None →
-    client_session limits (place ∷ past) c ≡ None
+    (limits : Limits) → (place : Place) → (past : Past) → (client : Client) →
+    client_session limits past client ≡ None → accepts place.command place.mark client ≡ None →
+    client_session limits (place ∷ past) client ≡ None
 
 -- the state has each client's session under its name
 abbrev pub FindsEachSession : Type 0
 FindsEachSession =
-    (limits : Limits) → (past : Past) → (c : Client) →
-    session_in c (state_of limits past).sessions ≡ client_session limits past c
+    (limits : Limits) → (past : Past) → (client : Client) →
+    session_in client (state_of limits past).sessions ≡ client_session limits past client
 
 -- the state decides the mark of a command as the past does
 abbrev pub DecidesAsThePast : Type 0

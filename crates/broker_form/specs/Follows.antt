@@ -16,7 +16,7 @@ is_after None key = true
 
 -- the connection, if there is one, is that of one of these sessions
 abbrev pub is_owned : Sessions → Option ConnectionName → Bool
-is_owned rows (Some x) = is_some (owner_in x rows)
+is_owned rows (Some connection) = is_some (owner_in connection rows)
 is_owned rows None = false
 
 -- whether a row may come after those before it: clients rise, and no connection is used twice

@@ -110,7 +110,7 @@ broker_at bytes = do
 
 -- what was read, if the reading did not stop
 abbrev pub found : {A : Type 0} → Result A Stop → Option A
-found (Ok a) = Some a
+found (Ok value) = Some value
 found (Err stop) = None
 
 -- the broker that is thawed from bytes, if any

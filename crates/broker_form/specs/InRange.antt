@@ -29,12 +29,12 @@ IsRetained row = (1 ≤ length row.1.payload) × CanBeSent (as_publication row)
 
 -- the connection, if there is one, has a name in its range
 abbrev pub IsNamed : Option ConnectionName → Type 0
-IsNamed (Some x) = IsConnectionName x
+IsNamed (Some connection) = IsConnectionName connection
 IsNamed None = Unit {0}
 
 -- a session of a client, with no more filters and entries than it may hold, and each in its range
-pub record IsSession (limits : Limits) (c : Client) (kept : ClientSession) : Type 0 where
-  pub client : IsTrue (is_client c)
+pub record IsSession (limits : Limits) (owner : Client) (kept : ClientSession) : Type 0 where
+  pub client : IsTrue (is_client owner)
   pub connection : IsNamed kept.connection
   pub filters : AllByRecursion IsGrantedFilter kept.state.subscriptions
   pub few_filters : length kept.state.subscriptions ≤ limits.subscriptions

@@ -23,8 +23,8 @@ StaysInRange =
 
 -- a packet that is sent has a spelling
 abbrev pub CanBeSpelled : Output → Type 0
-CanBeSpelled (Send x packet) = IsPacket packet
-CanBeSpelled (Close x) = Unit {0}
+CanBeSpelled (Send connection packet) = IsPacket packet
+CanBeSpelled (Close connection) = Unit {0}
 
 -- every answer to a command has one
 abbrev pub AnswersAreSpelled : Type 0

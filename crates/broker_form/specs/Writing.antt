@@ -19,7 +19,8 @@ wide_number n = to_be_bytes w64 n
 -- whether there is a current connection, and which
 abbrev pub connection_bytes : Option ConnectionName → List ℕ
 connection_bytes None = 0 ∷ []
-connection_bytes (Some x) = 1 ∷ (wide_number x.ballot ++ wide_number x.count)
+connection_bytes (Some connection) =
+    1 ∷ (wide_number connection.ballot ++ wide_number connection.count)
 
 -- the bytes of a client with its session: CleanSession, connection, state
 abbrev pub row_bytes : Client × ClientSession → List ℕ

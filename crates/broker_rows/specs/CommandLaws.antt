@@ -16,10 +16,11 @@ use Rattle.broker_rows.specs.Owners.{Owners, owners_in, row_in}
 -- client's row
 abbrev pub OneRowIsWritten : Type 0
 OneRowIsWritten =
-    (limits : Limits) → (later : ℕ) → (state : State) → (command : Command) → (x : ConnectionName) →
-    (owner : Client × ClientSession) →
-    AreByClient state.sessions → ConnectionsAreApart state.sessions → comes_on command ≡ Some x →
-    owner_in x state.sessions ≡ Some owner →
+    (limits : Limits) → (later : ℕ) → (state : State) → (command : Command) →
+    (connection : ConnectionName) → (owner : Client × ClientSession) →
+    AreByClient state.sessions → ConnectionsAreApart state.sessions →
+    comes_on command ≡ Some connection →
+    owner_in connection state.sessions ≡ Some owner →
     is_taken (mark_in limits state command) ≡ false →
     (step limits later state command).0.sessions
     ≡ written owner.0
@@ -31,14 +32,14 @@ OneRowIsWritten =
 -- changes no row
 abbrev pub NobodyChangesNothing : Type 0
 NobodyChangesNothing =
-    (limits : Limits) → (later : ℕ) → (state : State) → (command : Command) → (x : ConnectionName) →
-    comes_on command ≡ Some x →
-    owner_in x state.sessions ≡ None → is_accepted (mark_in limits state command) ≡ false →
+    (limits : Limits) → (later : ℕ) → (state : State) → (command : Command) →
+    (connection : ConnectionName) → comes_on command ≡ Some connection →
+    owner_in connection state.sessions ≡ None → is_accepted (mark_in limits state command) ≡ false →
     (step limits later state command).0.sessions ≡ state.sessions
 
 -- a map from connections to clients that is kept in step finds the row that owns a connection
 abbrev pub OwnerIsFoundByMap : Type 0
 OwnerIsFoundByMap =
-    (owners : Owners) → (x : ConnectionName) → (sessions : Sessions) → AreByClient sessions →
-    owners ≡ owners_in sessions →
-    owner_in x sessions ≡ row_in sessions (owners x)
+    (owners : Owners) → (connection : ConnectionName) → (sessions : Sessions) →
+    AreByClient sessions → owners ≡ owners_in sessions →
+    owner_in connection sessions ≡ row_in sessions (owners connection)

@@ -22,47 +22,48 @@ use Rattle.broker_rows.specs.Served.{with_session, left_off}
 
 -- whether the client has a session, or one more may begin
 abbrev pub may_have_session : Limits → State → Client → Bool
-may_have_session limits state c =
-    is_some (session_in c state.sessions) || nat_lt (length state.sessions) limits.sessions
+may_have_session limits state client =
+    is_some (session_in client state.sessions) || nat_lt (length state.sessions) limits.sessions
 
 -- whether an accepted Connect with this flag begins a session of the client
 abbrev pub begins_in : State → Client → Bool → Bool
-begins_in state c clean =
+begins_in state client clean =
     begins_session clean
-    (option_map (λ (kept : ClientSession). kept.clean) (session_in c state.sessions))
+    (option_map (λ (kept : ClientSession). kept.clean) (session_in client state.sessions))
 
 -- A Connect that is clean, that finds no session, or that finds a clean one, begins an empty
 -- session; the connection that the client had is closed (MQTT 3.1.2.4, 3.1.4).
 abbrev pub BeginningStep : Type 0
 BeginningStep =
-    (limits : Limits) → (later : ℕ) → (state : State) → (x : ConnectionName) → (c : Client) →
-    (clean : Bool) → IsSound state →
-    owner_in x state.sessions ≡ None → may_have_session limits state c ≡ true →
-    begins_in state c clean ≡ true →
-    step limits later state (commands.Connect x c clean)
+    (limits : Limits) → (later : ℕ) → (state : State) → (connection : ConnectionName) →
+    (client : Client) → (clean : Bool) → IsSound state →
+    owner_in connection state.sessions ≡ None → may_have_session limits state client ≡ true →
+    begins_in state client clean ≡ true →
+    step limits later state (commands.Connect connection client clean)
     ≡ (
       record {
         window = state.window;
-        sessions = insert_entry by_bytes state.sessions c (kept_anew (x, clean));
+        sessions = insert_entry by_bytes state.sessions client (kept_anew (connection, clean));
         retained = state.retained;
       },
-      close_outputs (connection_of (session_in c state.sessions)) ++ welcome x false ∷ [],
+      close_outputs (connection_of (session_in client state.sessions))
+          ++ welcome connection false ∷ [],
     )
 
 -- Any other continues with the session that it finds: what is in flight is sent again in order, and
 -- what may start then starts (MQTT 4.4).
 abbrev pub ResumingStep : Type 0
 ResumingStep =
-    (limits : Limits) → (later : ℕ) → (state : State) → (x : ConnectionName) → (c : Client) →
-    (kept : ClientSession) → IsSound state →
-    owner_in x state.sessions ≡ None → session_in c state.sessions ≡ Some kept →
+    (limits : Limits) → (later : ℕ) → (state : State) → (connection : ConnectionName) →
+    (client : Client) → (kept : ClientSession) → IsSound state →
+    owner_in connection state.sessions ≡ None → session_in client state.sessions ≡ Some kept →
     kept.clean ≡ false →
-    step limits later state (commands.Connect x c false)
+    step limits later state (commands.Connect connection client false)
     ≡ (
-      with_session c (Some (kept_resumed state.window (x, false) kept)) state,
+      with_session client (Some (kept_resumed state.window (connection, false) kept)) state,
       close_outputs kept.connection
-          ++ welcome x true
-          ∷ map (Send x)
+          ++ welcome connection true
+          ∷ map (Send connection)
           (resend kept.state.queue.in_flight
           ++ fill_sends state.window kept.state.queue.in_flight kept.state.queue.waiting),
     )
@@ -70,17 +71,18 @@ ResumingStep =
 -- one that would begin a session too many is refused (MQTT 3.2.2.3)
 abbrev pub FullStep : Type 0
 FullStep =
-    (limits : Limits) → (later : ℕ) → (state : State) → (x : ConnectionName) → (c : Client) →
-    (clean : Bool) →
-    owner_in x state.sessions ≡ None → may_have_session limits state c ≡ false →
-    step limits later state (commands.Connect x c clean) ≡ (state, turned_away x ∷ Close x ∷ [])
+    (limits : Limits) → (later : ℕ) → (state : State) → (connection : ConnectionName) →
+    (client : Client) → (clean : Bool) →
+    owner_in connection state.sessions ≡ None → may_have_session limits state client ≡ false →
+    step limits later state (commands.Connect connection client clean)
+    ≡ (state, turned_away connection ∷ Close connection ∷ [])
 
 -- if the client has a session, the insertion of one writes it
 abbrev pub InsertionWrites : Type 0
 InsertionWrites =
-    (c : Client) → (old new : ClientSession) → (sessions : Sessions) → AreByClient sessions →
-    session_in c sessions ≡ Some old →
-    insert_entry by_bytes sessions c new ≡ written c (Some new) sessions
+    (client : Client) → (old new : ClientSession) → (sessions : Sessions) → AreByClient sessions →
+    session_in client sessions ≡ Some old →
+    insert_entry by_bytes sessions client new ≡ written client (Some new) sessions
 
 -- ---- a Start
 

@@ -36,10 +36,10 @@ CopiesTakeRoom =
 -- if there is room for all copies, each finds room when its turn comes
 abbrev pub CopiesFindRoom : Type 0
 CopiesFindRoom =
-    (window limit : ℕ) → (before : List Publication) → (p : Publication) →
+    (window limit : ℕ) → (before : List Publication) → (publication : Publication) →
     (after : List Publication) → (queue : Queue) →
-    nat_lt (room limit queue) (length (queued (before ++ p ∷ after))) ≡ false →
-    is_answered p.qos ≡ true →
+    nat_lt (room limit queue) (length (queued (before ++ publication ∷ after))) ≡ false →
+    is_answered publication.qos ≡ true →
     nat_lt 0 (room limit (copies_left window before queue)) ≡ true
 
 -- ---- filter by filter

@@ -17,28 +17,29 @@ use Rattle.broker_rows.specs.Indexed.{content_in}
 -- the session with all that it kept is removed, and its connection, if it has one, is closed
 abbrev pub ExpelStep : Type 0
 ExpelStep =
-    (limits : Limits) → (later : ℕ) → (state : State) → (c : Client) → (kept : ClientSession) →
-    IsSound state → session_in c state.sessions ≡ Some kept →
-    step limits later state (commands.Expel c)
-    ≡ (with_session c None state, close_outputs kept.connection)
+    (limits : Limits) → (later : ℕ) → (state : State) → (client : Client) → (kept : ClientSession) →
+    IsSound state → session_in client state.sessions ≡ Some kept →
+    step limits later state (commands.Expel client)
+    ≡ (with_session client None state, close_outputs kept.connection)
 
 -- without a session nothing changes, and there is no output
 abbrev pub NobodysExpelStep : Type 0
 NobodysExpelStep =
-    (limits : Limits) → (later : ℕ) → (state : State) → (c : Client) →
-    session_in c state.sessions ≡ None → step limits later state (commands.Expel c) ≡ (state, [])
+    (limits : Limits) → (later : ℕ) → (state : State) → (client : Client) →
+    session_in client state.sessions ≡ None →
+    step limits later state (commands.Expel client) ≡ (state, [])
 
 -- an Expel removes the client's connection, if it has one, from the map of connections
 abbrev pub ExpelRemovesTheOwner : Type 0
 ExpelRemovesTheOwner =
-    (state : State) → (c : Client) → (kept : ClientSession) → IsSound state →
-    session_in c state.sessions ≡ Some kept → (y : ConnectionName) →
-    owners_in (written c None state.sessions) y
-    ≡ without_owner kept.connection (owners_in state.sessions) y
+    (state : State) → (client : Client) → (kept : ClientSession) → IsSound state →
+    session_in client state.sessions ≡ Some kept → (connection : ConnectionName) →
+    owners_in (written client None state.sessions) connection
+    ≡ without_owner kept.connection (owners_in state.sessions) connection
 
 -- the index drops the client
 abbrev pub ExpelDropsTheClient : Type 0
 ExpelDropsTheClient =
-    (c : Client) → (kept : ClientSession) → (rows : Sessions) → AreByClient rows →
-    session_in c rows ≡ Some kept →
-    content_in (written c None rows) ≡ without_client (content_in rows) c
+    (client : Client) → (kept : ClientSession) → (rows : Sessions) → AreByClient rows →
+    session_in client rows ≡ Some kept →
+    content_in (written client None rows) ≡ without_client (content_in rows) client

@@ -17,23 +17,23 @@ use Rattle.broker_rows.specs.Served.{ServesClient}
 -- PINGREQ is answered by PINGRESP (MQTT 3.12.4)
 abbrev pub PingreqStep : Type 0
 PingreqStep =
-    (limits : Limits) → (later : ℕ) → (state : State) → (x : ConnectionName) → (c : Client) →
-    (kept : ClientSession) → ServesClient state x c kept →
-    step limits later state (commands.Packet x packets.Pingreq)
-    ≡ (state, Send x packets.Pingresp ∷ [])
+    (limits : Limits) → (later : ℕ) → (state : State) → (connection : ConnectionName) →
+    (client : Client) → (kept : ClientSession) → ServesClient state connection client kept →
+    step limits later state (commands.Packet connection packets.Pingreq)
+    ≡ (state, Send connection packets.Pingresp ∷ [])
 
 -- a repeat of a PUBLISH that was taken is answered once more (MQTT 4.3.3)
 abbrev pub RepeatStep : Type 0
 RepeatStep =
-    (limits : Limits) → (later : ℕ) → (state : State) → (x : ConnectionName) → (c : Client) →
-    (kept : ClientSession) → ServesClient state x c kept → (p : Publish) →
-    repeats_taken kept p.delivery ≡ true →
-    step limits later state (commands.Packet x (packets.Publish p))
-    ≡ (state, acknowledged x p.delivery)
+    (limits : Limits) → (later : ℕ) → (state : State) → (connection : ConnectionName) →
+    (client : Client) → (kept : ClientSession) → ServesClient state connection client kept →
+    (publish : Publish) → repeats_taken kept publish.delivery ≡ true →
+    step limits later state (commands.Packet connection (packets.Publish publish))
+    ≡ (state, acknowledged connection publish.delivery)
 
 -- a packet on a connection that is no client's current one changes nothing, and has no answer
 abbrev pub NobodysPacketStep : Type 0
 NobodysPacketStep =
-    (limits : Limits) → (later : ℕ) → (state : State) → (x : ConnectionName) → (packet : Packet) →
-    owner_in x state.sessions ≡ None →
-    step limits later state (commands.Packet x packet) ≡ (state, [])
+    (limits : Limits) → (later : ℕ) → (state : State) → (connection : ConnectionName) →
+    (packet : Packet) → owner_in connection state.sessions ≡ None →
+    step limits later state (commands.Packet connection packet) ≡ (state, [])

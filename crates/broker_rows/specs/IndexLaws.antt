@@ -24,43 +24,43 @@ use Rattle.broker_rows.specs.Indexed.{clean_clients, all_told}
 -- nothing changes if a session is written with the subscriptions that it had
 abbrev pub WritingKeepsContent : Type 0
 WritingKeepsContent =
-    (c : Client) → (old new : ClientSession) → (rows : Sessions) → AreByClient rows →
-    session_in c rows ≡ Some old →
+    (client : Client) → (old new : ClientSession) → (rows : Sessions) → AreByClient rows →
+    session_in client rows ≡ Some old →
     new.state.subscriptions ≡ old.state.subscriptions →
-    content_in (written c (Some new) rows) ≡ content_in rows
+    content_in (written client (Some new) rows) ≡ content_in rows
 
 -- a SUBSCRIBE sets each filter that is granted (MQTT 3.8.4)
 abbrev pub SubscribingSets : Type 0
 SubscribingSets =
-    (c : Client) → (old new : ClientSession) → (granted : List GrantedFilter) → (rows : Sessions) →
-    AreByClient rows →
-    session_in c rows ≡ Some old →
+    (client : Client) → (old new : ClientSession) → (granted : List GrantedFilter) →
+    (rows : Sessions) → AreByClient rows →
+    session_in client rows ≡ Some old →
     new.state.subscriptions ≡ with_subscriptions granted old.state.subscriptions →
-    content_in (written c (Some new) rows) ≡ all_set c granted (content_in rows)
+    content_in (written client (Some new) rows) ≡ all_set client granted (content_in rows)
 
 -- an UNSUBSCRIBE clears each of its filters (MQTT 3.10.4)
 abbrev pub UnsubscribingClears : Type 0
 UnsubscribingClears =
-    (c : Client) → (old new : ClientSession) → (filters : List (List ℕ)) → (rows : Sessions) →
+    (client : Client) → (old new : ClientSession) → (filters : List (List ℕ)) → (rows : Sessions) →
     AreByClient rows →
-    session_in c rows ≡ Some old →
+    session_in client rows ≡ Some old →
     new.state.subscriptions ≡ without_filters filters old.state.subscriptions →
-    content_in (written c (Some new) rows) ≡ all_cleared c filters (content_in rows)
+    content_in (written client (Some new) rows) ≡ all_cleared client filters (content_in rows)
 
 -- if a connection ends, the client of a clean session is dropped (MQTT 3.1.2.4)
 abbrev pub LeavingDropsTheClean : Type 0
 LeavingDropsTheClean =
-    (c : Client) → (kept : ClientSession) → (rows : Sessions) → AreByClient rows →
-    session_in c rows ≡ Some kept →
-    content_in (written c (left_off kept) rows)
-    ≡ (if kept.clean then without_client (content_in rows) c else content_in rows)
+    (client : Client) → (kept : ClientSession) → (rows : Sessions) → AreByClient rows →
+    session_in client rows ≡ Some kept →
+    content_in (written client (left_off kept) rows)
+    ≡ (if kept.clean then without_client (content_in rows) client else content_in rows)
 
 -- if a session begins, what the client had before is dropped (MQTT 3.1.2.4)
 abbrev pub BeginningDrops : Type 0
 BeginningDrops =
-    (c : Client) → (opened : ConnectionName × Bool) → (rows : Sessions) → AreByClient rows →
-    content_in (insert_entry by_bytes rows c (kept_anew opened))
-    ≡ without_client (content_in rows) c
+    (client : Client) → (opened : ConnectionName × Bool) → (rows : Sessions) → AreByClient rows →
+    content_in (insert_entry by_bytes rows client (kept_anew opened))
+    ≡ without_client (content_in rows) client
 
 -- a Start drops the clients of the clean sessions
 abbrev pub StartDropsTheClean : Type 0
@@ -71,9 +71,10 @@ StartDropsTheClean =
 -- nothing changes if a publication is noted and delivered
 abbrev pub PublishingKeepsContent : Type 0
 PublishingKeepsContent =
-    (window : ℕ) → (p : Publication) → (granted : List Row) → (c : Client) → (delivery : Delivery) →
-    (rows : Sessions) →
-    content_in (all_delivered window p granted (session_changed c (received_on delivery) rows))
+    (window : ℕ) → (publication : Publication) → (granted : List Row) → (publisher : Client) →
+    (delivery : Delivery) → (rows : Sessions) →
+    content_in (all_delivered window publication granted
+    (session_changed publisher (received_on delivery) rows))
     ≡ content_in rows
 
 -- an index that is rebuilt gets each session's filters

@@ -16,33 +16,34 @@ use Rattle.broker_rows.specs.Served.{ServesClient, with_session, left_off}
 -- a DISCONNECT, a violation or a refused PUBLISH closes the connection
 abbrev pub LeavingStep : Type 0
 LeavingStep =
-    (limits : Limits) → (later : ℕ) → (state : State) → (x : ConnectionName) → (c : Client) →
-    (kept : ClientSession) →
-    ServesClient state x c kept → (packet : Packet) →
-    is_leaving (owned_mark limits state (c, kept) packet) ≡ true →
-    step limits later state (commands.Packet x packet)
-    ≡ (with_session c (left_off kept) state, Close x ∷ [])
+    (limits : Limits) → (later : ℕ) → (state : State) → (connection : ConnectionName) →
+    (client : Client) → (kept : ClientSession) →
+    ServesClient state connection client kept → (packet : Packet) →
+    is_leaving (owned_mark limits state (client, kept) packet) ≡ true →
+    step limits later state (commands.Packet connection packet)
+    ≡ (with_session client (left_off kept) state, Close connection ∷ [])
 
 -- a further Connect on a served client's connection closes it, whichever client it names
 abbrev pub FurtherConnectStep : Type 0
 FurtherConnectStep =
-    (limits : Limits) → (later : ℕ) → (state : State) → (x : ConnectionName) → (c : Client) →
-    (kept : ClientSession) →
-    ServesClient state x c kept → (named : Client) → (clean : Bool) →
-    step limits later state (commands.Connect x named clean)
-    ≡ (with_session c (left_off kept) state, Close x ∷ [])
+    (limits : Limits) → (later : ℕ) → (state : State) → (connection : ConnectionName) →
+    (client : Client) → (kept : ClientSession) →
+    ServesClient state connection client kept → (named : Client) → (clean : Bool) →
+    step limits later state (commands.Connect connection named clean)
+    ≡ (with_session client (left_off kept) state, Close connection ∷ [])
 
 -- the loss of a served client's connection has no answer
 abbrev pub LostStep : Type 0
 LostStep =
-    (limits : Limits) → (later : ℕ) → (state : State) → (x : ConnectionName) → (c : Client) →
-    (kept : ClientSession) →
-    ServesClient state x c kept →
-    step limits later state (commands.Lost x) ≡ (with_session c (left_off kept) state, [])
+    (limits : Limits) → (later : ℕ) → (state : State) → (connection : ConnectionName) →
+    (client : Client) → (kept : ClientSession) →
+    ServesClient state connection client kept →
+    step limits later state (commands.Lost connection)
+    ≡ (with_session client (left_off kept) state, [])
 
 -- the loss of a connection that is no client's current one changes nothing
 abbrev pub NobodysLossStep : Type 0
 NobodysLossStep =
-    (limits : Limits) → (later : ℕ) → (state : State) → (x : ConnectionName) →
-    owner_in x state.sessions ≡ None →
-    step limits later state (commands.Lost x) ≡ (state, [])
+    (limits : Limits) → (later : ℕ) → (state : State) → (connection : ConnectionName) →
+    owner_in connection state.sessions ≡ None →
+    step limits later state (commands.Lost connection) ≡ (state, [])

@@ -20,57 +20,62 @@ use Rattle.broker_rows.specs.Owners.{owners_in, with_owner, without_owner, no_ow
 -- nothing changes if a session is written with the connection that it had
 abbrev pub WritingKeepsOwners : Type 0
 WritingKeepsOwners =
-    (c : Client) → (old new : ClientSession) → (rows : Sessions) → session_in c rows ≡ Some old →
-    new.connection ≡ old.connection → (y : ConnectionName) →
-    owners_in (written c (Some new) rows) y ≡ owners_in rows y
+    (client : Client) → (old new : ClientSession) → (rows : Sessions) →
+    session_in client rows ≡ Some old →
+    new.connection ≡ old.connection → (connection : ConnectionName) →
+    owners_in (written client (Some new) rows) connection ≡ owners_in rows connection
 
 -- if a served client's connection ends, it is removed from the map
 abbrev pub LeavingRemovesTheOwner : Type 0
 LeavingRemovesTheOwner =
-    (state : State) → (x : ConnectionName) → (c : Client) → (kept : ClientSession) →
-    ServesClient state x c kept →
-    (y : ConnectionName) →
-    owners_in (written c (left_off kept) state.sessions) y
-    ≡ without_owner (Some x) (owners_in state.sessions) y
+    (state : State) → (connection : ConnectionName) → (client : Client) → (kept : ClientSession) →
+    ServesClient state connection client kept →
+    (other : ConnectionName) →
+    owners_in (written client (left_off kept) state.sessions) other
+    ≡ without_owner (Some connection) (owners_in state.sessions) other
 
 -- if a session is inserted on a connection that is no client's current one, it becomes the
 -- client's, and the client's old one is removed
 abbrev pub ConnectingSetsTheOwner : Type 0
 ConnectingSetsTheOwner =
-    (state : State) → (x : ConnectionName) → (c : Client) → (new : ClientSession) → IsSound state →
-    owner_in x state.sessions ≡ None → new.connection ≡ Some x → (y : ConnectionName) →
-    owners_in (insert_entry by_bytes state.sessions c new) y
-    ≡ with_owner x c
-    (without_owner (connection_of (session_in c state.sessions)) (owners_in state.sessions)) y
+    (state : State) → (connection : ConnectionName) → (client : Client) → (new : ClientSession) →
+    IsSound state →
+    owner_in connection state.sessions ≡ None → new.connection ≡ Some connection →
+    (other : ConnectionName) →
+    owners_in (insert_entry by_bytes state.sessions client new) other
+    ≡ with_owner connection client
+    (without_owner (connection_of (session_in client state.sessions)) (owners_in state.sessions))
+    other
 
 -- if a session continues on a connection that is no client's current one, it becomes the client's,
 -- and the client's old one is removed
 abbrev pub ResumingSetsTheOwner : Type 0
 ResumingSetsTheOwner =
-    (state : State) → (x : ConnectionName) → (c : Client) → (old new : ClientSession) →
-    IsSound state →
-    owner_in x state.sessions ≡ None → session_in c state.sessions ≡ Some old →
-    new.connection ≡ Some x →
-    (y : ConnectionName) →
-    owners_in (written c (Some new) state.sessions) y
-    ≡ with_owner x c (without_owner old.connection (owners_in state.sessions)) y
+    (state : State) → (connection : ConnectionName) → (client : Client) →
+    (old new : ClientSession) → IsSound state →
+    owner_in connection state.sessions ≡ None → session_in client state.sessions ≡ Some old →
+    new.connection ≡ Some connection →
+    (other : ConnectionName) →
+    owners_in (written client (Some new) state.sessions) other
+    ≡ with_owner connection client (without_owner old.connection (owners_in state.sessions)) other
 
 -- a Start leaves none
 abbrev pub StartRemovesTheOwners : Type 0
 StartRemovesTheOwners =
-    (rows : Sessions) → (y : ConnectionName) → owners_in (all_left_off rows) y ≡ None
+    (rows : Sessions) → (connection : ConnectionName) →
+    owners_in (all_left_off rows) connection ≡ None
 
 -- nothing changes if a publication is noted and delivered
 abbrev pub PublishingKeepsOwners : Type 0
 PublishingKeepsOwners =
-    (window : ℕ) → (p : Publication) → (granted : List Row) → (c : Client) → (delivery : Delivery) →
-    (rows : Sessions) →
-    (y : ConnectionName) →
-    owners_in (all_delivered window p granted (session_changed c (received_on delivery) rows)) y
-    ≡ owners_in rows y
+    (window : ℕ) → (publication : Publication) → (granted : List Row) → (publisher : Client) →
+    (delivery : Delivery) → (rows : Sessions) → (connection : ConnectionName) →
+    owners_in (all_delivered window publication granted
+    (session_changed publisher (received_on delivery) rows)) connection
+    ≡ owners_in rows connection
 
 -- a map that is rebuilt gets each session's connection
 abbrev pub OwnersMadeAnew : Type 0
 OwnersMadeAnew =
-    (rows : Sessions) → ConnectionsAreApart rows → (y : ConnectionName)
-    → owners_in rows y ≡ all_owned rows no_owners y
+    (rows : Sessions) → ConnectionsAreApart rows → (connection : ConnectionName)
+    → owners_in rows connection ≡ all_owned rows no_owners connection

@@ -11,30 +11,34 @@ Owners = ConnectionName → Option Client
 
 -- the map that these sessions make: at each connection the client whose current one it is
 abbrev pub owners_in : Sessions → Owners
-owners_in sessions x = option_map (λ (row : Client × ClientSession). row.0) (owner_in x sessions)
+owners_in sessions connection =
+    option_map (λ (row : Client × ClientSession). row.0) (owner_in connection sessions)
 
 -- the session of a client, if there is one, with the client
 abbrev pub row_in : Sessions → Option Client → Option (Client × ClientSession)
-row_in sessions (Some c) = option_map (λ (kept : ClientSession). (c, kept)) (session_in c sessions)
+row_in sessions (Some client) =
+    option_map (λ (kept : ClientSession). (client, kept)) (session_in client sessions)
 row_in sessions None = None
 
 -- the connection becomes the client's
 abbrev pub with_owner : ConnectionName → Client → Owners → Owners
-with_owner x c owners y = if same_connection x y then Some c else owners y
+with_owner connection client owners other =
+    if same_connection connection other then Some client else owners other
 
 -- removes a connection, if there is one, from the map
 abbrev pub without_owner : Option ConnectionName → Owners → Owners
-without_owner (Some x) owners y = if same_connection x y then None else owners y
-without_owner None owners y = owners y
+without_owner (Some connection) owners other =
+    if same_connection connection other then None else owners other
+without_owner None owners other = owners other
 
 -- no connection has a client
 abbrev pub no_owners : Owners
-no_owners y = None
+no_owners connection = None
 
 -- a connection, if there is one, becomes the client's
 abbrev pub owned_by : Option ConnectionName → Client → Owners → Owners
-owned_by (Some x) c owners = with_owner x c owners
-owned_by None c owners = owners
+owned_by (Some connection) client owners = with_owner connection client owners
+owned_by None client owners = owners
 
 -- the connections of all these sessions become their clients'
 abbrev pub all_owned : Sessions → Owners → Owners

@@ -40,22 +40,22 @@ handled_state window (packets.Pubrec id) held =
 handled_state window (packets.Pubcomp id) held =
     with_queue (filled window (with_flights (on_pubcomp id held.queue.in_flight) held.queue)) held
 handled_state window (packets.Pubrel id) held = with_received (without_id id held.received) held
-handled_state window (packets.Unsubscribe u) held =
-    with_filters (without_filters u.filters held.subscriptions) held
+handled_state window (packets.Unsubscribe unsubscribe) held =
+    with_filters (without_filters unsubscribe.filters held.subscriptions) held
 handled_state window _ held = held
 
 -- a packet that is handled writes that to its sender's session, and only its sender is answered
 abbrev pub HandledStep : Type 0
 HandledStep =
-    (limits : Limits) → (later : ℕ) → (state : State) → (x : ConnectionName) → (c : Client) →
-    (kept : ClientSession) →
-    ServesClient state x c kept → (packet : Packet) →
-    owned_mark limits state (c, kept) packet ≡ Mark.Handled c →
-    step limits later state (commands.Packet x packet)
+    (limits : Limits) → (later : ℕ) → (state : State) → (connection : ConnectionName) →
+    (client : Client) → (kept : ClientSession) →
+    ServesClient state connection client kept → (packet : Packet) →
+    owned_mark limits state (client, kept) packet ≡ Mark.Handled client →
+    step limits later state (commands.Packet connection packet)
     ≡ (
-      with_session c (Some (with_content (handled_state state.window packet kept.state) kept))
+      with_session client (Some (with_content (handled_state state.window packet kept.state) kept))
           state,
-      handled_in state.window x (Some kept) packet,
+      handled_in state.window connection (Some kept) packet,
     )
 
 -- ---- SUBSCRIBE
@@ -71,24 +71,26 @@ subscribed_to window content granted held =
 -- of what is retained (MQTT 3.8.4)
 abbrev pub subscribe_answers : ℕ → RetainedTopics → Subscribe → List Bool → SessionState →
     List Packet
-subscribe_answers window content s which held =
-    packets.Suback (record { id = s.id; codes = codes_of s.filters which })
-    ∷ copies_sent window (copies_for_all content (granted_of s.filters which)) held.queue
+subscribe_answers window content subscribe which held =
+    packets.Suback (record { id = subscribe.id; codes = codes_of subscribe.filters which })
+    ∷ copies_sent window (copies_for_all content (granted_of subscribe.filters which)) held.queue
 
 -- SUBSCRIBE sets the filters that are granted, and its client is sent what is retained of them
 -- (MQTT 3.8.4)
 abbrev pub SubscribeStep : Type 0
 SubscribeStep =
-    (limits : Limits) → (later : ℕ) → (state : State) → (x : ConnectionName) → (c : Client) →
-    (kept : ClientSession) → ServesClient state x c kept → (s : Subscribe) → (which : List Bool) →
+    (limits : Limits) → (later : ℕ) → (state : State) → (connection : ConnectionName) →
+    (client : Client) → (kept : ClientSession) → ServesClient state connection client kept →
+    (subscribe : Subscribe) → (which : List Bool) →
     grants limits state.retained kept.state.subscriptions
-    (room limits.entries kept.state.queue) s.filters
+    (room limits.entries kept.state.queue) subscribe.filters
     ≡ which →
-    step limits later state (commands.Packet x (packets.Subscribe s))
+    step limits later state (commands.Packet connection (packets.Subscribe subscribe))
     ≡ (
-      with_session c
+      with_session client
           (Some (with_content (subscribed_to state.window state.retained
-          (granted_of s.filters which) kept.state) kept))
+          (granted_of subscribe.filters which) kept.state) kept))
           state,
-      map (Send x) (subscribe_answers state.window state.retained s which kept.state),
+      map (Send connection)
+          (subscribe_answers state.window state.retained subscribe which kept.state),
     )

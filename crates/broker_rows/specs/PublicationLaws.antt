@@ -29,16 +29,16 @@ GrantedRowsMatch =
 -- a session lacks room for a publication exactly if a granted one does
 abbrev pub RoomIsOfGrantedRows : Type 0
 RoomIsOfGrantedRows =
-    (limits : Limits) → (p : Publication) → (rows : Sessions) → AreByClient rows →
-    list_any (has_no_room_for limits p) rows
-    ≡ list_any (λ row. is_full_at limits p row.1 (session_in row.0 rows))
-    (granted_rows p.topic rows)
+    (limits : Limits) → (publication : Publication) → (rows : Sessions) → AreByClient rows →
+    list_any (has_no_room_for limits publication) rows
+    ≡ list_any (λ row. is_full_at limits publication row.1 (session_in row.0 rows))
+    (granted_rows publication.topic rows)
 
 -- what all sessions are sent of it is what the granted ones are, in order
 abbrev pub AnswersAreOfGrantedRows : Type 0
 AnswersAreOfGrantedRows =
-    (window : ℕ) → (x : ConnectionName) → (p : Publish) → (d : Client) →
+    (window : ℕ) → (connection : ConnectionName) → (publish : Publish) → (publisher : Client) →
     (content : RetainedTopics) → (rows : Sessions) → AreByClient rows →
-    flat_map (copies_answered window (place_of_taken x p d) content) rows
-    ≡ flat_map (λ row. copy_answered window (publication_of p) row.1 (session_in row.0 rows))
-    (granted_rows p.topic rows)
+    flat_map (copies_answered window (place_of_taken connection publish publisher) content) rows
+    ≡ flat_map (λ row. copy_answered window (publication_of publish) row.1 (session_in row.0 rows))
+    (granted_rows publish.topic rows)

@@ -27,61 +27,65 @@ use Rattle.broker_rows.specs.Published.{all_delivered, is_full_at, answered_in_t
 
 -- whether a granted row's session is full for it, or it would be retained on a topic too many
 abbrev pub is_refused_in : Limits → State → Publication → Bool
-is_refused_in limits state p =
-    list_any (λ row. is_full_at limits p row.1 (session_in row.0 state.sessions))
-    (granted_rows p.topic state.sessions)
-    || is_one_topic_over limits state.retained p
+is_refused_in limits state publication =
+    list_any (λ row. is_full_at limits publication row.1 (session_in row.0 state.sessions))
+    (granted_rows publication.topic state.sessions)
+    || is_one_topic_over limits state.retained publication
 
 -- a publication that is refused closes its publisher's connection, and no client gets it (MQTT 4.8)
 abbrev pub RefusedStep : Type 0
 RefusedStep =
-    (limits : Limits) → (later : ℕ) → (state : State) → (x : ConnectionName) → (c : Client) →
-    (kept : ClientSession) →
-    ServesClient state x c kept → (p : Publish) → repeats_taken kept p.delivery ≡ false →
-    is_refused_in limits state (publication_of p) ≡ true →
-    step limits later state (commands.Packet x (packets.Publish p))
-    ≡ (with_session c (left_off kept) state, Close x ∷ [])
+    (limits : Limits) → (later : ℕ) → (state : State) → (connection : ConnectionName) →
+    (client : Client) → (kept : ClientSession) →
+    ServesClient state connection client kept → (publish : Publish) →
+    repeats_taken kept publish.delivery ≡ false →
+    is_refused_in limits state (publication_of publish) ≡ true →
+    step limits later state (commands.Packet connection (packets.Publish publish))
+    ≡ (with_session client (left_off kept) state, Close connection ∷ [])
 
 -- A publication that is taken is retained, its publisher's session notes it, and each granted
 -- session gets its copy. Its publisher is answered first (MQTT 3.3.4), then each granted client,
 -- one after another.
 abbrev pub TakenStep : Type 0
 TakenStep =
-    (limits : Limits) → (later : ℕ) → (state : State) → (x : ConnectionName) → (c : Client) →
-    (kept : ClientSession) →
-    ServesClient state x c kept → (p : Publish) → repeats_taken kept p.delivery ≡ false →
-    is_refused_in limits state (publication_of p) ≡ false →
-    let granted = granted_rows p.topic state.sessions in
-    let noted = session_changed c (received_on p.delivery) state.sessions in
-    step limits later state (commands.Packet x (packets.Publish p))
+    (limits : Limits) → (later : ℕ) → (state : State) → (connection : ConnectionName) →
+    (client : Client) → (kept : ClientSession) →
+    ServesClient state connection client kept → (publish : Publish) →
+    repeats_taken kept publish.delivery ≡ false →
+    is_refused_in limits state (publication_of publish) ≡ false →
+    let granted = granted_rows publish.topic state.sessions in
+    let noted = session_changed client (received_on publish.delivery) state.sessions in
+    step limits later state (commands.Packet connection (packets.Publish publish))
     ≡ (
       record {
         window = state.window;
-        sessions = all_delivered state.window (publication_of p) granted noted;
-        retained = retains (publication_of p) state.retained;
+        sessions = all_delivered state.window (publication_of publish) granted noted;
+        retained = retains (publication_of publish) state.retained;
       },
-      acknowledged x p.delivery ++ answered_in_turn state.window (publication_of p) granted noted,
+      acknowledged connection publish.delivery
+          ++ answered_in_turn state.window (publication_of publish) granted noted,
     )
 
 -- ---- room
 
 -- each granted row's session still has room when its copy is queued
 abbrev pub HaveRoomInTurn : Limits → ℕ → Publication → List Row → Sessions → Type 0
-HaveRoomInTurn limits window p (row ∷ granted) rows =
-    (is_full_at limits p row.1 (session_in row.0 rows) ≡ false)
-    × HaveRoomInTurn limits window p granted
-    (session_changed row.0 (delivered_on window p row.1) rows)
-HaveRoomInTurn limits window p [] rows = Unit {0}
+HaveRoomInTurn limits window publication (row ∷ granted) rows =
+    (is_full_at limits publication row.1 (session_in row.0 rows) ≡ false)
+    × HaveRoomInTurn limits window publication granted
+    (session_changed row.0 (delivered_on window publication row.1) rows)
+HaveRoomInTurn limits window publication [] rows = Unit {0}
 
 -- if no granted session is full beforehand, no copy of a taken publication finds its queue full
 abbrev pub RoomLastsToItsTurn : Type 0
 RoomLastsToItsTurn =
-    (limits : Limits) → (window : ℕ) → (p : Publication) → (c : Client) → (delivery : Delivery) →
-    (rows : Sessions) → AreByClient rows →
-    list_any (λ row. is_full_at limits p row.1 (session_in row.0 rows)) (granted_rows p.topic rows)
+    (limits : Limits) → (window : ℕ) → (publication : Publication) → (publisher : Client) →
+    (delivery : Delivery) → (rows : Sessions) → AreByClient rows →
+    list_any (λ row. is_full_at limits publication row.1 (session_in row.0 rows))
+    (granted_rows publication.topic rows)
     ≡ false →
-    HaveRoomInTurn limits window p (granted_rows p.topic rows)
-    (session_changed c (received_on delivery) rows)
+    HaveRoomInTurn limits window publication (granted_rows publication.topic rows)
+    (session_changed publisher (received_on delivery) rows)
 
 -- ---- one session changed
 
@@ -89,9 +93,9 @@ RoomLastsToItsTurn =
 -- if the change leaves it as it is
 abbrev pub ChangeIsOfOneRow : Type 0
 ChangeIsOfOneRow =
-    (d : Client) → (change : ClientSession → ClientSession) → (rows : Sessions) →
-    ((kept : ClientSession) → session_in d rows ≡ Some kept →
-    session_changed d change rows ≡ written d (Some (change kept)) rows)
-    × ((kept : ClientSession) → session_in d rows ≡ Some kept → change kept ≡ kept →
-    session_changed d change rows ≡ rows)
-    × (session_in d rows ≡ None → session_changed d change rows ≡ rows)
+    (client : Client) → (change : ClientSession → ClientSession) → (rows : Sessions) →
+    ((kept : ClientSession) → session_in client rows ≡ Some kept →
+    session_changed client change rows ≡ written client (Some (change kept)) rows)
+    × ((kept : ClientSession) → session_in client rows ≡ Some kept → change kept ≡ kept →
+    session_changed client change rows ≡ rows)
+    × (session_in client rows ≡ None → session_changed client change rows ≡ rows)

@@ -34,7 +34,8 @@ granted_rows topic [] = []
 
 -- the client's session changed in its place, if the client has one
 abbrev pub session_changed : Client → (ClientSession → ClientSession) → Sessions → Sessions
-session_changed d change rows = written d (option_map change (session_in d rows)) rows
+session_changed client change rows =
+    written client (option_map change (session_in client rows)) rows
 
 -- a publisher's session takes note of the identifier of a PUBLISH at QoS 2 (MQTT 4.3.3)
 abbrev pub received_on : Delivery → ClientSession → ClientSession
@@ -43,35 +44,39 @@ received_on delivery kept =
 
 -- a session that is granted a publication at this QoS gets its copy, and what may start then starts
 abbrev pub delivered_on : ℕ → Publication → QoS → ClientSession → ClientSession
-delivered_on window p qos kept =
+delivered_on window publication qos kept =
     with_content
     (with_queue
-    (copied_queue window kept.connection (copy_of p (Some (lower_qos p.qos qos))) kept.state.queue)
+    (copied_queue window kept.connection
+    (copy_of publication (Some (lower_qos publication.qos qos))) kept.state.queue)
     kept.state) kept
 
 -- each granted row's session, one after another
 abbrev pub all_delivered : ℕ → Publication → List Row → Sessions → Sessions
-all_delivered window p granted sessions =
-    fold (λ rows row. session_changed row.0 (delivered_on window p row.1) rows) sessions granted
+all_delivered window publication granted sessions =
+    fold (λ rows row. session_changed row.0 (delivered_on window publication row.1) rows) sessions
+    granted
 
 -- ---- room and answers, of a granted row's session
 
 -- whether a granted session, if there is one, would have to queue the publication and is full
 abbrev pub is_full_at : Limits → Publication → QoS → Option ClientSession → Bool
-is_full_at limits p qos (Some kept) =
-    is_answered (lower_qos p.qos qos) && (room limits.entries kept.state.queue == 0)
-is_full_at limits p qos None = false
+is_full_at limits publication qos (Some kept) =
+    is_answered (lower_qos publication.qos qos) && (room limits.entries kept.state.queue == 0)
+is_full_at limits publication qos None = false
 
 -- what the client of a granted session is sent
 abbrev pub copy_answered : ℕ → Publication → QoS → Option ClientSession → List Output
-copy_answered window p qos (Some kept) =
+copy_answered window publication qos (Some kept) =
     sent_on kept.connection
-    (copies_sent window (copy_of p (Some (lower_qos p.qos qos))) kept.state.queue)
-copy_answered window p qos None = []
+    (copies_sent window (copy_of publication (Some (lower_qos publication.qos qos)))
+    kept.state.queue)
+copy_answered window publication qos None = []
 
 -- what the clients of all granted rows are sent, each from the sessions that those before it left
 abbrev pub answered_in_turn : ℕ → Publication → List Row → Sessions → List Output
-answered_in_turn window p (row ∷ granted) rows =
-    copy_answered window p row.1 (session_in row.0 rows)
-    ++ answered_in_turn window p granted (session_changed row.0 (delivered_on window p row.1) rows)
-answered_in_turn window p [] rows = []
+answered_in_turn window publication (row ∷ granted) rows =
+    copy_answered window publication row.1 (session_in row.0 rows)
+    ++ answered_in_turn window publication granted
+    (session_changed row.0 (delivered_on window publication row.1) rows)
+answered_in_turn window publication [] rows = []

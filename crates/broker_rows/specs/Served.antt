@@ -10,17 +10,17 @@ use Rattle.broker_base.specs.StateLaws.{IsSound}
 use Rattle.broker_rows.specs.Touched.{written}
 
 -- in a sound state the client is served on the connection, and this is kept of its session
-pub record ServesClient (state : State) (x : ConnectionName) (c : Client)
+pub record ServesClient (state : State) (connection : ConnectionName) (client : Client)
     (kept : ClientSession) : Type 0 where
   pub sound : IsSound state
-  pub owner : owner_in x state.sessions ≡ Some (c, kept)
+  pub owner : owner_in connection state.sessions ≡ Some (client, kept)
 
 -- the state with this session of the client, or with none
 abbrev pub with_session : Client → Option ClientSession → State → State
-with_session c session state =
+with_session client session state =
     record {
       window = state.window;
-      sessions = written c session state.sessions;
+      sessions = written client session state.sessions;
       retained = state.retained;
     }
 
@@ -37,6 +37,6 @@ left_off kept =
 -- a served client's session is on the connection, and is the one that is found by the client
 abbrev pub IsOnItsConnection : Type 0
 IsOnItsConnection =
-    (state : State) → (x : ConnectionName) → (c : Client) → (kept : ClientSession) →
-    ServesClient state x c kept →
-    (kept.connection ≡ Some x) × (session_in c state.sessions ≡ Some kept)
+    (state : State) → (connection : ConnectionName) → (client : Client) → (kept : ClientSession) →
+    ServesClient state connection client kept →
+    (kept.connection ≡ Some connection) × (session_in client state.sessions ≡ Some kept)

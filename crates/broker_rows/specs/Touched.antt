@@ -18,35 +18,35 @@ Untouched place [] = Unit {0}
 
 -- the place touches the client's row at most
 abbrev pub TouchesOnly : Place → Client → Sessions → Type 0
-TouchesOnly place d (row ∷ rows) =
-    ((same_client d row.0 ≡ true) × Untouched place rows)
-    ⊎ ((same_client d row.0 ≡ false) × (touches place row.0 row.1 ≡ false)
-    × TouchesOnly place d rows)
-TouchesOnly place d [] = Unit {0}
+TouchesOnly place client (row ∷ rows) =
+    ((same_client client row.0 ≡ true) × Untouched place rows)
+    ⊎ ((same_client client row.0 ≡ false) × (touches place row.0 row.1 ≡ false)
+    × TouchesOnly place client rows)
+TouchesOnly place client [] = Unit {0}
 
 -- the client's row with this session, or without a row of it
 abbrev pub written : Client → Option ClientSession → Sessions → Sessions
-written d (Some kept) rows = set_value (is_at (by_bytes d)) rows kept
-written d None rows = remove_entry (is_at (by_bytes d)) rows
+written client (Some kept) rows = set_value (is_at (by_bytes client)) rows kept
+written client None rows = remove_entry (is_at (by_bytes client)) rows
 
 -- the place touches no session but the client's and that of the connection
 abbrev pub IsOnes : Place → ConnectionName → Client → Type 0
-IsOnes place x d =
-    (c : Client) (kept : ClientSession) → same_client d c ≡ false →
-    any_connection (same_connection x) kept.connection ≡ false →
-    touches place c kept ≡ false
+IsOnes place connection client =
+    (other : Client) (kept : ClientSession) → same_client client other ≡ false →
+    any_connection (same_connection connection) kept.connection ≡ false →
+    touches place other kept ≡ false
 
 -- the connection on which a command comes
 abbrev pub comes_on : Command → Option ConnectionName
-comes_on (commands.Packet x packet) = Some x
-comes_on (commands.Connect x c clean) = Some x
-comes_on (commands.Lost x) = Some x
+comes_on (commands.Packet connection packet) = Some connection
+comes_on (commands.Connect connection client clean) = Some connection
+comes_on (commands.Lost connection) = Some connection
 comes_on (commands.Start ballot) = None
-comes_on (commands.Expel c) = None
+comes_on (commands.Expel client) = None
 
 -- whether a mark is that of a taken publication
 abbrev pub is_taken : Mark → Bool
-is_taken (Mark.Taken c) = true
+is_taken (Mark.Taken sender) = true
 is_taken _ = false
 
 -- whether a mark is that of an accepted Connect
@@ -56,15 +56,15 @@ is_accepted _ = false
 
 -- the mark is that of a command that touches this client's row at most
 abbrev pub IsMarkOf : Client → Mark → Type 0
-IsMarkOf d Mark.NoPart = Unit {0}
-IsMarkOf d Mark.Full = Unit {0}
-IsMarkOf d Mark.Accepted = ⊥
-IsMarkOf d (Mark.Taken c) = ⊥
-IsMarkOf d (Mark.Leaves c) = c ≡ d
-IsMarkOf d (Mark.Refused c) = c ≡ d
-IsMarkOf d (Mark.Repeat c) = c ≡ d
-IsMarkOf d (Mark.Granted c which) = c ≡ d
-IsMarkOf d (Mark.Handled c) = c ≡ d
+IsMarkOf client Mark.NoPart = Unit {0}
+IsMarkOf client Mark.Full = Unit {0}
+IsMarkOf client Mark.Accepted = ⊥
+IsMarkOf client (Mark.Taken sender) = ⊥
+IsMarkOf client (Mark.Leaves sender) = sender ≡ client
+IsMarkOf client (Mark.Refused sender) = sender ≡ client
+IsMarkOf client (Mark.Repeat sender) = sender ≡ client
+IsMarkOf client (Mark.Granted sender which) = sender ≡ client
+IsMarkOf client (Mark.Handled sender) = sender ≡ client
 
 -- the mark is that of a command that touches no row
 abbrev pub IsIdle : Mark → Type 0

@@ -15,14 +15,15 @@ use Rattle.broker_session.specs.broker_base.State.{State, session_in}
 -- what a Connect does that is no violation: it resumes the client's session, or begins one if there
 -- is room for it (MQTT 3.1.2.4, 3.2.2.3)
 abbrev pub connect_outcome : State → Client → Bool → ConnectOutcome
-connect_outcome state c clean =
-    if not (begins_in state c clean) then outcomes.Resumes else
-    if may_have_session usual_limits state c then outcomes.Begins else outcomes.Full
+connect_outcome state client clean =
+    if not (begins_in state client clean) then outcomes.Resumes else
+    if may_have_session usual_limits state client then outcomes.Begins else outcomes.Full
 
 -- the connection becomes the client's, and the client's old one has no client any more
 abbrev pub TakesOver : Tables → ConnectionName → Client → Tables → Type 0
-TakesOver tables x c after =
-    (q : ConnectionName) →
-    owners_at after.owners.entries q
-    ≡ with_owner x c (without_owner (connection_of (session_in c tables.sessions.entries))
-    (owners_at tables.owners.entries)) q
+TakesOver tables connection client after =
+    (other : ConnectionName) →
+    owners_at after.owners.entries other
+    ≡ with_owner connection client
+    (without_owner (connection_of (session_in client tables.sessions.entries))
+    (owners_at tables.owners.entries)) other

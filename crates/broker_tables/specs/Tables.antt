@@ -20,11 +20,12 @@ use Rattle.broker_tables.specs.declared.tables.Tables.{Tables}
 
 -- connections come by ballot, then by number
 abbrev pub by_connection : ConnectionName → ConnectionName → Ordering
-by_connection x y = ordering_then (nat_cmp x.ballot y.ballot) (nat_cmp x.count y.count)
+by_connection name other =
+    ordering_then (nat_cmp name.ballot other.ballot) (nat_cmp name.count other.count)
 
 -- the client of each connection, as the map of connections has it
 abbrev pub owners_at : List (ConnectionName × Client) → Owners
-owners_at entries x = lookup (is_at (by_connection x)) entries
+owners_at entries connection = lookup (is_at (by_connection connection)) entries
 
 -- what a broker with these tables keeps of all its clients
 abbrev pub state_in : Tables → State
@@ -39,7 +40,8 @@ state_in tables =
 -- sessions
 pub record IsTied (tables : Tables) : Type 0 where
   pub owners :
-      (x : ConnectionName) → owners_at tables.owners.entries x ≡ owners_in tables.sessions.entries x
+      (connection : ConnectionName)
+      → owners_at tables.owners.entries connection ≡ owners_in tables.sessions.entries connection
   pub index : content_of tables.index ≡ content_in tables.sessions.entries
 
 -- the tables are tied to the sessions, and the sessions are sound

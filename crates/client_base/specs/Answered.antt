@@ -36,29 +36,30 @@ ending cause state = record { state = lost state; writes = []; refusal = Some ca
 
 -- what is accepted of a PUBLISH, in the session of this number
 abbrev pub accepted_of : ℕ → Publish → Accepted
-accepted_of session p =
+accepted_of session publish =
     record {
       session = session;
-      qos = delivery_qos p.delivery;
-      retain = p.retain;
-      topic = p.topic;
-      payload = p.payload;
+      qos = delivery_qos publish.delivery;
+      retain = publish.retain;
+      topic = publish.topic;
+      payload = publish.payload;
     }
 
 -- the publication is accepted, in the session that lasts
 abbrev pub accepting : Publish → ClientState → ClientState
-accepting p state = record state { accepted = state.accepted ++ accepted_of state.session p ∷ [] }
+accepting publish state =
+    record state { accepted = state.accepted ++ accepted_of state.session publish ∷ [] }
 
 -- a publication at QoS 0 or 1 is accepted each time, one at QoS 2 once while its identifier is kept
 -- (MQTT 4.3)
 abbrev pub on_publish : Publish → Delivery → ClientState → ClientOutcome
-on_publish p deliveries.AtMostOnce state = going_on (accepting p state) []
-on_publish p (deliveries.AtLeastOnce dup id) state =
-    going_on (accepting p state) (packets.Puback id ∷ [])
-on_publish p (deliveries.ExactlyOnce dup id) state =
+on_publish publish deliveries.AtMostOnce state = going_on (accepting publish state) []
+on_publish publish (deliveries.AtLeastOnce dup id) state =
+    going_on (accepting publish state) (packets.Puback id ∷ [])
+on_publish publish (deliveries.ExactlyOnce dup id) state =
     going_on
     (if has_id id state.received then state
-    else record (accepting p state) { received = state.received ++ id ∷ [] })
+    else record (accepting publish state) { received = state.received ++ id ∷ [] })
     (packets.Pubrec id ∷ [])
 
 -- PUBREL: the identifier is no longer kept, and PUBCOMP answers in any case (MQTT 4.3.3)

@@ -20,21 +20,22 @@ use Rattle.client_base.specs.Connected.{opened, disconnects}
 -- a client's own publications after one more: at QoS 0 it is done at once, and else sent if the
 -- client is online
 abbrev pub adds_own : Publication → Keeper → Keeper
-adds_own p keeper =
+adds_own publication keeper =
     record keeper {
       own = keeper.own
-          ++ (if is_answered p.qos
+          ++ (if is_answered publication.qos
           then (if keeper.is_online
-          then Own.Sent (next_own_number keeper) p (least_free (ids_in_use keeper))
-          else Own.Unsent (next_own_number keeper) p (least_free (ids_in_use keeper)))
-          else Own.Done (next_own_number keeper) p) ∷ [];
+          then Own.Sent (next_own_number keeper) publication (least_free (ids_in_use keeper))
+          else Own.Unsent (next_own_number keeper) publication (least_free (ids_in_use keeper)))
+          else Own.Done (next_own_number keeper) publication) ∷ [];
     }
 
 -- what is written for a publication: its PUBLISH if the client is online
 abbrev pub written_for : Publication → Keeper → List Written
-written_for p keeper =
+written_for publication keeper =
     if keeper.is_online
-    then written_publish false (next_own_number keeper) (least_free (ids_in_use keeper)) p ∷ []
+    then written_publish false (next_own_number keeper) (least_free (ids_in_use keeper)) publication
+    ∷ []
     else []
 
 -- one request more waits for its answer
@@ -60,10 +61,10 @@ next_unsubscribe filter keeper =
 -- what a call does that is not refused
 abbrev pub keeper_goes : {Name : Type 0} → Name → Call → Side Name → Side Name
 keeper_goes fresh Call.Opens side = opened 0 fresh side.keeper
-keeper_goes fresh (Call.Publishes p) side =
+keeper_goes fresh (Call.Publishes publication) side =
     record {
-      keeper = adds_own p side.keeper;
-      connection = writes (written_for p side.keeper) side.connection;
+      keeper = adds_own publication side.keeper;
+      connection = writes (written_for publication side.keeper) side.connection;
     }
 keeper_goes fresh (Call.Subscribes filter qos) side =
     record {

@@ -71,12 +71,12 @@ on_first _ state = ending errors.Protocol state
 
 -- a later one; a second CONNACK, or a packet that only a client sends, ends the connection
 abbrev pub on_later : Packet → ClientState → ClientOutcome
-on_later (packets.Publish p) state = on_publish p p.delivery state
+on_later (packets.Publish publish) state = on_publish publish publish.delivery state
 on_later (packets.Puback id) state = on_puback id state
 on_later (packets.Pubrec id) state = on_pubrec id state
 on_later (packets.Pubcomp id) state = on_pubcomp id state
 on_later (packets.Pubrel id) state = on_pubrel id state
-on_later (packets.Suback s) state = answered (is_subscribe s.id) state
+on_later (packets.Suback suback) state = answered (is_subscribe suback.id) state
 on_later (packets.Unsuback id) state = answered (is_unsubscribe id) state
 on_later packets.Pingresp state = going_on state []
 on_later _ state = ending errors.Protocol state

@@ -7,8 +7,8 @@ use Rattle.client_base.specs.Handled.{lost, packet_handled}
 
 -- CONNECT with CleanSession 0 and this keep alive
 abbrev pub written_connect : ℕ → List ℕ → Written
-written_connect keep_alive c =
-    plain (packets.Connect (record { client = c; clean = false; keep_alive = keep_alive }))
+written_connect keep_alive client =
+    plain (packets.Connect (record { client = client; clean = false; keep_alive = keep_alive }))
 
 -- with keep alive 0, as the clients of the headline theorem have it
 abbrev pub opening_connect : List ℕ → Written
@@ -16,10 +16,10 @@ opening_connect = written_connect 0
 
 -- a connection of a client, on which nothing but a CONNECT was written
 abbrev pub new_connection : {Name : Type 0} → List ℕ → Name → ClientConnection Name
-new_connection c x =
+new_connection client name =
     record {
-      name = x;
-      written = opening_connect c ∷ [];
+      name = name;
+      written = opening_connect client ∷ [];
       taken = 0;
       handled = 0;
       confirmed = false;
@@ -28,11 +28,11 @@ new_connection c x =
 
 -- a client that opens a connection with a keep alive: what it kept stays, requests are given up
 abbrev pub opened : {Name : Type 0} → ℕ → Name → Keeper → Side Name
-opened keep_alive x keeper =
+opened keep_alive name keeper =
     record {
       keeper = record (lost keeper) { is_open = true };
       connection =
-          record (new_connection keeper.client x)
+          record (new_connection keeper.client name)
           { written = written_connect keep_alive keeper.client ∷ [] };
     }
 

@@ -41,37 +41,38 @@ lost keeper = record keeper { requests = []; is_open = false; is_online = false 
 
 -- whether SUBACK with this identifier leaves the request
 abbrev pub not_subscribes : ℕ → Request → Bool
-not_subscribes i request = not (is_subscribe i request)
+not_subscribes id request = not (is_subscribe id request)
 
 -- whether UNSUBACK with this identifier leaves it
 abbrev pub not_unsubscribes : ℕ → Request → Bool
-not_unsubscribes i request = not (is_unsubscribe i request)
+not_unsubscribes id request = not (is_unsubscribe id request)
 
 -- a packet to a client that is online
 abbrev pub handled_online : {Name : Type 0} → Packet → Side Name → Side Name
-handled_online (packets.Publish p) side = takes_in p.delivery (publication_of p) side
-handled_online (packets.Puback i) side =
-    record side { keeper = record side.keeper { own = map (own_at_puback i) side.keeper.own } }
-handled_online (packets.Pubrec i) side = pubrec_answered i side
-handled_online (packets.Pubcomp i) side =
+handled_online (packets.Publish publish) side =
+    takes_in publish.delivery (publication_of publish) side
+handled_online (packets.Puback id) side =
+    record side { keeper = record side.keeper { own = map (own_at_puback id) side.keeper.own } }
+handled_online (packets.Pubrec id) side = pubrec_answered id side
+handled_online (packets.Pubcomp id) side =
     record side {
       keeper = record side.keeper {
-        own = map (own_at_pubcomp i) side.keeper.own;
-        releases = without_id i side.keeper.releases;
+        own = map (own_at_pubcomp id) side.keeper.own;
+        releases = without_id id side.keeper.releases;
       };
     }
-handled_online (packets.Pubrel i) side =
-    writing (plain (packets.Pubcomp i) ∷ [])
-    (record side { keeper = record side.keeper { received = without_id i side.keeper.received } })
-handled_online (packets.Suback s) side =
+handled_online (packets.Pubrel id) side =
+    writing (plain (packets.Pubcomp id) ∷ [])
+    (record side { keeper = record side.keeper { received = without_id id side.keeper.received } })
+handled_online (packets.Suback suback) side =
     record side {
       keeper =
-          record side.keeper { requests = filter (not_subscribes s.id) side.keeper.requests };
+          record side.keeper { requests = filter (not_subscribes suback.id) side.keeper.requests };
     }
-handled_online (packets.Unsuback i) side =
+handled_online (packets.Unsuback id) side =
     record side {
       keeper =
-          record side.keeper { requests = filter (not_unsubscribes i) side.keeper.requests };
+          record side.keeper { requests = filter (not_unsubscribes id) side.keeper.requests };
     }
 handled_online packets.Pingresp side = side
 handled_online _ side = record side { keeper = lost side.keeper }

@@ -12,51 +12,59 @@ use Rattle.client_base.specs.Written.{plain, writing}
 
 -- a publication at PUBACK: one of QoS 1 with this identifier is done
 abbrev pub own_at_puback : ℕ → Own → Own
-own_at_puback i (Own.Sent k p id) =
-    if (i == id) && is_acknowledged p.qos then Own.Done k p else Own.Sent k p id
-own_at_puback i o = o
+own_at_puback given (Own.Sent number publication id) =
+    if (given == id) && is_acknowledged publication.qos
+    then Own.Done number publication
+    else Own.Sent number publication id
+own_at_puback given own = own
 
 -- at PUBREC: one of QoS 2 with this identifier is released
 abbrev pub own_at_pubrec : ℕ → Own → Own
-own_at_pubrec i (Own.Sent k p id) =
-    if (i == id) && not (is_acknowledged p.qos) then Own.Released k p id else Own.Sent k p id
-own_at_pubrec i o = o
+own_at_pubrec given (Own.Sent number publication id) =
+    if (given == id) && not (is_acknowledged publication.qos)
+    then Own.Released number publication id
+    else Own.Sent number publication id
+own_at_pubrec given own = own
 
 -- at PUBCOMP: a released one with this identifier is done
 abbrev pub own_at_pubcomp : ℕ → Own → Own
-own_at_pubcomp i (Own.Released k p id) = if i == id then Own.Done k p else Own.Released k p id
-own_at_pubcomp i o = o
+own_at_pubcomp given (Own.Released number publication id) =
+    if given == id then Own.Done number publication else Own.Released number publication id
+own_at_pubcomp given own = own
 
 -- whether a publication of QoS 2 with this identifier waits for PUBREC
 abbrev pub is_sent_with : ℕ → List Own → Bool
-is_sent_with i (Own.Sent k p id ∷ own) =
-    ((i == id) && not (is_acknowledged p.qos)) || is_sent_with i own
-is_sent_with i (_ ∷ own) = is_sent_with i own
-is_sent_with i [] = false
+is_sent_with given (Own.Sent number publication id ∷ own) =
+    ((given == id) && not (is_acknowledged publication.qos)) || is_sent_with given own
+is_sent_with given (_ ∷ own) = is_sent_with given own
+is_sent_with given [] = false
 
 -- PUBREC is answered by PUBREL, the first time and again
 abbrev pub pubrec_answered : {Name : Type 0} → ℕ → Side Name → Side Name
-pubrec_answered i side =
-    if is_sent_with i side.keeper.own
-    then writing (plain (packets.Pubrel i) ∷ [])
+pubrec_answered id side =
+    if is_sent_with id side.keeper.own
+    then writing (plain (packets.Pubrel id) ∷ [])
     (record side {
       keeper = record side.keeper {
-        own = map (own_at_pubrec i) side.keeper.own;
-        releases = side.keeper.releases ++ i ∷ [];
+        own = map (own_at_pubrec id) side.keeper.own;
+        releases = side.keeper.releases ++ id ∷ [];
       };
     })
-    else if has_id i side.keeper.releases then writing (plain (packets.Pubrel i) ∷ []) side
+    else if has_id id side.keeper.releases then writing (plain (packets.Pubrel id) ∷ []) side
     else side
 
 -- a publication of the server: at QoS 1 and 2 it is answered, and a repeat at QoS 2 is not accepted
 -- again
 abbrev pub takes_in : {Name : Type 0} → Delivery → Publication → Side Name → Side Name
-takes_in deliveries.AtMostOnce p side = side
-takes_in (deliveries.AtLeastOnce dup id) p side = writing (plain (packets.Puback id) ∷ []) side
-takes_in (deliveries.ExactlyOnce dup id) p side =
+takes_in deliveries.AtMostOnce publication side = side
+takes_in (deliveries.AtLeastOnce dup id) publication side =
+    writing (plain (packets.Puback id) ∷ []) side
+takes_in (deliveries.ExactlyOnce dup id) publication side =
     writing (plain (packets.Pubrec id) ∷ [])
     (if has_id id side.keeper.received then side
     else record {
       keeper = record side.keeper { received = id ∷ side.keeper.received };
-      connection = record side.connection { accepted = side.connection.accepted ++ p ∷ [] };
+      connection = record side.connection {
+        accepted = side.connection.accepted ++ publication ∷ [];
+      };
     })

@@ -10,25 +10,27 @@ use Rattle.client_base.specs.Keeper.{Own, Written, ClientConnection, Keeper}
 
 -- the publications that were sent and are not acknowledged yet
 abbrev pub sent_of : List Own → List UnacknowledgedPublication
-sent_of (Own.Sent k p id ∷ own) = record { id = id; publication = p } ∷ sent_of own
+sent_of (Own.Sent number publication id ∷ own) =
+    record { id = id; publication = publication } ∷ sent_of own
 sent_of (_ ∷ own) = sent_of own
 sent_of [] = []
 
 -- the publications that were not sent yet
 abbrev pub unsent_of : List Own → List UnacknowledgedPublication
-unsent_of (Own.Unsent k p id ∷ own) = record { id = id; publication = p } ∷ unsent_of own
+unsent_of (Own.Unsent number publication id ∷ own) =
+    record { id = id; publication = publication } ∷ unsent_of own
 unsent_of (_ ∷ own) = unsent_of own
 unsent_of [] = []
 
 -- the identifiers of the publications that are released
 abbrev pub released_of : List Own → List ℕ
-released_of (Own.Released k p id ∷ own) = id ∷ released_of own
+released_of (Own.Released number publication id ∷ own) = id ∷ released_of own
 released_of (_ ∷ own) = released_of own
 released_of [] = []
 
 -- after one that was not sent, none was
 abbrev pub IsSentFirst : List Own → Type 0
-IsSentFirst (Own.Unsent k p id ∷ own) = (sent_of own ≡ []) × IsSentFirst own
+IsSentFirst (Own.Unsent number publication id ∷ own) = (sent_of own ≡ []) × IsSentFirst own
 IsSentFirst (_ ∷ own) = IsSentFirst own
 IsSentFirst [] = Unit {0}
 

@@ -50,9 +50,9 @@ pub record Keeper : Type 0 where
 
 -- a client that published nothing and never was connected
 abbrev pub new_keeper : List ℕ → Keeper
-new_keeper c =
+new_keeper client =
     record {
-      client = c;
+      client = client;
       earlier = [];
       own = [];
       releases = [];
@@ -65,17 +65,17 @@ new_keeper c =
 
 -- the number of a publication: how many the client published before it
 abbrev pub number_in : Own → ℕ
-number_in (Own.Unsent k p id) = k
-number_in (Own.Sent k p id) = k
-number_in (Own.Released k p id) = k
-number_in (Own.Done k p) = k
+number_in (Own.Unsent number publication id) = number
+number_in (Own.Sent number publication id) = number
+number_in (Own.Released number publication id) = number
+number_in (Own.Done number publication) = number
 
 -- the identifiers of a client's publications that are not done
 abbrev pub ids_of_own : List Own → List ℕ
-ids_of_own (Own.Unsent k p id ∷ own) = id ∷ ids_of_own own
-ids_of_own (Own.Sent k p id ∷ own) = id ∷ ids_of_own own
-ids_of_own (Own.Released k p id ∷ own) = id ∷ ids_of_own own
-ids_of_own (Own.Done k p ∷ own) = ids_of_own own
+ids_of_own (Own.Unsent number publication id ∷ own) = id ∷ ids_of_own own
+ids_of_own (Own.Sent number publication id ∷ own) = id ∷ ids_of_own own
+ids_of_own (Own.Released number publication id ∷ own) = id ∷ ids_of_own own
+ids_of_own (Own.Done number publication ∷ own) = ids_of_own own
 ids_of_own [] = []
 
 -- all that a client published, in the order of its calls

@@ -13,10 +13,10 @@ use Rattle.client_base.specs.Steps.{Call, keeper_step}
 -- kept then.
 abbrev pub AcceptsUnlessKept : Type 0
 AcceptsUnlessKept =
-    (p : Publish) (dup : Bool) (id : ℕ) (state : ClientState) →
-    let after = (on_publish p (deliveries.ExactlyOnce dup id) state).state in
+    (publish : Publish) (dup : Bool) (id : ℕ) (state : ClientState) →
+    let after = (on_publish publish (deliveries.ExactlyOnce dup id) state).state in
     (has_id id state.received ≡ true → after ≡ state)
-    × (has_id id state.received ≡ false → after.accepted ≡ (accepting p state).accepted)
+    × (has_id id state.received ≡ false → after.accepted ≡ (accepting publish state).accepted)
     × (has_id id after.received ≡ true)
 
 -- An identifier stays kept until its PUBREL comes, or a CONNACK 0 without a session.

@@ -8,22 +8,22 @@ use Rattle.client_base.specs.History.{IsSentFirst}
 
 -- from this number on, the numbers of the publications are their indices
 abbrev pub AreNumbered : ℕ → List Own → Type 0
-AreNumbered n (o ∷ own) = (number_in o ≡ n) × AreNumbered (suc n) own
-AreNumbered n [] = Unit {0}
+AreNumbered next (first ∷ own) = (number_in first ≡ next) × AreNumbered (suc next) own
+AreNumbered next [] = Unit {0}
 
 -- the publications that these packets belong to
 abbrev pub written_numbers : List Written → List ℕ
-written_numbers (w ∷ more) = with_number w.number (written_numbers more)
+written_numbers (written ∷ more) = with_number written.number (written_numbers more)
   where
     with_number : Option ℕ → List ℕ → List ℕ
-    with_number (Some k) ks = k ∷ ks
-    with_number None ks = ks
+    with_number (Some number) numbers = number ∷ numbers
+    with_number None numbers = numbers
 written_numbers [] = []
 
 -- each is above the one before it, and the first is not below this
 abbrev pub RisesFrom : ℕ → List ℕ → Type 0
-RisesFrom n (k ∷ ks) = (n < suc k) × RisesFrom (suc k) ks
-RisesFrom n [] = Unit {0}
+RisesFrom least (number ∷ numbers) = (least < suc number) × RisesFrom (suc number) numbers
+RisesFrom least [] = Unit {0}
 
 -- numbers stay the indices, whatever is called or comes, and continue over sessions
 abbrev pub NumbersStay : Type 0
@@ -36,5 +36,5 @@ NumbersStay =
 -- in the order of the calls
 abbrev pub GoesOutInOrder : Type 0
 GoesOutInOrder =
-    (n : ℕ) (own : List Own) → AreNumbered n own → IsSentFirst own
-    → RisesFrom n (written_numbers (written_again own ++ written_first own))
+    (next : ℕ) (own : List Own) → AreNumbered next own → IsSentFirst own
+    → RisesFrom next (written_numbers (written_again own ++ written_first own))

@@ -27,7 +27,7 @@ max_kept = 64
 
 -- the PUBLISH of a publication, with the next identifier
 abbrev pub publish_packet : Publication → ClientState → Packet
-publish_packet p state = packets.Publish (publish_for false (next_id state) p)
+publish_packet publication state = packets.Publish (publish_for false (next_id state) publication)
 
 -- whether the packet is too large to be spelled
 abbrev pub is_over_limit : Packet → Bool
@@ -36,18 +36,20 @@ is_over_limit packet = nat_lt max_body (length (body packet))
 -- why a publication is refused: at QoS 1 and 2 if `max_kept` are kept or no identifier is free, at
 -- QoS 0 while the client is offline, or as too large
 abbrev pub publish_refusal : Publication → ClientState → Option ClientError
-publish_refusal p state =
-    if is_answered p.qos && not (nat_lt (kept_count state) max_kept && has_free_id state)
+publish_refusal publication state =
+    if is_answered publication.qos && not (nat_lt (kept_count state) max_kept && has_free_id state)
     then Some errors.WindowFull else
-    if not (is_answered p.qos) && not (is_online state.stage) then Some errors.NotActive else
-    if is_over_limit (publish_packet p state) then Some errors.TooLarge else None
+    if not (is_answered publication.qos) && not (is_online state.stage)
+    then Some errors.NotActive else
+    if is_over_limit (publish_packet publication state) then Some errors.TooLarge else None
 
 -- a publication at QoS 1 or 2 is kept; each is sent at once if the client is online (MQTT 4.3)
 abbrev pub published : Publication → ClientState → ClientOutcome
-published p state =
-    let kept : UnacknowledgedPublication = record { id = next_id state; publication = p } in
+published publication state =
+    let kept : UnacknowledgedPublication =
+    record { id = next_id state; publication = publication } in
     if is_online state.stage
     then going_on
-    (if is_answered p.qos then record state { sent = state.sent ++ kept ∷ [] } else state)
-    (publish_packet p state ∷ [])
+    (if is_answered publication.qos then record state { sent = state.sent ++ kept ∷ [] } else state)
+    (publish_packet publication state ∷ [])
     else going_on (record state { unsent = state.unsent ++ kept ∷ [] }) []

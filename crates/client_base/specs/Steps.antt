@@ -69,8 +69,8 @@ unless_refused None outcome state = outcome
 -- what each call does to a client
 abbrev pub keeper_step : Call → ClientState → ClientOutcome
 keeper_step Call.Opens state = opened state
-keeper_step (Call.Publishes p) state =
-    unless_refused (publish_refusal p state) (published p state) state
+keeper_step (Call.Publishes publication) state =
+    unless_refused (publish_refusal publication state) (published publication state) state
 keeper_step (Call.Subscribes filter qos) state =
     unless_refused (request_refusal state) (subscribed filter qos state) state
 keeper_step (Call.Unsubscribes filter) state =

@@ -13,18 +13,20 @@ plain packet = record { packet = packet; number = None }
 
 -- the PUBLISH of a publication, by its number and identifier
 abbrev pub written_publish : Bool → ℕ → ℕ → Publication → Written
-written_publish dup number id p =
-    record { packet = packets.Publish (publish_for dup id p); number = Some number }
+written_publish dup number id publication =
+    record { packet = packets.Publish (publish_for dup id publication); number = Some number }
 
 -- PUBLISH with DUP 1 for each that was sent and is not acknowledged
 abbrev pub written_again : List Own → List Written
-written_again (Own.Sent k p id ∷ own) = written_publish true k id p ∷ written_again own
+written_again (Own.Sent number publication id ∷ own) =
+    written_publish true number id publication ∷ written_again own
 written_again (_ ∷ own) = written_again own
 written_again [] = []
 
 -- PUBLISH with DUP 0 for each that was not sent yet
 abbrev pub written_first : List Own → List Written
-written_first (Own.Unsent k p id ∷ own) = written_publish false k id p ∷ written_first own
+written_first (Own.Unsent number publication id ∷ own) =
+    written_publish false number id publication ∷ written_first own
 written_first (_ ∷ own) = written_first own
 written_first [] = []
 
@@ -37,8 +39,8 @@ resent_written keeper =
 
 -- all publications once those that were not sent yet are sent
 abbrev pub sent_all : List Own → List Own
-sent_all (Own.Unsent k p id ∷ own) = Own.Sent k p id ∷ sent_all own
-sent_all (o ∷ own) = o ∷ sent_all own
+sent_all (Own.Unsent number publication id ∷ own) = Own.Sent number publication id ∷ sent_all own
+sent_all (first ∷ own) = first ∷ sent_all own
 sent_all [] = []
 
 -- more is written on a connection

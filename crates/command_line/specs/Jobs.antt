@@ -16,15 +16,15 @@ use Rattle.command_line.specs.declared.fault.LineFault.TheVariants as faults
 
 -- a decimal number of 32 bits as a text; a plus may come first
 abbrev pub IsNumber : Text → ℕ → Type 0
-IsNumber text n = (IsNumeral 10 (without_leading_plus text)
+IsNumber text number = (IsNumeral 10 (without_leading_plus text)
     × (digits_value 10 (without_leading_plus text) < 2 ^ 32))
-    × (n ≡ digits_value 10 (without_leading_plus text))
+    × (number ≡ digits_value 10 (without_leading_plus text))
 
 -- the first value of an argument is a number
-pub record HasNumber (id : Text) (rows : List Row) (n : ℕ) : Type 0 where
+pub record HasNumber (id : Text) (rows : List Row) (number : ℕ) : Type 0 where
   pub text : Text
   pub given : one_of id rows ≡ Some text
-  pub said : IsNumber text n
+  pub said : IsNumber text number
 
 -- the job is to serve the nodes of the file of `--config`
 abbrev pub IsServe : List Row → Serve → Type 0

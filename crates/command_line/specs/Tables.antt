@@ -10,7 +10,7 @@ use Rattle.command_line.specs.declared.node_table.NodeTable.{NodeTable}
 
 -- a number as a value of TOML
 abbrev pub number_value : ℕ → Data
-number_value n = integer (pos n)
+number_value number = integer (pos number)
 
 -- a list of values, each written by `says`
 abbrev pub list_data : {X : Type 0} → (X → Data) → List X → Data
@@ -23,9 +23,9 @@ node_data node = table (member (codes "id") (number_value node.id)
 
 -- `members = [1]`, a table `[[node]]` for each node, and `primary = 1`, in the order of their keys
 abbrev pub document_of : NodeTable → Members
-document_of t = member (codes "members") (list_data number_value t.config.members)
-    (member (codes "node") (list_data node_data t.nodes.items)
-    (member (codes "primary") (number_value t.config.primary) no_members))
+document_of node_table = member (codes "members") (list_data number_value node_table.config.members)
+    (member (codes "node") (list_data node_data node_table.nodes.items)
+    (member (codes "primary") (number_value node_table.config.primary) no_members))
 
 -- one of the nodes has this number
 abbrev pub has_node : List ListeningNode → ℕ → Bool
@@ -39,10 +39,11 @@ are_told_apart (node ∷ nodes) = (nat_le 1 node.id && nat_le node.id max_node)
 
 -- the nodes can be told apart, and the members of ballot 1 are among them
 abbrev pub is_lawful_table : NodeTable → Bool
-is_lawful_table t = are_told_apart t.nodes.items
-    && (list_all (has_node t.nodes.items) t.config.members
-    && is_lawful t.config.members t.config.primary)
+is_lawful_table node_table = are_told_apart node_table.nodes.items
+    && (list_all (has_node node_table.nodes.items) node_table.config.members
+    && is_lawful node_table.config.members node_table.config.primary)
 
 -- the text is a TOML document with this table and no more
 abbrev pub IsTableText : List ℕ → NodeTable → Type 0
-IsTableText text t = (parse_document text ≡ Some (document_of t)) × (is_lawful_table t ≡ true)
+IsTableText text node_table =
+    (parse_document text ≡ Some (document_of node_table)) × (is_lawful_table node_table ≡ true)

@@ -42,9 +42,9 @@ begins-last bytes (q ∷ ps) p rest left (l, h, more) g = (l, h, begins-last l p
 
 pub ran-begins : (fed : List ℕ) (given : List Packet) (s : Stream) → CutterRan fed given s → Begins fed given s.bytes
 ran-begins fed given s begins = refl
-ran-begins fed given s (feeds {fed = f} {s = t} piece r) = begins-more f given t.bytes piece (ran-begins f given t r)
-ran-begins fed given s (gives {given = g} {s = t} p r k) = begins-last fed g p t.bytes s.bytes (ran-begins fed g t r) k.2
-ran-begins fed given s (answers {s = t} result r e k) = subst (λ (z : List ℕ). Begins fed given z) (sym e) (ran-begins fed given t r)
+ran-begins fed given s (feeds {fed = f} {stream = t} piece r) = begins-more f given t.bytes piece (ran-begins f given t r)
+ran-begins fed given s (gives {given = g} {old = t} p r k) = begins-last fed g p t.bytes s.bytes (ran-begins fed g t r) k.2
+ran-begins fed given s (answers {old = t} result r e k) = subst (λ (z : List ℕ). Begins fed given z) (sym e) (ran-begins fed given t r)
 
 front-of : NoneBeginsAnother → (bytes : List ℕ) (ps qs : List Packet) (held rest : List ℕ) → Begins bytes ps held → CutsInto bytes qs rest → (later : List Packet) × (qs ≡ ps ++ later)
 front-of law bytes [] qs held rest b c = (qs, refl)

@@ -17,21 +17,23 @@ pub data CutterRan : List ℕ → List Packet → Stream → Type 0 where
   -- no call yet
   begins : CutterRan [] [] (record { bytes = []; failed = false })
   -- it is fed a piece
-  feeds : {fed : List ℕ} {given : List Packet} {s : Stream} (piece : List ℕ)
-      → CutterRan fed given s → CutterRan (fed ++ piece) given
-      (record s { bytes = s.bytes ++ piece })
+  feeds : {fed : List ℕ} {given : List Packet} {stream : Stream} (piece : List ℕ)
+      → CutterRan fed given stream → CutterRan (fed ++ piece) given
+      (record stream { bytes = stream.bytes ++ piece })
   -- it gives a packet
-  gives : {fed : List ℕ} {given : List Packet} {s t : Stream} (packet : Packet)
-      → CutterRan fed given s → Takes s (Ok (Some packet)) t →
-      CutterRan fed (given ++ packet ∷ []) t
+  gives : {fed : List ℕ} {given : List Packet} {old new : Stream} (packet : Packet)
+      → CutterRan fed given old → Takes old (Ok (Some packet)) new →
+      CutterRan fed (given ++ packet ∷ []) new
   -- it answers that no whole packet is there, or that there is a fault
-  answers : {fed : List ℕ} {given : List Packet} {s t : Stream}
+  answers : {fed : List ℕ} {given : List Packet} {old new : Stream}
       (result : Result (Option Packet) CutError)
-      → CutterRan fed given s → t.bytes ≡ s.bytes → Takes s result t → CutterRan fed given t
+      → CutterRan fed given old → new.bytes ≡ old.bytes → Takes old result new →
+      CutterRan fed given new
 
 -- what was given is a prefix of the packets of the bytes that were fed
 abbrev pub PacketsOfTheStream : Type 0
-PacketsOfTheStream = (fed : List ℕ) (given : List Packet) (s : Stream) → CutterRan fed given s
+PacketsOfTheStream = (fed : List ℕ) (given : List Packet) (stream : Stream)
+    → CutterRan fed given stream
     → (packets : List Packet) (rest : List ℕ) → CutsInto fed packets rest
     → (later : List Packet) × (packets ≡ given ++ later)
 
@@ -44,12 +46,14 @@ EveryStreamIsCut = (bytes : List ℕ) → AreBytes bytes
 -- were fed, and what is not taken is the rest
 abbrev pub NoPacketIsLeft : Type 0
 NoPacketIsLeft =
-    (fed : List ℕ) (given : List Packet) (s t : Stream) → CutterRan fed given s →
-    Takes s (Ok None) t
-    → CutsInto fed given s.bytes
+    (fed : List ℕ) (given : List Packet) (old new : Stream) → CutterRan fed given old →
+    Takes old (Ok None) new
+    → CutsInto fed given old.bytes
 
 -- two cutters that were fed the same bytes, cut anywhere, gave the same and hold the same
 abbrev pub CuttingsAgree : Type 0
-CuttingsAgree = (fed : List ℕ) (given others : List Packet) (s t u v : Stream)
-    → CutterRan fed given s → Takes s (Ok None) t → CutterRan fed others u → Takes u (Ok None) v
-    → (given ≡ others) × (s.bytes ≡ u.bytes)
+CuttingsAgree = (fed : List ℕ) (given others : List Packet)
+    (first first_after second second_after : Stream)
+    → CutterRan fed given first → Takes first (Ok None) first_after
+    → CutterRan fed others second → Takes second (Ok None) second_after
+    → (given ≡ others) × (first.bytes ≡ second.bytes)

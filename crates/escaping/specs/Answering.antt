@@ -39,12 +39,12 @@ pub record PutsOutFirst (port : Port) (front : List ℕ) (core : CoreState) : Ty
 -- is sent first, whatever comes after it
 abbrev pub AnswerIsPutOut : Type 0
 AnswerIsPutOut =
-    (core : CoreState) (message : Message Command) (port : Port) (x : ConnectionName)
-    (c : Connection) (place : ℕ) (packet : Packet) (others : List Output)
+    (core : CoreState) (message : Message Command) (port : Port) (name : ConnectionName)
+    (connection : Connection) (place : ℕ) (packet : Packet) (others : List Output)
     (more : List (Effect Command Output)) → core.replica.state.stopped ≡ false →
-    listed_at port core ≡ Some c → find (is_open_named x) core.connections ≡ Some c →
-    c.pending ≡ [] →
-    (heard_by core message).effects ≡ map (Out place) (Send x packet ∷ others) ++ more →
+    listed_at port core ≡ Some connection →
+    find (is_open_named name) core.connections ≡ Some connection → connection.pending ≡ [] →
+    (heard_by core message).effects ≡ map (Out place) (Send name packet ∷ others) ++ more →
     0 < length (spelling packet) →
     length (spelling packet) ≤ max_pending →
     PutsOutFirst port (spelling packet) (node_step (Peer message) core).core
@@ -53,14 +53,14 @@ AnswerIsPutOut =
 -- once
 abbrev pub AnswerAloneIsPutOut : Type 0
 AnswerAloneIsPutOut =
-    (core : CoreState) (port : Port) (now : ℕ) (piece : List ℕ) (c : Connection) (connect : Connect)
-    (place : ℕ) (packet : Packet)
+    (core : CoreState) (port : Port) (now : ℕ) (piece : List ℕ) (connection : Connection)
+    (connect : Connect) (place : ℕ) (packet : Packet)
     (others : List Output) (more : List (Effect Command Output)) → has_room core ≡ true →
-    open_at port core ≡ Some c → listed_at port core ≡ Some c →
-    find (is_open_named c.name) core.connections ≡ Some c → is_first c.stage ≡ true →
-    c.unread ≡ [] → c.pending ≡ [] →
+    open_at port core ≡ Some connection → listed_at port core ≡ Some connection →
+    find (is_open_named connection.name) core.connections ≡ Some connection →
+    is_first connection.stage ≡ true → connection.unread ≡ [] → connection.pending ≡ [] →
     verdict piece ≡ Ok (packets.Connect connect, []) →
-    (proposal_at core (commands.Connect c.name connect.client connect.clean)).effects
-    ≡ map (Out place) (Send c.name packet ∷ others) ++ more →
+    (proposal_at core (commands.Connect connection.name connect.client connect.clean)).effects
+    ≡ map (Out place) (Send connection.name packet ∷ others) ++ more →
     0 < length (spelling packet) → length (spelling packet) ≤ max_pending →
     PutsOutFirst port (spelling packet) (node_step (Bytes port piece now) core).core

@@ -24,8 +24,8 @@ use Rattle.escaping.specs.Delivery.{ReportsItsLosses}
 
 -- the connection whose CONNECT became whole at this time
 abbrev pub asked_now : ℕ → ℕ → Connection → Connection
-asked_now now keep_alive c =
-    record c { stage = Proposed; keep_alive = keep_alive; last_packet = now; unread = [] }
+asked_now now keep_alive connection =
+    record connection { stage = Proposed; keep_alive = keep_alive; last_packet = now; unread = [] }
 
 -- what a proposal does to the node's replica
 abbrev pub proposal_at : CoreState → Command → Outcome State Command Output
@@ -44,13 +44,16 @@ with_asked_connect now port connect command core =
 -- proposed under the connection's name
 abbrev pub ConnectIsProposed : Type 0
 ConnectIsProposed =
-    (core : CoreState) (port : Port) (now : ℕ) (piece : List ℕ) (c : Connection)
+    (core : CoreState) (port : Port) (now : ℕ) (piece : List ℕ) (connection : Connection)
     (connect : Connect) → has_room core ≡ true → ReportsItsLosses core →
-    open_at port core ≡ Some c → is_first c.stage ≡ true → c.unread ≡ [] →
-    verdict piece ≡ Ok (packets.Connect connect, []) →
-    outputs (proposal_at core (commands.Connect c.name connect.client connect.clean)).effects ≡ [] →
+    open_at port core ≡ Some connection → is_first connection.stage ≡ true →
+    connection.unread ≡ [] → verdict piece ≡ Ok (packets.Connect connect, []) →
+    outputs
+    (proposal_at core (commands.Connect connection.name connect.client connect.clean)).effects
+    ≡ [] →
     node_step (Bytes port piece now) core ≡ record {
       core = with_asked_connect now port connect
-          (commands.Connect c.name connect.client connect.clean) core;
-      messages = (proposal_at core (commands.Connect c.name connect.client connect.clean)).effects;
+          (commands.Connect connection.name connect.client connect.clean) core;
+      messages = (proposal_at core
+          (commands.Connect connection.name connect.client connect.clean)).effects;
     }

@@ -22,15 +22,16 @@ heard_by core message = received rules core.replica.state message.from message.b
 -- the loss of each connection that was closed because there was no room for what was to be sent is
 -- reported to the broker
 abbrev pub ReportsItsLosses : CoreState → Type 0
-ReportsItsLosses core = Each (λ (c : Connection). has_failed c ≡ false) core.connections
+ReportsItsLosses core =
+    Each (λ (connection : Connection). has_failed connection ≡ false) core.connections
 
 -- the node's outcome has in its replica what that of the replica says, sends just its messages, and
 -- gives no name
-pub record IsDelivery (core : CoreState) (o : Outcome State Command Output)
+pub record IsDelivery (core : CoreState) (replica_outcome : Outcome State Command Output)
     (outcome : StepOutcome) : Type 0 where
-  pub replica : outcome.core.replica ≡ record core.replica { state = o.state }
+  pub replica : outcome.core.replica ≡ record core.replica { state = replica_outcome.state }
   pub last_name : outcome.core.last_name ≡ core.last_name
-  pub messages : outcome.messages ≡ o.effects
+  pub messages : outcome.messages ≡ replica_outcome.effects
   pub calm : ReportsItsLosses outcome.core
 
 -- A node's step on a message is a delivery, if the replica runs and has no output, and the node is

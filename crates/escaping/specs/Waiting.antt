@@ -21,34 +21,34 @@ use Rattle.escaping.specs.Delivery.{ReportsItsLosses, heard_by}
 use Rattle.escaping.specs.Opening.{first_name_of_node, with_first_connection}
 
 -- a connection of this name at this port is open, and nothing was queued for it
-pub record AwaitsAnswer (port : Port) (x : ConnectionName) (core : CoreState) : Type 0 where
+pub record AwaitsAnswer (port : Port) (name : ConnectionName) (core : CoreState) : Type 0 where
   pub connection : Connection
   pub listed : listed_at port core ≡ Some connection
-  pub named : find (is_open_named x) core.connections ≡ Some connection
+  pub named : find (is_open_named name) core.connections ≡ Some connection
   pub none : connection.pending ≡ []
 
 -- a connection still awaits its answer after a calm node that keeps leading took a message for
 -- which its replica has no output
 abbrev pub MessagesKeepItWaiting : Type 0
 MessagesKeepItWaiting =
-    (port : Port) (x : ConnectionName) (core : CoreState) (message : Message Command) →
-    AwaitsAnswer port x core → ReportsItsLosses core →
+    (port : Port) (name : ConnectionName) (core : CoreState) (message : Message Command) →
+    AwaitsAnswer port name core → ReportsItsLosses core →
     core.replica.state.stopped ≡ false → outputs (heard_by core message).effects ≡ [] →
     is_active (heard_by core message).state.role ≡ true →
     (heard_by core message).state.stopped ≡ false →
-    AwaitsAnswer port x (node_step (Peer message) core).core
+    AwaitsAnswer port name (node_step (Peer message) core).core
 
 -- a connection that awaits its answer still does when bytes are handed over, at whichever port
 abbrev pub HandingKeepsItWaiting : Type 0
 HandingKeepsItWaiting =
-    (port other : Port) (x : ConnectionName) (core : CoreState) → AwaitsAnswer port x core →
-    AwaitsAnswer port x (hands_over other core)
+    (port other : Port) (name : ConnectionName) (core : CoreState) → AwaitsAnswer port name core →
+    AwaitsAnswer port name (hands_over other core)
 
 -- a connection of this name at this port is open, its CONNECT has not arrived, and nothing was
 -- queued for it
-pub record AwaitsConnect (port : Port) (x : ConnectionName) (core : CoreState) : Type 0 where
-  pub waits : AwaitsAnswer port x core
-  pub name : waits.connection.name ≡ x
+pub record AwaitsConnect (port : Port) (called : ConnectionName) (core : CoreState) : Type 0 where
+  pub waits : AwaitsAnswer port called core
+  pub name : waits.connection.name ≡ called
   pub opened : open_at port core ≡ Some waits.connection
   pub first : is_first waits.connection.stage ≡ true
   pub unread : waits.connection.unread ≡ []
@@ -64,12 +64,12 @@ FirstAwaitsConnect =
 -- a connection still awaits its CONNECT after bytes were handed over, at whichever port
 abbrev pub HandingKeepsTheConnect : Type 0
 HandingKeepsTheConnect =
-    (port other : Port) (x : ConnectionName) (core : CoreState) → AwaitsConnect port x core →
-    AwaitsConnect port x (hands_over other core)
+    (port other : Port) (name : ConnectionName) (core : CoreState) → AwaitsConnect port name core →
+    AwaitsConnect port name (hands_over other core)
 
 -- a connection whose CONNECT is proposed waits for the answer
 abbrev pub AskedAwaitsAnswer : Type 0
 AskedAwaitsAnswer =
-    (port : Port) (x : ConnectionName) (core : CoreState) (now : ℕ) (connect : Connect)
-    (command : Command) → AwaitsConnect port x core →
-    AwaitsAnswer port x (with_asked_connect now port connect command core)
+    (port : Port) (name : ConnectionName) (core : CoreState) (now : ℕ) (connect : Connect)
+    (command : Command) → AwaitsConnect port name core →
+    AwaitsAnswer port name (with_asked_connect now port connect command core)

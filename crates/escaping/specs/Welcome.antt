@@ -16,21 +16,21 @@ use Rattle.node_moves.specs.node_core.Core.{rules}
 
 -- an output that is a packet for this connection
 abbrev pub IsSentTo : ConnectionName → Output → Type 0
-IsSentTo x (Send y packet) = y ≡ x
-IsSentTo x (Close y) = ⊥
+IsSentTo connection (Send receiver packet) = receiver ≡ connection
+IsSentTo connection (Close receiver) = ⊥
 
 -- after these commands and the start of a ballot a Connect is answered with CONNACK 0 and session
 -- present, and then only with packets
-pub record IsWelcomedBack (list : List Command) (ballot : ℕ) (x : ConnectionName)
-    (c : Client) : Type 0 where
+pub record IsWelcomedBack (list : List Command) (ballot : ℕ) (connection : ConnectionName)
+    (client : Client) : Type 0 where
   pub rest : List Output
   pub gives : rules.gives (replay rules (list ++ commands.Start ballot ∷ []))
-      (commands.Connect x c false) ≡ welcome x true ∷ rest
-  pub sent : Each (IsSentTo x) rest
+      (commands.Connect connection client false) ≡ welcome connection true ∷ rest
+  pub sent : Each (IsSentTo connection) rest
 
 -- each client whose session exists and is not clean is welcomed back
 abbrev pub KeptSessionsAreWelcomed : Type 0
 KeptSessionsAreWelcomed =
-    (list : List Command) (ballot : ℕ) (x : ConnectionName) (c : Client) →
-    session_of (past_of usual_limits list) c ≡ Some false →
-    IsWelcomedBack list ballot x c
+    (list : List Command) (ballot : ℕ) (connection : ConnectionName) (client : Client) →
+    session_of (past_of usual_limits list) client ≡ Some false →
+    IsWelcomedBack list ballot connection client

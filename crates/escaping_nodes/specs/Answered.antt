@@ -45,17 +45,17 @@ begun_log list start = list ++ commands.Start start ∷ []
 -- the node at an index leads a ballot, with the commands of this list before the ballot's start; a
 -- connection awaits its CONNECT there; and the bytes are a CONNECT of a client whose session exists
 -- and is not clean
-pub record CanAsk (a : Moment State Command Output) (n : NodesState) (ballot index : ℕ)
+pub record CanAsk (moment : Moment State Command Output) (state : NodesState) (ballot index : ℕ)
     (node : CountedCore) (others_of : List ℕ) (port : Port)
-    (x : ConnectionName) (list : List Command) (start : ℕ) (piece : List ℕ) (connect : Connect)
+    (name : ConnectionName) (list : List Command) (start : ℕ) (piece : List ℕ) (connect : Connect)
     : Type 0 where
-  pub seen : IsSeen a n
-  pub calm : AreCalm ballot n
-  pub stands : slice_get n.nodes index ≡ Some node
+  pub seen : IsSeen moment state
+  pub calm : AreCalm ballot state
+  pub stands : slice_get state.nodes index ≡ Some node
   pub serves : LeadsWhole ballot (begun_log list start) others_of (index + 1)
-      (whole a.world.archive (replica_of node.core))
+      (whole moment.world.archive (replica_of node.core))
   pub room : length (begun_log list start) < max_places
-  pub awaits : AwaitsConnect port x node.core
+  pub awaits : AwaitsConnect port name node.core
   pub session : session_of (past_of usual_limits list) connect.client ≡ Some false
   pub is_connect : verdict piece ≡ Ok (packets.Connect connect, [])
   pub kept : connect.clean ≡ false
@@ -63,11 +63,12 @@ pub record CanAsk (a : Moment State Command Output) (n : NodesState) (ballot ind
 -- a primary that is the sole member queues the CONNACK first when it reads the bytes of the CONNECT
 abbrev pub SoleMemberAnswersTheClient : Type 0
 SoleMemberAnswersTheClient =
-    (config : Config) (a : Moment State Command Output)
-    (past : List (Moment State Command Output)) → Moments rules config (a ∷ past) →
-    (n : NodesState) (ballot index : ℕ) (node : CountedCore) (port : Port) (x : ConnectionName)
-    (list : List Command) (start now : ℕ) (piece : List ℕ) (connect : Connect) →
-    CanAsk a n ballot index node [] port x list start piece connect →
+    (config : Config) (moment : Moment State Command Output)
+    (past : List (Moment State Command Output)) → Moments rules config (moment ∷ past) →
+    (state : NodesState) (ballot index : ℕ) (node : CountedCore) (port : Port)
+    (name : ConnectionName) (list : List Command) (start now : ℕ) (piece : List ℕ)
+    (connect : Connect) →
+    CanAsk moment state ballot index node [] port name list start piece connect →
     PutsOutFirst port (spelling session_present) (node_step (Bytes port piece now) node.core).core
 
 -- the last answer of another member
@@ -77,28 +78,28 @@ last_answer last ballot log = record { from = last; body = Held ballot (length l
 -- this message was sent to the node at the index, which runs, and queues the CONNACK first when the
 -- message comes
 pub record PutsOutAtLast (index number : ℕ) (port : Port) (message : Message Command)
-    (n : NodesState) : Type 0 where
+    (state : NodesState) : Type 0 where
   pub node : CountedCore
-  pub stands : slice_get n.nodes index ≡ Some node
+  pub stands : slice_get state.nodes index ≡ Some node
   pub runs : node.core.replica.state.stopped ≡ false
-  pub comes : slice_get n.sent number ≡ Some (index + 1, message)
+  pub comes : slice_get state.sent number ≡ Some (index + 1, message)
   pub puts : PutsOutFirst port (spelling session_present) (node_step (Peer message) node.core).core
 
 -- the other members are sent the command, and answer; once all answers except the last have come,
 -- the last one makes the primary queue the CONNACK first
 abbrev pub OthersLetTheClientBeAnswered : Type 0
 OthersLetTheClientBeAnswered =
-    (config : Config) (a : Moment State Command Output)
-    (past : List (Moment State Command Output)) → Moments rules config (a ∷ past) →
-    (n new : NodesState) (ballot index : ℕ) (node : CountedCore) (front : List ℕ) (last : ℕ)
-    (port : Port) (x : ConnectionName) (list : List Command) (start now : ℕ) (piece : List ℕ)
+    (config : Config) (moment : Moment State Command Output)
+    (past : List (Moment State Command Output)) → Moments rules config (moment ∷ past) →
+    (state new : NodesState) (ballot index : ℕ) (node : CountedCore) (front : List ℕ) (last : ℕ)
+    (port : Port) (name : ConnectionName) (list : List Command) (start now : ℕ) (piece : List ℕ)
     (connect : Connect) →
-    CanAsk a n ballot index node (front ++ last ∷ []) port x list start piece connect →
+    CanAsk moment state ballot index node (front ++ last ∷ []) port name list start piece connect →
     NumbersAreApart (front ++ last ∷ []) → (In (index + 1) (front ++ last ∷ []) → ⊥) →
-    ((m : ℕ) → In m (front ++ last ∷ []) →
-    NodeIs (Follows ballot (begun_log list start)) (whole_moment a).world.nodes m) →
-    Come (after_node_call index node (takes (Bytes port piece now)) n)
-    (numbers_from (length n.sent) (length front + 1)
-    ++ numbers_from (length n.sent + (length front + 1)) (length front)) new →
-    PutsOutAtLast index (length n.sent + 2 * length front + 1) port
+    ((member : ℕ) → In member (front ++ last ∷ []) →
+    NodeIs (Follows ballot (begun_log list start)) (whole_moment moment).world.nodes member) →
+    Come (after_node_call index node (takes (Bytes port piece now)) state)
+    (numbers_from (length state.sent) (length front + 1)
+    ++ numbers_from (length state.sent + (length front + 1)) (length front)) new →
+    PutsOutAtLast index (length state.sent + 2 * length front + 1) port
     (last_answer last ballot (begun_log list start)) new

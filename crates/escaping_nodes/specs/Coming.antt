@@ -21,51 +21,52 @@ use Rattle.escaping.specs.Delivery.{ReportsItsLosses}
 -- between nodes hand over bytes
 pub data Come : NodesState → List ℕ → NodesState → Type 0 where
   -- no message is left
-  all_came : {n : NodesState} → Come n [] n
+  all_came : {state : NodesState} → Come state [] state
   -- the next one comes to a node that runs
-  to_node : {n new : NodesState} {ks : List ℕ} (k at : ℕ) (node : CountedCore)
-      (message : Message Command) → slice_get n.sent k ≡ Some (at + 1, message) →
-      slice_get n.nodes at ≡ Some node → node.core.replica.state.stopped ≡ false →
-      Come (after_node_call at node (takes (Peer message)) n) ks new →
-      Come n (k ∷ ks) new
+  to_node : {state new : NodesState} {numbers : List ℕ} (number at : ℕ) (node : CountedCore)
+      (message : Message Command) → slice_get state.sent number ≡ Some (at + 1, message) →
+      slice_get state.nodes at ≡ Some node → node.core.replica.state.stopped ≡ false →
+      Come (after_node_call at node (takes (Peer message)) state) numbers new →
+      Come state (number ∷ numbers) new
   -- it is an Activate, and comes to the master
-  to_master : {n new : NodesState} {ks : List ℕ} (k from ballot : ℕ) →
-      slice_get n.sent k ≡ Some (0, record { from = from; body = Activate ballot }) →
-      Come (after_answer from ballot n) ks new → Come n (k ∷ ks) new
+  to_master : {state new : NodesState} {numbers : List ℕ} (number from ballot : ℕ) →
+      slice_get state.sent number ≡ Some (0, record { from = from; body = Activate ballot }) →
+      Come (after_answer from ballot state) numbers new → Come state (number ∷ numbers) new
   -- a node hands over bytes of a port
-  hands : {n new : NodesState} {ks : List ℕ} (at : ℕ) (node : CountedCore) (port : Port) →
-      slice_get n.nodes at ≡ Some node →
-      Come (after_node_call at node (gives port) n) ks new → Come n ks new
+  hands : {state new : NodesState} {numbers : List ℕ} (at : ℕ) (node : CountedCore) (port : Port) →
+      slice_get state.nodes at ≡ Some node →
+      Come (after_node_call at node (gives port) state) numbers new → Come state numbers new
 
 -- the master, the replicas, the messages and the record of the nodes are those of the moment
-pub record IsSeen (a : Moment State Command Output) (n : NodesState) : Type 0 where
-  pub master : a.master ≡ n.master
-  pub nodes : a.world.nodes ≡ map replica_of (cores_of n.nodes)
-  pub sent : a.world.sent ≡ n.sent
-  pub archive : a.world.archive ≡ n.archive
+pub record IsSeen (moment : Moment State Command Output) (state : NodesState) : Type 0 where
+  pub master : moment.master ≡ state.master
+  pub nodes : moment.world.nodes ≡ map replica_of (cores_of state.nodes)
+  pub sent : moment.world.sent ≡ state.sent
+  pub archive : moment.world.archive ≡ state.archive
 
 -- each node is calm, or has not joined the ballot yet
 abbrev pub AreCalm : ℕ → NodesState → Type 0
-AreCalm ballot n =
-    (at : ℕ) (node : CountedCore) → slice_get n.nodes at ≡ Some node →
+AreCalm ballot state =
+    (at : ℕ) (node : CountedCore) → slice_get state.nodes at ≡ Some node →
     ReportsItsLosses node.core ⊎ (node.core.replica.state.joined < ballot)
 
 -- no node has given a name in between
 abbrev pub KeepNames : NodesState → NodesState → Type 0
-KeepNames n new =
-    (at : ℕ) (node later : CountedCore) → slice_get n.nodes at ≡ Some node →
+KeepNames old new =
+    (at : ℕ) (node later : CountedCore) → slice_get old.nodes at ≡ Some node →
     slice_get new.nodes at ≡ Some later → later.core.last_name ≡ node.core.last_name
 
 -- nodes to which the messages come that are delivered in the model are seen as the model says
-pub record AreFollowed (ballot : ℕ) (b : Moment State Command Output)
-    (n new : NodesState) : Type 0 where
-  pub seen : IsSeen b new
+pub record AreFollowed (ballot : ℕ) (moment : Moment State Command Output)
+    (old new : NodesState) : Type 0 where
+  pub seen : IsSeen moment new
   pub calm : AreCalm ballot new
-  pub names : KeepNames n new
+  pub names : KeepNames old new
 
 -- whichever way the model delivers messages, calm nodes to which they come are seen as it says
 abbrev pub DeliveriesAreFollowed : Type 0
 DeliveriesAreFollowed =
-    (ballot : ℕ) (a b : Moment State Command Output) (ks : List ℕ) → Delivered rules ballot a ks b →
-    (n new : NodesState) → Come n ks new →
-    IsSeen a n → AreCalm ballot n → AreFollowed ballot b n new
+    (ballot : ℕ) (earlier later : Moment State Command Output) (numbers : List ℕ) →
+    Delivered rules ballot earlier numbers later →
+    (old new : NodesState) → Come old numbers new →
+    IsSeen earlier old → AreCalm ballot old → AreFollowed ballot later old new

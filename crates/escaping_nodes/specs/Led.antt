@@ -16,21 +16,22 @@ use Rattle.escaping_nodes.specs.Coming.{AreCalm, Come, IsSeen, KeepNames}
 -- the moment to which the way out leads is seen then, each node is calm or has not joined the new
 -- ballot, and none has given a name
 pub record AreLedOut (config : Config) (past : List (Moment State Command Output))
-    (a : Moment State Command Output) (new : Config) (index : ℕ)
-    (log : List Command) (n end : NodesState) : Type 0 where
-  pub way : LeadsOut rules config past a new index log
+    (moment : Moment State Command Output) (new : Config) (index : ℕ)
+    (log : List Command) (state end : NodesState) : Type 0 where
+  pub way : LeadsOut rules config past moment new index log
   pub seen : IsSeen way.last end
-  pub calm : AreCalm (a.master.given + 1) end
-  pub names : KeepNames n end
+  pub calm : AreCalm (moment.master.given + 1) end
+  pub names : KeepNames state end
 
 -- whatever the history of nodes that may be led to a new ballot, whichever logs they cut, and
 -- whatever connections they keep
 abbrev pub NodesAreLedOut : Type 0
 NodesAreLedOut =
-    (config : Config) (a : Moment State Command Output)
-    (past : List (Moment State Command Output)) → Moments rules config (a ∷ past) →
+    (config : Config) (moment : Moment State Command Output)
+    (past : List (Moment State Command Output)) → Moments rules config (moment ∷ past) →
     (new : Config) (index source : ℕ) (log : List Command) →
-    CanBeLed (whole_moment a) new index source log → (n end : NodesState) → IsSeen a n →
-    Come (after_giving new n)
-    (way_out (length n.sent) (length n.master.members) index (length new.members - 1)) end →
-    AreLedOut config (a ∷ past) a new index log n end
+    CanBeLed (whole_moment moment) new index source log → (state end : NodesState) →
+    IsSeen moment state →
+    Come (after_giving new state)
+    (way_out (length state.sent) (length state.master.members) index (length new.members - 1)) end →
+    AreLedOut config (moment ∷ past) moment new index log state end

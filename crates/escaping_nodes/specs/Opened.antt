@@ -29,14 +29,14 @@ first_of ballot = record { ballot = ballot; count = 1 }
 
 -- the node at an index leads a ballot in which it gave no name yet, and lists no connection at this
 -- port
-pub record CanOpen (a : Moment State Command Output) (n : NodesState) (ballot index : ℕ)
+pub record CanOpen (moment : Moment State Command Output) (state : NodesState) (ballot index : ℕ)
     (node : CountedCore) (others_of : List ℕ) (log : List Command)
     (port : Port) : Type 0 where
-  pub seen : IsSeen a n
-  pub calm : AreCalm ballot n
-  pub stands : slice_get n.nodes index ≡ Some node
+  pub seen : IsSeen moment state
+  pub calm : AreCalm ballot state
+  pub stands : slice_get state.nodes index ≡ Some node
   pub serves : LeadsWhole ballot log others_of (index + 1)
-      (whole a.world.archive (replica_of node.core))
+      (whole moment.world.archive (replica_of node.core))
   pub low : node.core.last_name.ballot < ballot
   pub most : ballot ≤ max_ballot
   pub free : list_any (is_at port) node.core.connections ≡ false
@@ -44,24 +44,24 @@ pub record CanOpen (a : Moment State Command Output) (n : NodesState) (ballot in
 
 -- the node at an index still leads the ballot, and a connection of the first name awaits its
 -- CONNECT at this port
-pub record IsOpened (a : Moment State Command Output) (n : NodesState) (ballot index : ℕ)
+pub record IsOpened (moment : Moment State Command Output) (state : NodesState) (ballot index : ℕ)
     (others_of : List ℕ) (log : List Command) (port : Port) : Type 0 where
-  pub seen : IsSeen a n
-  pub calm : AreCalm ballot n
+  pub seen : IsSeen moment state
+  pub calm : AreCalm ballot state
   pub node : CountedCore
-  pub stands : slice_get n.nodes index ≡ Some node
+  pub stands : slice_get state.nodes index ≡ Some node
   pub serves : LeadsWhole ballot log others_of (index + 1)
-      (whole a.world.archive (replica_of node.core))
+      (whole moment.world.archive (replica_of node.core))
   pub awaits : AwaitsConnect port (first_of ballot) node.core
 
 -- once it was opened, a connection awaits its CONNECT, whatever bytes are handed over then
 abbrev pub ConnectionsOpenFirst : Type 0
 ConnectionsOpenFirst =
-    (a : Moment State Command Output) (n new : NodesState) (ballot index : ℕ) (node : CountedCore)
-    (others_of : List ℕ) (log : List Command)
-    (port : Port) (now : ℕ) → CanOpen a n ballot index node others_of log port →
-    Come (after_node_call index node (takes (Opened port now)) n) [] new →
-    IsOpened a new ballot index others_of log port
+    (moment : Moment State Command Output) (state new : NodesState) (ballot index : ℕ)
+    (node : CountedCore) (others_of : List ℕ) (log : List Command)
+    (port : Port) (now : ℕ) → CanOpen moment state ballot index node others_of log port →
+    Come (after_node_call index node (takes (Opened port now)) state) [] new →
+    IsOpened moment new ballot index others_of log port
 
 -- a client would be answered with session present after these commands exactly if it has a session
 -- that is not clean

@@ -133,7 +133,7 @@ good_moves h k g (restarts ids d r) =
 
 pub good_run : {V : Type 0} (h k : Handshake V) → IsGood h → HandshakeRun h k → IsGood k
 good_run h k g stays = g
-good_run h k g (goes_on {k = m} r s) = good_moves m k (good_run h m g r) s
+good_run h k g (goes_on {next = m} r s) = good_moves m k (good_run h m g r) s
 
 pub good_opening : (V : Type 0) → IsGood (opening_handshake V)
 good_opening V =

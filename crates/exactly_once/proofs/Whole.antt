@@ -59,7 +59,7 @@ stories_are_sound keeps publishes subscribes limits steady c s begins =
     record { shape = opening_shape limits c; publisher = publisher_opens limits c; subscriber = subscriber_opens limits c }
 stories_are_sound keeps publishes subscribes limits steady c s (begins_at list earlier own none numbers unsent apart) =
     begun_is_sound limits (past_of limits list) c earlier own none unsent apart
-stories_are_sound keeps publishes subscribes limits steady c s (goes_on {s = r} told happens) =
+stories_are_sound keeps publishes subscribes limits steady c s (goes_on {before = r} told happens) =
     let sound = stories_are_sound keeps publishes subscribes limits steady c r told in
     record {
       shape = keeps limits r s sound happens;

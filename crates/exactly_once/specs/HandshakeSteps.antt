@@ -53,8 +53,8 @@ pub data Advances {V : Type 0} (handshake : Handshake V) : Handshake V → Type 
 -- steps one after another
 pub data HandshakeRun {V : Type 0} (handshake : Handshake V) : Handshake V → Type 0 where
   stays : HandshakeRun handshake handshake  -- nothing happened
-  goes_on : {k l : Handshake V} → HandshakeRun handshake k → Advances k l →
-      HandshakeRun handshake l  -- one more step
+  goes_on : {next last : Handshake V} → HandshakeRun handshake next → Advances next last →
+      HandshakeRun handshake last  -- one more step
 
 -- nothing was sent yet, and there is no connection
 abbrev pub opening_handshake : (V : Type 0) → Handshake V

@@ -27,11 +27,12 @@ use Rattle.exactly_once.specs.InStep.{sessions_begun, entries_in, accepted_in}
 pub data Lived (limits : Limits) (client : Client) : Story → Type 0 where
   opens : Lived limits client (no_story client)  -- nothing happened yet
   -- a step of one session
-  goes_on : {s t : Story} → Lived limits client s → StoryStep limits s t → Lived limits client t
+  goes_on : {before after : Story} → Lived limits client before → StoryStep limits before after →
+      Lived limits client after
   -- an Expel of the client comes next in the list
-  is_expelled : {s : Story} → Lived limits client s →
+  is_expelled : {before : Story} → Lived limits client before →
       Lived limits client
-      (record s { past = place_of limits s.past (commands.Expel client) ∷ s.past })
+      (record before { past = place_of limits before.past (commands.Expel client) ∷ before.past })
 
 -- of each of its sessions, by the place at which it began, the client accepted a prefix of the QoS
 -- 2 entries, and each that is released is among them

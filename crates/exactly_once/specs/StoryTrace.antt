@@ -37,5 +37,5 @@ pub data StoryTrace (limits : Limits) (client : Client) : Story → Type 0 where
         keeper = unserved client earlier own;
       })
   -- one more step
-  goes_on : {s t : Story} → StoryTrace limits client s → StoryStep limits s t →
-      StoryTrace limits client t
+  goes_on : {before after : Story} → StoryTrace limits client before →
+      StoryStep limits before after → StoryTrace limits client after

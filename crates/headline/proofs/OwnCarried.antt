@@ -179,10 +179,10 @@ record HasOwn (limits : Limits) (c : Client) (s : Story) : Type 0 where
 lived_own : (limits : Limits) (c : Client) (s : Story) → Lived limits c s → HasOwn limits c s
 unfolding current_connection
 lived_own limits c s opens = record { life = life_opens limits c; numbered = tt; own = record { current = λ y is. cc; carried = tt } }
-lived_own limits c t (goes_on {s = s} lived h) =
+lived_own limits c t (goes_on {before = s} lived h) =
     let o = lived_own limits c s lived in
     record { life = life_goes limits c s t o.life h; numbered = happens_numbered limits s t h o.numbered; own = happens_own limits c s t o.life h o.numbered o.own }
-lived_own limits c t (is_expelled {s = s} lived) =
+lived_own limits c t (is_expelled {before = s} lived) =
     let o = lived_own limits c s lived in
     let place = place_of limits s.past (commands.Expel c) in
     record {

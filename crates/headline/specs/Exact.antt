@@ -46,44 +46,47 @@ IsExactInStep agreed client =
 
 -- a client that no Expel names has one session at most, which lasts once it began, so it is in step
 abbrev pub IsInOneSession : List Command → ClientPipes → Type 0
-IsInOneSession agreed c =
-    IsUnexpelled c.keeper.client (past_of usual_limits agreed) → HasOneSession (story_of agreed c)
+IsInOneSession agreed client =
+    IsUnexpelled client.keeper.client (past_of usual_limits agreed) →
+    HasOneSession (story_of agreed client)
 
 -- the parts that a client without history shows
-pub record IsShownBy (c : ClientPipes) (state : ClientState) : Type 0 where
-  pub keeper : history.KeeperStandsFor c.keeper state
-  pub accepted : accepted_once state.accepted ≡ accepted_on c.connections
+pub record IsShownBy (client : ClientPipes) (state : ClientState) : Type 0 where
+  pub keeper : history.KeeperStandsFor client.keeper state
+  pub accepted : accepted_once state.accepted ≡ accepted_on client.connections
 
 -- what a world is promised if this is the list on which its nodes agree
-pub record IsExactBy (agreed : List Command) (w : World) : Type 0 where
+pub record IsExactBy (agreed : List Command) (world : World) : Type 0 where
   -- each client that is in step publishes once, and accepts in order in each of its sessions
-  pub clients : Each (IsExactInStep agreed) w.clients
-  pub unexpelled : Each (IsInOneSession agreed) w.clients
+  pub clients : Each (IsExactInStep agreed) world.clients
+  pub unexpelled : Each (IsInOneSession agreed) world.clients
   -- an ended session gets nothing more, since each connection has a name of its own
-  pub names : (x : ConnectionName) → connects_of x (past_of usual_limits agreed) ≤ 1
+  pub names : (name : ConnectionName) → connects_of name (past_of usual_limits agreed) ≤ 1
   pub sessions : EndsWithTheSession usual_limits (past_of usual_limits agreed)
   -- connections carry their packets in order, both ways
-  pub pipes : (i : ℕ) (c : ClientPipes) (j : ℕ) (connection : ClientConnection) (p : Pipe) →
-      HasPipe w i c j connection p → IsInOrder agreed connection p
+  pub pipes : (index : ℕ) (client : ClientPipes) (nth : ℕ) (connection : ClientConnection)
+      (pipe : Pipe) → HasPipe world index client nth connection pipe →
+      IsInOrder agreed connection pipe
 
 -- A world that is reached by these steps: the steps of its group are a past, there is a list on
 -- which the nodes agree at its end, and the world is exact by that list.
-pub record IsExact {nodes : ℕ} {config : Config} {cs : List Client} {w : World}
-    (trail : Reached nodes config cs w) : Type 0 where
-  pub of : HasPast config w.group (groups_on_trace (trace_of trail)) (all_proposed (trace_of trail))
+pub record IsExact {nodes : ℕ} {config : Config} {clients : List Client} {world : World}
+    (trail : Reached nodes config clients world) : Type 0 where
+  pub of : HasPast config world.group (groups_on_trace (trace_of trail))
+      (all_proposed (trace_of trail))
   pub agreed : List Command
-  pub is_agreed : IsAgreed config (moment_of_nodes w.group ∷ of.earlier) agreed
-  pub exact : (list : List Command) → IsAgreed config (moment_of_nodes w.group ∷ of.earlier) list →
-      IsExactBy list w
+  pub is_agreed : IsAgreed config (moment_of_nodes world.group ∷ of.earlier) agreed
+  pub exact : (list : List Command) →
+      IsAgreed config (moment_of_nodes world.group ∷ of.earlier) list → IsExactBy list world
   -- what a client shows, with what it was asked to publish in these steps, is as promised
   pub promises : (list : List Command) →
-      IsAgreed config (moment_of_nodes w.group ∷ of.earlier) list →
-      (i : ℕ) (c : ClientPipes) (state : ClientState) →
-      slice_get w.clients i ≡ Some c → IsShownBy c state →
-      Promise c.connections (published_of i (published_on_way trail)) list state
+      IsAgreed config (moment_of_nodes world.group ∷ of.earlier) list →
+      (index : ℕ) (client : ClientPipes) (state : ClientState) →
+      slice_get world.clients index ≡ Some client → IsShownBy client state →
+      Promise client.connections (published_of index (published_on_way trail)) list state
 
 -- each world of clients with identifiers of their own is exact, whatever its steps
 abbrev pub WorldsAreExact : Type 0
 WorldsAreExact =
-    (nodes : ℕ) (config : Config) (cs : List Client) (w : World) → ClientsAreApart cs →
-    (trail : Reached nodes config cs w) → IsExact trail
+    (nodes : ℕ) (config : Config) (clients : List Client) (world : World) →
+    ClientsAreApart clients → (trail : Reached nodes config clients world) → IsExact trail

@@ -14,26 +14,26 @@ use Rattle.headline.specs.Promise.{PromiseInStep}
 use Rattle.headline.specs.Shown.{at_two, new_of, unacknowledged_of}
 use Rattle.byte_world.specs.Accepted.{accepted_once}
 
--- for client c, by the places of the list
-pub record PromiseOfOne (c : Client) (published : List Publication) (past : Past)
+-- for this client, by the places of the list
+pub record PromiseOfOne (client : Client) (published : List Publication) (past : Past)
     (state : ClientState) : Type 0 where
   -- its QoS 2 publications are new in the order in which it was asked for them, each once; those
   -- that are not new yet it still keeps
   pub waiting : List Publication
-  pub in_order : at_two published ≡ new_of c past ++ waiting
+  pub in_order : at_two published ≡ new_of client past ++ waiting
   pub again : List Publication
   pub unacknowledged : at_two (unacknowledged_of state) ≡ again ++ waiting
   -- what it accepted at QoS 2 is a prefix of the QoS 2 entries of its session, each once, with
   -- every one that is released
   pub prefix : List Entry
   pub others : List Entry
-  pub entries : two_entries (entries_of usual_limits past c) ≡ prefix ++ others
+  pub entries : two_entries (entries_of usual_limits past client) ≡ prefix ++ others
   pub accepted : accepted_once state.accepted ≡ map publication_in prefix
   pub rest : Each (λ (entry : Entry). is_entry_released entry ≡ false) others
 
 -- while a client's first session lasts, its promise over sessions says all of the promise for one
 abbrev pub OneSessionIsPromised : Type 0
 OneSessionIsPromised =
-    (c : Client) (published : List Publication) (past : Past) (state : ClientState) →
-    IsFirstSession past c → PromiseInStep c published past state →
-    PromiseOfOne c published past state
+    (client : Client) (published : List Publication) (past : Past) (state : ClientState) →
+    IsFirstSession past client → PromiseInStep client published past state →
+    PromiseOfOne client published past state

@@ -23,7 +23,7 @@ one_node = record { members = 1 ∷ []; primary = 1 }
 
 -- a CONNACK 0 came to it on the connection that it holds
 abbrev pub is_served : ClientPipes → Bool
-is_served c = c.keeper.is_online
+is_served client = client.keeper.is_online
 
 -- a world is reached in which the client is served
 pub record AClientIsServed : Type 0 where
@@ -50,11 +50,11 @@ list_done =
 
 -- what a client accepted at QoS 2, on all of its connections
 abbrev pub accepted_by : ClientPipes → List Publication
-accepted_by c = accepted_on c.connections
+accepted_by client = accepted_on client.connections
 
 -- what a client published
 abbrev pub published_by : ClientPipes → List Own
-published_by c = c.keeper.own
+published_by client = client.keeper.own
 
 -- A world is reached in which the client has subscribed to what it published at QoS 2, both
 -- handshakes have ended, it has accepted its publication once, and the node keeps this list.

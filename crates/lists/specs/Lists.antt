@@ -3,11 +3,11 @@ use Rattle.std.specs.Prelude.{◌≡◌, ℕ, Bool, false, ◌==◌, List, [], �
 use Rattle.std.specs.List.{list_any}
 
 -- a member of a list
-pub data In {X : Type 0} (x : X) : List X → Type 0 where
+pub data In {X : Type 0} (member : X) : List X → Type 0 where
   -- it is the first
-  here : {xs : List X} → In x (x ∷ xs)
+  here : {xs : List X} → In member (member ∷ xs)
   -- it is in the rest
-  there : {y : X} {xs : List X} → In x xs → In x (y ∷ xs)
+  there : {other : X} {xs : List X} → In member xs → In member (other ∷ xs)
 
 -- a prefix of a list: the list is the prefix with more at its end
 pub record IsPrefixOf {X : Type 0} (xs ys : List X) : Type 0 where
@@ -16,7 +16,7 @@ pub record IsPrefixOf {X : Type 0} (xs ys : List X) : Type 0 where
 
 -- a property holds for each element
 abbrev pub Each : {X : Type 0} → (X → Type 0) → List X → Type 0
-Each P (x ∷ xs) = P x × Each P xs
+Each P (element ∷ xs) = P element × Each P xs
 Each P [] = Unit {0}
 
 -- whether the identifier is among these

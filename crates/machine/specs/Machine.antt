@@ -13,10 +13,11 @@ pub record Rules (S C O : Type 0) : Type 0 where
   pub frozen : S → List ℕ
   pub thawed : List ℕ → Option S
 
--- the state after commands that were done one after another from the state s
+-- the state after commands that were done one after another from this state
 abbrev pub replay_from : {S C O : Type 0} → Rules S C O → S → List C → S
-replay_from rules s [] = s
-replay_from rules s (command ∷ commands) = replay_from rules (rules.after s command) commands
+replay_from rules state [] = state
+replay_from rules state (command ∷ commands) =
+    replay_from rules (rules.after state command) commands
 
 -- the state after commands that were done one after another from the beginning
 abbrev pub replay : {S C O : Type 0} → Rules S C O → List C → S

@@ -37,8 +37,8 @@ tally_rules =
     record {
       opening = record { total = 0 };
       start_of = Start;
-      after = λ s c. record { total = total_after s.total c };
-      gives = λ s c. totals_given s.total c;
-      frozen = λ s. total_bytes s.total;
+      after = λ tally command. record { total = total_after tally.total command };
+      gives = λ tally command. totals_given tally.total command;
+      frozen = λ tally. total_bytes tally.total;
       thawed = tally_of;
     }

@@ -10,8 +10,8 @@ use Rattle.mailbox.specs.declared.view.View.{View}
 -- the items of one lane, in order
 abbrev pub items_of_lane : {T : Type 0} → ℕ → List (ℕ × T) → List T
 items_of_lane lane [] = []
-items_of_lane lane (x ∷ xs) = if x.0 == lane then x.1 ∷ items_of_lane lane xs
-    else items_of_lane lane xs
+items_of_lane lane (item ∷ items) = if item.0 == lane then item.1 ∷ items_of_lane lane items
+    else items_of_lane lane items
 
 -- what is known without a receipt: only that no inbox ever gets more than 2^64 items
 abbrev pub no_bounds : Bounds
@@ -56,30 +56,30 @@ taker_view lanes taken bounds = receiver_view lanes taken 0 (lanes * MAX_SENT) b
 -- how many items may still be sent
 abbrev pub rights : {T : Type 0} → List (View T) → ℕ
 rights [] = 0
-rights (v ∷ views) = v.may_send + rights views
+rights (view ∷ views) = view.may_send + rights views
 
 module _ {T : Type 0} where
   -- what a lane's pass knows is true, and no other pass is this lane's
   abbrev pub FitsLane : (ℕ → ℕ) → (ℕ → List T) → List (ℕ × T) → ℕ → ℕ → View T → Type 0
-  FitsLane pass_of sent taken made port v =
-      v.sends ≡ true
-      → (port ≡ pass_of v.lane)
-      × (v.sent ≡ sent v.lane)
-      × (v.met ≤ length (items_of_lane v.lane taken))
-      × (v.lane < made)
+  FitsLane pass_of sent taken made port view =
+      view.sends ≡ true
+      → (port ≡ pass_of view.lane)
+      × (view.sent ≡ sent view.lane)
+      × (view.met ≤ length (items_of_lane view.lane taken))
+      × (view.lane < made)
 
   -- what the receiver's pass knows is true, and no other pass is the receiver's
   abbrev pub FitsReceiver : ℕ → List (ℕ × T) → ℕ → ℕ → View T → Type 0
-  FitsReceiver reader taken made port v =
-      v.gets ≡ true → (port ≡ reader) × (v.taken ≡ taken) × (v.lanes ≡ made)
+  FitsReceiver reader taken made port view =
+      view.gets ≡ true → (port ≡ reader) × (view.taken ≡ taken) × (view.lanes ≡ made)
 
   -- what receipts say to a pass is true, and the greatest number of items that it knows is right
   abbrev pub FitsBounds : (ℕ → List T) → List (ℕ × T) → ℕ → View T → Type 0
-  FitsBounds sent taken most v =
-      (v.bounds.sent ≤ length (sent v.bounds.lane))
-      × (v.bounds.taken ≤ length taken)
-      × (most ≤ v.bounds.most)
-      × (most ≤ v.all)
+  FitsBounds sent taken most view =
+      (view.bounds.sent ≤ length (sent view.bounds.lane))
+      × (view.bounds.taken ≤ length taken)
+      × (most ≤ view.bounds.most)
+      × (most ≤ view.all)
 
 -- the rule, over what the inbox holds and what each pass knows
 pub record FitsRule {T : Type 0} (items : List (ℕ × T)) (views : List (View T)) : Type 0 where
@@ -95,15 +95,15 @@ pub record FitsRule {T : Type 0} (items : List (ℕ × T)) (views : List (View T
   pub within : length taken + length items + rights views ≤ most
   pub finite : most ≤ 2 ^ 64
   pub fits :
-      (port : ℕ) (v : View T)
-      → get_elem? views port ≡ some v
-      → FitsLane pass_of sent taken made port v
-      × FitsReceiver reader taken made port v
-      × FitsBounds sent taken most v
+      (port : ℕ) (view : View T)
+      → get_elem? views port ≡ some view
+      → FitsLane pass_of sent taken made port view
+      × FitsReceiver reader taken made port view
+      × FitsBounds sent taken most view
 
 -- one of an inbox's passes knew this while the inbox held these items
-pub record Knew {T : Type 0} (v : View T) (items : List (ℕ × T)) : Type 0 where
+pub record Knew {T : Type 0} (view : View T) (items : List (ℕ × T)) : Type 0 where
   pub views : List (View T)
   pub port : ℕ
   pub holds : FitsRule items views
-  pub knows : get_elem? views port ≡ some v
+  pub knows : get_elem? views port ≡ some view

@@ -45,23 +45,24 @@ module _ {T : Type 0} where
   -- at one moment, at which everything that the receipt says was true, the inbox held as many items
   -- as it can
   abbrev pub WasFull : Sender T → Receipted → Type 0
-  WasFull s receipt =
+  WasFull sender receipt =
       Held MAX_ITEMS
-      (Knew (lane_view s.lane s.sent s.met (MAX_SENT - length s.sent) receipt.bounds))
+      (Knew (lane_view sender.lane sender.sent sender.met (MAX_SENT - length sender.sent)
+      receipt.bounds))
 
   -- as far as the receipt says, there may be no room: what was taken, what the inbox can hold and
   -- what this lane may still send do not exceed what all lanes will ever send
   abbrev pub IsFullByReceipt : Sender T → Receipted → Type 0
-  IsFullByReceipt s receipt =
-      receipt.bounds.taken + MAX_ITEMS + (MAX_SENT - length s.sent) ≤ receipt.bounds.most
+  IsFullByReceipt sender receipt =
+      receipt.bounds.taken + MAX_ITEMS + (MAX_SENT - length sender.sent) ≤ receipt.bounds.most
 
   -- the lane has sent as much as it ever may
   abbrev pub IsSpent : Sender T → Type 0
-  IsSpent s = MAX_SENT ≤ length s.sent
+  IsSpent sender = MAX_SENT ≤ length sender.sent
 
   -- at one moment, at which everything that the receipt says was true, the inbox held nothing
   abbrev pub WasEmpty : Taker T → Receipted → Type 0
-  WasEmpty r receipt = Held 0 (Knew (taker_view r.lanes r.taken receipt.bounds))
+  WasEmpty taker receipt = Held 0 (Knew (taker_view taker.lanes taker.taken receipt.bounds))
 
   -- every item that was sent, as far as the receipt says, is among these items that were taken
   abbrev pub HasArrived : Receipted → List (ℕ × T) → Type 0
@@ -69,21 +70,22 @@ module _ {T : Type 0} where
 
   -- a lane as it was made
   abbrev pub as_made : Sender T → Sender T
-  as_made s = record s { met = 0; sent = [] }
+  as_made sender = record sender { met = 0; sent = [] }
 
   -- these are all lanes of the receiver's inbox, in order
   abbrev pub AreAllLanes : Taker T → List (Sender T) → Type 0
-  AreAllLanes r lanes = map as_made lanes ≡ fresh_lanes r.inbox r.lanes
+  AreAllLanes taker lanes = map as_made lanes ≡ fresh_lanes taker.inbox taker.lanes
 
   -- a lane, whatever it knows to be taken
   abbrev pub unmet : Sender T → Sender T
-  unmet s = record s { met = 0 }
+  unmet sender = record sender { met = 0 }
 
   -- a lane that knows that all that it sent was taken
   abbrev pub all_met : Sender T → Sender T
-  all_met s = record s { met = length s.sent }
+  all_met sender = record sender { met = length sender.sent }
 
   -- what was counted for a lane and what is left over from it are, in order, all that it sent
   abbrev pub ArrivesWhole : List ℕ → List (ℕ × T) → Sender T → Type 0
-  ArrivesWhole counts left s =
-      take (slice_index counts s.lane) s.sent ++ items_of_lane s.lane left ≡ s.sent
+  ArrivesWhole counts left sender =
+      take (slice_index counts sender.lane) sender.sent ++ items_of_lane sender.lane left
+      ≡ sender.sent

@@ -76,4 +76,4 @@ pub record TakesMore {T : Type 0} (old new : Taker T) (list longer : List (ℕ �
 
 -- all that a lane sent was taken
 abbrev pub IsDrained : {T : Type 0} → List (ℕ × T) → Sender T → Type 0
-IsDrained taken s = items_of_lane s.lane taken ≡ s.sent
+IsDrained taken sender = items_of_lane sender.lane taken ≡ sender.sent

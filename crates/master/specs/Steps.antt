@@ -19,32 +19,34 @@ use Rattle.master.specs.Outcomes.EventOutcome.{by_node, by_cut, by_master, unhee
 pub data Happens {S C O : Type 0} (rules : Rules S C O) :
     Moment S C O → Event C → Moment S C O → Type 0 where
   -- nothing is done
-  nothing_happens : {a : Moment S C O} {e : Event C} → Happens rules a e a
+  nothing_happens : {moment : Moment S C O} {event : Event C} → Happens rules moment event moment
   -- the node of the event takes its step, with losses
-  node_goes : {a : Moment S C O} {e : Event C} (t : NodeOutcome S C O)
+  node_goes : {moment : Moment S C O} {event : Event C} (step : NodeOutcome S C O)
       {new : ReplicaState S C} {given : List (Effect C O)} →
-      event_outcome rules a e ≡ Some (by_node t) →
-      Loses rules t.before t.outcome new given →
-      Happens rules a e (record a { world = moved a.world t.index new given })
+      event_outcome rules moment event ≡ Some (by_node step) →
+      Loses rules step.before step.outcome new given →
+      Happens rules moment event (record moment { world = moved moment.world step.index new given })
   -- the master goes on, and its message is lost
-  master_goes : {a : Moment S C O} {e : Event C} (o : MasterOutcome C) →
-      event_outcome rules a e ≡ Some (by_master o) →
-      Happens rules a e (record a { master = o.state })
+  master_goes : {moment : Moment S C O} {event : Event C} (answer : MasterOutcome C) →
+      event_outcome rules moment event ≡ Some (by_master answer) →
+      Happens rules moment event (record moment { master = answer.state })
 
 -- an event that needs no memory: it reaches no node, or a master that ignores it; or, by the
 -- protocol, its node sends nothing, keeps its log and applies nothing, though it may learn
 -- something, such as what a member holds; or the event stops a node
-pub data GroupTakesNoMemory {S C O : Type 0} (rules : Rules S C O) (a : Moment S C O)
-    (e : Event C) : Type 0 where
+pub data GroupTakesNoMemory {S C O : Type 0} (rules : Rules S C O) (moment : Moment S C O)
+    (event : Event C) : Type 0 where
   -- no node gets it
-  comes_to_nobody : event_outcome rules a e ≡ None → GroupTakesNoMemory rules a e
+  comes_to_nobody : event_outcome rules moment event ≡ None → GroupTakesNoMemory rules moment event
   -- the master ignores it
-  goes_unheeded : event_outcome rules a e ≡ Some unheeded → GroupTakesNoMemory rules a e
+  goes_unheeded : event_outcome rules moment event ≡ Some unheeded →
+      GroupTakesNoMemory rules moment event
   -- its node sends nothing, keeps its log and applies nothing
-  sends_and_adds_nothing : (t : NodeOutcome S C O) → event_outcome rules a e ≡ Some (by_node t) →
-      SendsAndAddsNothing t.before t.outcome → GroupTakesNoMemory rules a e
+  sends_and_adds_nothing : (step : NodeOutcome S C O) →
+      event_outcome rules moment event ≡ Some (by_node step) →
+      SendsAndAddsNothing step.before step.outcome → GroupTakesNoMemory rules moment event
   -- a node crashes
-  stops_a_node : (node : ℕ) → e ≡ Crash node → GroupTakesNoMemory rules a e
+  stops_a_node : (node : ℕ) → event ≡ Crash node → GroupTakesNoMemory rules moment event
 
 -- a group after an event that was done exactly, without a loss
 abbrev pub done_exactly : {S C O : Type 0} →
@@ -55,10 +57,10 @@ done_exactly rules old event =
 -- the snapshot of a cut thaws to the node's machine
 abbrev pub Freezes : {S C O : Type 0} → Rules S C O → Option (EventOutcome S C O) → Type 0
 Freezes rules None = Unit {0}
-Freezes rules (Some (by_node t)) = Unit {0}
-Freezes rules (Some (by_cut t)) =
-    rules.thawed t.outcome.state.log.snapshot ≡ Some t.before.machine
-Freezes rules (Some (by_master o)) = Unit {0}
+Freezes rules (Some (by_node step)) = Unit {0}
+Freezes rules (Some (by_cut step)) =
+    rules.thawed step.outcome.state.log.snapshot ≡ Some step.before.machine
+Freezes rules (Some (by_master answer)) = Unit {0}
 Freezes rules (Some unheeded) = Unit {0}
 
 -- the step of an event, or one with losses that was counted; if a log was cut, its snapshot can be

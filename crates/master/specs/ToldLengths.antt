@@ -7,23 +7,23 @@ use Rattle.ballot.specs.ballot_base.declared.message.Message.{Message}
 
 -- the length that a body acknowledges in a ballot
 abbrev pub told_by : {C : Type 0} → ℕ → Body C → ℕ
-told_by b (NewBallot x members a old) = 0
-told_by b (Join x a) = 0
-told_by b (State x log) = 0
-told_by b (Install x log) = 0
-told_by b (Installed x held) = if x == b then held else 0
-told_by b (Activate x) = 0
-told_by b (Activated x) = 0
-told_by b (Superseded x) = 0
-told_by b (Append x place command) = 0
-told_by b (Held x held) = if x == b then held else 0
-told_by b (Commit x held) = 0
+told_by ballot (NewBallot other members previous old) = 0
+told_by ballot (Join other previous) = 0
+told_by ballot (State other log) = 0
+told_by ballot (Install other log) = 0
+told_by ballot (Installed other held) = if other == ballot then held else 0
+told_by ballot (Activate other) = 0
+told_by ballot (Activated other) = 0
+told_by ballot (Superseded other) = 0
+told_by ballot (Append other place command) = 0
+told_by ballot (Held other held) = if other == ballot then held else 0
+told_by ballot (Commit other held) = 0
 
 -- the length that a message of a node acknowledges
 abbrev pub told_in : {C : Type 0} → ℕ → ℕ → Message C → ℕ
-told_in m b message = if message.from == m then told_by b message.body else 0
+told_in node ballot message = if message.from == node then told_by ballot message.body else 0
 
 -- the greatest length that a node acknowledged in these messages
 abbrev pub max_told : {C : Type 0} → ℕ → ℕ → List (ℕ × Message C) → ℕ
-max_told m b [] = 0
-max_told m b (x ∷ sent) = max (told_in m b x.1) (max_told m b sent)
+max_told node ballot [] = 0
+max_told node ballot (row ∷ sent) = max (told_in node ballot row.1) (max_told node ballot sent)

@@ -37,30 +37,31 @@ is_failed Failed = true
 
 -- whether a connection is closed and its loss is still to be reported
 abbrev pub has_failed : Connection → Bool
-has_failed c = is_failed c.stage
+has_failed connection = is_failed connection.stage
 
 -- whether a connection is one of this port, open or closed
 abbrev pub is_at : Port → Connection → Bool
-is_at port c = c.port.0 == port.0
+is_at port connection = connection.port.0 == port.0
 
 -- whether a connection is the open one of a port
 abbrev pub is_open_at : Port → Connection → Bool
-is_open_at port c = not (is_closed c.stage) && is_at port c
+is_open_at port connection = not (is_closed connection.stage) && is_at port connection
 
 -- whether a connection is the open one of a name
 abbrev pub is_open_named : ConnectionName → Connection → Bool
-is_open_named name c = not (is_closed c.stage) && same_connection c.name name
+is_open_named name connection =
+    not (is_closed connection.stage) && same_connection connection.name name
 
 -- a connection is listed while it is open, and until all that was queued for it was handed over
 abbrev pub is_listed : Connection → Bool
-is_listed c = not (is_closed c.stage) || not (length c.pending == 0)
+is_listed connection = not (is_closed connection.stage) || not (length connection.pending == 0)
 
 -- a connection is open, has a keep alive, and no whole packet came for more than one and a half
 -- times of it (MQTT 3.1.2.10); a keep alive counts seconds, times count milliseconds
 abbrev pub is_silent : ℕ → Connection → Bool
-is_silent now c =
-    (not (is_closed c.stage) && nat_lt 0 c.keep_alive)
-    && nat_lt (c.last_packet + 1500 * c.keep_alive) now
+is_silent now connection =
+    (not (is_closed connection.stage) && nat_lt 0 connection.keep_alive)
+    && nat_lt (connection.last_packet + 1500 * connection.keep_alive) now
 
 -- a new connection
 abbrev pub fresh : Port → ConnectionName → Connection

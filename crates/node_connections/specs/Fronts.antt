@@ -20,16 +20,21 @@ IsFaultOfBytes _ = ⊥
 
 -- a CONNECT that is refused with a code is at the front of a connection's bytes
 abbrev pub FrontIsRefused : Connection → Type 0
-FrontIsRefused c = (code : RefusalCode) × (verdict c.unread ≡ Err (stops.Refused code))
+FrontIsRefused connection =
+    (code : RefusalCode) × (verdict connection.unread ≡ Err (stops.Refused code))
 
 -- no packet is at the front: the bytes have a fault, or a CONNECT that is not the first is refused
 abbrev pub HasNoPacket : Connection → Type 0
-HasNoPacket c = IsFaultOfBytes (verdict c.unread) ⊎ ((is_first c.stage ≡ false) × FrontIsRefused c)
+HasNoPacket connection =
+    IsFaultOfBytes (verdict connection.unread)
+    ⊎ ((is_first connection.stage ≡ false) × FrontIsRefused connection)
 
 -- memory may run out for what is at the front: for reading it, or for the answer to a first CONNECT
 -- that is refused with a code
 abbrev pub FrontNeedsMemory : Connection → Type 0
-FrontNeedsMemory c = MayNeedMemory c.unread ⊎ ((is_first c.stage ≡ true) × FrontIsRefused c)
+FrontNeedsMemory connection =
+    MayNeedMemory connection.unread
+    ⊎ ((is_first connection.stage ≡ true) × FrontIsRefused connection)
 
 -- what is at the front of the bytes of a connection, and what is left of them
 abbrev pub ReadsFront : List ℕ → Front → List ℕ → Type 0

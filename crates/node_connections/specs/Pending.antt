@@ -8,13 +8,13 @@ use Rattle.node_connections.specs.Connections.{is_closed}
 -- everything that was queued and not yet handed over
 abbrev pub pending_bytes : Option Connection → List ℕ
 pending_bytes None = []
-pending_bytes (Some c) = c.pending
+pending_bytes (Some connection) = connection.pending
 
 -- whether more may come: not if the connection is over, or was never opened
 abbrev pub handed_after : Option Connection → Handed
 handed_after None = answers.Closed
-handed_after (Some c) = if is_closed c.stage then answers.Closed else answers.Open
+handed_after (Some connection) = if is_closed connection.stage then answers.Closed else answers.Open
 
 -- open, with nothing to hand over
 abbrev pub is_idle : Connection → Bool
-is_idle c = not (is_closed c.stage) && (length c.pending == 0)
+is_idle connection = not (is_closed connection.stage) && (length connection.pending == 0)

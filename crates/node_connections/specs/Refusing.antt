@@ -8,5 +8,5 @@ use Rattle.node_connections.specs.ConnectionChanges.{closed_connection, putting}
 
 -- a CONNECT that is refused with a code is answered, and then closed (MQTT 3.2.2.3)
 abbrev pub connect_refused : RefusalCode → Connection → Connection
-connect_refused code c = closed_connection
-    (putting (spelling (packets.Connack (connacks.Refused code))) c)
+connect_refused code connection = closed_connection
+    (putting (spelling (packets.Connack (connacks.Refused code))) connection)

@@ -12,7 +12,8 @@ lower (Some low) port = if nat_lt port.0 low.0 then port else low
 
 -- the lowest port so far, after one more connection
 abbrev pub lower_silent : ℕ → Option Port → Connection → Option Port
-lower_silent now low c = if is_silent now c then Some (lower low c.port) else low
+lower_silent now low connection =
+    if is_silent now connection then Some (lower low connection.port) else low
 
 -- the lowest port of the silent connections
 abbrev pub lowest_silent : ℕ → List Connection → Option Port

@@ -16,4 +16,4 @@ standing_at stages.Failed = Closed
 -- if there is no connection it is closed
 abbrev pub standing_of : Option Connection → Standing
 standing_of None = Closed
-standing_of (Some c) = standing_at c.stage
+standing_of (Some connection) = standing_at connection.stage

@@ -83,7 +83,8 @@ proposes command core =
 -- a message of another node or a tick; a replica that has stopped does nothing
 abbrev pub outcome_of_input : Input Command → ReplicaState State Command →
     Outcome State Command Output
-outcome_of_input input r = if r.stopped then nothing_done Output r else replica_step rules r input
+outcome_of_input input replica =
+    if replica.stopped then nothing_done Output replica else replica_step rules replica input
 
 -- the replica receives an input, and its effects are done
 unfoldable pub drives : Input Command → CoreState → StepOutcome

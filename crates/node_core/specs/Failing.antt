@@ -19,7 +19,7 @@ closes_failed core = record core {
 -- a failed connection, if there is one, is closed for good, and its loss is proposed
 abbrev pub loses_if : Option Connection → CoreState → StepOutcome
 loses_if None core = without_messages core
-loses_if (Some c) core = proposes (commands.Lost c.name) (closes_failed core)
+loses_if (Some connection) core = proposes (commands.Lost connection.name) (closes_failed core)
 
 -- the loss of the first failed connection is reported to the broker
 unfoldable pub loses_failed : CoreState → StepOutcome

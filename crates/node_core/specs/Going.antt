@@ -41,30 +41,32 @@ IsRefusalOfConnect bytes =
 -- with the same bytes to hand over. If it is open, it was open, and all these bytes were appended
 -- to what was to be handed over. If it was closed meanwhile, a prefix of these bytes was, and
 -- perhaps the node's refusal.
-pub record ConnectionGoesOn (bytes : List ℕ) (c d : Connection) : Type 0 where
-  pub port : d.port ≡ c.port
-  pub name : d.name ≡ c.name
-  pub closed : is_closed c.stage ≡ true → (is_closed d.stage ≡ true) × (d.pending ≡ c.pending)
-  pub whole : is_closed d.stage ≡ false → d.pending ≡ c.pending ++ bytes
+pub record ConnectionGoesOn (bytes : List ℕ) (old new : Connection) : Type 0 where
+  pub port : new.port ≡ old.port
+  pub name : new.name ≡ old.name
+  pub closed : is_closed old.stage ≡ true →
+      (is_closed new.stage ≡ true) × (new.pending ≡ old.pending)
+  pub whole : is_closed new.stage ≡ false → new.pending ≡ old.pending ++ bytes
   pub prefix : List ℕ
   pub answer : List ℕ
   pub begins : IsPrefixOf prefix bytes
   pub refusal : (answer ≡ []) ⊎ IsRefusalOfConnect answer
-  pub put : d.pending ≡ c.pending ++ (prefix ++ answer)
+  pub put : new.pending ≡ old.pending ++ (prefix ++ answer)
 
 -- each connection of a list goes on (`ConnectionGoesOn`), in order, and none is added or removed
 abbrev pub EachGoesOn : List (Effect Command Output) → List Connection → List Connection → Type 0
 EachGoesOn given [] [] = Unit {0}
-EachGoesOn given [] (d ∷ ds) = ⊥
-EachGoesOn given (c ∷ cs) [] = ⊥
-EachGoesOn given (c ∷ cs) (d ∷ ds) =
-    ConnectionGoesOn (bytes_for given c.name) c d × EachGoesOn given cs ds
+EachGoesOn given [] (new ∷ after) = ⊥
+EachGoesOn given (old ∷ before) [] = ⊥
+EachGoesOn given (old ∷ before) (new ∷ after) =
+    ConnectionGoesOn (bytes_for given old.name) old new × EachGoesOn given before after
 
 -- no two have the same name
 abbrev pub AreNamedApart : List Connection → Type 0
 AreNamedApart [] = Unit {0}
-AreNamedApart (c ∷ cs) =
-    Each (λ (d : Connection). same_connection d.name c.name ≡ false) cs × AreNamedApart cs
+AreNamedApart (one ∷ others) =
+    Each (λ (other : Connection). same_connection other.name one.name ≡ false) others
+    × AreNamedApart others
 
 -- an item opens at most one connection, at its port, with the next name
 abbrev pub OpensAtMostOne : Item → CoreState → List Connection → Type 0

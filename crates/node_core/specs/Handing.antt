@@ -15,7 +15,7 @@ listed_at port core = find (is_at port) core.connections
 -- what is left: a closed connection is removed with its last bytes
 abbrev pub left_by : Port → CoreState → Option Connection → CoreState
 left_by port core None = core
-left_by port core (Some c) =
+left_by port core (Some connection) =
     record core {
       connections = filter is_listed
           (changed_where (is_at port) nothing_pending core.connections);
@@ -28,4 +28,5 @@ hands_over port core = left_by port core (listed_at port core)
 -- the ports of the connections that are open with nothing to hand over: for each other port there
 -- is something to hand over, or it is closed
 abbrev pub idle_ports : CoreState → List Port
-idle_ports core = map (λ (c : Connection). c.port) (filter is_idle core.connections)
+idle_ports core =
+    map (λ (connection : Connection). connection.port) (filter is_idle core.connections)

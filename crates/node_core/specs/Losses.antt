@@ -50,7 +50,7 @@ DoesNothing Crash core = ⊥
 -- whether the CONNECT of a connection was proposed, and it is open
 abbrev pub was_proposed : Option Connection → Bool
 was_proposed None = false
-was_proposed (Some c) = is_proposed c.stage
+was_proposed (Some connection) = is_proposed connection.stage
 
 -- By the protocol a message makes the replica send nothing, keep its log and apply nothing. It may
 -- learn something: what a member holds, that one no longer lacks the log, or that its ballot was
@@ -73,7 +73,7 @@ ItemTakesNoMemory item core = DoesNothing item core
 
 -- nothing that was queued for a connection waits to be handed over
 abbrev pub WaitsNothing : CoreState → Type 0
-WaitsNothing core = Each (λ (c : Connection). c.pending ≡ []) core.connections
+WaitsNothing core = Each (λ (connection : Connection). connection.pending ≡ []) core.connections
 
 -- ---- what is counted
 

@@ -28,11 +28,13 @@ pub data EndsConnection (port : Port) (core : CoreState) (did : Account) : Type 
   -- no connection is open at the port
   none_open : open_at port core ≡ None → did ≡ without_effects core → EndsConnection port core did
   -- its Connect was not proposed
-  unproposed : (c : Connection) → open_at port core ≡ Some c → is_proposed c.stage ≡ false →
+  unproposed : (connection : Connection) → open_at port core ≡ Some connection →
+      is_proposed connection.stage ≡ false →
       did ≡ without_effects (changes port closed_connection core) → EndsConnection port core did
   -- its Connect was proposed, so its loss is proposed too
-  proposed : (c : Connection) → open_at port core ≡ Some c → is_proposed c.stage ≡ true →
-      ProposesCommand (commands.Lost c.name) (changes port closed_connection core) did →
+  proposed : (connection : Connection) → open_at port core ≡ Some connection →
+      is_proposed connection.stage ≡ true →
+      ProposesCommand (commands.Lost connection.name) (changes port closed_connection core) did →
       EndsConnection port core did
 
 -- the silent connection with the lowest port ends
@@ -50,8 +52,9 @@ pub data LosesFailed (core : CoreState) (did : Account) : Type 0 where
   none_failed : find has_failed core.connections ≡ None → did ≡ without_effects core →
       LosesFailed core did
   -- the loss of this one is proposed
-  tells_one : (c : Connection) → find has_failed core.connections ≡ Some c →
-      ProposesCommand (commands.Lost c.name) (closes_failed core) did → LosesFailed core did
+  tells_one : (connection : Connection) → find has_failed core.connections ≡ Some connection →
+      ProposesCommand (commands.Lost connection.name) (closes_failed core) did →
+      LosesFailed core did
 
 -- a command is taken, or otherwise this is done
 abbrev pub TakesOr : Command → (CoreState → Account → Type 0) → CoreState → Account → Type 0
@@ -86,28 +89,31 @@ ProposesPacket port name packet core did =
 -- what is at the front of its bytes may end a connection: it is no packet, or may need memory
 abbrev pub MayEnd : Option Connection → Type 0
 MayEnd None = Unit {0}
-MayEnd (Some c) = HasNoPacket c ⊎ FrontNeedsMemory c
+MayEnd (Some connection) = HasNoPacket connection ⊎ FrontNeedsMemory connection
 
 -- The packet at the front of a port's bytes is removed and proposed, or there is less than a
 -- packet. Or the connection ends, because there is no packet, or because there is no memory to read
 -- or to refuse it.
 pub data ReadsNext (now : ℕ) (port : Port) (core : CoreState) (did : Account) : Type 0 where
   -- less than a packet is there
-  waits : (c : Connection) → open_at port core ≡ Some c →
-      verdict c.unread ≡ Err stops.More → did ≡ without_effects core → ReadsNext now port core did
+  waits : (connection : Connection) → open_at port core ≡ Some connection →
+      verdict connection.unread ≡ Err stops.More → did ≡ without_effects core →
+      ReadsNext now port core did
   -- the first packet of the connection is there
-  first : (c : Connection) (packet : Packet) (rest : List ℕ) → open_at port core ≡ Some c →
-      is_first c.stage ≡ true → verdict c.unread ≡ Ok (packet, rest) →
-      TakesFirstPacket port c.name packet (changes port (left_with now rest) core) did →
+  first : (connection : Connection) (packet : Packet) (rest : List ℕ) →
+      open_at port core ≡ Some connection → is_first connection.stage ≡ true →
+      verdict connection.unread ≡ Ok (packet, rest) →
+      TakesFirstPacket port connection.name packet (changes port (left_with now rest) core) did →
       ReadsNext now port core did
   -- a later packet is there
-  later : (c : Connection) (packet : Packet) (rest : List ℕ) → open_at port core ≡ Some c →
-      is_first c.stage ≡ false → verdict c.unread ≡ Ok (packet, rest) →
-      ProposesPacket port c.name packet (changes port (left_with now rest) core) did →
+  later : (connection : Connection) (packet : Packet) (rest : List ℕ) →
+      open_at port core ≡ Some connection → is_first connection.stage ≡ false →
+      verdict connection.unread ≡ Ok (packet, rest) →
+      ProposesPacket port connection.name packet (changes port (left_with now rest) core) did →
       ReadsNext now port core did
   -- its CONNECT is refused with a code
-  refuses : (c : Connection) (code : RefusalCode) → open_at port core ≡ Some c →
-      is_first c.stage ≡ true → verdict c.unread ≡ Err (stops.Refused code) →
+  refuses : (connection : Connection) (code : RefusalCode) → open_at port core ≡ Some connection →
+      is_first connection.stage ≡ true → verdict connection.unread ≡ Err (stops.Refused code) →
       did ≡ without_effects (changes port (connect_refused code) core) → ReadsNext now port core did
   -- the connection ends, if one is open
   ends : MayEnd (open_at port core) → EndsConnection port core did → ReadsNext now port core did

@@ -28,15 +28,15 @@ changes port change core =
 
 -- a connection is closed as lost: it is reported to the broker if its Connect was proposed
 abbrev pub loses : Port → Connection → CoreState → StepOutcome
-loses port c core =
-    if is_proposed c.stage
-    then proposes (commands.Lost c.name) (changes port closed_connection core)
+loses port connection core =
+    if is_proposed connection.stage
+    then proposes (commands.Lost connection.name) (changes port closed_connection core)
     else without_messages (changes port closed_connection core)
 
 -- a connection, if there is one, is closed as lost; nothing happens otherwise
 abbrev pub loses_open : Port → CoreState → Option Connection → StepOutcome
 loses_open port core None = without_messages core
-loses_open port core (Some c) = loses port c core
+loses_open port core (Some connection) = loses port connection core
 
 -- the open connection of a port is closed as lost, if there is one
 unfoldable pub port_closed : Port → CoreState → StepOutcome
@@ -65,20 +65,21 @@ takes_first_packet port name _ core = without_messages (changes port closed_conn
 -- what the front of a connection's bytes does to the node at this time: a later CONNECT that is
 -- refused with a code is a malformed packet
 abbrev pub reads : ℕ → Port → Connection → CoreState → Result (Packet × List ℕ) Stop → StepOutcome
-reads now port c core (Err stops.More) = without_messages core
-reads now port c core (Err (stops.Malformed kind)) = loses port c core
-reads now port c core (Err (stops.Refused code)) =
-    if is_first c.stage then without_messages (changes port (connect_refused code) core)
-    else loses port c core
-reads now port c core (Ok (packet, rest)) =
-    if is_first c.stage
-    then takes_first_packet port c.name packet (changes port (left_with now rest) core)
-    else proposes_packet port c.name packet (changes port (left_with now rest) core)
+reads now port connection core (Err stops.More) = without_messages core
+reads now port connection core (Err (stops.Malformed kind)) = loses port connection core
+reads now port connection core (Err (stops.Refused code)) =
+    if is_first connection.stage then without_messages (changes port (connect_refused code) core)
+    else loses port connection core
+reads now port connection core (Ok (packet, rest)) =
+    if is_first connection.stage
+    then takes_first_packet port connection.name packet (changes port (left_with now rest) core)
+    else proposes_packet port connection.name packet (changes port (left_with now rest) core)
 
 -- the packet at the front of its bytes is read, if there is a connection
 abbrev pub reads_of : ℕ → Port → CoreState → Option Connection → StepOutcome
 reads_of now port core None = without_messages core
-reads_of now port core (Some c) = reads now port c core (verdict c.unread)
+reads_of now port core (Some connection) =
+    reads now port connection core (verdict connection.unread)
 
 -- the next packet of a port
 unfoldable pub reads_next : ℕ → Port → CoreState → StepOutcome
@@ -87,7 +88,7 @@ reads_next now port core = reads_of now port core (open_at port core)
 -- how many bytes of a connection wait to be read: 0 if there is none
 abbrev pub unread_of : Option Connection → ℕ
 unread_of None = 0
-unread_of (Some c) = length c.unread
+unread_of (Some connection) = length connection.unread
 
 -- all whole packets of a port, each with its effects before the next: they are at most as many as
 -- the bytes

@@ -32,7 +32,7 @@ use Rattle.node_group.proofs.Placed.{get_mapped}
 part_in : (row : ℕ × Command) (xs ys : List (ℕ × Command)) → IsPartOf xs ys → In row xs → In row ys
 part_in row xs ys nothing_left i = i
 part_in row xs ys (with_one part) here = here
-part_in row xs ys (with_one {x = x} {xs = us} {ys = vs} part) (there i) = there (part_in row us vs part i)
+part_in row xs ys (with_one {one = x} {xs = us} {ys = vs} part) (there i) = there (part_in row us vs part i)
 part_in row xs ys (without_one {xs = us} {ys = vs} part) i = there (part_in row us vs part i)
 
 of_each : (rows : List (ℕ × Command)) (row : ℕ × Command) → Each IsInItsBallot rows → In row rows → IsInItsBallot row

@@ -10,10 +10,12 @@ use Rattle.node_group.specs.Steps.{GroupTrace, all_proposed}
 
 -- a packet of a connection, its CONNECT too, with the ballot that the connection's name has
 abbrev pub IsInItsBallot : ℕ × Command → Type 0
-IsInItsBallot put = (x : ConnectionName) → is_packet_of put.1 x ≡ true → x.ballot ≡ put.0
+IsInItsBallot put =
+    (connection : ConnectionName) → is_packet_of put.1 connection ≡ true →
+    connection.ballot ≡ put.0
 
 -- all that nodes of a group propose for a connection is put in the ballot of its name
 abbrev pub PutsInTheBallotOfTheName : Type 0
 PutsInTheBallotOfTheName =
-    (nodes : ℕ) (config : Config) (g : Group) (went : GroupTrace nodes config g) →
+    (nodes : ℕ) (config : Config) (group : Group) (went : GroupTrace nodes config group) →
     Each IsInItsBallot (all_proposed went)

@@ -20,26 +20,29 @@ use Rattle.node_group.specs.Streams.{came_up, went_down}
 
 -- the answers to a list of commands that name a connection, spelled
 abbrev pub answers_to : ConnectionName → List Command → List ℕ
-answers_to x agreed = spelled (put_to usual_limits (past_of usual_limits agreed) x)
+answers_to connection agreed =
+    spelled (put_to usual_limits (past_of usual_limits agreed) connection)
 
 -- A connection's commands in the list are a prefix of the packets that were written on it, in
 -- order. What went down on it is a prefix of the spellings of the answers that name it.
-pub record IsCarried (x : ConnectionName) (written : List Packet) (handed : List ℕ)
+pub record IsCarried (connection : ConnectionName) (written : List Packet) (handed : List ℕ)
     (agreed : List Command) : Type 0 where
-  pub up : IsPrefixOf (packet_commands x agreed) (packet_commands_from x 0 written)
-  pub down : IsPrefixOf handed (answers_to x agreed)
+  pub up : IsPrefixOf (packet_commands connection agreed)
+      (packet_commands_from connection 0 written)
+  pub down : IsPrefixOf handed (answers_to connection agreed)
 
 -- Each list on which the nodes agree carries each connection on which packets are written, when a
 -- prefix of their bytes arrived on it.
-pub record Carries {nodes : ℕ} {config : Config} {g : Group}
-    (went : GroupTrace nodes config g) : Type 0 where
-  pub of : HasPast config g (groups_on_trace went) (all_proposed went)
-  pub each : (agreed : List Command) → IsAgreed config (moment_of_nodes g ∷ of.earlier) agreed →
-      (x : ConnectionName)
-      → (written : List Packet) (later : List ℕ) → Joins written (came_up x went ++ later) →
-      IsCarried x written (went_down x went) agreed
+pub record Carries {nodes : ℕ} {config : Config} {group : Group}
+    (went : GroupTrace nodes config group) : Type 0 where
+  pub of : HasPast config group (groups_on_trace went) (all_proposed went)
+  pub each : (agreed : List Command) → IsAgreed config (moment_of_nodes group ∷ of.earlier) agreed →
+      (connection : ConnectionName) → (written : List Packet) (later : List ℕ) →
+      Joins written (came_up connection went ++ later) →
+      IsCarried connection written (went_down connection went) agreed
 
 -- in each run of a group the agreed lists carry its connections (`Carries`)
 abbrev pub GroupsCarryInOrder : Type 0
 GroupsCarryInOrder =
-    (nodes : ℕ) (config : Config) (g : Group) (went : GroupTrace nodes config g) → Carries went
+    (nodes : ℕ) (config : Config) (group : Group) (went : GroupTrace nodes config group) →
+    Carries went

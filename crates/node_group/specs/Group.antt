@@ -29,7 +29,8 @@ pub record Group : Type 0 where
 -- this many nodes as they open, the node of number 1 first
 abbrev pub opening_cores : ℕ → Config → List CoreState
 opening_cores zero config = []
-opening_cores (suc n) config = opening_cores n config ++ opening_core (n + 1) config ∷ []
+opening_cores (suc count) config =
+    opening_cores count config ++ opening_core (count + 1) config ∷ []
 
 -- no message was sent yet, and nothing was recorded
 abbrev pub opening_group : ℕ → Config → Group
@@ -44,13 +45,13 @@ opening_group nodes config =
 
 -- ---- after what happens
 
--- after this outcome of a step of the node at index n, in which its replica gave this
+-- after this outcome of a step of the node at this index, in which its replica gave this
 abbrev pub group_after_outcome : Group → ℕ → StepOutcome → List (Effect Command Output) → Group
-group_after_outcome g n outcome given =
-    record g {
-      nodes = slice_set g.nodes n outcome.core;
-      sent = g.sent ++ messages outcome.messages;
-      left = g.left ++ outputs given;
+group_after_outcome group node outcome given =
+    record group {
+      nodes = slice_set group.nodes node outcome.core;
+      sent = group.sent ++ messages outcome.messages;
+      left = group.left ++ outputs given;
     }
 
 -- after a message of the master
@@ -63,11 +64,11 @@ told_by_master group outcome =
 
 -- the group with another state of the master
 abbrev pub with_master : Group → MasterState → Group
-with_master g m = record g { master = m }
+with_master group state = record group { master = state }
 
 -- the group with another record of places
 abbrev pub with_record : Group → List Command → Group
-with_record g archive = record g { archive = archive }
+with_record group archive = record group { archive = archive }
 
 -- ---- its replicas, as they are seen if nodes agree
 
@@ -77,13 +78,13 @@ replica_of core = core.replica.state
 
 -- the group without the connections of its nodes
 abbrev pub moment_of_nodes : Group → Moment State Command Output
-moment_of_nodes g =
+moment_of_nodes group =
     record {
-      master = g.master;
+      master = group.master;
       world = record {
-        nodes = map replica_of g.nodes;
-        sent = g.sent;
-        left = g.left;
-        archive = g.archive;
+        nodes = map replica_of group.nodes;
+        sent = group.sent;
+        left = group.left;
+        archive = group.archive;
       };
     }

@@ -17,14 +17,14 @@ use Rattle.node_group.specs.Putting.{commands_put as exactly_put, recorded_by as
 
 -- each of these inputs that comes from others was sent to the node
 abbrev pub WereSent : Group → ℕ → List (Input Command) → Type 0
-WereSent g n [] = Unit {0}
-WereSent g n (input ∷ inputs) = InputWasSent g n input × WereSent g n inputs
+WereSent group node [] = Unit {0}
+WereSent group node (input ∷ inputs) = InputWasSent group node input × WereSent group node inputs
 
 -- the record of places after a move
 abbrev pub recorded_by : List Command → {core : CoreState} {outcome : StepOutcome} →
     MoveOrLost core outcome →
     List Command
-recorded_by archive (exactly m) = exactly_recorded archive m
+recorded_by archive (exactly move) = exactly_recorded archive move
 recorded_by archive _ = archive
 
 -- the record after a run
@@ -32,27 +32,28 @@ abbrev pub recorded_in : List Command → {core : CoreState} {outcome : StepOutc
     RunOrLost core outcome →
     List Command
 recorded_in archive rests = archive
-recorded_in archive (goes_on m run) = recorded_in (recorded_by archive m) run
+recorded_in archive (goes_on move run) = recorded_in (recorded_by archive move) run
 
 -- the effects of its replica
 abbrev pub all_given : {core : CoreState} {outcome : StepOutcome} → RunOrLost core outcome →
     List (Effect Command Output)
 all_given rests = []
-all_given (goes_on m run) = move_effects m ++ all_given run
+all_given (goes_on move run) = move_effects move ++ all_given run
 
 -- the commands that a node proposes to its replica in a move
 abbrev pub commands_put : {core : CoreState} {outcome : StepOutcome} → MoveOrLost core outcome →
     List Command
-commands_put (exactly m) = exactly_put m
-commands_put m = move_proposal m
+commands_put (exactly move) = exactly_put move
+commands_put move = move_proposal move
 
 -- what a node proposes in a move, each with the ballot that it has joined then
 abbrev pub put_in_move : {core : CoreState} {outcome : StepOutcome} → MoveOrLost core outcome →
     List (ℕ × Command)
-put_in_move {core = core} m = map (λ command. ((replica_of core).joined, command)) (commands_put m)
+put_in_move {core = core} move =
+    map (λ command. ((replica_of core).joined, command)) (commands_put move)
 
 -- what a node proposes in a run, in order
 abbrev pub put_in_run : {core : CoreState} {outcome : StepOutcome} → RunOrLost core outcome →
     List (ℕ × Command)
 put_in_run rests = []
-put_in_run (goes_on m run) = put_in_move m ++ put_in_run run
+put_in_run (goes_on move run) = put_in_move move ++ put_in_run run

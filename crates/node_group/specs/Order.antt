@@ -15,22 +15,24 @@ use Rattle.node_group.specs.Pasts.{HasPast}
 
 -- the packets of a connection among commands
 abbrev pub packet_commands : ConnectionName → List Command → List Command
-packet_commands x commands = filter (λ (command : Command). is_packet_of command x) commands
+packet_commands connection commands =
+    filter (λ (command : Command). is_packet_of command connection) commands
 
 -- the whole log of each node, and the agreed list, has of each connection a prefix of the packets
 -- that were proposed for it, in order
-pub record KeepsOrder (config : Config) (g : Group) (groups : List Group)
+pub record KeepsOrder (config : Config) (group : Group) (groups : List Group)
     (put : List (ℕ × Command)) : Type 0 where
-  pub of : HasPast config g groups put
-  pub logs : (x : ConnectionName) (n : ℕ) (core : CoreState) → slice_get g.nodes n ≡ Some core →
-      IsPrefixOf (packet_commands x (whole_log g.archive (replica_of core).log))
-      (packet_commands x (commands_of put))
-  pub agreed : (x : ConnectionName) (xs : List Command) →
-      IsAgreed config (moment_of_nodes g ∷ of.earlier) xs →
-      IsPrefixOf (packet_commands x xs) (packet_commands x (commands_of put))
+  pub of : HasPast config group groups put
+  pub logs : (connection : ConnectionName) (node : ℕ) (core : CoreState) →
+      slice_get group.nodes node ≡ Some core →
+      IsPrefixOf (packet_commands connection (whole_log group.archive (replica_of core).log))
+      (packet_commands connection (commands_of put))
+  pub agreed : (connection : ConnectionName) (list : List Command) →
+      IsAgreed config (moment_of_nodes group ∷ of.earlier) list →
+      IsPrefixOf (packet_commands connection list) (packet_commands connection (commands_of put))
 
 -- each run of a group keeps the order of each connection's packets
 abbrev pub GroupsKeepTheOrder : Type 0
 GroupsKeepTheOrder =
-    (nodes : ℕ) (config : Config) (g : Group) (went : GroupTrace nodes config g) →
-    KeepsOrder config g (groups_on_trace went) (all_proposed went)
+    (nodes : ℕ) (config : Config) (group : Group) (went : GroupTrace nodes config group) →
+    KeepsOrder config group (groups_on_trace went) (all_proposed went)

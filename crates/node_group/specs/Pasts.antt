@@ -15,21 +15,23 @@ use Rattle.node_group.specs.Steps.{GroupTrace, all_proposed, groups_on_trace}
 
 -- the packets of a connection among commands, each with a ballot
 abbrev pub packets_in : ConnectionName → List (ℕ × Command) → List (ℕ × Command)
-packets_in x rows = filter (λ (row : ℕ × Command). is_packet_of row.1 x) rows
+packets_in connection rows = filter (λ (row : ℕ × Command). is_packet_of row.1 connection) rows
 
 -- A past whose last moment is that of the group's replicas. In it these commands were proposed, the
 -- packets of all connections among them were taken, and each of these earlier groups has its
 -- moment.
-pub record HasPast (config : Config) (g : Group) (groups : List Group)
+pub record HasPast (config : Config) (group : Group) (groups : List Group)
     (put : List (ℕ × Command)) : Type 0 where
   pub earlier : List (Moment State Command Output)
-  pub past : Moments rules config (moment_of_nodes g ∷ earlier)
+  pub past : Moments rules config (moment_of_nodes group ∷ earlier)
   pub proposed : proposals_of past ≡ put
-  pub taken : (x : ConnectionName) → packets_in x (taken_of past) ≡ packets_in x put
-  pub seen : Each (λ (h : Group). In (moment_of_nodes h) (moment_of_nodes g ∷ earlier)) groups
+  pub taken : (connection : ConnectionName) →
+      packets_in connection (taken_of past) ≡ packets_in connection put
+  pub seen : Each
+      (λ (other : Group). In (moment_of_nodes other) (moment_of_nodes group ∷ earlier)) groups
 
 -- each run of a group has a past (`HasPast`)
 abbrev pub GroupsArePasts : Type 0
 GroupsArePasts =
-    (nodes : ℕ) (config : Config) (g : Group) (went : GroupTrace nodes config g) →
-    HasPast config g (groups_on_trace went) (all_proposed went)
+    (nodes : ℕ) (config : Config) (group : Group) (went : GroupTrace nodes config group) →
+    HasPast config group (groups_on_trace went) (all_proposed went)

@@ -18,24 +18,24 @@ use Rattle.node_group.specs.Group.{Group, replica_of}
 
 -- what a node receives from others was sent to it
 abbrev pub InputWasSent : Group → ℕ → Input Command → Type 0
-InputWasSent g n (Receives message) = In (n + 1, message) g.sent
-InputWasSent g n (Proposes command) = Unit {0}
-InputWasSent g n Ticks = Unit {0}
+InputWasSent group node (Receives message) = In (node + 1, message) group.sent
+InputWasSent group node (Proposes command) = Unit {0}
+InputWasSent group node Ticks = Unit {0}
 
 -- what a node receives in a move was sent, and the bytes to which it cuts its log thaw to its
 -- machine
 abbrev pub WasSent : Group → ℕ → {core : CoreState} {outcome : StepOutcome} → Moves core outcome →
     Type 0
-WasSent g n (hears input is) = InputWasSent g n input
-WasSent g n {core = core} (cuts_log can) =
+WasSent group node (hears input is) = InputWasSent group node input
+WasSent group node {core = core} (cuts_log can) =
     rules.thawed (rules.frozen (replica_of core).machine) ≡ Some (replica_of core).machine
-WasSent g n _ = Unit {0}
+WasSent group node _ = Unit {0}
 
 -- what a node receives in each move of a run was sent
 abbrev pub AllWasSent : Group → ℕ → {core : CoreState} {outcome : StepOutcome} → Runs core outcome →
     Type 0
-AllWasSent g n rests = Unit {0}
-AllWasSent g n (goes_on m run) = WasSent g n m × AllWasSent g n run
+AllWasSent group node rests = Unit {0}
+AllWasSent group node (goes_on move run) = WasSent group node move × AllWasSent group node run
 
 -- the record of places after a move: a cut adds what the log that is cut has applied
 abbrev pub recorded_by : List Command → {core : CoreState} {outcome : StepOutcome} →
@@ -49,24 +49,25 @@ abbrev pub recorded_in : List Command → {core : CoreState} {outcome : StepOutc
     Runs core outcome →
     List Command
 recorded_in archive rests = archive
-recorded_in archive (goes_on m run) = recorded_in (recorded_by archive m) run
+recorded_in archive (goes_on move run) = recorded_in (recorded_by archive move) run
 
 -- the effects of its replica
 abbrev pub all_given : {core : CoreState} {outcome : StepOutcome} → Runs core outcome →
     List (Effect Command Output)
 all_given rests = []
-all_given (goes_on m run) = move_effects m ++ all_given run
+all_given (goes_on move run) = move_effects move ++ all_given run
 
 -- the commands that a node proposes to its replica in a move
 abbrev pub commands_put : {core : CoreState} {outcome : StepOutcome} → Moves core outcome →
     List Command
-commands_put (reads_first now port c connect rest at first is room) =
-    commands.Connect c.name connect.client connect.clean ∷ []
-commands_put (reads_later now port c packet rest at later is room) =
-    commands.Packet c.name packet ∷ []
-commands_put {core = core} (loses_one port c at asked) = if serves core
-    then commands.Lost c.name ∷ [] else []
-commands_put {core = core} (loses_next c at) = if serves core then commands.Lost c.name ∷ [] else []
+commands_put (reads_first now port connection connect rest at first is room) =
+    commands.Connect connection.name connect.client connect.clean ∷ []
+commands_put (reads_later now port connection packet rest at later is room) =
+    commands.Packet connection.name packet ∷ []
+commands_put {core = core} (loses_one port connection at asked) = if serves core
+    then commands.Lost connection.name ∷ [] else []
+commands_put {core = core} (loses_next connection at) =
+    if serves core then commands.Lost connection.name ∷ [] else []
 commands_put {core = core} (expels_one client) =
     if serves core then commands.Expel client ∷ [] else []
 commands_put _ = []
@@ -74,10 +75,11 @@ commands_put _ = []
 -- what a node proposes in a move, each with the ballot that it has joined then
 abbrev pub put_in_move : {core : CoreState} {outcome : StepOutcome} → Moves core outcome →
     List (ℕ × Command)
-put_in_move {core = core} m = map (λ command. ((replica_of core).joined, command)) (commands_put m)
+put_in_move {core = core} move =
+    map (λ command. ((replica_of core).joined, command)) (commands_put move)
 
 -- what a node proposes in a run, in order
 abbrev pub put_in_run : {core : CoreState} {outcome : StepOutcome} → Runs core outcome →
     List (ℕ × Command)
 put_in_run rests = []
-put_in_run (goes_on m run) = put_in_move m ++ put_in_run run
+put_in_run (goes_on move run) = put_in_move move ++ put_in_run run

@@ -24,72 +24,78 @@ pub use Rattle.node_group.specs.Putting.{AllWasSent, InputWasSent, WasSent, all_
 
 -- the master after an Assign; a refused one changes nothing
 abbrev pub after_assign : Group → Config → Option AssignRefusal → Group
-after_assign g config (Some why) = g
-after_assign g config None = told_by_master g (assigned Command g.master config)
+after_assign group config (Some why) = group
+after_assign group config None = told_by_master group (assigned Command group.master config)
 
 -- the effects of a node, if only these messages are not lost
 abbrev pub with_messages : List (Effect Command Output) → StepOutcome → StepOutcome
 with_messages kept outcome = record outcome { messages = kept }
 
 -- one step of a group: of one of its nodes, or of its master
-pub data GroupStep (g : Group) : Group → Type 0 where
+pub data GroupStep (group : Group) : Group → Type 0 where
   -- a node takes an item, or hands over bytes, by these moves; what its replica receives, or a cut,
   -- comes first
-  node_acts : (n : ℕ) (core : CoreState) (node_call : NodeCall) (outcome : StepOutcome)
-      (run : Runs core outcome) → slice_get g.nodes n ≡ Some core →
-      outcome ≡ done node_call core → HearsAtFirst run → AllWasSent g n run →
-      GroupStep g
-      (group_after_outcome (with_record g (recorded_in g.archive run)) n outcome (all_given run))
+  node_acts : (node : ℕ) (core : CoreState) (node_call : NodeCall) (outcome : StepOutcome)
+      (run : Runs core outcome) → slice_get group.nodes node ≡ Some core →
+      outcome ≡ done node_call core → HearsAtFirst run → AllWasSent group node run →
+      GroupStep group
+      (group_after_outcome (with_record group (recorded_in group.archive run)) node outcome
+      (all_given run))
   -- a node takes an item with losses, by these moves; what comes with it was sent, and some of its
   -- messages may be missing
-  node_loses : (n : ℕ) (core : CoreState) (item : Item) (outcome : StepOutcome)
+  node_loses : (node : ℕ) (core : CoreState) (item : Item) (outcome : StepOutcome)
       (kept : List (Effect Command Output)) (by : IsRunOn item core outcome) →
-      slice_get g.nodes n ≡ Some core → RunsOn item core outcome.core outcome.messages →
-      WereSent g n (heard_with item) → Thinned kept outcome.messages →
-      GroupStep g (group_after_outcome (with_record g (recorded_losing g.archive by.run)) n
+      slice_get group.nodes node ≡ Some core → RunsOn item core outcome.core outcome.messages →
+      WereSent group node (heard_with item) → Thinned kept outcome.messages →
+      GroupStep group
+      (group_after_outcome (with_record group (recorded_losing group.archive by.run)) node
       (with_messages kept outcome) (given_losing by.run))
   -- an administrator asks for another configuration
   master_assigns : (config : Config) →
-      GroupStep g (with_master (after_assign g config (refusal g.master config))
-      (master_after g.master config (refusal g.master config)))
+      GroupStep group (with_master (after_assign group config (refusal group.master config))
+      (master_after group.master config (refusal group.master config)))
   -- a primary asks for its ballot to become the active one
-  master_hears : (from ballot : ℕ) → In (0, record { from = from; body = Activate ballot }) g.sent →
-      GroupStep g (with_master
-      (told_by_master g (activated Command g.master ballot from g.master.waiting))
-      (activated Command g.master ballot from g.master.waiting).state)
+  master_hears : (from ballot : ℕ) →
+      In (0, record { from = from; body = Activate ballot }) group.sent →
+      GroupStep group (with_master
+      (told_by_master group (activated Command group.master ballot from group.master.waiting))
+      (activated Command group.master ballot from group.master.waiting).state)
   -- an administrator asks, and the master's NewBallot is lost
   assigns_unheard : (config : Config) →
-      GroupStep g (with_master g (master_after g.master config (refusal g.master config)))
+      GroupStep group (with_master group
+      (master_after group.master config (refusal group.master config)))
   -- a primary asks, and the master's answer is lost
   answers_unheard : (from ballot : ℕ) →
-      In (0, record { from = from; body = Activate ballot }) g.sent →
-      GroupStep g (with_master g (activated Command g.master ballot from g.master.waiting).state)
+      In (0, record { from = from; body = Activate ballot }) group.sent →
+      GroupStep group (with_master group
+      (activated Command group.master ballot from group.master.waiting).state)
 
 -- all steps of a group of this many nodes, from its opening in a configuration on
 pub data GroupTrace (nodes : ℕ) (config : Config) : Group → Type 0 where
   -- the group opens
   opened : can_open nodes config ≡ true → GroupTrace nodes config (opening_group nodes config)
   -- one more step
-  then_went : {g h : Group} → GroupTrace nodes config g → GroupStep g h → GroupTrace nodes config h
+  then_went : {g next : Group} → GroupTrace nodes config g → GroupStep g next →
+      GroupTrace nodes config next
 
 -- what nodes proposed to their replicas, each command with the ballot that its node had joined, in
 -- order
-abbrev pub put_in_step : {g h : Group} → GroupStep g h → List (ℕ × Command)
-put_in_step (node_acts n core node_call outcome run at is first sent) = put_in_run run
-put_in_step (node_loses n core item outcome kept by at runs sent thinned) = put_losing by.run
+abbrev pub put_in_step : {group next : Group} → GroupStep group next → List (ℕ × Command)
+put_in_step (node_acts node core node_call outcome run at is first sent) = put_in_run run
+put_in_step (node_loses node core item outcome kept by at runs sent thinned) = put_losing by.run
 put_in_step (master_assigns config) = []
 put_in_step (master_hears from ballot sent) = []
 put_in_step (assigns_unheard config) = []
 put_in_step (answers_unheard from ballot sent) = []
 
 -- the commands that were proposed in all steps, each with its ballot, the oldest first
-abbrev pub all_proposed : {nodes : ℕ} {config : Config} {g : Group} → GroupTrace nodes config g →
-    List (ℕ × Command)
+abbrev pub all_proposed : {nodes : ℕ} {config : Config} {group : Group} →
+    GroupTrace nodes config group → List (ℕ × Command)
 all_proposed (opened can) = []
 all_proposed (then_went went step) = all_proposed went ++ put_in_step step
 
 -- the group as it opened and after each step, the newest first
-abbrev pub groups_on_trace : {nodes : ℕ} {config : Config} {g : Group} → GroupTrace nodes config g →
-    List Group
-groups_on_trace {g = g} (opened can) = g ∷ []
-groups_on_trace {g = g} (then_went went step) = g ∷ groups_on_trace went
+abbrev pub groups_on_trace : {nodes : ℕ} {config : Config} {group : Group} →
+    GroupTrace nodes config group → List Group
+groups_on_trace {group = group} (opened can) = group ∷ []
+groups_on_trace {group = group} (then_went went step) = group ∷ groups_on_trace went

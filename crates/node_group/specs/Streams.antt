@@ -19,51 +19,56 @@ use Rattle.node_group.specs.Steps.GroupTrace.{opened, then_went}
 -- ---- up
 
 -- what comes on the connection of a name, at any node
-abbrev pub comes_up : ConnectionName → {g h : Group} → GroupStep g h → List ℕ
-comes_up x (node_acts n core node_call outcome run at is first sent) = bytes_on x run
-comes_up x (node_loses n core item outcome kept by at runs sent thinned) = came_with x item core
-comes_up x (master_assigns config) = []
-comes_up x (master_hears from ballot sent) = []
-comes_up x (assigns_unheard config) = []
-comes_up x (answers_unheard from ballot sent) = []
+abbrev pub comes_up : ConnectionName → {group next : Group} → GroupStep group next → List ℕ
+comes_up connection (node_acts node core node_call outcome run at is first sent) =
+    bytes_on connection run
+comes_up connection (node_loses node core item outcome kept by at runs sent thinned) =
+    came_with connection item core
+comes_up connection (master_assigns config) = []
+comes_up connection (master_hears from ballot sent) = []
+comes_up connection (assigns_unheard config) = []
+comes_up connection (answers_unheard from ballot sent) = []
 
 -- what came up on a connection in all steps, in order
-abbrev pub came_up : ConnectionName → {nodes : ℕ} {config : Config} {g : Group} →
-    GroupTrace nodes config g → List ℕ
-came_up x (opened can) = []
-came_up x (then_went went step) = came_up x went ++ comes_up x step
+abbrev pub came_up : ConnectionName → {nodes : ℕ} {config : Config} {group : Group} →
+    GroupTrace nodes config group → List ℕ
+came_up connection (opened can) = []
+came_up connection (then_went went step) = came_up connection went ++ comes_up connection step
 
 -- ---- down
 
 -- the bytes that are queued on a connection, if it has this name
 abbrev pub bytes_named : ConnectionName → Option Connection → List ℕ
-bytes_named x None = []
-bytes_named x (Some c) = if same_connection c.name x then c.pending else []
+bytes_named named None = []
+bytes_named named (Some connection) =
+    if same_connection connection.name named then connection.pending else []
 
 -- what is handed over on a connection in a move
 abbrev pub handed_on : ConnectionName → {core : CoreState} {outcome : StepOutcome} →
     Moves core outcome → List ℕ
-handed_on x {core = core} (hands port) = bytes_named x (listed_at port core)
-handed_on x _ = []
+handed_on connection {core = core} (hands port) = bytes_named connection (listed_at port core)
+handed_on connection _ = []
 
 -- what is handed over on a connection in a run, in order
 abbrev pub handed_in_run : ConnectionName → {core : CoreState} {outcome : StepOutcome} →
     Runs core outcome →
     List ℕ
-handed_in_run x rests = []
-handed_in_run x (goes_on m run) = handed_on x m ++ handed_in_run x run
+handed_in_run connection rests = []
+handed_in_run connection (goes_on move run) =
+    handed_on connection move ++ handed_in_run connection run
 
 -- what is handed over on a connection in a step of a group: nothing if an item is taken with losses
-abbrev pub goes_down : ConnectionName → {g h : Group} → GroupStep g h → List ℕ
-goes_down x (node_acts n core node_call outcome run at is first sent) = handed_in_run x run
-goes_down x (node_loses n core item outcome kept by at runs sent thinned) = []
-goes_down x (master_assigns config) = []
-goes_down x (master_hears from ballot sent) = []
-goes_down x (assigns_unheard config) = []
-goes_down x (answers_unheard from ballot sent) = []
+abbrev pub goes_down : ConnectionName → {group next : Group} → GroupStep group next → List ℕ
+goes_down connection (node_acts node core node_call outcome run at is first sent) =
+    handed_in_run connection run
+goes_down connection (node_loses node core item outcome kept by at runs sent thinned) = []
+goes_down connection (master_assigns config) = []
+goes_down connection (master_hears from ballot sent) = []
+goes_down connection (assigns_unheard config) = []
+goes_down connection (answers_unheard from ballot sent) = []
 
 -- what went down on a connection in all steps, in order
-abbrev pub went_down : ConnectionName → {nodes : ℕ} {config : Config} {g : Group} →
-    GroupTrace nodes config g → List ℕ
-went_down x (opened can) = []
-went_down x (then_went went step) = went_down x went ++ goes_down x step
+abbrev pub went_down : ConnectionName → {nodes : ℕ} {config : Config} {group : Group} →
+    GroupTrace nodes config group → List ℕ
+went_down connection (opened can) = []
+went_down connection (then_went went step) = went_down connection went ++ goes_down connection step

@@ -18,9 +18,9 @@ use Rattle.node_moves.specs.Ends.{IsGiven, IsOrderly}
 -- gets it any more.
 pub record KeepsNames (core later : CoreState) : Type 0 where
   pub orderly : IsOrderly later
-  pub given : (x : ConnectionName) → IsGiven core.last_name x → IsGiven later.last_name x
-  pub gone : (x : ConnectionName) → IsGiven core.last_name x → listed_named x core ≡ None →
-      listed_named x later ≡ None
+  pub given : (name : ConnectionName) → IsGiven core.last_name name → IsGiven later.last_name name
+  pub gone : (name : ConnectionName) → IsGiven core.last_name name → listed_named name core ≡ None →
+      listed_named name later ≡ None
 
 -- names stay apart from the opening on, in each step, even if memory runs out, and when bytes are
 -- handed over

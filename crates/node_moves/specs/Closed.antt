@@ -17,31 +17,33 @@ use Rattle.node_moves.specs.Puts.{move_effects, outputs_of, spelled}
 
 -- the connection of a name: open, or closed with bytes that are still to be handed over
 abbrev pub listed_named : ConnectionName → CoreState → Option Connection
-listed_named x core = find (λ c. same_connection c.name x) core.connections
+listed_named name core = find (λ connection. same_connection connection.name name) core.connections
 
 -- the answer to a CONNECT that the node refuses itself in a move without losses (MQTT 3.2.2.3)
 abbrev pub exact_refusal : ConnectionName → {core : CoreState} {outcome : StepOutcome} →
     Moves core outcome →
     List Packet
-exact_refusal x (refuses port c code at first is) =
-    if same_connection c.name x then packets.Connack (connacks.Refused code) ∷ [] else []
-exact_refusal x _ = []
+exact_refusal name (refuses port connection code at first is) =
+    if same_connection connection.name name
+    then packets.Connack (connacks.Refused code) ∷ [] else []
+exact_refusal name _ = []
 
 -- how a connection that is closed after a move without losses was closed
-pub data IsExactlyClosedBy (x : ConnectionName) {core : CoreState} {outcome : StepOutcome}
-    (m : Moves core outcome) (d : Connection) : Type 0 where
+pub data IsExactlyClosedBy (name : ConnectionName) {core : CoreState} {outcome : StepOutcome}
+    (move : Moves core outcome) (new : Connection) : Type 0 where
   -- it was closed before, with the same bytes to hand over
-  was_closed : (c : Connection) → listed_named x core ≡ Some c → is_closed c.stage ≡ true →
-      d.pending ≡ c.pending → IsExactlyClosedBy x m d
+  was_closed : (old : Connection) → listed_named name core ≡ Some old → is_closed old.stage ≡ true →
+      new.pending ≡ old.pending → IsExactlyClosedBy name move new
   -- it was open, and got no more in this move than a prefix of what is sent to it
-  closes_now : (c : Connection) (front : List ℕ) → open_named x core ≡ Some c →
-      d.pending ≡ c.pending ++ front →
-      IsPrefixOf front (spelled (exact_refusal x m ++ sends_to x (outputs_of (move_effects m)))) →
-      IsExactlyClosedBy x m d
+  closes_now : (old : Connection) (front : List ℕ) → open_named name core ≡ Some old →
+      new.pending ≡ old.pending ++ front →
+      IsPrefixOf front
+      (spelled (exact_refusal name move ++ sends_to name (outputs_of (move_effects move)))) →
+      IsExactlyClosedBy name move new
 
 -- each connection that is closed after a move was closed in one of the ways of `IsExactlyClosedBy`
 abbrev pub NothingOnClosed : Type 0
 NothingOnClosed =
-    (core : CoreState) (outcome : StepOutcome) (m : Moves core outcome) → IsOrderly core →
-    (x : ConnectionName) (d : Connection) →
-    listed_named x outcome.core ≡ Some d → is_closed d.stage ≡ true → IsExactlyClosedBy x m d
+    (core : CoreState) (outcome : StepOutcome) (move : Moves core outcome) → IsOrderly core →
+    (name : ConnectionName) (new : Connection) → listed_named name outcome.core ≡ Some new →
+    is_closed new.stage ≡ true → IsExactlyClosedBy name move new

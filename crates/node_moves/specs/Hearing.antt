@@ -8,12 +8,12 @@ use Rattle.node_moves.specs.Moves.Runs.{rests, goes_on}
 -- in no move of a run the replica receives something, or stops
 abbrev pub IsCalm : {core : CoreState} {outcome : StepOutcome} → Runs core outcome → Type 0
 IsCalm rests = Unit {0}
-IsCalm (goes_on m run) = (moves_replica m ≡ false) × IsCalm run
+IsCalm (goes_on move run) = (moves_replica move ≡ false) × IsCalm run
 
 -- in no move of a run except the first the replica receives something, or stops
 abbrev pub HearsAtFirst : {core : CoreState} {outcome : StepOutcome} → Runs core outcome → Type 0
 HearsAtFirst rests = Unit {0}
-HearsAtFirst (goes_on m run) = IsCalm run
+HearsAtFirst (goes_on move run) = IsCalm run
 
 -- each call is a run in which only the first move may receive something, or stop
 abbrev pub NodeCallsHearAtFirst : Type 0

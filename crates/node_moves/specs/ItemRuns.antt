@@ -22,8 +22,8 @@ heard_with _ = []
 
 -- the bytes that come with an item on the connection of a name
 abbrev pub came_with : ConnectionName → Item → CoreState → List ℕ
-came_with x (Bytes port piece now) core = piece_on x piece (open_at port core)
-came_with x _ core = []
+came_with name (Bytes port piece now) core = piece_on name piece (open_at port core)
+came_with name _ core = []
 
 -- whether an item is a cut
 abbrev pub is_cut : Item → Bool
@@ -37,7 +37,7 @@ pub record IsRunOn (item : Item) (core : CoreState) (outcome : StepOutcome) : Ty
   pub run : RunOrLost core outcome
   pub first : HearsAtFirst run
   pub hears : all_inputs run ≡ heard_with item
-  pub bytes : (x : ConnectionName) → bytes_on x run ≡ came_with x item core
+  pub bytes : (name : ConnectionName) → bytes_on name run ≡ came_with name item core
   pub hands : HandsNothing run
   pub cuts : is_cut item ≡ false → CutsNothing run
   pub freezes : AllFreeze run

@@ -18,9 +18,9 @@ use Rattle.node_moves.specs.Moves.Moves.{hears, cuts_log, crashes}
 
 -- each open connection has a name of the ballot that the node leads as its active primary
 pub record AreOfTheBallot (core : CoreState) : Type 0 where
-  pub each : (x : ConnectionName) (c : Connection) → listed_named x core ≡ Some c →
-      is_closed c.stage ≡ false →
-      (serves core ≡ true) × (x.ballot ≡ core.replica.state.joined)
+  pub each : (name : ConnectionName) (connection : Connection) →
+      listed_named name core ≡ Some connection → is_closed connection.stage ≡ false →
+      (serves core ≡ true) × (name.ballot ≡ core.replica.state.joined)
 
 -- a move in which the replica receives something, cuts its log, or stops
 abbrev pub moves_replica : {core : CoreState} {outcome : StepOutcome} → Moves core outcome → Bool
@@ -35,15 +35,15 @@ moves_replica _ = false
 -- name only in the ballot of that name.
 pub record NamesKeepTheirBallot : Type 0 where
   pub opens : (id : ℕ) (config : Config) → AreOfTheBallot (opening_core id config)
-  pub moves : (core : CoreState) (outcome : StepOutcome) (m : Moves core outcome) → IsOrderly core →
-      moves_replica m ≡ false → AreOfTheBallot core → AreOfTheBallot outcome.core
+  pub moves : (core : CoreState) (outcome : StepOutcome) (move : Moves core outcome) →
+      IsOrderly core → moves_replica move ≡ false → AreOfTheBallot core →
+      AreOfTheBallot outcome.core
   pub hears : (core : CoreState) (input : Input Command) → IsOrderly core → AreOfTheBallot core →
       AreOfTheBallot (settled (drives input core).core)
   pub cuts : (core : CoreState) → IsOrderly core → AreOfTheBallot core →
       AreOfTheBallot (settled (with_cut core))
   pub stops : (core : CoreState) → IsOrderly core → AreOfTheBallot (settled (crashed core))
-  pub proposes : (core : CoreState) (outcome : StepOutcome) (m : Moves core outcome) →
-      IsOrderly core →
-      AreOfTheBallot core → (x : ConnectionName) (command : Command) →
-      In command (move_proposal m) → is_packet_of command x ≡ true →
-      x.ballot ≡ core.replica.state.joined
+  pub proposes : (core : CoreState) (outcome : StepOutcome) (move : Moves core outcome) →
+      IsOrderly core → AreOfTheBallot core → (name : ConnectionName) (command : Command) →
+      In command (move_proposal move) → is_packet_of command name ≡ true →
+      name.ballot ≡ core.replica.state.joined

@@ -23,38 +23,39 @@ use Rattle.node_moves.specs.Puts.{outputs_of, spelled}
 
 -- what is newly read in a move: the next of the packets that were written, each of which is
 -- proposed under the name
-pub record ReadsOn (x : ConnectionName) {core : CoreState} {outcome : StepOutcome}
-    (m : MoveOrLost core outcome) (written read : List Packet) (later : List ℕ) : Type 0 where
+pub record ReadsOn (name : ConnectionName) {core : CoreState} {outcome : StepOutcome}
+    (move : MoveOrLost core outcome) (written read : List Packet) (later : List ℕ) : Type 0 where
   pub more : List Packet
-  pub end : IsEnd x outcome.core written (read ++ more) later
-  pub proposed : filter (λ command. is_packet_of command x) (move_proposal m)
-      ≡ packet_commands_from x (length read) more
+  pub end : IsEnd name outcome.core written (read ++ more) later
+  pub proposed : filter (λ command. is_packet_of command name) (move_proposal move)
+      ≡ packet_commands_from name (length read) more
 
 -- in each move a node reads on in order on each connection; none is skipped while it is open
 abbrev pub LossesReadInOrder : Type 0
 LossesReadInOrder =
-    (core : CoreState) (outcome : StepOutcome) (m : MoveOrLost core outcome) → IsOrderly core →
+    (core : CoreState) (outcome : StepOutcome) (move : MoveOrLost core outcome) → IsOrderly core →
     IsOrderly outcome.core
-    × ((x : ConnectionName) (written read : List Packet) (in_transit later : List ℕ) →
-    IsEnd x core written read in_transit →
-    in_transit ≡ came_on x m ++ later → ReadsOn x m written read later)
+    × ((name : ConnectionName) (written read : List Packet) (in_transit later : List ℕ) →
+    IsEnd name core written read in_transit →
+    in_transit ≡ came_on name move ++ later → ReadsOn name move written read later)
 
 -- from the opening on the commands that are proposed under a name are those of a prefix of what is
 -- written
 abbrev pub LossesProposeInOrder : Type 0
 LossesProposeInOrder =
     (id : ℕ) (config : Config) (outcome : StepOutcome)
-    (run : RunOrLost (opening_core id config) outcome) (x : ConnectionName)
-    (written : List Packet) (later : List ℕ) → 0 < x.count →
-    Joins written (bytes_on x run ++ later) →
-    Proposes x outcome.core (run_proposals run) written later
+    (run : RunOrLost (opening_core id config) outcome) (name : ConnectionName)
+    (written : List Packet) (later : List ℕ) → 0 < name.count →
+    Joins written (bytes_on name run ++ later) →
+    Proposes name outcome.core (run_proposals run) written later
 
 -- each packet that is read is in the log at once, after everything that was there
 abbrev pub LossesAreTaken : Type 0
 LossesAreTaken =
-    (core : CoreState) (outcome : StepOutcome) (m : MoveOrLost core outcome) → is_read m ≡ true →
+    (core : CoreState) (outcome : StepOutcome) (move : MoveOrLost core outcome) →
+    is_read move ≡ true →
     outcome.core.replica.state.log
-    ≡ record core.replica.state.log { rest = core.replica.state.log.rest ++ move_proposal m }
+    ≡ record core.replica.state.log { rest = core.replica.state.log.rest ++ move_proposal move }
 
 -- ---- what is sent
 
@@ -62,28 +63,28 @@ LossesAreTaken =
 -- what was queued before
 abbrev pub LossesPutInOrder : Type 0
 LossesPutInOrder =
-    (core : CoreState) (outcome : StepOutcome) (m : MoveOrLost core outcome) → IsOrderly core →
-    is_handing m ≡ false →
-    (x : ConnectionName) (c d : Connection) → open_named x core ≡ Some c →
-    open_named x outcome.core ≡ Some d →
-    d.pending ≡ c.pending ++ spelled (sends_to x (outputs_of (move_effects m)))
+    (core : CoreState) (outcome : StepOutcome) (move : MoveOrLost core outcome) → IsOrderly core →
+    is_handing move ≡ false → (name : ConnectionName) (old new : Connection) →
+    open_named name core ≡ Some old → open_named name outcome.core ≡ Some new →
+    new.pending ≡ old.pending ++ spelled (sends_to name (outputs_of (move_effects move)))
 
 -- a connection that is closed after a move was closed before, with the same bytes to hand over, or
 -- was open, and got a prefix of what is sent to it
-pub data IsClosedBy (x : ConnectionName) {core : CoreState} {outcome : StepOutcome}
-    (m : MoveOrLost core outcome) (d : Connection) : Type 0 where
+pub data IsClosedBy (name : ConnectionName) {core : CoreState} {outcome : StepOutcome}
+    (move : MoveOrLost core outcome) (new : Connection) : Type 0 where
   -- it was closed before
-  was_closed : (c : Connection) → listed_named x core ≡ Some c → is_closed c.stage ≡ true →
-      d.pending ≡ c.pending → IsClosedBy x m d
+  was_closed : (old : Connection) → listed_named name core ≡ Some old → is_closed old.stage ≡ true →
+      new.pending ≡ old.pending → IsClosedBy name move new
   -- it was open before
-  closes_now : (c : Connection) (front : List ℕ) → open_named x core ≡ Some c →
-      d.pending ≡ c.pending ++ front →
-      IsPrefixOf front (spelled (refusal_in x m ++ sends_to x (outputs_of (move_effects m)))) →
-      IsClosedBy x m d
+  closes_now : (old : Connection) (front : List ℕ) → open_named name core ≡ Some old →
+      new.pending ≡ old.pending ++ front →
+      IsPrefixOf front
+      (spelled (refusal_in name move ++ sends_to name (outputs_of (move_effects move)))) →
+      IsClosedBy name move new
 
 -- each connection that is closed after a move was closed in one of the ways of `IsClosedBy`
 abbrev pub LossesPutNothingOnClosed : Type 0
 LossesPutNothingOnClosed =
-    (core : CoreState) (outcome : StepOutcome) (m : MoveOrLost core outcome) → IsOrderly core →
-    (x : ConnectionName) (d : Connection) →
-    listed_named x outcome.core ≡ Some d → is_closed d.stage ≡ true → IsClosedBy x m d
+    (core : CoreState) (outcome : StepOutcome) (move : MoveOrLost core outcome) → IsOrderly core →
+    (name : ConnectionName) (new : Connection) → listed_named name outcome.core ≡ Some new →
+    is_closed new.stage ≡ true → IsClosedBy name move new

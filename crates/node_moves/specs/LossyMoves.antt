@@ -51,18 +51,20 @@ pub data MoveOrLost (core : CoreState) : StepOutcome → Type 0 where
   hears_losing : (input : Input Command) (did : Account) → is_proposal input ≡ false →
       Drives input core did → MoveOrLost core (outcome_in did)
   -- a CONNECT, the first packet of an open connection, is read and taken, perhaps with losses
-  first_losing : (now : ℕ) (port : Port) (c : Connection) (connect : Connect) (rest : List ℕ)
-      (did : Account) → open_at port core ≡ Some c →
-      is_first c.stage ≡ true → verdict c.unread ≡ Ok (packets.Connect connect, rest) →
-      TakesCommand (commands.Connect c.name connect.client connect.clean)
+  first_losing : (now : ℕ) (port : Port) (connection : Connection) (connect : Connect)
+      (rest : List ℕ) (did : Account) → open_at port core ≡ Some connection →
+      is_first connection.stage ≡ true →
+      verdict connection.unread ≡ Ok (packets.Connect connect, rest) →
+      TakesCommand (commands.Connect connection.name connect.client connect.clean)
       (changes port (noted_proposed connect.keep_alive) (changes port (left_with now rest) core))
       did →
       MoveOrLost core (outcome_in did)
   -- a later packet is read and taken, perhaps with losses
-  later_losing : (now : ℕ) (port : Port) (c : Connection) (packet : Packet) (rest : List ℕ)
-      (did : Account) → open_at port core ≡ Some c →
-      is_first c.stage ≡ false → verdict c.unread ≡ Ok (packet, rest) →
-      TakesCommand (commands.Packet c.name packet) (changes port (left_with now rest) core) did →
+  later_losing : (now : ℕ) (port : Port) (connection : Connection) (packet : Packet) (rest : List ℕ)
+      (did : Account) → open_at port core ≡ Some connection →
+      is_first connection.stage ≡ false → verdict connection.unread ≡ Ok (packet, rest) →
+      TakesCommand (commands.Packet connection.name packet)
+      (changes port (left_with now rest) core) did →
       MoveOrLost core (outcome_in did)
   -- that a connection is lost is taken, perhaps with losses
   tells_losing : (name : ConnectionName) (did : Account) →

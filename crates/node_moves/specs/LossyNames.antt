@@ -16,9 +16,9 @@ use Rattle.node_moves.specs.Names.{IsNextName}
 -- a connection that is new after a move has the next name of the ballot that the node leads
 abbrev pub LossyNamesAreOfTheBallot : Type 0
 LossyNamesAreOfTheBallot =
-    (core : CoreState) (outcome : StepOutcome) (m : MoveOrLost core outcome) → IsOrderly core →
-    (x : ConnectionName) (d : Connection) →
-    listed_named x core ≡ None → listed_named x outcome.core ≡ Some d → IsNextName core x
+    (core : CoreState) (outcome : StepOutcome) (move : MoveOrLost core outcome) → IsOrderly core →
+    (name : ConnectionName) (new : Connection) → listed_named name core ≡ None →
+    listed_named name outcome.core ≡ Some new → IsNextName core name
 
 -- if a node serves, each open connection has a name of the ballot that it leads
 abbrev pub AreWhereItServes : CoreState → Type 0
@@ -28,14 +28,13 @@ AreWhereItServes core = serves core ≡ true → AreOfTheBallot core
 -- which it does, if that move began as a step does. And a node proposes under a name only in the
 -- ballot of that name.
 pub record LossyNamesKeepTheirBallot : Type 0 where
-  pub moves : (core : CoreState) (outcome : StepOutcome) (m : MoveOrLost core outcome) →
-      IsOrderly core →
-      hears_in m ≡ false → AreWhereItServes core → AreWhereItServes outcome.core
-  pub hears : (core : CoreState) (outcome : StepOutcome) (m : MoveOrLost core outcome) →
-      IsOrderly core →
-      AreOfTheBallot core → AreWhereItServes outcome.core
-  pub proposes : (core : CoreState) (outcome : StepOutcome) (m : MoveOrLost core outcome) →
-      IsOrderly core →
-      AreWhereItServes core → serves core ≡ true → (x : ConnectionName) (command : Command) →
-      In command (move_proposal m) → is_packet_of command x ≡ true →
-      x.ballot ≡ core.replica.state.joined
+  pub moves : (core : CoreState) (outcome : StepOutcome) (move : MoveOrLost core outcome) →
+      IsOrderly core → hears_in move ≡ false → AreWhereItServes core →
+      AreWhereItServes outcome.core
+  pub hears : (core : CoreState) (outcome : StepOutcome) (move : MoveOrLost core outcome) →
+      IsOrderly core → AreOfTheBallot core → AreWhereItServes outcome.core
+  pub proposes : (core : CoreState) (outcome : StepOutcome) (move : MoveOrLost core outcome) →
+      IsOrderly core → AreWhereItServes core → serves core ≡ true →
+      (name : ConnectionName) (command : Command) →
+      In command (move_proposal move) → is_packet_of command name ≡ true →
+      name.ballot ≡ core.replica.state.joined

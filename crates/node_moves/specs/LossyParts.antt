@@ -23,10 +23,10 @@ use Rattle.node_moves.specs.LossyMoves.MoveOrLost.{exactly, hears_losing, first_
 -- the effects of its replica in a move
 abbrev pub move_effects : {core : CoreState} {outcome : StepOutcome} → MoveOrLost core outcome →
     List (Effect Command Output)
-move_effects (exactly m) = exact_given m
+move_effects (exactly move) = exact_given move
 move_effects (hears_losing input did other drives) = did.given
-move_effects (first_losing now port c connect rest did at first is taken) = did.given
-move_effects (later_losing now port c packet rest did at later is taken) = did.given
+move_effects (first_losing now port connection connect rest did at first is taken) = did.given
+move_effects (later_losing now port connection packet rest did at later is taken) = did.given
 move_effects (tells_losing name did taken) = did.given
 move_effects (expels_losing client did taken) = did.given
 move_effects forgets = []
@@ -38,12 +38,12 @@ move_effects (drops port piece) = []
 -- the command that it proposes
 abbrev pub move_proposal : {core : CoreState} {outcome : StepOutcome} → MoveOrLost core outcome →
     List Command
-move_proposal (exactly m) = exact_proposal m
+move_proposal (exactly move) = exact_proposal move
 move_proposal (hears_losing input did other drives) = []
-move_proposal (first_losing now port c connect rest did at first is taken) =
-    commands.Connect c.name connect.client connect.clean ∷ []
-move_proposal (later_losing now port c packet rest did at later is taken) =
-    commands.Packet c.name packet ∷ []
+move_proposal (first_losing now port connection connect rest did at first is taken) =
+    commands.Connect connection.name connect.client connect.clean ∷ []
+move_proposal (later_losing now port connection packet rest did at later is taken) =
+    commands.Packet connection.name packet ∷ []
 move_proposal (tells_losing name did taken) = commands.Lost name ∷ []
 move_proposal (expels_losing client did taken) = commands.Expel client ∷ []
 move_proposal forgets = []
@@ -56,27 +56,27 @@ move_proposal (drops port piece) = []
 abbrev pub came_on : ConnectionName → {core : CoreState} {outcome : StepOutcome} →
     MoveOrLost core outcome →
     List ℕ
-came_on x (exactly m) = exact_came x m
-came_on x {core = core} (drops port piece) = piece_on x piece (open_at port core)
-came_on x _ = []
+came_on name (exactly move) = exact_came name move
+came_on name {core = core} (drops port piece) = piece_on name piece (open_at port core)
+came_on name _ = []
 
 -- the answer to a CONNECT that the node refuses itself
 abbrev pub refusal_in : ConnectionName → {core : CoreState} {outcome : StepOutcome} →
     MoveOrLost core outcome →
     List Packet
-refusal_in x (exactly m) = exact_refusal x m
-refusal_in x _ = []
+refusal_in name (exactly move) = exact_refusal name move
+refusal_in name _ = []
 
 -- whether bytes are handed over in a move
 abbrev pub is_handing : {core : CoreState} {outcome : StepOutcome} → MoveOrLost core outcome → Bool
-is_handing (exactly m) = exact_handing m
+is_handing (exactly move) = exact_handing move
 is_handing _ = false
 
 -- whether a packet is read in a move
 abbrev pub is_read : {core : CoreState} {outcome : StepOutcome} → MoveOrLost core outcome → Bool
-is_read (exactly m) = exact_read m
-is_read (first_losing now port c connect rest did at first is taken) = true
-is_read (later_losing now port c packet rest did at later is taken) = true
+is_read (exactly move) = exact_read move
+is_read (first_losing now port connection connect rest did at first is taken) = true
+is_read (later_losing now port connection packet rest did at later is taken) = true
 is_read _ = false
 
 -- what the replica receives in a move
@@ -88,12 +88,12 @@ inputs_of _ = []
 -- what the replica receives in a move that may have losses
 abbrev pub inputs_in : {core : CoreState} {outcome : StepOutcome} → MoveOrLost core outcome →
     List (Input Command)
-inputs_in (exactly m) = inputs_of m
+inputs_in (exactly move) = inputs_of move
 inputs_in (hears_losing input did other drives) = input ∷ []
 inputs_in _ = []
 
 -- whether the replica receives something in a move, or the node crashes
 abbrev pub hears_in : {core : CoreState} {outcome : StepOutcome} → MoveOrLost core outcome → Bool
-hears_in (exactly m) = moves_replica m
+hears_in (exactly move) = moves_replica move
 hears_in (hears_losing input did other drives) = true
 hears_in _ = false

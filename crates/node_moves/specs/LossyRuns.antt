@@ -22,38 +22,38 @@ pub data RunOrLost : CoreState → StepOutcome → Type 0 where
 abbrev pub HearsNothing : {core : CoreState} {outcome : StepOutcome} → RunOrLost core outcome →
     Type 0
 HearsNothing rests = Unit {0}
-HearsNothing (goes_on m run) = (hears_in m ≡ false) × HearsNothing run
+HearsNothing (goes_on move run) = (hears_in move ≡ false) × HearsNothing run
 
 -- in no move of a run except the first the replica receives something
 abbrev pub HearsAtFirst : {core : CoreState} {outcome : StepOutcome} → RunOrLost core outcome →
     Type 0
 HearsAtFirst rests = Unit {0}
-HearsAtFirst (goes_on m run) = HearsNothing run
+HearsAtFirst (goes_on move run) = HearsNothing run
 
 -- the commands that a node proposes in a run, in order
 abbrev pub run_proposals : {core : CoreState} {outcome : StepOutcome} → RunOrLost core outcome →
     List Command
 run_proposals rests = []
-run_proposals (goes_on m run) = move_proposal m ++ run_proposals run
+run_proposals (goes_on move run) = move_proposal move ++ run_proposals run
 
 -- the bytes that come on the connection of a name in it, in order
 abbrev pub bytes_on : ConnectionName → {core : CoreState} {outcome : StepOutcome} →
     RunOrLost core outcome →
     List ℕ
-bytes_on x rests = []
-bytes_on x (goes_on m run) = came_on x m ++ bytes_on x run
+bytes_on name rests = []
+bytes_on name (goes_on move run) = came_on name move ++ bytes_on name run
 
 -- what the replica receives in a run, in order
 abbrev pub all_inputs : {core : CoreState} {outcome : StepOutcome} → RunOrLost core outcome →
     List (Input Command)
 all_inputs rests = []
-all_inputs (goes_on m run) = inputs_in m ++ all_inputs run
+all_inputs (goes_on move run) = inputs_in move ++ all_inputs run
 
 -- nothing is handed over in a run
 abbrev pub HandsNothing : {core : CoreState} {outcome : StepOutcome} → RunOrLost core outcome →
     Type 0
 HandsNothing rests = Unit {0}
-HandsNothing (goes_on m run) = (is_handing m ≡ false) × HandsNothing run
+HandsNothing (goes_on move run) = (is_handing move ≡ false) × HandsNothing run
 
 -- whether a log is cut in a move
 abbrev pub exactly_cuts : {core : CoreState} {outcome : StepOutcome} → Moves core outcome → Bool
@@ -62,14 +62,14 @@ exactly_cuts _ = false
 
 -- whether a move that may have losses cuts the log
 abbrev pub cuts_in : {core : CoreState} {outcome : StepOutcome} → MoveOrLost core outcome → Bool
-cuts_in (exactly m) = exactly_cuts m
+cuts_in (exactly move) = exactly_cuts move
 cuts_in _ = false
 
 -- in no move of a run a log is cut
 abbrev pub CutsNothing : {core : CoreState} {outcome : StepOutcome} → RunOrLost core outcome →
     Type 0
 CutsNothing rests = Unit {0}
-CutsNothing (goes_on m run) = (cuts_in m ≡ false) × CutsNothing run
+CutsNothing (goes_on move run) = (cuts_in move ≡ false) × CutsNothing run
 
 -- the bytes to which a log is cut thaw to its machine
 abbrev pub CutsThaw : {core : CoreState} {outcome : StepOutcome} → MoveOrLost core outcome → Type 0
@@ -80,4 +80,4 @@ CutsThaw _ = Unit {0}
 -- what is frozen in each move of a run can be read
 abbrev pub AllFreeze : {core : CoreState} {outcome : StepOutcome} → RunOrLost core outcome → Type 0
 AllFreeze rests = Unit {0}
-AllFreeze (goes_on m run) = CutsThaw m × AllFreeze run
+AllFreeze (goes_on move run) = CutsThaw move × AllFreeze run

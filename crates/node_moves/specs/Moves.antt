@@ -41,30 +41,31 @@ pub data Moves (core : CoreState) : StepOutcome → Type 0 where
       Moves core (without_messages (changes port (with_unread piece) core))
   -- the first packet of an open connection, a CONNECT, is read and proposed, whole at this time;
   -- the log has room for it
-  reads_first : (now : ℕ) (port : Port) (c : Connection) (connect : Connect) (rest : List ℕ) →
-      open_at port core ≡ Some c → is_first c.stage ≡ true →
-      verdict c.unread ≡ Ok (packets.Connect connect, rest) → has_room core ≡ true →
-      Moves core (proposes (commands.Connect c.name connect.client connect.clean)
+  reads_first : (now : ℕ) (port : Port) (connection : Connection) (connect : Connect)
+      (rest : List ℕ) → open_at port core ≡ Some connection → is_first connection.stage ≡ true →
+      verdict connection.unread ≡ Ok (packets.Connect connect, rest) → has_room core ≡ true →
+      Moves core (proposes (commands.Connect connection.name connect.client connect.clean)
       (changes port (noted_proposed connect.keep_alive) (changes port (left_with now rest) core)))
   -- each later packet of an open connection is read and proposed, if the log has room for it
-  reads_later : (now : ℕ) (port : Port) (c : Connection) (packet : Packet) (rest : List ℕ) →
-      open_at port core ≡ Some c → is_first c.stage ≡ false →
-      verdict c.unread ≡ Ok (packet, rest) → has_room core ≡ true →
-      Moves core (proposes (commands.Packet c.name packet) (changes port (left_with now rest) core))
+  reads_later : (now : ℕ) (port : Port) (connection : Connection) (packet : Packet)
+      (rest : List ℕ) → open_at port core ≡ Some connection → is_first connection.stage ≡ false →
+      verdict connection.unread ≡ Ok (packet, rest) → has_room core ≡ true →
+      Moves core (proposes (commands.Packet connection.name packet)
+      (changes port (left_with now rest) core))
   -- a connection is closed, and nothing more is read from it
   closes : (port : Port) → Moves core (without_messages (changes port closed_connection core))
   -- a connection is closed with an answer: its first packet is a CONNECT that is refused
-  refuses : (port : Port) (c : Connection) (code : RefusalCode) → open_at port core ≡ Some c →
-      is_first c.stage ≡ true →
-      verdict c.unread ≡ Err (stops.Refused code) →
+  refuses : (port : Port) (connection : Connection) (code : RefusalCode) →
+      open_at port core ≡ Some connection → is_first connection.stage ≡ true →
+      verdict connection.unread ≡ Err (stops.Refused code) →
       Moves core (without_messages (changes port (connect_refused code) core))
   -- a connection is closed, and its loss is proposed, since its Connect was
-  loses_one : (port : Port) (c : Connection) → open_at port core ≡ Some c →
-      is_proposed c.stage ≡ true →
-      Moves core (proposes (commands.Lost c.name) (changes port closed_connection core))
+  loses_one : (port : Port) (connection : Connection) → open_at port core ≡ Some connection →
+      is_proposed connection.stage ≡ true →
+      Moves core (proposes (commands.Lost connection.name) (changes port closed_connection core))
   -- the loss of a connection is proposed that was closed for want of room for what was to be sent
-  loses_next : (c : Connection) → find has_failed core.connections ≡ Some c →
-      Moves core (proposes (commands.Lost c.name) (closes_failed core))
+  loses_next : (connection : Connection) → find has_failed core.connections ≡ Some connection →
+      Moves core (proposes (commands.Lost connection.name) (closes_failed core))
   -- an Expel of a client is proposed
   expels_one : (client : List ℕ) → Moves core (proposes (commands.Expel client) core)
   -- the replica cuts its log

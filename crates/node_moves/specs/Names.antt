@@ -9,14 +9,14 @@ use Rattle.node_moves.specs.Ends.{IsOrderly}
 use Rattle.node_moves.specs.Moves.{Moves}
 
 -- A name of the ballot that its replica leads as the active primary, with the next number there.
-pub record IsNextName (core : CoreState) (x : ConnectionName) : Type 0 where
+pub record IsNextName (core : CoreState) (name : ConnectionName) : Type 0 where
   pub leads : serves core ≡ true
-  pub ballot : x.ballot ≡ core.replica.state.joined
-  pub count : x.count ≡ accepted core + 1
+  pub ballot : name.ballot ≡ core.replica.state.joined
+  pub count : name.count ≡ accepted core + 1
 
 -- each connection that is new after a move has a name of the ballot
 abbrev pub NewNamesAreOfTheBallot : Type 0
 NewNamesAreOfTheBallot =
-    (core : CoreState) (outcome : StepOutcome) (m : Moves core outcome) → IsOrderly core →
-    (x : ConnectionName) (d : Connection) →
-    listed_named x core ≡ None → listed_named x outcome.core ≡ Some d → IsNextName core x
+    (core : CoreState) (outcome : StepOutcome) (move : Moves core outcome) → IsOrderly core →
+    (name : ConnectionName) (new : Connection) → listed_named name core ≡ None →
+    listed_named name outcome.core ≡ Some new → IsNextName core name

@@ -21,15 +21,17 @@ use Rattle.node_moves.specs.Ends.{IsOrderly, open_named}
 abbrev pub move_effects : {core : CoreState} {outcome : StepOutcome} → Moves core outcome →
     List (Effect Command Output)
 move_effects {core = core} (hears input is) = (outcome_of_input input core.replica.state).effects
-move_effects {core = core} (reads_first now port c connect rest at first is room) =
+move_effects {core = core} (reads_first now port connection connect rest at first is room) =
     (proposed rules core.replica.state
-    (commands.Connect c.name connect.client connect.clean)).effects
-move_effects {core = core} (reads_later now port c packet rest at later is room) =
-    (proposed rules core.replica.state (commands.Packet c.name packet)).effects
-move_effects {core = core} (loses_one port c at asked) =
-    if serves core then (proposed rules core.replica.state (commands.Lost c.name)).effects else []
-move_effects {core = core} (loses_next c at) =
-    if serves core then (proposed rules core.replica.state (commands.Lost c.name)).effects else []
+    (commands.Connect connection.name connect.client connect.clean)).effects
+move_effects {core = core} (reads_later now port connection packet rest at later is room) =
+    (proposed rules core.replica.state (commands.Packet connection.name packet)).effects
+move_effects {core = core} (loses_one port connection at asked) =
+    if serves core
+    then (proposed rules core.replica.state (commands.Lost connection.name)).effects else []
+move_effects {core = core} (loses_next connection at) =
+    if serves core
+    then (proposed rules core.replica.state (commands.Lost connection.name)).effects else []
 move_effects {core = core} (expels_one client) =
     if serves core then (proposed rules core.replica.state (commands.Expel client)).effects else []
 move_effects _ = []
@@ -43,7 +45,7 @@ outputs_of (To receiver message ∷ effects) = outputs_of effects
 -- packets as bytes, joined
 abbrev pub spelled : List Packet → List ℕ
 spelled [] = []
-spelled (p ∷ ps) = spelling p ++ spelled ps
+spelled (packet ∷ packets) = spelling packet ++ spelled packets
 
 -- whether bytes are handed over in a move
 abbrev pub is_handing : {core : CoreState} {outcome : StepOutcome} → Moves core outcome → Bool
@@ -55,8 +57,7 @@ is_handing _ = false
 -- queued.
 abbrev pub PutsInOrder : Type 0
 PutsInOrder =
-    (core : CoreState) (outcome : StepOutcome) (m : Moves core outcome) → IsOrderly core →
-    is_handing m ≡ false →
-    (x : ConnectionName) (c d : Connection) → open_named x core ≡ Some c →
-    open_named x outcome.core ≡ Some d →
-    d.pending ≡ c.pending ++ spelled (sends_to x (outputs_of (move_effects m)))
+    (core : CoreState) (outcome : StepOutcome) (move : Moves core outcome) → IsOrderly core →
+    is_handing move ≡ false → (name : ConnectionName) (old new : Connection) →
+    open_named name core ≡ Some old → open_named name outcome.core ≡ Some new →
+    new.pending ≡ old.pending ++ spelled (sends_to name (outputs_of (move_effects move)))

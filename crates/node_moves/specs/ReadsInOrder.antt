@@ -8,18 +8,18 @@ use Rattle.node_moves.specs.Moves.{Moves}
 use Rattle.node_moves.specs.Ends.{IsOrderly, move_proposal, came_on, IsEnd, packet_commands_from}
 
 -- In a move the next written packets are read. Each is proposed under the name, and nothing else.
-pub record ReadsOn (x : ConnectionName) {core : CoreState} {outcome : StepOutcome}
-    (m : Moves core outcome) (written read : List Packet) (later : List ℕ) : Type 0 where
+pub record ReadsOn (name : ConnectionName) {core : CoreState} {outcome : StepOutcome}
+    (move : Moves core outcome) (written read : List Packet) (later : List ℕ) : Type 0 where
   pub more : List Packet
-  pub end : IsEnd x outcome.core written (read ++ more) later
-  pub proposed : filter (λ command. is_packet_of command x) (move_proposal m)
-      ≡ packet_commands_from x (length read) more
+  pub end : IsEnd name outcome.core written (read ++ more) later
+  pub proposed : filter (λ command. is_packet_of command name) (move_proposal move)
+      ≡ packet_commands_from name (length read) more
 
 -- in each move a node reads on in order on each connection, and its connections stay in order
 abbrev pub NodesReadInOrder : Type 0
 NodesReadInOrder =
-    (core : CoreState) (outcome : StepOutcome) (m : Moves core outcome) → IsOrderly core →
+    (core : CoreState) (outcome : StepOutcome) (move : Moves core outcome) → IsOrderly core →
     IsOrderly outcome.core
-    × ((x : ConnectionName) (written read : List Packet) (in_transit later : List ℕ) →
-    IsEnd x core written read in_transit →
-    in_transit ≡ came_on x m ++ later → ReadsOn x m written read later)
+    × ((name : ConnectionName) (written read : List Packet) (in_transit later : List ℕ) →
+    IsEnd name core written read in_transit →
+    in_transit ≡ came_on name move ++ later → ReadsOn name move written read later)

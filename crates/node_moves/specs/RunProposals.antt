@@ -18,45 +18,44 @@ use Rattle.node_moves.specs.Ends.{move_proposal, came_on, IsEnd, packet_commands
 abbrev pub run_proposals : {core : CoreState} {outcome : StepOutcome} → Runs core outcome →
     List Command
 run_proposals rests = []
-run_proposals (goes_on m run) = move_proposal m ++ run_proposals run
+run_proposals (goes_on move run) = move_proposal move ++ run_proposals run
 
 -- the bytes that come on the connection of a name in it, in order
 abbrev pub bytes_on : ConnectionName → {core : CoreState} {outcome : StepOutcome} →
     Runs core outcome → List ℕ
-bytes_on x rests = []
-bytes_on x (goes_on m run) = came_on x m ++ bytes_on x run
+bytes_on name rests = []
+bytes_on name (goes_on move run) = came_on name move ++ bytes_on name run
 
 -- The client of a connection writes packets, and of their bytes, joined, some came and some are
 -- still to come. Then what the node proposed under the name are the commands of a prefix of those
 -- packets, each once and in order.
-pub record Proposes (x : ConnectionName) (core : CoreState) (proposals : List Command)
+pub record Proposes (name : ConnectionName) (core : CoreState) (proposals : List Command)
     (written : List Packet) (later : List ℕ) : Type 0 where
   pub read : List Packet
-  pub end : IsEnd x core written read later
+  pub end : IsEnd name core written read later
   pub prefix : IsPrefixOf read written
-  pub proposed : filter (λ command. is_packet_of command x) proposals
-      ≡ packet_commands_from x 0 read
+  pub proposed : filter (λ command. is_packet_of command name) proposals
+      ≡ packet_commands_from name 0 read
 
 -- a node proposes in order in each run from its opening on, under each name that a connection can
 -- have
 abbrev pub NodesProposeInOrder : Type 0
 NodesProposeInOrder =
     (id : ℕ) (config : Config) (outcome : StepOutcome) (run : Runs (opening_core id config) outcome)
-    (x : ConnectionName)
-    (written : List Packet) (later : List ℕ) → 0 < x.count →
-    Joins written (bytes_on x run ++ later) →
-    Proposes x outcome.core (run_proposals run) written later
+    (name : ConnectionName) (written : List Packet) (later : List ℕ) → 0 < name.count →
+    Joins written (bytes_on name run ++ later) →
+    Proposes name outcome.core (run_proposals run) written later
 
 -- whether a move reads a packet
 abbrev pub is_read : {core : CoreState} {outcome : StepOutcome} → Moves core outcome → Bool
-is_read (reads_first now port c connect rest at first is room) = true
-is_read (reads_later now port c packet rest at later is room) = true
+is_read (reads_first now port connection connect rest at first is room) = true
+is_read (reads_later now port connection packet rest at later is room) = true
 is_read _ = false
 
 -- Each packet that is read is in the node's log at once, after everything that was there, and
 -- nothing is removed from it: so none is read after one that was not taken.
 abbrev pub ReadsAreTaken : Type 0
 ReadsAreTaken =
-    (core : CoreState) (outcome : StepOutcome) (m : Moves core outcome) → is_read m ≡ true →
+    (core : CoreState) (outcome : StepOutcome) (move : Moves core outcome) → is_read move ≡ true →
     outcome.core.replica.state.log
-    ≡ record core.replica.state.log { rest = core.replica.state.log.rest ++ move_proposal m }
+    ≡ record core.replica.state.log { rest = core.replica.state.log.rest ++ move_proposal move }

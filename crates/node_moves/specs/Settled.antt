@@ -12,10 +12,12 @@ use Rattle.node_core.specs.Step.{node_step}
 abbrev pub NoneIsSilent : Type 0
 NoneIsSilent =
     (now : ℕ) (core : CoreState) →
-    Each (λ (c : Connection). is_silent now c ≡ false) (node_step (Tick now) core).core.connections
+    Each (λ (connection : Connection). is_silent now connection ≡ false)
+    (node_step (Tick now) core).core.connections
 
 -- after a step there is no connection whose loss is still to be reported to the broker
 abbrev pub EachLossIsReported : Type 0
 EachLossIsReported =
     (item : Item) (core : CoreState) →
-    Each (λ (c : Connection). has_failed c ≡ false) (node_step item core).core.connections
+    Each (λ (connection : Connection). has_failed connection ≡ false)
+    (node_step item core).core.connections

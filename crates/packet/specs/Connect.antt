@@ -17,11 +17,13 @@ protocol = text (codes "MQTT")
 
 -- name, level 4, connect flags, keep alive, client
 abbrev pub connect_body : Connect → List ℕ
-connect_body c = protocol ++ (4 ∷ 2 * bit c.clean ∷ []) ++ number c.keep_alive ++ text c.client
+connect_body connect =
+    protocol ++ (4 ∷ 2 * bit connect.clean ∷ []) ++ number connect.keep_alive
+    ++ text connect.client
 
 -- each field is in its range
 abbrev pub FitsConnect : Connect → Type 0
-FitsConnect c = (c.keep_alive < 2 ^ 16) × IsTrue (is_client c.client)
+FitsConnect connect = (connect.keep_alive < 2 ^ 16) × IsTrue (is_client connect.client)
 
 -- CleanSession of connect flags, or their first fault: bit 0, then bits 2 to 7 (MQTT 3.1.2.3)
 abbrev pub clean_of : ℕ → Result Bool Stop

@@ -8,23 +8,26 @@ use Rattle.packet.specs.Verdict.{verdict, IsUnfinished}
 
 -- each packet has a spelling, and no other
 abbrev pub HasOneSpelling : Type 0
-HasOneSpelling = (p : Packet) → IsPacket p → (bytes : List ℕ) × Spells p bytes
-    × ((other : List ℕ) → Spells p other → other ≡ bytes)
+HasOneSpelling = (packet : Packet) → IsPacket packet → (bytes : List ℕ) × Spells packet bytes
+    × ((other : List ℕ) → Spells packet other → other ≡ bytes)
 
 -- these bytes spell the packet, and no others do
 abbrev pub SpellingSpells : Type 0
-SpellingSpells = (p : Packet) → IsPacket p →
-    Spells p (spelling p) × ((other : List ℕ) → Spells p other → other ≡ spelling p)
+SpellingSpells = (packet : Packet) → IsPacket packet →
+    Spells packet (spelling packet)
+    × ((other : List ℕ) → Spells packet other → other ≡ spelling packet)
 
 -- if two spellings are prefixes of the same bytes, they are equal, and spell the same packet
 abbrev pub NoneBeginsAnother : Type 0
-NoneBeginsAnother = (p q : Packet) (a b x y : List ℕ) → IsPacket p → IsPacket q
-    → Spells p a → Spells q b → a ++ x ≡ b ++ y → (p ≡ q) × (a ≡ b)
+NoneBeginsAnother = (packet other : Packet) (bytes other_bytes rest other_rest : List ℕ)
+    → IsPacket packet → IsPacket other
+    → Spells packet bytes → Spells other other_bytes
+    → bytes ++ rest ≡ other_bytes ++ other_rest → (packet ≡ other) × (bytes ≡ other_bytes)
 
 -- a spelling whose last bytes are missing is less than a packet
 abbrev pub FrontsAreUnfinished : Type 0
-FrontsAreUnfinished = (p : Packet) (front more : List ℕ) (next : ℕ) → IsPacket p
-    → Spells p (front ++ next ∷ more) → IsUnfinished front
+FrontsAreUnfinished = (packet : Packet) (front more : List ℕ) (next : ℕ) → IsPacket packet
+    → Spells packet (front ++ next ∷ more) → IsUnfinished front
 
 -- a fault is the same whatever bytes follow
 abbrev pub FaultsStay : Type 0

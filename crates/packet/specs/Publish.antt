@@ -11,11 +11,11 @@ use Rattle.packet.specs.Delivery.{delivery_id, FitsDelivery, delivery_at}
 
 -- topic, identifier if the QoS has one, payload
 abbrev pub publish_body : Publish → List ℕ
-publish_body p = text p.topic ++ delivery_id p.delivery ++ p.payload
+publish_body publish = text publish.topic ++ delivery_id publish.delivery ++ publish.payload
 
 -- each field is in its range
 abbrev pub FitsPublish : Publish → Type 0
-FitsPublish p = IsTrue (is_topic p.topic) × FitsDelivery p.delivery
+FitsPublish publish = IsTrue (is_topic publish.topic) × FitsDelivery publish.delivery
 
 -- a body after these flags, or its first fault; the payload is all that is left
 unfoldable pub publish_of : DeliveryFlags → Bool → List ℕ → Result Publish Stop

@@ -21,11 +21,11 @@ granted code = granted_number code ∷ []
 
 -- identifier, answers
 abbrev pub suback_body : Suback → List ℕ
-suback_body s = number s.id ++ flat_map granted s.codes
+suback_body suback = number suback.id ++ flat_map granted suback.codes
 
 -- each field is in its range
 abbrev pub FitsSuback : Suback → Type 0
-FitsSuback s = IsId s.id
+FitsSuback suback = IsId suback.id
 
 -- the answer of a byte
 abbrev pub suback_code_of : ℕ → Result SubackCode Stop

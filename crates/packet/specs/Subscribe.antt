@@ -13,19 +13,19 @@ use Rattle.packet_base.specs.QoS.{qos_number, qos_of}
 
 -- a filter, and the greatest QoS that is asked for (MQTT 3.8.3)
 abbrev pub subscription : Subscription → List ℕ
-subscription s = text s.filter ++ qos_number s.qos ∷ []
+subscription asked = text asked.filter ++ qos_number asked.qos ∷ []
 
 -- identifier, filters
 abbrev pub subscribe_body : Subscribe → List ℕ
-subscribe_body s = number s.id ++ flat_map subscription s.filters
+subscribe_body subscribe = number subscribe.id ++ flat_map subscription subscribe.filters
 
 -- each field is in its range
 abbrev pub FitsSubscription : Subscription → Type 0
-FitsSubscription s = IsTrue (is_filter s.filter)
+FitsSubscription asked = IsTrue (is_filter asked.filter)
 
 -- the identifier and each filter are in their ranges
 abbrev pub FitsSubscribe : Subscribe → Type 0
-FitsSubscribe s = IsId s.id × All FitsSubscription s.filters
+FitsSubscribe subscribe = IsId subscribe.id × All FitsSubscription subscribe.filters
 
 -- a filter with its QoS, and the bytes after it
 unfoldable pub subscription_at : List ℕ → Result (Subscription × List ℕ) Stop

@@ -11,11 +11,12 @@ use Rattle.packet.specs.declared.unsubscribe.Unsubscribe.{Unsubscribe}
 
 -- identifier, filters
 abbrev pub unsubscribe_body : Unsubscribe → List ℕ
-unsubscribe_body u = number u.id ++ flat_map text u.filters
+unsubscribe_body unsubscribe = number unsubscribe.id ++ flat_map text unsubscribe.filters
 
 -- each field is in its range
 abbrev pub FitsUnsubscribe : Unsubscribe → Type 0
-FitsUnsubscribe u = IsId u.id × All (λ filter. IsTrue (is_filter filter)) u.filters
+FitsUnsubscribe unsubscribe =
+    IsId unsubscribe.id × All (λ filter. IsTrue (is_filter filter)) unsubscribe.filters
 
 -- a body, or its first fault
 unfoldable pub unsubscribe_of : List ℕ → Result Unsubscribe Stop

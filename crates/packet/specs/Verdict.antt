@@ -32,17 +32,19 @@ empty_of packet body = ended body >> Ok packet
 
 -- the body after a first byte that says this
 abbrev pub body_of : Header → List ℕ → Result Packet Stop
-body_of headers.Connect body = connect_of body >>= (λ c. Ok (packets.Connect c))
-body_of headers.Connack body = connack_of body >>= (λ c. Ok (packets.Connack c))
+body_of headers.Connect body = connect_of body >>= (λ connect. Ok (packets.Connect connect))
+body_of headers.Connack body = connack_of body >>= (λ connack. Ok (packets.Connack connack))
 body_of (headers.Publish flags retain) body =
-    publish_of flags retain body >>= (λ p. Ok (packets.Publish p))
+    publish_of flags retain body >>= (λ publish. Ok (packets.Publish publish))
 body_of headers.Puback body = id_alone_of body >>= (λ id. Ok (packets.Puback id))
 body_of headers.Pubrec body = id_alone_of body >>= (λ id. Ok (packets.Pubrec id))
 body_of headers.Pubrel body = id_alone_of body >>= (λ id. Ok (packets.Pubrel id))
 body_of headers.Pubcomp body = id_alone_of body >>= (λ id. Ok (packets.Pubcomp id))
-body_of headers.Subscribe body = subscribe_of body >>= (λ s. Ok (packets.Subscribe s))
-body_of headers.Suback body = suback_of body >>= (λ s. Ok (packets.Suback s))
-body_of headers.Unsubscribe body = unsubscribe_of body >>= (λ u. Ok (packets.Unsubscribe u))
+body_of headers.Subscribe body =
+    subscribe_of body >>= (λ subscribe. Ok (packets.Subscribe subscribe))
+body_of headers.Suback body = suback_of body >>= (λ suback. Ok (packets.Suback suback))
+body_of headers.Unsubscribe body =
+    unsubscribe_of body >>= (λ unsubscribe. Ok (packets.Unsubscribe unsubscribe))
 body_of headers.Unsuback body = id_alone_of body >>= (λ id. Ok (packets.Unsuback id))
 body_of headers.Pingreq body = empty_of packets.Pingreq body
 body_of headers.Pingresp body = empty_of packets.Pingresp body
@@ -108,10 +110,10 @@ IsSpelledSo bytes steps.More = Unit {0}
 
 -- the answer is this packet with this length, except that memory may run out
 abbrev pub ReadsWhole : Packet → ℕ → Result Step DecodeFault → Type 0
-ReadsWhole p len (Ok step) = step ≡ steps.Whole p len
-ReadsWhole p len (Err fault) = fault ≡ faults.Malformed kinds.Memory
+ReadsWhole packet len (Ok step) = step ≡ steps.Whole packet len
+ReadsWhole packet len (Err fault) = fault ≡ faults.Malformed kinds.Memory
 
 -- what is spelled is read, whatever follows it
 abbrev pub ReadsWhatIsSpelled : List ℕ → Result Step DecodeFault → Type 0
-ReadsWhatIsSpelled bytes result = (p : Packet) (front rest : List ℕ) → IsPacket p
-    → Spells p front → bytes ≡ front ++ rest → ReadsWhole p (length front) result
+ReadsWhatIsSpelled bytes result = (packet : Packet) (front rest : List ℕ) → IsPacket packet
+    → Spells packet front → bytes ≡ front ++ rest → ReadsWhole packet (length front) result

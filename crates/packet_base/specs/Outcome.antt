@@ -14,13 +14,13 @@ StopsBy (stops.Refused code) read = read ≡ Err (stops.Refused code)
 
 -- what a call returned is, after this conversion, what reading gives
 abbrev pub Gives : {X Y : Type 0} → (X → Y) → Result X Stop → Result Y Stop → Type 0
-Gives view (Ok x) read = read ≡ Ok (view x)
+Gives view (Ok value) read = read ≡ Ok (view value)
 Gives view (Err stop) read = StopsBy stop read
 
 -- a call of a reader gives what was read, and these bytes are left afterwards
 abbrev pub Reads : {X Y : Type 0} → (X → Y) → Result X Stop → List ℕ
     → Result (Y × List ℕ) Stop → Type 0
-Reads view (Ok x) rest read = read ≡ Ok (view x, rest)
+Reads view (Ok value) rest read = read ≡ Ok (view value, rest)
 Reads view (Err stop) rest read = StopsBy stop read
 
 -- the reading stopped since memory ran out

@@ -21,9 +21,9 @@ qos_of number =
 
 -- the lower QoS of two
 abbrev pub lower_qos : QoS → QoS → QoS
-lower_qos q r = if nat_lt (qos_number r) (qos_number q) then r else q
+lower_qos one other = if nat_lt (qos_number other) (qos_number one) then other else one
 
 -- the greater QoS of two, of which the second may be missing
 abbrev pub greater_qos : QoS → Option QoS → QoS
-greater_qos q None = q
-greater_qos q (Some r) = if nat_lt (qos_number q) (qos_number r) then r else q
+greater_qos one None = one
+greater_qos one (Some other) = if nat_lt (qos_number one) (qos_number other) then other else one

@@ -12,13 +12,13 @@ use Rattle.packet_base.specs.declared.stop.Stop.TheVariants as stops
 infixl 10 ◌>>=◌
 -- one step and then the next, unless the first stops
 abbrev pub ◌>>=◌ : {A B : Type 0} → Result A Stop → (A → Result B Stop) → Result B Stop
-(Ok x) >>= f = f x
-(Err stop) >>= f = Err stop
+(Ok read) >>= next = next read
+(Err stop) >>= next = Err stop
 
 infixl 10 ◌>>◌
 -- one step without a value and then the next, unless the first stops
 abbrev pub ◌>>◌ : {A B : Type 0} → Result A Stop → Result B Stop → Result B Stop
-(Ok x) >> next = next
+(Ok read) >> next = next
 (Err stop) >> next = Err stop
 
 -- continues if the test is true, and stops in this way if it is not
@@ -32,12 +32,12 @@ malformed kind = Err (stops.Malformed kind)
 
 -- each number is a byte
 abbrev pub AreBytes : List ℕ → Type 0
-AreBytes bytes = (i : ℕ) → get_or bytes i 0 < 256
+AreBytes bytes = (index : ℕ) → get_or bytes index 0 < 256
 
 -- the next byte, and the bytes after it
 abbrev pub byte_at : List ℕ → Result (ℕ × List ℕ) Stop
 byte_at [] = malformed kinds.Shape
-byte_at (b ∷ rest) = Ok (b, rest)
+byte_at (byte ∷ rest) = Ok (byte, rest)
 
 -- this many bytes, and those after them
 abbrev pub front_at : ℕ → List ℕ → Result (List ℕ × List ℕ) Stop
@@ -78,14 +78,14 @@ text_at bytes = do
 -- no bytes are left over
 abbrev pub ended : List ℕ → Result (Unit {0}) Stop
 ended [] = Ok tt
-ended (b ∷ bytes) = malformed kinds.Shape
+ended (byte ∷ bytes) = malformed kinds.Shape
 
 -- A Remaining Length; this many bytes may follow the next one (MQTT 2.2.3).
 unfoldable pub length_at : ℕ → List ℕ → Result (ℕ × List ℕ) Stop
 length_at follow [] = Err stops.More
-length_at follow (b ∷ rest) =
-    if nat_lt b 128 then Ok (b, rest) else
+length_at follow (byte ∷ rest) =
+    if nat_lt byte 128 then Ok (byte, rest) else
     if follow == 0 then malformed kinds.Length else
     length_at (follow - 1) rest >>= (λ high.
     check (nat_lt 0 high.0) (stops.Malformed kinds.Length)
-    >> Ok (b - 128 + 128 * high.0, high.1))
+    >> Ok (byte - 128 + 128 * high.0, high.1))

@@ -36,10 +36,10 @@ text bytes = number (length bytes) ++ bytes
 -- The last byte of several is not 0, so each number has one form.
 abbrev pub IsLength : List ℕ → ℕ → Type 0
 IsLength [] n = ⊥
-IsLength (b ∷ []) n = (b < 128) × (n ≡ b)
-IsLength (b ∷ c ∷ bs) n =
-    (128 ≤ b) × (b < 256) × (high : ℕ) × (0 < high) × (n + 128 ≡ b + 128 * high)
-    × IsLength (c ∷ bs) high
+IsLength (byte ∷ []) n = (byte < 128) × (n ≡ byte)
+IsLength (byte ∷ next ∷ bytes) n =
+    (128 ≤ byte) × (byte < 256) × (high : ℕ) × (0 < high) × (n + 128 ≡ byte + 128 * high)
+    × IsLength (next ∷ bytes) high
 
 -- the bytes of a length, at most this many after the first
 abbrev pub length_digits : ℕ → ℕ → List ℕ
@@ -69,4 +69,4 @@ bit false = 0
 
 -- what a Packet Identifier may be (MQTT 2.3.1)
 abbrev pub IsId : ℕ → Type 0
-IsId n = (0 < n) × (n < 2 ^ 16)
+IsId id = (0 < id) × (id < 2 ^ 16)

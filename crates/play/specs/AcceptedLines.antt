@@ -13,7 +13,7 @@ accepted_by_core (Some core) = core.state.accepted
 
 -- what the client of this identifier shows as accepted
 abbrev pub accepted_by_client : List ℕ → WorldState → List Accepted
-accepted_by_client name w = accepted_by_core (core_named name w.clients)
+accepted_by_client name world = accepted_by_core (core_named name world.clients)
 
 -- a line for each publication that a client accepted
 abbrev pub accepted_lines : List ℕ → List Accepted → List ℕ
@@ -22,7 +22,7 @@ accepted_lines name (one ∷ more) = accepted_line name one ++ accepted_lines na
 
 -- a line for each that the client shows after the first `count`
 abbrev pub lines_after : ℕ → List ℕ → WorldState → List ℕ
-lines_after count name w = accepted_lines name (drop count (accepted_by_client name w))
+lines_after count name world = accepted_lines name (drop count (accepted_by_client name world))
 
 -- a line for each that one of these clients shows and did not show before
 abbrev pub new_lines : List (List ℕ) → WorldState → WorldState → List ℕ

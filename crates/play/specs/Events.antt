@@ -52,10 +52,10 @@ event_of waiting (lines.Unsubscribe client filter) = Some (events.Unsubscribe cl
 
 -- how many bytes wait on the connection that a line names, the way that they are carried
 abbrev pub waiting_for : ScriptLine → WorldState → ℕ
-waiting_for (lines.CarryUp connection amount) w = length (up_of (way_of connection w))
-waiting_for (lines.CarryDown connection amount) w = length (down_of (way_of connection w))
-waiting_for _ w = 0
+waiting_for (lines.CarryUp connection amount) world = length (up_of (way_of connection world))
+waiting_for (lines.CarryDown connection amount) world = length (down_of (way_of connection world))
+waiting_for _ world = 0
 
 -- the event that a line asks for in a world
 abbrev pub asked_in : WorldState → ScriptLine → Option Event
-asked_in w line = event_of (waiting_for line w) line
+asked_in world line = event_of (waiting_for line world) line

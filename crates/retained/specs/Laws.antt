@@ -22,13 +22,14 @@ pub data After : List Put → RetainedTopics → Type 0 where
   -- no publication yet
   nothing : After [] []
   -- one more that is taken
-  put : {puts : List Put} {content : RetainedTopics} (p : Put) → After puts content
-      → is_retaining_refused content p.topic p.payload ≡ false
-      → After (puts ++ p ∷ []) (after_put content p.topic p.qos p.payload)
+  put : {puts : List Put} {content : RetainedTopics} (publication : Put) → After puts content
+      → is_retaining_refused content publication.topic publication.payload ≡ false
+      → After (puts ++ publication ∷ [])
+      (after_put content publication.topic publication.qos publication.payload)
 
 -- whether a publication is on this topic
 abbrev pub is_on : List ℕ → Put → Bool
-is_on topic p = is_at (slice_cmp nat_cmp topic) p.topic
+is_on topic publication = is_at (slice_cmp nat_cmp topic) publication.topic
 
 -- the last publication on a topic
 abbrev pub last_on : List ℕ → List Put → Option Put
@@ -41,7 +42,7 @@ kept_of_payload qos (byte ∷ payload) = Some (record { qos = qos; payload = byt
 
 -- what is retained of a publication, if there is one
 abbrev pub kept_of : Option Put → Option RetainedPublication
-kept_of (Some p) = kept_of_payload p.qos p.payload
+kept_of (Some publication) = kept_of_payload publication.qos publication.payload
 kept_of None = None
 
 -- what is retained of a topic is its last publication, and nothing if that had no payload

@@ -92,9 +92,9 @@ parse_filter text = unless (filter_fault text) text
 
 -- the first value and the others, if there are both
 abbrev pub with_first_value : {X : Type 0} → Option X → Option (List X) → Option (List X)
-with_first_value (Some x) (Some xs) = Some (x ∷ xs)
-with_first_value (Some x) None = None
-with_first_value None xs = None
+with_first_value (Some first) (Some others) = Some (first ∷ others)
+with_first_value (Some first) None = None
+with_first_value None others = None
 
 -- what all of the texts write, if each writes something
 abbrev pub all_of : {X : Type 0} → (Text → Option X) → List Text → Option (List X)

@@ -9,58 +9,66 @@ use Rattle.script.specs.declared.script_line.ScriptLine.TheVariants as lines
 -- the line of these fields says this
 pub data IsLine : List Text → ScriptLine → Type 0 where
   -- `assign 2,3 2`
-  assign : {m p : Text} {members : List ℕ} {primary : ℕ}
-      → parse_numbers m ≡ Some members → parse_number p ≡ Some primary
-      → IsLine (codes "assign" ∷ m ∷ p ∷ []) (lines.Assign members primary)
+  assign : {members_field primary_field : Text} {members : List ℕ} {primary : ℕ}
+      → parse_numbers members_field ≡ Some members → parse_number primary_field ≡ Some primary
+      → IsLine (codes "assign" ∷ members_field ∷ primary_field ∷ []) (lines.Assign members primary)
   -- `deliver 0`
-  deliver : {m : Text} {message : ℕ} → parse_number m ≡ Some message
-      → IsLine (codes "deliver" ∷ m ∷ []) (lines.Deliver message)
+  deliver : {message_field : Text} {message : ℕ} → parse_number message_field ≡ Some message
+      → IsLine (codes "deliver" ∷ message_field ∷ []) (lines.Deliver message)
   -- `tick 1`
-  tick : {n : Text} {node : ℕ} → parse_number n ≡ Some node
-      → IsLine (codes "tick" ∷ n ∷ []) (lines.Tick node)
+  tick : {node_field : Text} {node : ℕ} → parse_number node_field ≡ Some node
+      → IsLine (codes "tick" ∷ node_field ∷ []) (lines.Tick node)
   -- `cut 1`
-  cut : {n : Text} {node : ℕ} → parse_number n ≡ Some node
-      → IsLine (codes "cut" ∷ n ∷ []) (lines.Cut node)
+  cut : {node_field : Text} {node : ℕ} → parse_number node_field ≡ Some node
+      → IsLine (codes "cut" ∷ node_field ∷ []) (lines.Cut node)
   -- `expel b 1`
-  expel : {c n : Text} {client : Text} {node : ℕ}
-      → parse_client c ≡ Some client → parse_number n ≡ Some node
-      → IsLine (codes "expel" ∷ c ∷ n ∷ []) (lines.Expel client node)
+  expel : {client_field node_field : Text} {client : Text} {node : ℕ}
+      → parse_client client_field ≡ Some client → parse_number node_field ≡ Some node
+      → IsLine (codes "expel" ∷ client_field ∷ node_field ∷ []) (lines.Expel client node)
   -- `crash 1`
-  crash : {n : Text} {node : ℕ} → parse_number n ≡ Some node
-      → IsLine (codes "crash" ∷ n ∷ []) (lines.Crash node)
+  crash : {node_field : Text} {node : ℕ} → parse_number node_field ≡ Some node
+      → IsLine (codes "crash" ∷ node_field ∷ []) (lines.Crash node)
   -- `open a 1`
-  opens : {c n : Text} {client : Text} {node : ℕ}
-      → parse_client c ≡ Some client → parse_number n ≡ Some node
-      → IsLine (codes "open" ∷ c ∷ n ∷ []) (lines.Open client node)
+  opens : {client_field node_field : Text} {client : Text} {node : ℕ}
+      → parse_client client_field ≡ Some client → parse_number node_field ≡ Some node
+      → IsLine (codes "open" ∷ client_field ∷ node_field ∷ []) (lines.Open client node)
   -- `up 1 15`, `up 1 all`
-  up : {c a : Text} {connection : ℕ} {amount : Amount}
-      → parse_number c ≡ Some connection → parse_amount a ≡ Some amount
-      → IsLine (codes "up" ∷ c ∷ a ∷ []) (lines.CarryUp connection amount)
+  up : {connection_field amount_field : Text} {connection : ℕ} {amount : Amount}
+      → parse_number connection_field ≡ Some connection → parse_amount amount_field ≡ Some amount
+      → IsLine (codes "up" ∷ connection_field ∷ amount_field ∷ []) (lines.CarryUp connection amount)
   -- `down 1 4`, `down 1 all`
-  down : {c a : Text} {connection : ℕ} {amount : Amount}
-      → parse_number c ≡ Some connection → parse_amount a ≡ Some amount
-      → IsLine (codes "down" ∷ c ∷ a ∷ []) (lines.CarryDown connection amount)
+  down : {connection_field amount_field : Text} {connection : ℕ} {amount : Amount}
+      → parse_number connection_field ≡ Some connection → parse_amount amount_field ≡ Some amount
+      → IsLine (codes "down" ∷ connection_field ∷ amount_field ∷ [])
+      (lines.CarryDown connection amount)
   -- `abandon a`
-  abandon : {c : Text} {client : Text} → parse_client c ≡ Some client
-      → IsLine (codes "abandon" ∷ c ∷ []) (lines.Abandon client)
+  abandon : {client_field : Text} {client : Text} → parse_client client_field ≡ Some client
+      → IsLine (codes "abandon" ∷ client_field ∷ []) (lines.Abandon client)
   -- `disconnect a`
-  disconnect : {c : Text} {client : Text} → parse_client c ≡ Some client
-      → IsLine (codes "disconnect" ∷ c ∷ []) (lines.Disconnect client)
+  disconnect : {client_field : Text} {client : Text} → parse_client client_field ≡ Some client
+      → IsLine (codes "disconnect" ∷ client_field ∷ []) (lines.Disconnect client)
   -- `notice 1`
-  notice : {c : Text} {connection : ℕ} → parse_number c ≡ Some connection
-      → IsLine (codes "notice" ∷ c ∷ []) (lines.Notice connection)
+  notice : {connection_field : Text} {connection : ℕ}
+      → parse_number connection_field ≡ Some connection
+      → IsLine (codes "notice" ∷ connection_field ∷ []) (lines.Notice connection)
   -- `publish a t/1 2 0 78`
-  publish : {c t q r p : Text} {client topic payload : Text} {qos : QoS} {retain : Bool}
-      → parse_client c ≡ Some client → parse_topic t ≡ Some topic → parse_qos q ≡ Some qos
-      → parse_retain r ≡ Some retain → parse_payload p ≡ Some payload
-      → IsLine (codes "publish" ∷ c ∷ t ∷ q ∷ r ∷ p ∷ [])
+  publish : {client_field topic_field qos_field retain_field payload_field : Text}
+      {client topic payload : Text} {qos : QoS} {retain : Bool}
+      → parse_client client_field ≡ Some client → parse_topic topic_field ≡ Some topic
+      → parse_qos qos_field ≡ Some qos
+      → parse_retain retain_field ≡ Some retain → parse_payload payload_field ≡ Some payload
+      → IsLine
+      (codes "publish" ∷ client_field ∷ topic_field ∷ qos_field ∷ retain_field ∷ payload_field ∷ [])
       (lines.Publish client
       (record { retain = retain; qos = qos; topic = topic; payload = payload }))
   -- `subscribe b t/# 2`
-  subscribe : {c f q : Text} {client filter : Text} {qos : QoS}
-      → parse_client c ≡ Some client → parse_filter f ≡ Some filter → parse_qos q ≡ Some qos
-      → IsLine (codes "subscribe" ∷ c ∷ f ∷ q ∷ []) (lines.Subscribe client filter qos)
+  subscribe : {client_field filter_field qos_field : Text} {client filter : Text} {qos : QoS}
+      → parse_client client_field ≡ Some client → parse_filter filter_field ≡ Some filter
+      → parse_qos qos_field ≡ Some qos
+      → IsLine (codes "subscribe" ∷ client_field ∷ filter_field ∷ qos_field ∷ [])
+      (lines.Subscribe client filter qos)
   -- `unsubscribe b t/#`
-  unsubscribe : {c f : Text} {client filter : Text}
-      → parse_client c ≡ Some client → parse_filter f ≡ Some filter
-      → IsLine (codes "unsubscribe" ∷ c ∷ f ∷ []) (lines.Unsubscribe client filter)
+  unsubscribe : {client_field filter_field : Text} {client filter : Text}
+      → parse_client client_field ≡ Some client → parse_filter filter_field ≡ Some filter
+      → IsLine (codes "unsubscribe" ∷ client_field ∷ filter_field ∷ [])
+      (lines.Unsubscribe client filter)

@@ -41,12 +41,15 @@ are_distinct (client ∷ clients) = not (has_client clients client) && are_disti
 -- the first line of these fields opens this world: `world 2 1,2 1 a,b`
 pub data IsOpening : List Text → Opening → Type 0 where
   -- its word, and four fields
-  world : {n m p c : Text} {opening : Opening}
-      → parse_number n ≡ Some opening.nodes → parse_numbers m ≡ Some opening.config.members
-      → parse_number p ≡ Some opening.config.primary → parse_clients c ≡ Some opening.clients.items
+  world : {nodes_field members_field primary_field clients_field : Text} {opening : Opening}
+      → parse_number nodes_field ≡ Some opening.nodes
+      → parse_numbers members_field ≡ Some opening.config.members
+      → parse_number primary_field ≡ Some opening.config.primary
+      → parse_clients clients_field ≡ Some opening.clients.items
       → is_lawful_opening opening.nodes opening.config.members opening.config.primary ≡ true
       → are_distinct opening.clients.items ≡ true
-      → IsOpening (codes "world" ∷ n ∷ m ∷ p ∷ c ∷ []) opening
+      → IsOpening
+      (codes "world" ∷ nodes_field ∷ members_field ∷ primary_field ∷ clients_field ∷ []) opening
 
 -- lines are well-formed texts of these forms
 abbrev pub IsOpeningLine : Text → Opening → Type 0

@@ -8,8 +8,9 @@ use Rattle.session_base.specs.Queue.{Queue, enqueue, filled}
 -- Of a connected client's queue: each copy of QoS 1 or 2 comes last, and what may start after it
 -- starts.
 abbrev pub copies_left : ℕ → List Publication → Queue → Queue
-copies_left window (p ∷ copies) queue =
-    if is_answered p.qos then copies_left window copies (filled window (enqueue p queue))
+copies_left window (publication ∷ copies) queue =
+    if is_answered publication.qos
+    then copies_left window copies (filled window (enqueue publication queue))
     else copies_left window copies queue
 copies_left window [] queue = queue
 
@@ -18,5 +19,5 @@ abbrev pub copies_waiting : List Publication → Queue → Queue
 copies_waiting copies queue =
     record {
       in_flight = queue.in_flight;
-      waiting = queue.waiting ++ filter (λ p. is_answered p.qos) copies;
+      waiting = queue.waiting ++ filter (λ publication. is_answered publication.qos) copies;
     }

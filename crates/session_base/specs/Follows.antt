@@ -32,4 +32,4 @@ may_follow front flight =
 
 -- any publication may come after those before it
 abbrev pub anything : List Publication → Publication → Bool
-anything front p = true
+anything front publication = true

@@ -44,13 +44,15 @@ qos_at bytes = do
 -- how many bytes the body of a PUBLISH has that carries the publication: topic with its length,
 -- identifier, payload
 abbrev pub body_length : Publication → ℕ
-body_length p = 2 + length p.topic + (if is_answered p.qos then 2 else 0) + length p.payload
+body_length publication =
+    2 + length publication.topic + (if is_answered publication.qos then 2 else 0)
+    + length publication.payload
 
 -- a publication whose PUBLISH is within the limit
 abbrev pub sized : Publication → Result Publication Stop
-sized p = do
-  check_form (nat_le (body_length p) max_body)
-  Ok p
+sized publication = do
+  check_form (nat_le (body_length publication) max_body)
+  Ok publication
 
 -- a publication: RETAIN, QoS, topic, and the payload with its length before it
 unfoldable pub publication_at : List ℕ → Result (Publication × List ℕ) Stop
@@ -60,8 +62,9 @@ publication_at bytes = do
   topic ← topic_at qos.1
   len ← long_number_at topic.1
   payload ← front_at len.0 len.1
-  p ← sized (record { retain = retain.0; qos = qos.0; topic = topic.0; payload = payload.0 })
-  Ok (p, payload.1)
+  publication ← sized
+      (record { retain = retain.0; qos = qos.0; topic = topic.0; payload = payload.0 })
+  Ok (publication, payload.1)
 
 -- a filter with its QoS
 unfoldable pub granted_filter_at : List ℕ → Result (GrantedFilter × List ℕ) Stop
@@ -73,16 +76,16 @@ granted_filter_at bytes = do
 -- a publication that waits: at QoS 1 or 2
 unfoldable pub waiting_at : List ℕ → Result (Publication × List ℕ) Stop
 waiting_at bytes = do
-  p ← publication_at bytes
-  check_form (is_answered p.0.qos)
-  Ok p
+  publication ← publication_at bytes
+  check_form (is_answered publication.0.qos)
+  Ok publication
 
 -- one that waits for PUBACK is of QoS 1, one that waits for PUBREC of QoS 2
 unfoldable pub sent_at : Bool → List ℕ → Result (Awaits × List ℕ) Stop
 sent_at acknowledged bytes = do
-  p ← waiting_at bytes
-  check_form (if acknowledged then is_acknowledged p.0.qos else not (is_acknowledged p.0.qos))
-  Ok (if acknowledged then waits_for.Puback p.0 else waits_for.Pubrec p.0, p.1)
+  sent ← waiting_at bytes
+  check_form (if acknowledged then is_acknowledged sent.0.qos else not (is_acknowledged sent.0.qos))
+  Ok (if acknowledged then waits_for.Puback sent.0 else waits_for.Pubrec sent.0, sent.1)
 
 -- what an entry waits for, by a byte of 0 to 2
 unfoldable pub awaits_at : List ℕ → Result (Awaits × List ℕ) Stop

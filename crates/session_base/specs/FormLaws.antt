@@ -16,35 +16,35 @@ use Rattle.session_base.specs.SessionForm.{state_at}
 
 -- a session that has a form: each filter once, received identifiers rising, those in flight
 -- distinct, the released entries first, no more of each than it may hold, and each in its range
-pub record HasForm (s : SessionState) : Type 0 where
-  pub filters_apart : AreFiltersApart s.subscriptions
-  pub filters : AllByRecursion IsGrantedFilter s.subscriptions
-  pub few_filters : length s.subscriptions ≤ max_subscriptions
-  pub rising : IsStrictlySortedBy nat_cmp s.received
-  pub received : AllByRecursion IsId s.received
-  pub distinct : IsDistinct (ids_of s.queue.in_flight)
-  pub released_first : IsReleasedFirst s.queue.in_flight
-  pub queue : IsQueue max_entries s.queue
+pub record HasForm (session : SessionState) : Type 0 where
+  pub filters_apart : AreFiltersApart session.subscriptions
+  pub filters : AllByRecursion IsGrantedFilter session.subscriptions
+  pub few_filters : length session.subscriptions ≤ max_subscriptions
+  pub rising : IsStrictlySortedBy nat_cmp session.received
+  pub received : AllByRecursion IsId session.received
+  pub distinct : IsDistinct (ids_of session.queue.in_flight)
+  pub released_first : IsReleasedFirst session.queue.in_flight
+  pub queue : IsQueue max_entries session.queue
 
 -- no more of its entries are in flight than the window allows
 abbrev pub FitsIn : ℕ → SessionState → Type 0
-FitsIn window s = length s.queue.in_flight ≤ window
+FitsIn window session = length session.queue.in_flight ≤ window
 
 -- whatever bytes follow, and whatever the window is, if no more is in flight
 abbrev pub FrozenIsRead : Type 0
 FrozenIsRead =
-    (window : ℕ) → window ≤ max_entries → (s : SessionState) (rest : List ℕ) → HasForm s →
-    FitsIn window s →
-    state_at window (state_bytes s ++ rest) ≡ Ok (s, rest)
+    (window : ℕ) → window ≤ max_entries → (session : SessionState) (rest : List ℕ) →
+    HasForm session → FitsIn window session →
+    state_at window (state_bytes session ++ rest) ≡ Ok (session, rest)
 
 -- a session that was read has a form
 abbrev pub ReadHasForm : Type 0
 ReadHasForm =
     (window : ℕ) → window ≤ max_entries → (bytes : List ℕ) → AreBytes bytes →
-    IfOk (state_at window bytes) (λ x. HasForm x.0 × FitsIn window x.0 × AreBytes x.1)
+    IfOk (state_at window bytes) (λ read. HasForm read.0 × FitsIn window read.0 × AreBytes read.1)
 
 -- what was read is written as it stood, in front of the bytes that are left
 abbrev pub ReadIsFrozen : Type 0
 ReadIsFrozen =
     (window : ℕ) → (bytes : List ℕ) → AreBytes bytes
-    → IfOk (state_at window bytes) (λ x. bytes ≡ state_bytes x.0 ++ x.1)
+    → IfOk (state_at window bytes) (λ read. bytes ≡ state_bytes read.0 ++ read.1)

@@ -8,10 +8,10 @@ use Rattle.lists.specs.Lists.{has_id}
 abbrev pub max_id : ℕ
 max_id = 65535
 
--- the first number from i on that is not busy, if this many may be
+-- the first identifier from this one on that is not busy, if this many may be
 abbrev pub free_from : ℕ → ℕ → List ℕ → ℕ
-free_from zero i busy = i
-free_from (suc many) i busy = if has_id i busy then free_from many (suc i) busy else i
+free_from zero id busy = id
+free_from (suc many) id busy = if has_id id busy then free_from many (suc id) busy else id
 
 -- the smallest number from 1 up that is not busy
 abbrev pub least_free : List ℕ → ℕ

@@ -15,16 +15,18 @@ use Rattle.session_base.specs.Queue.{Flight, Queue}
 
 -- a publication whose PUBLISH can be spelled: a topic name, and a packet within the limit
 abbrev pub CanBeSent : Publication → Type 0
-CanBeSent p = IsPacket (packets.Publish (publish_for false 1 p))
+CanBeSent publication = IsPacket (packets.Publish (publish_for false 1 publication))
 
 -- a publication that waits: it is to be answered
 abbrev pub MayWait : Publication → Type 0
-MayWait p = IsTrue (is_answered p.qos) × CanBeSent p
+MayWait publication = IsTrue (is_answered publication.qos) × CanBeSent publication
 
 -- an entry in flight: PUBACK answers QoS 1, PUBREC answers QoS 2 (MQTT 4.3)
 abbrev pub IsInFlight : Flight → Type 0
-IsInFlight (id, waits_for.Puback p) = IsId id × (p.qos ≡ qualities.AtLeastOnce) × CanBeSent p
-IsInFlight (id, waits_for.Pubrec p) = IsId id × (p.qos ≡ qualities.ExactlyOnce) × CanBeSent p
+IsInFlight (id, waits_for.Puback publication) =
+    IsId id × (publication.qos ≡ qualities.AtLeastOnce) × CanBeSent publication
+IsInFlight (id, waits_for.Pubrec publication) =
+    IsId id × (publication.qos ≡ qualities.ExactlyOnce) × CanBeSent publication
 IsInFlight (id, waits_for.Pubcomp) = IsId id
 
 -- a subscription: a filter that is lawful

@@ -15,15 +15,17 @@ use Rattle.session_base.specs.Sending.{fill_sends}
 
 -- the publications in flight: a released entry has none left
 abbrev pub publications_in_flight : List Flight → List Publication
-publications_in_flight ((id, waits_for.Puback p) ∷ flights) = p ∷ publications_in_flight flights
-publications_in_flight ((id, waits_for.Pubrec p) ∷ flights) = p ∷ publications_in_flight flights
+publications_in_flight ((id, waits_for.Puback publication) ∷ flights) =
+    publication ∷ publications_in_flight flights
+publications_in_flight ((id, waits_for.Pubrec publication) ∷ flights) =
+    publication ∷ publications_in_flight flights
 publications_in_flight ((id, waits_for.Pubcomp) ∷ flights) = publications_in_flight flights
 publications_in_flight [] = []
 
 -- an entry that starts is sent with DUP 0
 abbrev pub first_sent : ℕ → Awaits → Packet
-first_sent id (waits_for.Puback p) = packets.Publish (publish_for false id p)
-first_sent id (waits_for.Pubrec p) = packets.Publish (publish_for false id p)
+first_sent id (waits_for.Puback publication) = packets.Publish (publish_for false id publication)
+first_sent id (waits_for.Pubrec publication) = packets.Publish (publish_for false id publication)
 first_sent id waits_for.Pubcomp = packets.Pubrel id
 
 -- ---- identifiers
@@ -95,4 +97,4 @@ CopiesAreOneFill =
     (window : ℕ) → (flights : List Flight) → (waiting copies : List Publication) →
     IsFilledQueue window flights waiting →
     copies_left window copies (record { in_flight = flights; waiting = waiting })
-    ≡ fill window flights (waiting ++ filter (λ p. is_answered p.qos) copies)
+    ≡ fill window flights (waiting ++ filter (λ publication. is_answered publication.qos) copies)

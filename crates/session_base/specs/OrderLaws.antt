@@ -70,21 +70,23 @@ abbrev pub ResendsInOrder : Type 0
 ResendsInOrder =
     ((flights others : List Flight) → resend (flights ++ others) ≡ resend flights ++ resend others)
     × ((id : ℕ) → resend ((id, waits_for.Pubcomp) ∷ []) ≡ packets.Pubrel id ∷ [])
-    × ((id : ℕ) → (p : Publication)
-    → resend ((id, waits_for.Puback p) ∷ []) ≡ packets.Publish (publish_for true id p) ∷ [])
-    × ((id : ℕ) → (p : Publication)
-    → resend ((id, waits_for.Pubrec p) ∷ []) ≡ packets.Publish (publish_for true id p) ∷ [])
+    × ((id : ℕ) → (publication : Publication)
+    → resend ((id, waits_for.Puback publication) ∷ [])
+    ≡ packets.Publish (publish_for true id publication) ∷ [])
+    × ((id : ℕ) → (publication : Publication)
+    → resend ((id, waits_for.Pubrec publication) ∷ [])
+    ≡ packets.Publish (publish_for true id publication) ∷ [])
 
 -- An entry of QoS 1 that was sent is finished by its PUBACK, and a PUBREC is nothing to it. One of
 -- QoS 2 is released by its PUBREC and finished by the PUBCOMP after it, and a PUBACK is nothing to
 -- it (MQTT 4.3.2, 4.3.3).
 abbrev pub AnswersFitTheQoS : Type 0
 AnswersFitTheQoS =
-    (id : ℕ) → (p : Publication) →
-    (p.qos ≡ qualities.AtLeastOnce →
-    (on_puback id ((id, awaited p) ∷ []) ≡ [])
-    × (on_pubrec id ((id, awaited p) ∷ []) ≡ (id, awaited p) ∷ []))
-    × (p.qos ≡ qualities.ExactlyOnce →
-    (on_puback id ((id, awaited p) ∷ []) ≡ (id, awaited p) ∷ [])
-    × (on_pubrec id ((id, awaited p) ∷ []) ≡ (id, waits_for.Pubcomp) ∷ [])
-    × (on_pubcomp id (on_pubrec id ((id, awaited p) ∷ [])) ≡ []))
+    (id : ℕ) → (publication : Publication) →
+    (publication.qos ≡ qualities.AtLeastOnce →
+    (on_puback id ((id, awaited publication) ∷ []) ≡ [])
+    × (on_pubrec id ((id, awaited publication) ∷ []) ≡ (id, awaited publication) ∷ []))
+    × (publication.qos ≡ qualities.ExactlyOnce →
+    (on_puback id ((id, awaited publication) ∷ []) ≡ (id, awaited publication) ∷ [])
+    × (on_pubrec id ((id, awaited publication) ∷ []) ≡ (id, waits_for.Pubcomp) ∷ [])
+    × (on_pubcomp id (on_pubrec id ((id, awaited publication) ∷ [])) ≡ []))

@@ -10,12 +10,12 @@ use Rattle.session_base.specs.declared.publication.Publication.{Publication}
 
 -- what this PUBLISH carries
 abbrev pub publication_of : Publish → Publication
-publication_of p =
+publication_of publish =
     record {
-      retain = p.retain;
-      qos = delivery_qos p.delivery;
-      topic = p.topic;
-      payload = p.payload;
+      retain = publish.retain;
+      qos = delivery_qos publish.delivery;
+      topic = publish.topic;
+      payload = publish.payload;
     }
 
 -- how a publication is delivered at this QoS, with DUP and identifier if the QoS has them
@@ -26,12 +26,12 @@ delivery_with qualities.ExactlyOnce dup id = deliveries.ExactlyOnce dup id
 
 -- the PUBLISH that carries it
 abbrev pub publish_for : Bool → ℕ → Publication → Publish
-publish_for dup id p =
+publish_for dup id publication =
     record {
-      topic = p.topic;
-      delivery = delivery_with p.qos dup id;
-      retain = p.retain;
-      payload = p.payload;
+      topic = publication.topic;
+      delivery = delivery_with publication.qos dup id;
+      retain = publication.retain;
+      payload = publication.payload;
     }
 
 -- whether a publication of this QoS goes into a queue: QoS 1 and 2 are answered

@@ -25,18 +25,20 @@ empty_queue = record { in_flight = []; waiting = [] }
 
 -- what a publication waits for once it is sent (MQTT 4.3.2, 4.3.3)
 abbrev pub awaited : Publication → Awaits
-awaited p = if is_acknowledged p.qos then waits_for.Puback p else waits_for.Pubrec p
+awaited publication =
+    if is_acknowledged publication.qos then waits_for.Puback publication
+    else waits_for.Pubrec publication
 
 -- ---- the client's answers
 
 -- whether an entry in flight waits for PUBACK
 abbrev pub is_puback : Awaits → Bool
-is_puback (waits_for.Puback p) = true
+is_puback (waits_for.Puback publication) = true
 is_puback _ = false
 
 -- whether an entry in flight waits for PUBREC
 abbrev pub is_pubrec : Awaits → Bool
-is_pubrec (waits_for.Pubrec p) = true
+is_pubrec (waits_for.Pubrec publication) = true
 is_pubrec _ = false
 
 -- whether an entry in flight waits for PUBCOMP
@@ -85,7 +87,8 @@ on_pubcomp id = filter (λ flight. not (awaits_pubcomp id flight))
 
 -- a publication comes last
 abbrev pub enqueue : Publication → Queue → Queue
-enqueue p queue = record { in_flight = queue.in_flight; waiting = queue.waiting ++ p ∷ [] }
+enqueue publication queue =
+    record { in_flight = queue.in_flight; waiting = queue.waiting ++ publication ∷ [] }
 
 -- how many more entries a queue takes that holds no more than the limit
 abbrev pub room : ℕ → Queue → ℕ
@@ -98,14 +101,14 @@ ids_of = map (λ flight. flight.0)
 -- the entry that the publication becomes when it starts: it takes the least identifier that is not
 -- in flight
 abbrev pub started_flight : List Flight → Publication → Flight
-started_flight in_flight p = (least_free (ids_of in_flight), awaited p)
+started_flight in_flight publication = (least_free (ids_of in_flight), awaited publication)
 
 -- While fewer entries are in flight than the window, the first that waits starts (MQTT 4.6).
 abbrev pub fill : ℕ → List Flight → List Publication → Queue
-fill window in_flight (p ∷ waiting) =
+fill window in_flight (publication ∷ waiting) =
     if nat_lt (length in_flight) window
-    then fill window (in_flight ++ started_flight in_flight p ∷ []) waiting
-    else record { in_flight = in_flight; waiting = p ∷ waiting }
+    then fill window (in_flight ++ started_flight in_flight publication ∷ []) waiting
+    else record { in_flight = in_flight; waiting = publication ∷ waiting }
 fill window in_flight [] = record { in_flight = in_flight; waiting = [] }
 
 -- a queue in which all has started that may start

@@ -12,18 +12,18 @@ use Rattle.std.specs.List.{list_any}
 
 -- what a fill sends: each publication that starts, with DUP 0 (MQTT 3.3.1.1)
 abbrev pub fill_sends : ℕ → List Flight → List Publication → List Packet
-fill_sends window in_flight (p ∷ waiting) =
+fill_sends window in_flight (publication ∷ waiting) =
     if nat_lt (length in_flight) window
-    then packets.Publish (publish_for false (started_flight in_flight p).0 p)
-    ∷ fill_sends window (in_flight ++ started_flight in_flight p ∷ []) waiting
+    then packets.Publish (publish_for false (started_flight in_flight publication).0 publication)
+    ∷ fill_sends window (in_flight ++ started_flight in_flight publication ∷ []) waiting
     else []
 fill_sends window in_flight [] = []
 
 -- what a client that comes back is sent of an entry: PUBREL for a released one, else PUBLISH with
 -- DUP 1 (MQTT 4.4)
 abbrev pub sent_anew : ℕ → Awaits → Packet
-sent_anew id (waits_for.Puback p) = packets.Publish (publish_for true id p)
-sent_anew id (waits_for.Pubrec p) = packets.Publish (publish_for true id p)
+sent_anew id (waits_for.Puback publication) = packets.Publish (publish_for true id publication)
+sent_anew id (waits_for.Pubrec publication) = packets.Publish (publish_for true id publication)
 sent_anew id waits_for.Pubcomp = packets.Pubrel id
 
 -- what a client that comes back is sent of all that is in flight, in order
@@ -39,9 +39,9 @@ pubrec_sends id after =
 -- What a connected client is sent of copies that come one by one: each of QoS 0 at once, and what
 -- starts after each other that is enqueued.
 abbrev pub copies_sent : ℕ → List Publication → Queue → List Packet
-copies_sent window (p ∷ copies) queue =
-    if is_answered p.qos
-    then fill_sends window queue.in_flight (enqueue p queue).waiting
-    ++ copies_sent window copies (filled window (enqueue p queue))
-    else packets.Publish (publish_for false 0 p) ∷ copies_sent window copies queue
+copies_sent window (publication ∷ copies) queue =
+    if is_answered publication.qos
+    then fill_sends window queue.in_flight (enqueue publication queue).waiting
+    ++ copies_sent window copies (filled window (enqueue publication queue))
+    else packets.Publish (publish_for false 0 publication) ∷ copies_sent window copies queue
 copies_sent window [] queue = []

@@ -22,9 +22,9 @@ one_byte n = n ∷ []
 
 -- RETAIN, QoS, topic, payload with its length
 abbrev pub publication_bytes : Publication → List ℕ
-publication_bytes p =
-    bit p.retain ∷ qos_number p.qos
-    ∷ (text p.topic ++ (long_number (length p.payload) ++ p.payload))
+publication_bytes publication =
+    bit publication.retain ∷ qos_number publication.qos
+    ∷ (text publication.topic ++ (long_number (length publication.payload) ++ publication.payload))
 
 -- a filter with its QoS
 abbrev pub granted_filter_bytes : GrantedFilter → List ℕ
@@ -32,8 +32,8 @@ granted_filter_bytes granted = text granted.0 ++ one_byte (qos_number granted.1)
 
 -- what an entry waits for: 0 PUBACK, 1 PUBREC, 2 PUBCOMP, with its publication if it still has one
 abbrev pub awaits_bytes : Awaits → List ℕ
-awaits_bytes (waits_for.Puback p) = 0 ∷ publication_bytes p
-awaits_bytes (waits_for.Pubrec p) = 1 ∷ publication_bytes p
+awaits_bytes (waits_for.Puback publication) = 0 ∷ publication_bytes publication
+awaits_bytes (waits_for.Pubrec publication) = 1 ∷ publication_bytes publication
 awaits_bytes waits_for.Pubcomp = 2 ∷ []
 
 -- an entry in flight: its identifier, and what it waits for
@@ -43,20 +43,20 @@ flight_bytes flight = number flight.0 ++ awaits_bytes flight.1
 -- subscriptions in the order of their first granting, received identifiers, what is in flight, what
 -- waits
 abbrev pub state_bytes : SessionState → List ℕ
-state_bytes s =
-    counted_bytes one_byte granted_filter_bytes s.subscriptions
-    ++ (counted_bytes number number s.received
-    ++ (counted_bytes number flight_bytes s.queue.in_flight
-    ++ counted_bytes number publication_bytes s.queue.waiting))
+state_bytes session =
+    counted_bytes one_byte granted_filter_bytes session.subscriptions
+    ++ (counted_bytes number number session.received
+    ++ (counted_bytes number flight_bytes session.queue.in_flight
+    ++ counted_bytes number publication_bytes session.queue.waiting))
 
 -- ---- what can be written
 
 -- the payload's length fits four bytes
 abbrev pub HasLength : Publication → Type 0
-HasLength p = length p.payload < 2 ^ 32
+HasLength publication = length publication.payload < 2 ^ 32
 
 -- the length of the payload of an entry's publication fits four bytes, if it has one
 abbrev pub IsWritable : Awaits → Type 0
-IsWritable (waits_for.Puback p) = HasLength p
-IsWritable (waits_for.Pubrec p) = HasLength p
+IsWritable (waits_for.Puback publication) = HasLength publication
+IsWritable (waits_for.Pubrec publication) = HasLength publication
 IsWritable waits_for.Pubcomp = Unit {0}

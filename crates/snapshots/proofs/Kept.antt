@@ -156,9 +156,9 @@ kept_moved {S = S} {C = C} {O = O} rules config m w earlier more n r new given d
 -- fewer messages
 own_thinned : {S C O : Type 0} (s : ReplicaState S C) {xs ys : List (Effect C O)} → Thinned xs ys → SaysOwn s ys → SaysOwn s xs
 own_thinned s none own to m i = own to m i
-own_thinned s (keeps {e = To to' m'} t) own to m here = own to m here
-own_thinned s (keeps {e = To to' m'} t) own to m (there i) = own_thinned s t (λ a b j. own a b (there j)) to m i
-own_thinned s (keeps {e = Out place o} t) own to m i = own_thinned s t own to m i
+own_thinned s (keeps {effect = To to' m'} t) own to m here = own to m here
+own_thinned s (keeps {effect = To to' m'} t) own to m (there i) = own_thinned s t (λ a b j. own a b (there j)) to m i
+own_thinned s (keeps {effect = Out place o} t) own to m i = own_thinned s t own to m i
 own_thinned s (loses t) own to m i = own_thinned s t (λ a b j. own a b (there j)) to m i
 
 -- a step that takes no log, or takes none

@@ -50,8 +50,8 @@ use Rattle.snapshots.proofs.Views.{get_whole, outputs_whole, whole_loses}
 -- only messages are missing, and messages are no outputs
 thinned_outputs : {C O : Type 0} {xs ys : List (Effect C O)} → Thinned xs ys → outputs xs ≡ outputs ys
 thinned_outputs none = refl
-thinned_outputs (keeps {e = To receiver m} t) = thinned_outputs t
-thinned_outputs (keeps {e = Out place o} t) = ap (λ us. (place, o) ∷ us) (thinned_outputs t)
+thinned_outputs (keeps {effect = To receiver m} t) = thinned_outputs t
+thinned_outputs (keeps {effect = Out place o} t) = ap (λ us. (place, o) ∷ us) (thinned_outputs t)
 thinned_outputs (loses t) = thinned_outputs t
 
 each_silent : {C : Type 0} (O : Type 0) (id : ℕ) (body : Body C) (receivers : List ℕ) → outputs (message_to_each O id body receivers) ≡ []

@@ -111,7 +111,7 @@ gave_between {S = S} {C = C} {O = O} rules config a past came n ballot old stood
           ∙ ap (λ us. given_of n came ++ us) (none_between rules xs old.committed) ∙ append-nil (given_of n came)),
     )
 gave_between {S = S} {C = C} {O = O} rules config a past came n ballot old stood c later xs more agreed
-    (leads_still {b = b} {later = earlier} {more = before} leads step p) new stands =
+    (leads_still {previous = b} {later = earlier} {more = before} leads step p) new stands =
     let mid = leads_now leads in
     let back = node_at (whole b.world.archive) b.world.nodes n mid.replica mid.stands in
     let r = back.0 in

@@ -11,17 +11,18 @@ use Rattle.snapshots.specs.World.{CutGroupWorld, whole_world}
 -- what is applied anywhere begins the list, and each member of the active ballot holds it
 abbrev pub Agrees : {S C O : Type 0} → Rules S C O → MasterState → CutGroupWorld S C O → List C →
     Type 0
-Agrees rules m w xs = AgreesWhole rules m (whole_world w) xs
+Agrees rules master world list = AgreesWhole rules master (whole_world world) list
 
 -- some member of the active ballot holds it
 abbrev pub Holds : {S C O : Type 0} → MasterState → CutGroupWorld S C O → List C → Type 0
-Holds m w xs = HoldsWhole m (whole_world w) xs
+Holds master world list = HoldsWhole master (whole_world world) list
 
 -- the outputs that left are the machine's answers at places of it, in order
 abbrev pub LeftInOrder : {S C O : Type 0} →
     Rules S C O → List (Moment S C O) → CutGroupWorld S C O → List C → Type 0
-LeftInOrder rules past w xs = LeftInOrderWhole rules (map whole_moment past) (whole_world w) xs
+LeftInOrder rules past world list =
+    LeftInOrderWhole rules (map whole_moment past) (whole_world world) list
 
 -- the node at an index is the active primary of a ballot
 abbrev pub IsPrimary : {S C O : Type 0} → CutGroupWorld S C O → ℕ → ℕ → Type 0
-IsPrimary w n ballot = IsPrimaryWhole (whole_world w) n ballot
+IsPrimary world node ballot = IsPrimaryWhole (whole_world world) node ballot

@@ -22,51 +22,53 @@ use Rattle.snapshots.specs.World.{whole_world}
 -- there is an agreed list at each moment
 abbrev pub HasAgreed : {S C O : Type 0} → Rules S C O → Type 0
 HasAgreed {S} {C} {O} rules =
-    (config : Config) (a : Moment S C O) (past : List (Moment S C O)) →
-    Moments rules config (a ∷ past) →
-    (xs : List C) × IsAgreed config (map whole_moment (a ∷ past)) xs
+    (config : Config) (moment : Moment S C O) (past : List (Moment S C O)) →
+    Moments rules config (moment ∷ past) →
+    (agreed : List C) × IsAgreed config (map whole_moment (moment ∷ past)) agreed
 
 -- the nodes agree on it, and a member of the active ballot holds it; what left is its answers in
 -- order, and the record of places is a prefix of it
 abbrev pub NodesAgree : {S C O : Type 0} → Rules S C O → Type 0
 NodesAgree {S} {C} {O} rules =
-    (config : Config) (a : Moment S C O) (past : List (Moment S C O)) (xs : List C) →
-    Moments rules config (a ∷ past) → IsAgreed config (map whole_moment (a ∷ past)) xs →
-    Agrees rules a.master (whole_world a.world) xs × Holds a.master (whole_world a.world) xs
-    × LeftInOrder rules (map whole_moment (a ∷ past)) (whole_world a.world) xs
-    × IsPrefixOf a.world.archive xs
+    (config : Config) (moment : Moment S C O) (past : List (Moment S C O)) (agreed : List C) →
+    Moments rules config (moment ∷ past) →
+    IsAgreed config (map whole_moment (moment ∷ past)) agreed →
+    Agrees rules moment.master (whole_world moment.world) agreed
+    × Holds moment.master (whole_world moment.world) agreed
+    × LeftInOrder rules (map whole_moment (moment ∷ past)) (whole_world moment.world) agreed
+    × IsPrefixOf moment.world.archive agreed
 
 -- what is agreed begins what is agreed at the next moment
 abbrev pub AgreedGrows : {S C O : Type 0} → Rules S C O → Type 0
 AgreedGrows {S} {C} {O} rules =
-    (config : Config) (a : Moment S C O) (past : List (Moment S C O)) (xs ys : List C) →
-    IsAgreed config (map whole_moment past) xs →
-    IsAgreed config (map whole_moment (a ∷ past)) ys → IsPrefixOf xs ys
+    (config : Config) (moment : Moment S C O) (past : List (Moment S C O)) (agreed later : List C) →
+    IsAgreed config (map whole_moment past) agreed →
+    IsAgreed config (map whole_moment (moment ∷ past)) later → IsPrefixOf agreed later
 
 -- the machine of each node that runs is the replay of the places that it applied
 abbrev pub MachinesReplay : {S C O : Type 0} → Rules S C O → Type 0
 MachinesReplay {S} {C} {O} rules =
-    (config : Config) (a : Moment S C O) (past : List (Moment S C O)) →
-    Moments rules config (a ∷ past) → AreReplays rules (whole_world a.world)
+    (config : Config) (moment : Moment S C O) (past : List (Moment S C O)) →
+    Moments rules config (moment ∷ past) → AreReplays rules (whole_world moment.world)
 
 -- the base of each log lies within the record and within what is applied; a snapshot is the frozen
 -- replay of the places below it, and thaws to that
 pub record IsCutRight {S C O : Type 0} (rules : Rules S C O) (archive : List C)
-    (r : ReplicaState S C) : Type 0 where
-  pub recorded : r.log.base ≤ length archive
-  pub applied : r.log.base ≤ r.committed
-  pub bytes : 0 < r.log.base →
-      r.log.snapshot ≡ rules.frozen (replay rules (take r.log.base archive))
-  pub snapshot : 0 < r.log.base →
-      rules.thawed r.log.snapshot ≡ Some (replay rules (take r.log.base archive))
+    (replica : ReplicaState S C) : Type 0 where
+  pub recorded : replica.log.base ≤ length archive
+  pub applied : replica.log.base ≤ replica.committed
+  pub bytes : 0 < replica.log.base →
+      replica.log.snapshot ≡ rules.frozen (replay rules (take replica.log.base archive))
+  pub snapshot : 0 < replica.log.base →
+      rules.thawed replica.log.snapshot ≡ Some (replay rules (take replica.log.base archive))
 
 -- each log of a group is cut right
 abbrev pub LogsAreCutRight : {S C O : Type 0} → Rules S C O → Type 0
 LogsAreCutRight {S} {C} {O} rules =
-    (config : Config) (a : Moment S C O) (past : List (Moment S C O)) →
-    Moments rules config (a ∷ past) →
-    (n : ℕ) (r : ReplicaState S C) → slice_get a.world.nodes n ≡ Some r →
-    IsCutRight rules a.world.archive r
+    (config : Config) (moment : Moment S C O) (past : List (Moment S C O)) →
+    Moments rules config (moment ∷ past) →
+    (node : ℕ) (replica : ReplicaState S C) → slice_get moment.world.nodes node ≡ Some replica →
+    IsCutRight rules moment.world.archive replica
 
 -- the log that a message brings
 abbrev pub log_in : {C : Type 0} → Body C → Option (Log C)
@@ -85,23 +87,25 @@ pub record IsSentRight {S C O : Type 0} (rules : Rules S C O) (archive : List C)
 -- each log that was sent is right
 abbrev pub SentLogsAreRight : {S C O : Type 0} → Rules S C O → Type 0
 SentLogsAreRight {S} {C} {O} rules =
-    (config : Config) (a : Moment S C O) (past : List (Moment S C O)) →
-    Moments rules config (a ∷ past) →
-    (to : ℕ) (message : Message C) → In (to, message) a.world.sent →
-    (log : Log C) → log_in message.body ≡ Some log → IsSentRight rules a.world.archive log
+    (config : Config) (moment : Moment S C O) (past : List (Moment S C O)) →
+    Moments rules config (moment ∷ past) →
+    (to : ℕ) (message : Message C) → In (to, message) moment.world.sent →
+    (log : Log C) → log_in message.body ≡ Some log → IsSentRight rules moment.world.archive log
 
 -- if a node has to read the snapshot of a message, it can be read
 abbrev pub SnapshotsAreRead : {S C O : Type 0} → Rules S C O → Type 0
 SnapshotsAreRead {S} {C} {O} rules =
-    (config : Config) (a : Moment S C O) (past : List (Moment S C O)) →
-    Moments rules config (a ∷ past) →
-    (to : ℕ) (message : Message C) → In (to, message) a.world.sent →
-    (r : ReplicaState S C) → is_unread rules r message.body ≡ false
+    (config : Config) (moment : Moment S C O) (past : List (Moment S C O)) →
+    Moments rules config (moment ∷ past) →
+    (to : ℕ) (message : Message C) → In (to, message) moment.world.sent →
+    (replica : ReplicaState S C) → is_unread rules replica message.body ≡ false
 
 -- a ballot has one active primary at most, over all moments of a past
 abbrev pub OnePrimaryABallot : {S C O : Type 0} → Rules S C O → Type 0
 OnePrimaryABallot {S} {C} {O} rules =
-    (config : Config) (a : Moment S C O) (past : List (Moment S C O)) →
-    Moments rules config (a ∷ past) →
-    (c d : Moment S C O) (m n ballot : ℕ) → In c (a ∷ past) → In d (a ∷ past) →
-    IsPrimary (whole_world c.world) m ballot → IsPrimary (whole_world d.world) n ballot → m ≡ n
+    (config : Config) (moment : Moment S C O) (past : List (Moment S C O)) →
+    Moments rules config (moment ∷ past) →
+    (first second : Moment S C O) (node other ballot : ℕ) →
+    In first (moment ∷ past) → In second (moment ∷ past) →
+    IsPrimary (whole_world first.world) node ballot →
+    IsPrimary (whole_world second.world) other ballot → node ≡ other

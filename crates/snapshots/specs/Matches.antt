@@ -7,13 +7,13 @@ use Rattle.agreement.specs.ballot_base.Replica.{ReplicaState}
 use Rattle.snapshots.specs.Whole.{whole, whole_effects}
 
 -- a replica whose base lies within the record, and within what it applied
-pub record IsBased {S C : Type 0} (archive : List C) (r : ReplicaState S C) : Type 0 where
-  pub within : r.log.base ≤ length archive
-  pub low : r.log.base ≤ r.committed
+pub record IsBased {S C : Type 0} (archive : List C) (replica : ReplicaState S C) : Type 0 where
+  pub within : replica.log.base ≤ length archive
+  pub low : replica.log.base ≤ replica.committed
 
 -- an outcome corresponds to one on whole logs, which may have more messages: a tick there repeats
 -- places that are dropped here
-pub record OutcomeMatches {S C O : Type 0} (archive : List C) (o : Outcome S C O)
-    (p : WholeOutcome S C O) : Type 0 where
-  pub state : whole archive o.state ≡ p.state
-  pub effects : Thinned (whole_effects archive o.effects) p.effects
+pub record OutcomeMatches {S C O : Type 0} (archive : List C) (outcome : Outcome S C O)
+    (whole_outcome : WholeOutcome S C O) : Type 0 where
+  pub state : whole archive outcome.state ≡ whole_outcome.state
+  pub effects : Thinned (whole_effects archive outcome.effects) whole_outcome.effects

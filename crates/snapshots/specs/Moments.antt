@@ -16,7 +16,7 @@ pub record Moment (S C O : Type 0) : Type 0 where
 
 -- the moment on whole logs
 abbrev pub whole_moment : {S C O : Type 0} → Moment S C O → WholeMoment S C O
-whole_moment a = record { master = a.master; world = whole_world a.world }
+whole_moment moment = record { master = moment.master; world = whole_world moment.world }
 
 -- the nodes as they open: no log has a place
 abbrev pub opening_nodes : {S C O : Type 0} → Rules S C O → ℕ → Config → List (ReplicaState S C)
@@ -38,12 +38,14 @@ opening_moment rules nodes config =
 pub data Moments {S C O : Type 0} (rules : Rules S C O) (config : Config) :
     List (Moment S C O) → Type 0 where
   -- the group opens with a configuration
-  began : {a : Moment S C O} (nodes : ℕ) → can_open nodes config ≡ true →
-      a ≡ opening_moment rules nodes config → Moments rules config (a ∷ [])
+  began : {moment : Moment S C O} (nodes : ℕ) → can_open nodes config ≡ true →
+      moment ≡ opening_moment rules nodes config → Moments rules config (moment ∷ [])
   -- one more step
-  went_on : {a b : Moment S C O} {past : List (Moment S C O)} → Moments rules config (a ∷ past) →
-      MayHappen rules a.master a.world b.master b.world → Moments rules config (b ∷ a ∷ past)
+  went_on : {moment next : Moment S C O} {past : List (Moment S C O)} →
+      Moments rules config (moment ∷ past) →
+      MayHappen rules moment.master moment.world next.master next.world →
+      Moments rules config (next ∷ moment ∷ past)
 
 -- the agreed list: the longest that is chosen in a ballot that was active, of the whole logs
 abbrev pub IsAgreed : {S C O : Type 0} → Config → List (Moment S C O) → List C → Type 0
-IsAgreed config past xs = IsAgreedWhole config (map whole_moment past) xs
+IsAgreed config past list = IsAgreedWhole config (map whole_moment past) list

@@ -25,61 +25,66 @@ use Rattle.snapshots.specs.World.{CutGroupWorld, whole_world}
 -- proposing
 abbrev pub KeepsTheOrder : {S C O : Type 0} → Rules S C O → Type 0
 KeepsTheOrder {S} {C} {O} rules =
-    (config : Config) (a : Moment S C O) (past : List (Moment S C O)) →
-    (came : Moments rules config (a ∷ past)) →
+    (config : Config) (moment : Moment S C O) (past : List (Moment S C O)) →
+    (came : Moments rules config (moment ∷ past)) →
     IsPartOf (taken_of came) (proposals_of came)
     × ((names : C → Bool) (ballot : ℕ) → IsOfBallot rules.start_of names ballot (taken_of came) →
-    (n : ℕ) (r : ReplicaState S C) → slice_get a.world.nodes n ≡ Some r →
-    IsPrefixOf (filter names (whole_log a.world.archive r.log))
+    (node : ℕ) (replica : ReplicaState S C) → slice_get moment.world.nodes node ≡ Some replica →
+    IsPrefixOf (filter names (whole_log moment.world.archive replica.log))
     (filter names (commands_of (taken_of came))))
 
 -- what a node takes in a step is at once at the end of its log; everything that is taken is taken
 -- by some node; and a proposal that is not taken changes no log. The step is one of a past, since
 -- the whole log is given by the record.
-pub record StandsAtOnce {S C O : Type 0} {rules : Rules S C O} {m : MasterState}
-    {w : CutGroupWorld S C O}
-    {k : MasterState} {v : CutGroupWorld S C O} (step : MayHappen rules m w k v) : Type 0 where
-  pub stands : (n : ℕ) (row : ℕ × C) → In row (takes_at n step) →
-      IsTaken (whole_world w) (whole_world v) n row
-  pub somewhere : (row : ℕ × C) → In row (taken_in step) → (n : ℕ) × In row (takes_at n step)
-  pub refused : taken_in step ≡ [] → (row : ℕ × C) → In row (proposal_of step) → (n : ℕ) →
-      log_of (slice_get (whole_world v).nodes n) ≡ log_of (slice_get (whole_world w).nodes n)
+pub record StandsAtOnce {S C O : Type 0} {rules : Rules S C O} {master : MasterState}
+    {world : CutGroupWorld S C O} {next_master : MasterState} {next_world : CutGroupWorld S C O}
+    (step : MayHappen rules master world next_master next_world) : Type 0 where
+  pub stands : (node : ℕ) (row : ℕ × C) → In row (takes_at node step) →
+      IsTaken (whole_world world) (whole_world next_world) node row
+  pub somewhere : (row : ℕ × C) → In row (taken_in step) → (node : ℕ) × In row (takes_at node step)
+  pub refused : taken_in step ≡ [] → (row : ℕ × C) → In row (proposal_of step) → (node : ℕ) →
+      log_of (slice_get (whole_world next_world).nodes node)
+      ≡ log_of (slice_get (whole_world world).nodes node)
 
 -- what a step takes is at the end of a log at once
 abbrev pub TakenStandAtOnce : {S C O : Type 0} → Rules S C O → Type 0
 TakenStandAtOnce {S} {C} {O} rules =
-    (config : Config) (a b : Moment S C O) (past : List (Moment S C O)) →
-    Moments rules config (a ∷ past) →
-    (step : MayHappen rules a.master a.world b.master b.world) → StandsAtOnce step
+    (config : Config) (moment next : Moment S C O) (past : List (Moment S C O)) →
+    Moments rules config (moment ∷ past) →
+    (step : MayHappen rules moment.master moment.world next.master next.world) → StandsAtOnce step
 
 -- what was taken in a ballot was taken by the one node that was its active primary
 abbrev pub OneNodeTakesABallot : {S C O : Type 0} → Rules S C O → Type 0
 OneNodeTakesABallot {S} {C} {O} rules =
-    (config : Config) (a : Moment S C O) (past : List (Moment S C O)) →
-    (came : Moments rules config (a ∷ past)) →
-    (c : Moment S C O) (n ballot : ℕ) → In c (a ∷ past) → IsPrimary (whole_world c.world) n ballot →
-    rows_in ballot (taken_of came) ≡ rows_in ballot (taken_at n came)
+    (config : Config) (moment : Moment S C O) (past : List (Moment S C O)) →
+    (came : Moments rules config (moment ∷ past)) →
+    (earlier : Moment S C O) (node ballot : ℕ) → In earlier (moment ∷ past) →
+    IsPrimary (whole_world earlier.world) node ballot →
+    rows_in ballot (taken_of came) ≡ rows_in ballot (taken_at node came)
 
 -- the outputs of a node in a step are the answers at the next places of the agreed list
 abbrev pub AnswersAtTheNextPlaces : {S C O : Type 0} → Rules S C O → Type 0
 AnswersAtTheNextPlaces {S} {C} {O} rules =
-    (config : Config) (a b : Moment S C O) (past : List (Moment S C O)) (xs : List C) →
-    Moments rules config (a ∷ past) → IsAgreed config (map whole_moment (b ∷ a ∷ past)) xs →
-    (step : MayHappen rules a.master a.world b.master b.world) →
-    (n : ℕ) (old new : ReplicaState S C) → slice_get a.world.nodes n ≡ Some old →
-    slice_get b.world.nodes n ≡ Some new →
-    GivesNext rules (whole a.world.archive old) (whole b.world.archive new) xs (given_in n step)
+    (config : Config) (moment next : Moment S C O) (past : List (Moment S C O)) (agreed : List C) →
+    Moments rules config (moment ∷ past) →
+    IsAgreed config (map whole_moment (next ∷ moment ∷ past)) agreed →
+    (step : MayHappen rules moment.master moment.world next.master next.world) →
+    (node : ℕ) (old new : ReplicaState S C) → slice_get moment.world.nodes node ≡ Some old →
+    slice_get next.world.nodes node ≡ Some new →
+    GivesNext rules (whole moment.world.archive old) (whole next.world.archive new) agreed
+    (given_in node step)
 
 -- Between two moments of a ballot that it leads a node gives the answers at all places of the
 -- agreed list that it applied between them: none is left out, and none comes twice.
 abbrev pub AnswersWhileItLeads : {S C O : Type 0} → Rules S C O → Type 0
 AnswersWhileItLeads {S} {C} {O} rules =
-    (config : Config) (a b : Moment S C O) (past later : List (Moment S C O)) (xs : List C) →
-    (came : Moments rules config (a ∷ past)) (more : Moments rules config (b ∷ later)) →
-    IsAgreed config (map whole_moment (b ∷ later)) xs → (n ballot : ℕ) →
-    LeadsOn n ballot came b later more →
-    (old new : ReplicaState S C) → slice_get a.world.nodes n ≡ Some old →
-    slice_get b.world.nodes n ≡ Some new →
-    (old.committed ≤ new.committed) × (new.committed ≤ length xs)
-    × (given_of n more
-    ≡ given_of n came ++ outputs (outputs_between rules xs old.committed new.committed))
+    (config : Config) (first last : Moment S C O) (past later : List (Moment S C O))
+    (agreed : List C) →
+    (came : Moments rules config (first ∷ past)) (more : Moments rules config (last ∷ later)) →
+    IsAgreed config (map whole_moment (last ∷ later)) agreed → (node ballot : ℕ) →
+    LeadsOn node ballot came last later more →
+    (old new : ReplicaState S C) → slice_get first.world.nodes node ≡ Some old →
+    slice_get last.world.nodes node ≡ Some new →
+    (old.committed ≤ new.committed) × (new.committed ≤ length agreed)
+    × (given_of node more
+    ≡ given_of node came ++ outputs (outputs_between rules agreed old.committed new.committed))

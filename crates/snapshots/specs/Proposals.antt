@@ -28,56 +28,57 @@ taken_by old new input =
     if nat_lt (places old.log) (places new.log) then proposal_by old input else []
 
 -- what is proposed to a node in what it does; a cut proposes nothing
-abbrev pub proposed_to : {S C O : Type 0} {rules : Rules S C O} {w v : CutGroupWorld S C O} →
-    NodeGoes rules w v → List (ℕ × C)
-proposed_to (takes n r input stands runs may loses) = proposal_by r input
-proposed_to (stops n r stands) = []
-proposed_to (cuts n r stands runs below reads) = []
+abbrev pub proposed_to : {S C O : Type 0} {rules : Rules S C O}
+    {world next_world : CutGroupWorld S C O} → NodeGoes rules world next_world → List (ℕ × C)
+proposed_to (takes node replica input stands runs may loses) = proposal_by replica input
+proposed_to (stops node replica stands) = []
+proposed_to (cuts node replica stands runs below reads) = []
 
 -- what a node takes in a step of its own
-abbrev pub taken_as : {S C O : Type 0} {rules : Rules S C O} {w v : CutGroupWorld S C O} →
-    NodeGoes rules w v → List (ℕ × C)
-taken_as (takes n r input {new = new} {given = given} stands runs may loses) = taken_by r new input
-taken_as (stops n r stands) = []
-taken_as (cuts n r stands runs below reads) = []
+abbrev pub taken_as : {S C O : Type 0} {rules : Rules S C O}
+    {world next_world : CutGroupWorld S C O} → NodeGoes rules world next_world → List (ℕ × C)
+taken_as (takes node replica input {new = new} {given = given} stands runs may loses) =
+    taken_by replica new input
+taken_as (stops node replica stands) = []
+taken_as (cuts node replica stands runs below reads) = []
 
--- what the node at index n takes in a step of its own
-abbrev pub taken_by_node : {S C O : Type 0} {rules : Rules S C O} {w v : CutGroupWorld S C O} →
-    ℕ → NodeGoes rules w v → List (ℕ × C)
-taken_by_node n (takes i r input {new = new} {given = given} stands runs may loses) =
-    if i == n then taken_by r new input else []
-taken_by_node n (stops i r stands) = []
-taken_by_node n (cuts i r stands runs below reads) = []
+-- what the node at this index takes in a step of its own
+abbrev pub taken_by_node : {S C O : Type 0} {rules : Rules S C O}
+    {world next_world : CutGroupWorld S C O} → ℕ → NodeGoes rules world next_world → List (ℕ × C)
+taken_by_node node (takes other replica input {new = new} {given = given} stands runs may loses) =
+    if other == node then taken_by replica new input else []
+taken_by_node node (stops other replica stands) = []
+taken_by_node node (cuts other replica stands runs below reads) = []
 
 -- what is proposed in a step of the group
-abbrev pub proposal_of : {S C O : Type 0} {rules : Rules S C O} {m : MasterState}
-    {w : CutGroupWorld S C O} {k : MasterState} {v : CutGroupWorld S C O} →
-    MayHappen rules m w k v → List (ℕ × C)
+abbrev pub proposal_of : {S C O : Type 0} {rules : Rules S C O} {master : MasterState}
+    {world : CutGroupWorld S C O} {next_master : MasterState} {next_world : CutGroupWorld S C O} →
+    MayHappen rules master world next_master next_world → List (ℕ × C)
 proposal_of (node_goes goes) = proposed_to goes
 proposal_of (master_assigns config) = []
-proposal_of (master_hears from b sent) = []
+proposal_of (master_hears from ballot sent) = []
 proposal_of (assignment_lost config) = []
-proposal_of (answer_lost from b sent) = []
+proposal_of (answer_lost from ballot sent) = []
 
 -- what is taken in a step of the group
-abbrev pub taken_in : {S C O : Type 0} {rules : Rules S C O} {m : MasterState}
-    {w : CutGroupWorld S C O}
-    {k : MasterState} {v : CutGroupWorld S C O} → MayHappen rules m w k v → List (ℕ × C)
+abbrev pub taken_in : {S C O : Type 0} {rules : Rules S C O} {master : MasterState}
+    {world : CutGroupWorld S C O} {next_master : MasterState} {next_world : CutGroupWorld S C O} →
+    MayHappen rules master world next_master next_world → List (ℕ × C)
 taken_in (node_goes goes) = taken_as goes
 taken_in (master_assigns config) = []
-taken_in (master_hears from b sent) = []
+taken_in (master_hears from ballot sent) = []
 taken_in (assignment_lost config) = []
-taken_in (answer_lost from b sent) = []
+taken_in (answer_lost from ballot sent) = []
 
--- what the node at index n takes in a step of the group
-abbrev pub takes_at : {S C O : Type 0} {rules : Rules S C O} {m : MasterState}
-    {w : CutGroupWorld S C O}
-    {k : MasterState} {v : CutGroupWorld S C O} → ℕ → MayHappen rules m w k v → List (ℕ × C)
-takes_at n (node_goes goes) = taken_by_node n goes
-takes_at n (master_assigns config) = []
-takes_at n (master_hears from b sent) = []
-takes_at n (assignment_lost config) = []
-takes_at n (answer_lost from b sent) = []
+-- what the node at this index takes in a step of the group
+abbrev pub takes_at : {S C O : Type 0} {rules : Rules S C O} {master : MasterState}
+    {world : CutGroupWorld S C O} {next_master : MasterState} {next_world : CutGroupWorld S C O} →
+    ℕ → MayHappen rules master world next_master next_world → List (ℕ × C)
+takes_at node (node_goes goes) = taken_by_node node goes
+takes_at node (master_assigns config) = []
+takes_at node (master_hears from ballot sent) = []
+takes_at node (assignment_lost config) = []
+takes_at node (answer_lost from ballot sent) = []
 
 -- all of a past, in order
 abbrev pub proposals_of : {S C O : Type 0} {rules : Rules S C O} {config : Config}
@@ -91,8 +92,8 @@ abbrev pub taken_of : {S C O : Type 0} {rules : Rules S C O} {config : Config}
 taken_of (began nodes lawful is) = []
 taken_of (went_on came step) = taken_of came ++ taken_in step
 
--- what the node at index n took in a past
+-- what the node at this index took in a past
 abbrev pub taken_at : {S C O : Type 0} {rules : Rules S C O} {config : Config}
     {past : List (Moment S C O)} → ℕ → Moments rules config past → List (ℕ × C)
-taken_at n (began nodes lawful is) = []
-taken_at n (went_on came step) = taken_at n came ++ takes_at n step
+taken_at node (began nodes lawful is) = []
+taken_at node (went_on came step) = taken_at node came ++ takes_at node step

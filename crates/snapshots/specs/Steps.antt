@@ -23,28 +23,28 @@ sends_from_master world outcome =
 -- the world after an Assign: if it is not refused, the primary is sent the ballot
 abbrev pub world_after : {S C O : Type 0} →
     MasterState → CutGroupWorld S C O → Config → Option AssignRefusal → CutGroupWorld S C O
-world_after m w config (Some why) = w
-world_after {C = C} m w config None = sends_from_master w (assigned C m config)
+world_after state world config (Some why) = world
+world_after {C = C} state world config None = sends_from_master world (assigned C state config)
 
 -- one event of such a group, from the master and the world before it to those after it
 pub data MayHappen {S C O : Type 0} (rules : Rules S C O) :
     MasterState → CutGroupWorld S C O → MasterState → CutGroupWorld S C O → Type 0 where
   -- a node takes a step, stops, or cuts its log
-  node_goes : {m : MasterState} {w v : CutGroupWorld S C O} → NodeGoes rules w v →
-      MayHappen rules m w m v
+  node_goes : {m : MasterState} {w next_world : CutGroupWorld S C O} → NodeGoes rules w next_world →
+      MayHappen rules m w m next_world
   -- an Assign: the master refuses it, or sends NewBallot to the primary of the configuration
-  master_assigns : {m : MasterState} {w : CutGroupWorld S C O} (config : Config) →
-      MayHappen rules m w (master_after m config (refusal m config))
-      (world_after m w config (refusal m config))
+  master_assigns : {state : MasterState} {world : CutGroupWorld S C O} (config : Config) →
+      MayHappen rules state world (master_after state config (refusal state config))
+      (world_after state world config (refusal state config))
   -- the master receives an Activate that was sent, and answers it
-  master_hears : {m : MasterState} {w : CutGroupWorld S C O} (from b : ℕ) →
-      In (0, record { from = from; body = Activate b }) w.sent →
-      MayHappen rules m w (activated C m b from m.waiting).state
-      (sends_from_master w (activated C m b from m.waiting))
+  master_hears : {state : MasterState} {world : CutGroupWorld S C O} (from ballot : ℕ) →
+      In (0, record { from = from; body = Activate ballot }) world.sent →
+      MayHappen rules state world (activated C state ballot from state.waiting).state
+      (sends_from_master world (activated C state ballot from state.waiting))
   -- an Assign, if the master's NewBallot is lost
-  assignment_lost : {m : MasterState} {w : CutGroupWorld S C O} (config : Config) →
-      MayHappen rules m w (master_after m config (refusal m config)) w
+  assignment_lost : {state : MasterState} {world : CutGroupWorld S C O} (config : Config) →
+      MayHappen rules state world (master_after state config (refusal state config)) world
   -- an Activate, if the master's answer is lost
-  answer_lost : {m : MasterState} {w : CutGroupWorld S C O} (from b : ℕ) →
-      In (0, record { from = from; body = Activate b }) w.sent →
-      MayHappen rules m w (activated C m b from m.waiting).state w
+  answer_lost : {state : MasterState} {world : CutGroupWorld S C O} (from ballot : ℕ) →
+      In (0, record { from = from; body = Activate ballot }) world.sent →
+      MayHappen rules state world (activated C state ballot from state.waiting).state world

@@ -28,52 +28,54 @@ whole_log archive log = take log.base archive ++ log.rest
 
 -- the replica, with all other fields as they are
 abbrev pub whole : {S C : Type 0} → List C → ReplicaState S C → WholeState S C
-whole archive r =
+whole archive replica =
     record {
-      id = r.id;
-      joined = r.joined;
-      held_in = r.held_in;
-      log = whole_log archive r.log;
-      committed = r.committed;
-      machine = r.machine;
-      role = r.role;
-      members = r.members;
-      previous = r.previous;
-      previous_members = r.previous_members;
-      lacking = r.lacking;
-      progress = r.progress;
-      stopped = r.stopped;
+      id = replica.id;
+      joined = replica.joined;
+      held_in = replica.held_in;
+      log = whole_log archive replica.log;
+      committed = replica.committed;
+      machine = replica.machine;
+      role = replica.role;
+      members = replica.members;
+      previous = replica.previous;
+      previous_members = replica.previous_members;
+      lacking = replica.lacking;
+      progress = replica.progress;
+      stopped = replica.stopped;
     }
 
 -- the content and the receiver of a message
 abbrev pub whole_body : {C : Type 0} → List C → Body C → WholeBody C
-whole_body archive (NewBallot b members a old) = bodies.NewBallot b members a old
-whole_body archive (Join b a) = bodies.Join b a
-whole_body archive (State b log) = bodies.State b (whole_log archive log)
-whole_body archive (Install b log) = bodies.Install b (whole_log archive log)
-whole_body archive (Installed b held) = bodies.Installed b held
-whole_body archive (Activate b) = bodies.Activate b
-whole_body archive (Activated b) = bodies.Activated b
-whole_body archive (Superseded b) = bodies.Superseded b
-whole_body archive (Append b place command) = bodies.Append b place command
-whole_body archive (Held b held) = bodies.Held b held
-whole_body archive (Commit b held) = bodies.Commit b held
+whole_body archive (NewBallot ballot members previous previous_members) =
+    bodies.NewBallot ballot members previous previous_members
+whole_body archive (Join ballot previous) = bodies.Join ballot previous
+whole_body archive (State ballot log) = bodies.State ballot (whole_log archive log)
+whole_body archive (Install ballot log) = bodies.Install ballot (whole_log archive log)
+whole_body archive (Installed ballot held) = bodies.Installed ballot held
+whole_body archive (Activate ballot) = bodies.Activate ballot
+whole_body archive (Activated ballot) = bodies.Activated ballot
+whole_body archive (Superseded ballot) = bodies.Superseded ballot
+whole_body archive (Append ballot place command) = bodies.Append ballot place command
+whole_body archive (Held ballot held) = bodies.Held ballot held
+whole_body archive (Commit ballot held) = bodies.Commit ballot held
 
 -- the message on whole logs
 abbrev pub whole_message : {C : Type 0} → List C → Message C → WholeMessage C
-whole_message archive m = record { from = m.from; body = whole_body archive m.body }
+whole_message archive message =
+    record { from = message.from; body = whole_body archive message.body }
 
 -- what a step returns
 abbrev pub whole_effect : {C O : Type 0} → List C → Effect C O → WholeEffect C O
-whole_effect archive (To receiver m) = effects.To receiver (whole_message archive m)
+whole_effect archive (To receiver message) = effects.To receiver (whole_message archive message)
 whole_effect archive (Out place output) = effects.Out place output
 
 -- the effects on whole logs
 abbrev pub whole_effects : {C O : Type 0} → List C → List (Effect C O) → List (WholeEffect C O)
-whole_effects archive es = map (whole_effect archive) es
+whole_effects archive given = map (whole_effect archive) given
 
 -- the input of a replica
 abbrev pub whole_input : {C : Type 0} → List C → Input C → WholeInput C
-whole_input archive (Receives m) = inputs.Receives (whole_message archive m)
+whole_input archive (Receives message) = inputs.Receives (whole_message archive message)
 whole_input archive (Proposes command) = inputs.Proposes command
 whole_input archive Ticks = inputs.Ticks

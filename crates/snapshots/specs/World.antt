@@ -30,11 +30,11 @@ whole_sent archive sent = (sent.0, whole_message archive sent.1)
 
 -- all nodes and messages on whole logs
 abbrev pub whole_world : {S C O : Type 0} → CutGroupWorld S C O → WholeWorld S C O
-whole_world w =
+whole_world world =
     record {
-      nodes = map (whole w.archive) w.nodes;
-      sent = map (whole_sent w.archive) w.sent;
-      left = w.left;
+      nodes = map (whole world.archive) world.nodes;
+      sent = map (whole_sent world.archive) world.sent;
+      left = world.left;
     }
 
 -- the messages among effects, each with its receiver
@@ -53,16 +53,17 @@ outputs (Out place output ∷ effects) = (place, output) ∷ outputs effects
 abbrev pub moved : {S C O : Type 0} → CutGroupWorld S C O → ℕ → ReplicaState S C →
     List (Effect C O) →
     CutGroupWorld S C O
-moved w n new given =
-    record w {
-      nodes = slice_set w.nodes n new;
-      sent = w.sent ++ messages given;
-      left = w.left ++ outputs given;
+moved world node new given =
+    record world {
+      nodes = slice_set world.nodes node new;
+      sent = world.sent ++ messages given;
+      left = world.left ++ outputs given;
     }
 
 -- the record after a cut: it has the places below what the node committed, or has more already
 abbrev pub recorded : {S C : Type 0} → List C → ReplicaState S C → List C
-recorded archive r = archive ++ drop (length archive) (take r.committed (whole_log archive r.log))
+recorded archive replica =
+    archive ++ drop (length archive) (take replica.committed (whole_log archive replica.log))
 
 -- a node takes a message that was sent to it
 abbrev pub MayTake : {S C O : Type 0} → CutGroupWorld S C O → ℕ → Input C → Type 0
@@ -72,17 +73,19 @@ MayTake world node Ticks = Unit {0}
 
 -- what may happen to a node; a machine that is cut comes back from its bytes
 pub data NodeGoes {S C O : Type 0} (rules : Rules S C O)
-    (w : CutGroupWorld S C O) : CutGroupWorld S C O → Type 0 where
+    (world : CutGroupWorld S C O) : CutGroupWorld S C O → Type 0 where
   -- it receives a message that was sent to it, takes a proposal, or ticks, perhaps with losses
-  takes : (n : ℕ) (r : ReplicaState S C) (input : Input C) {new : ReplicaState S C}
+  takes : (node : ℕ) (replica : ReplicaState S C) (input : Input C) {new : ReplicaState S C}
       {given : List (Effect C O)} →
-      slice_get w.nodes n ≡ Some r → r.stopped ≡ false → MayTake w n input →
-      Loses rules r (replica_step rules r input) new given → NodeGoes rules w (moved w n new given)
+      slice_get world.nodes node ≡ Some replica → replica.stopped ≡ false →
+      MayTake world node input → Loses rules replica (replica_step rules replica input) new given →
+      NodeGoes rules world (moved world node new given)
   -- it stops
-  stops : (n : ℕ) (r : ReplicaState S C) → slice_get w.nodes n ≡ Some r →
-      NodeGoes rules w (moved w n (halted rules r) [])
+  stops : (node : ℕ) (replica : ReplicaState S C) → slice_get world.nodes node ≡ Some replica →
+      NodeGoes rules world (moved world node (halted rules replica) [])
   -- it cuts its log at what it has applied, and the record keeps what it cut
-  cuts : (n : ℕ) (r : ReplicaState S C) → slice_get w.nodes n ≡ Some r → r.stopped ≡ false →
-      r.log.base < r.committed →
-      rules.thawed (rules.frozen r.machine) ≡ Some r.machine →
-      NodeGoes rules w (record (moved w n (cut rules r) []) { archive = recorded w.archive r })
+  cuts : (node : ℕ) (replica : ReplicaState S C) → slice_get world.nodes node ≡ Some replica →
+      replica.stopped ≡ false → replica.log.base < replica.committed →
+      rules.thawed (rules.frozen replica.machine) ≡ Some replica.machine →
+      NodeGoes rules world (record (moved world node (cut rules replica) [])
+      { archive = recorded world.archive replica })

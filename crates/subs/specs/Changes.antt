@@ -20,17 +20,20 @@ NodeChildren = List ℕ → Option ℕ
 -- the client's row on that side is this one
 abbrev pub SetsRow : NodeRows → NodeRows → Bool → List ℕ → Option QoS → Type 0
 SetsRow old new rest client kept =
-    (r : Bool) (c : List ℕ)
-    → new r c ≡ (if same_side rest r && bytes_eq client c then kept else old r c)
+    (side : Bool) (other : List ℕ)
+    → new side other
+    ≡ (if same_side rest side && bytes_eq client other then kept else old side other)
 
 -- the rows on that side are these
 abbrev pub SetsSide : NodeRows → NodeRows → Bool → (List ℕ → Option QoS) → Type 0
 SetsSide old new rest kept =
-    (r : Bool) (c : List ℕ) → new r c ≡ (if same_side rest r then kept c else old r c)
+    (side : Bool) (client : List ℕ)
+    → new side client ≡ (if same_side rest side then kept client else old side client)
 
 -- the child after the level is this one
 abbrev pub SetsChild : NodeChildren → NodeChildren → List ℕ → Option ℕ → Type 0
-SetsChild old new level below = (l : List ℕ) → new l ≡ (if bytes_eq level l then below else old l)
+SetsChild old new level below =
+    (other : List ℕ) → new other ≡ (if bytes_eq level other then below else old other)
 
 -- a row of one node is changed
 pub record WritesRow (old new : Shape) (at : ℕ) (rest : Bool) (client : List ℕ)
@@ -38,9 +41,10 @@ pub record WritesRow (old new : Shape) (at : ℕ) (rest : Bool) (client : List �
   pub child : new.child ≡ old.child
   pub used : new.used ≡ old.used
   pub held :
-      (k : ℕ) (r : Bool) (c : List ℕ)
-      → new.held k r c
-      ≡ (if (k == at) && (same_side rest r && bytes_eq client c) then kept else old.held k r c)
+      (node : ℕ) (side : Bool) (other : List ℕ)
+      → new.held node side other
+      ≡ (if (node == at) && (same_side rest side && bytes_eq client other) then kept
+      else old.held node side other)
 
 -- the rows on one side of a node are replaced
 pub record Fills (old new : Shape) (at : ℕ) (rest : Bool)
@@ -48,13 +52,15 @@ pub record Fills (old new : Shape) (at : ℕ) (rest : Bool)
   pub child : new.child ≡ old.child
   pub used : new.used ≡ old.used
   pub held :
-      (k : ℕ) (r : Bool) (c : List ℕ)
-      → new.held k r c ≡ (if (k == at) && same_side rest r then kept c else old.held k r c)
+      (node : ℕ) (side : Bool) (client : List ℕ)
+      → new.held node side client
+      ≡ (if (node == at) && same_side rest side then kept client else old.held node side client)
 
 -- a child of one node is changed
 pub record Links (old new : Shape) (at : ℕ) (level : List ℕ) (below : Option ℕ) : Type 0 where
-  pub child : (k : ℕ) (l : List ℕ)
-      → new.child k l ≡ (if (k == at) && bytes_eq level l then below else old.child k l)
+  pub child : (node : ℕ) (other : List ℕ)
+      → new.child node other
+      ≡ (if (node == at) && bytes_eq level other then below else old.child node other)
   pub held : new.held ≡ old.held
   pub used : new.used ≡ old.used
 
@@ -63,15 +69,15 @@ pub record AddsNode (old new : Shape) (at : ℕ) : Type 0 where
   pub child : new.child ≡ old.child
   pub held : new.held ≡ old.held
   pub free : old.used at ≡ false
-  pub used : (k : ℕ) → new.used k ≡ ((k == at) || old.used k)
+  pub used : (node : ℕ) → new.used node ≡ ((node == at) || old.used node)
 
 -- the node holds nothing
 pub record IsBare (shape : Shape) (at : ℕ) : Type 0 where
-  pub child : (l : List ℕ) → shape.child at l ≡ None
-  pub held : (r : Bool) (c : List ℕ) → shape.held at r c ≡ None
+  pub child : (level : List ℕ) → shape.child at level ≡ None
+  pub held : (side : Bool) (client : List ℕ) → shape.held at side client ≡ None
 
 -- the number of an empty node is free
 pub record FreesNode (old new : Shape) (at : ℕ) : Type 0 where
   pub child : new.child ≡ old.child
   pub held : new.held ≡ old.held
-  pub used : (k : ℕ) → new.used k ≡ (not (k == at) && old.used k)
+  pub used : (node : ℕ) → new.used node ≡ (not (node == at) && old.used node)

@@ -21,4 +21,6 @@ qos_of_client rows client = lookup (is_at (slice_cmp nat_cmp client)) (rows_as_l
 -- the client's row is this one
 abbrev pub SetsAt : Rows → Rows → List ℕ → Option QoS → Type 0
 SetsAt old new client kept =
-    (c : List ℕ) → qos_of_client new c ≡ (if bytes_eq client c then kept else qos_of_client old c)
+    (other : List ℕ)
+    → qos_of_client new other
+    ≡ (if bytes_eq client other then kept else qos_of_client old other)

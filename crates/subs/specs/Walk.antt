@@ -12,9 +12,10 @@ use Rattle.subs.specs.Shape.{Shape}
 
 -- the greater of two QoS, none being the least
 abbrev pub greatest : Option QoS → Option QoS → Option QoS
-greatest None q = q
-greatest (Some p) None = Some p
-greatest (Some p) (Some q) = if nat_lt (qos_number p) (qos_number q) then Some q else Some p
+greatest None other = other
+greatest (Some qos) None = Some qos
+greatest (Some qos) (Some other) =
+    if nat_lt (qos_number qos) (qos_number other) then Some other else Some qos
 
 -- each client is at the greater of what it had and what it is given
 abbrev pub Raises : BTreeMap (List ℕ) QoS → BTreeMap (List ℕ) QoS → (List ℕ → Option QoS) → Type 0

@@ -22,9 +22,9 @@ slot (level ∷ rest) =
 
 -- no two paths lead to one node, and each node that a path leads to is used
 pub record IsTree (child : Children) (marked : ℕ → Bool) (root : Option ℕ) : Type 0 where
-  pub one_way : (p q : Levels) (at : ℕ) → led child root p ≡ Some at
-      → led child root q ≡ Some at → p ≡ q
-  pub used : (p : Levels) (at : ℕ) → led child root p ≡ Some at → marked at ≡ true
+  pub one_way : (path other : Levels) (at : ℕ) → led child root path ≡ Some at
+      → led child root other ≡ Some at → path ≡ other
+  pub used : (path : Levels) (at : ℕ) → led child root path ≡ Some at → marked at ≡ true
 
 -- some path leads to the node
 abbrev pub IsReachedNode : Children → Option ℕ → ℕ → Type 0

@@ -12,18 +12,22 @@ no_subscriptions client filter = None
 
 -- an identical subscription is replaced (MQTT 3.8.4)
 abbrev pub with_row : Content → List ℕ → List ℕ → QoS → Content
-with_row content client filter qos c f =
-    if bytes_eq client c && bytes_eq filter f then Some qos else content c f
+with_row content client filter qos other_client other_filter =
+    if bytes_eq client other_client && bytes_eq filter other_filter then Some qos
+    else content other_client other_filter
 
 -- only a filter with the same characters is removed (MQTT 3.10.4)
 abbrev pub without_row : Content → List ℕ → List ℕ → Content
-without_row content client filter c f =
-    if bytes_eq client c && bytes_eq filter f then None else content c f
+without_row content client filter other_client other_filter =
+    if bytes_eq client other_client && bytes_eq filter other_filter then None
+    else content other_client other_filter
 
 -- none of the client's subscriptions is left
 abbrev pub without_client : Content → List ℕ → Content
-without_client content client c f = if bytes_eq client c then None else content c f
+without_client content client other filter =
+    if bytes_eq client other then None else content other filter
 
 -- the client's subscriptions are these
 abbrev pub with_client_filters : Content → List ℕ → (List ℕ → Option QoS) → Content
-with_client_filters content client asked c f = if bytes_eq client c then asked f else content c f
+with_client_filters content client asked other filter =
+    if bytes_eq client other then asked filter else content other filter

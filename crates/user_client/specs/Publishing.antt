@@ -18,29 +18,29 @@ pub record Publishing : Type 0 where
 
 -- a client that was never connected, and keeps just this publication, with identifier 1
 abbrev pub client_keeping : List ℕ → Publication → ClientState
-client_keeping id p = record (new_client_state id 0) {
-  unsent = record { id = 1; publication = p }
+client_keeping id publication = record (new_client_state id 0) {
+  unsent = record { id = 1; publication = publication }
       ∷ [];
 }
 
 -- the PUBLISH of a publication at QoS 0
 abbrev pub unkept : Publication → Publish
-unkept p =
+unkept publication =
     record {
-      topic = p.topic;
+      topic = publication.topic;
       delivery = deliveries.AtMostOnce;
-      retain = p.retain;
-      payload = p.payload;
+      retain = publication.retain;
+      payload = publication.payload;
     }
 
 -- A publisher as it is made has its publication and no other: at QoS 1 and 2 its client keeps it.
 abbrev pub HasPublication : QoS → List ℕ → Publication → Publishing → Type 0
-HasPublication qualities.AtMostOnce id p it =
-    it ≡ record { caller = new_called id; once = Some (unkept p) }
-HasPublication qualities.AtLeastOnce id p it =
-    (it.caller.core.state ≡ client_keeping id p) × (it.once ≡ None)
-HasPublication qualities.ExactlyOnce id p it =
-    (it.caller.core.state ≡ client_keeping id p) × (it.once ≡ None)
+HasPublication qualities.AtMostOnce id publication it =
+    it ≡ record { caller = new_called id; once = Some (unkept publication) }
+HasPublication qualities.AtLeastOnce id publication it =
+    (it.caller.core.state ≡ client_keeping id publication) × (it.once ≡ None)
+HasPublication qualities.ExactlyOnce id publication it =
+    (it.caller.core.state ≡ client_keeping id publication) × (it.once ≡ None)
 
 -- between these two states of a stream it took this PUBLISH at QoS 0 as a whole, after the bytes
 -- that its client wrote before it

@@ -42,7 +42,7 @@ RefusesListener id filter it =
 
 -- the PUBLISH of a new client's first publication
 abbrev pub first_publish : List ℕ → Publication → Packet
-first_publish id p = publish_packet p (new_client_state id 0)
+first_publish id publication = publish_packet publication (new_client_state id 0)
 
 -- a packet is refused if it is over the limit; if it is not, only because memory ran out
 abbrev pub RefusesPacket : Packet → UserClientError → Type 0
@@ -52,14 +52,14 @@ RefusesPacket packet it =
 -- a client that publishes is refused for its identifier, only then for its topic, and only then for
 -- the size of its packet
 abbrev pub RefusesPublisher : List ℕ → Publication → UserClientError → Type 0
-RefusesPublisher id p it =
+RefusesPublisher id publication it =
     IsRefusedBy (client_fault id) it
-    ⊎ (((client_fault id ≡ None) × IsRefusedBy (topic_fault p.topic) it)
-    ⊎ ((client_fault id ≡ None) × (topic_fault p.topic ≡ None)
-    × RefusesPacket (first_publish id p) it))
+    ⊎ (((client_fault id ≡ None) × IsRefusedBy (topic_fault publication.topic) it)
+    ⊎ ((client_fault id ≡ None) × (topic_fault publication.topic ≡ None)
+    × RefusesPacket (first_publish id publication) it))
 
 -- nothing is wrong with its identifier, its topic and the size of its packet
 abbrev pub IsPublishable : List ℕ → Publication → Type 0
-IsPublishable id p =
-    (client_fault id ≡ None) × (topic_fault p.topic ≡ None)
-    × (is_over_limit (first_publish id p) ≡ false)
+IsPublishable id publication =
+    (client_fault id ≡ None) × (topic_fault publication.topic ≡ None)
+    × (is_over_limit (first_publish id publication) ≡ false)

@@ -35,8 +35,8 @@ IsFirst called core = called.was_accepted ≡ false → core.state.present ≡ f
 
 -- the client was asked for this publication and took it, and nothing changed except its keeper
 abbrev pub IsAsked : Publication → Called → Called → Type 0
-IsAsked p old new =
-    AnswersCall (keeper_step (Call.Publishes p) old.core.state) old.core (Ok tt) new.core
+IsAsked publication old new =
+    AnswersCall (keeper_step (Call.Publishes publication) old.core.state) old.core (Ok tt) new.core
     × (new.was_accepted ≡ old.was_accepted)
 
 -- One step. There is no step for bytes of a server that lost the session.

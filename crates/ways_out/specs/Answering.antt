@@ -23,55 +23,59 @@ use Rattle.ways_out.specs.CutDeliveries.{Delivered, after_outcome}
 -- a step of the primary that answers a command after a log: it outputs what the machine answers
 -- there, before any message, and then serves the longer log
 pub record AnswersCommand {S C O : Type 0} (rules : Rules S C O) (archive : List C) (ballot : ℕ)
-    (log : List C) (c : C)
-    (others_of : List ℕ) (primary : ℕ) (o : Outcome S C O) : Type 0 where
+    (log : List C) (command : C) (others_of : List ℕ) (primary : ℕ)
+    (outcome : Outcome S C O) : Type 0 where
   pub rest : List (Effect C O)
   pub silent : outputs rest ≡ []
-  pub gives : o.effects ≡ map (Out (length log)) (rules.gives (replay rules log) c) ++ rest
-  pub serves : LeadsWhole ballot (log ++ c ∷ []) others_of primary (whole archive o.state)
+  pub gives : outcome.effects
+      ≡ map (Out (length log)) (rules.gives (replay rules log) command) ++ rest
+  pub serves : LeadsWhole ballot (log ++ command ∷ []) others_of primary
+      (whole archive outcome.state)
 
 -- the primary at an index takes the last answer, and answers the command
-pub record AnswersLast {S C O : Type 0} (rules : Rules S C O) (a : Moment S C O) (index ballot : ℕ)
-    (log : List C) (c : C)
-    (others_of : List ℕ) (last : ℕ) : Type 0 where
+pub record AnswersLast {S C O : Type 0} (rules : Rules S C O) (moment : Moment S C O)
+    (index ballot : ℕ) (log : List C) (command : C) (others_of : List ℕ) (last : ℕ) : Type 0 where
   pub replica : ReplicaState S C
-  pub stands : slice_get a.world.nodes index ≡ Some replica
+  pub stands : slice_get moment.world.nodes index ≡ Some replica
   pub runs : replica.stopped ≡ false
-  pub answers : AnswersCommand rules a.world.archive ballot log c others_of (index + 1)
+  pub answers : AnswersCommand rules moment.world.archive ballot log command others_of (index + 1)
       (received rules replica last (Held ballot (length log + 1)))
 
 -- a proposal to the primary at an index, whose replica this is, when others follow: it outputs
 -- nothing. The others are sent the command, and answer; the primary takes all answers except the
 -- last, and when that one comes, it answers the command.
-pub record IsHeldByAll {S C O : Type 0} (rules : Rules S C O) (a : Moment S C O) (index ballot : ℕ)
-    (r : ReplicaState S C) (log : List C) (c : C) (front : List ℕ) (last : ℕ) : Type 0 where
-  pub no_outputs : outputs (replica_step rules r (Proposes c)).effects ≡ []
+pub record IsHeldByAll {S C O : Type 0} (rules : Rules S C O) (moment : Moment S C O)
+    (index ballot : ℕ) (replica : ReplicaState S C) (log : List C) (command : C)
+    (front : List ℕ) (last : ℕ) : Type 0 where
+  pub no_outputs : outputs (replica_step rules replica (Proposes command)).effects ≡ []
   pub before : Moment S C O
   pub delivered : Delivered rules ballot
-      (after_outcome index (replica_step rules r (Proposes c)) a)
-      (numbers_from (length a.world.sent) (length front + 1)
-      ++ numbers_from (length a.world.sent + (length front + 1)) (length front)) before
-  pub archive : before.world.archive ≡ a.world.archive
-  pub master : before.master ≡ a.master
-  pub sent : length before.world.sent ≡ length a.world.sent + 2 * (length front + 1)
-  pub comes : slice_get before.world.sent (length a.world.sent + 2 * length front + 1)
+      (after_outcome index (replica_step rules replica (Proposes command)) moment)
+      (numbers_from (length moment.world.sent) (length front + 1)
+      ++ numbers_from (length moment.world.sent + (length front + 1)) (length front)) before
+  pub archive : before.world.archive ≡ moment.world.archive
+  pub master : before.master ≡ moment.master
+  pub sent : length before.world.sent ≡ length moment.world.sent + 2 * (length front + 1)
+  pub comes : slice_get before.world.sent (length moment.world.sent + 2 * length front + 1)
       ≡ Some (index + 1, record { from = last; body = Held ballot (length log + 1) })
-  pub primary : AnswersLast rules before index ballot log c (front ++ last ∷ []) last
-  pub each : (m : ℕ) → In m (front ++ last ∷ []) →
-      NodeIs (Follows ballot (log ++ c ∷ [])) (whole_moment before).world.nodes m
+  pub primary : AnswersLast rules before index ballot log command (front ++ last ∷ []) last
+  pub each : (member : ℕ) → In member (front ++ last ∷ []) →
+      NodeIs (Follows ballot (log ++ command ∷ [])) (whole_moment before).world.nodes member
 
 -- the primary that serves a ballot answers the next command: at once if it is the only member, and
 -- otherwise when all others have answered
 abbrev pub CutGroupsAnswer : {S C O : Type 0} → Rules S C O → Type 0
 CutGroupsAnswer {S} {C} {O} rules =
-    (config : Config) (a : Moment S C O) (past : List (Moment S C O)) →
-    Moments rules config (a ∷ past) → (ballot index : ℕ) (r : ReplicaState S C) (log : List C)
-    (others_of : List ℕ) (c : C) → slice_get a.world.nodes index ≡ Some r →
-    LeadsWhole ballot log others_of (index + 1) (whole a.world.archive r) →
+    (config : Config) (moment : Moment S C O) (past : List (Moment S C O)) →
+    Moments rules config (moment ∷ past) → (ballot index : ℕ) (replica : ReplicaState S C)
+    (log : List C) (others_of : List ℕ) (command : C) →
+    slice_get moment.world.nodes index ≡ Some replica →
+    LeadsWhole ballot log others_of (index + 1) (whole moment.world.archive replica) →
     length log < max_places →
-    (others_of ≡ [] → AnswersCommand rules a.world.archive ballot log c [] (index + 1)
-    (replica_step rules r (Proposes c)))
+    (others_of ≡ [] → AnswersCommand rules moment.world.archive ballot log command [] (index + 1)
+    (replica_step rules replica (Proposes command)))
     × ((front : List ℕ) (last : ℕ) → others_of ≡ front ++ last ∷ [] → NumbersAreApart others_of →
     (In (index + 1) others_of → ⊥) →
-    ((m : ℕ) → In m others_of → NodeIs (Follows ballot log) (whole_moment a).world.nodes m) →
-    IsHeldByAll rules a index ballot r log c front last)
+    ((other : ℕ) → In other others_of →
+    NodeIs (Follows ballot log) (whole_moment moment).world.nodes other) →
+    IsHeldByAll rules moment index ballot replica log command front last)

@@ -14,24 +14,29 @@ use Rattle.snapshots.specs.Moments.{Moment}
 use Rattle.snapshots.specs.Steps.{sends_from_master}
 use Rattle.snapshots.specs.World.{moved, outputs}
 
--- the moment after a step of the node at index n
+-- the moment after a step of the node at this index
 abbrev pub after_outcome : {S C O : Type 0} → ℕ → Outcome S C O → Moment S C O → Moment S C O
-after_outcome n o a = record { master = a.master; world = moved a.world n o.state o.effects }
+after_outcome index outcome moment =
+    record {
+      master = moment.master;
+      world = moved moment.world index outcome.state outcome.effects;
+    }
 
 -- the moment after an Activate that the master receives
 abbrev pub after_activate : {S C O : Type 0} → ℕ → ℕ → Moment S C O → Moment S C O
-after_activate {C = C} from ballot a =
+after_activate {C = C} from ballot moment =
     record {
-      master = (activated C a.master ballot from a.master.waiting).state;
-      world = sends_from_master a.world (activated C a.master ballot from a.master.waiting);
+      master = (activated C moment.master ballot from moment.master.waiting).state;
+      world = sends_from_master moment.world
+          (activated C moment.master ballot from moment.master.waiting);
     }
 
 -- the moment after an Assign that is not refused
 abbrev pub assigned_moment : {S C O : Type 0} → Config → Moment S C O → Moment S C O
-assigned_moment {C = C} config a =
+assigned_moment {C = C} config moment =
     record {
-      master = assigning a.master config;
-      world = sends_from_master a.world (assigned C a.master config);
+      master = assigning moment.master config;
+      world = sends_from_master moment.world (assigned C moment.master config);
     }
 
 -- messages come, one after another, to nodes that run, give no outputs then, and have joined the
@@ -39,16 +44,19 @@ assigned_moment {C = C} config a =
 pub data Delivered {S C O : Type 0} (rules : Rules S C O) (ballot : ℕ) :
     Moment S C O → List ℕ → Moment S C O → Type 0 where
   -- no message is left
-  all_came : {a : Moment S C O} → Delivered rules ballot a [] a
+  all_came : {moment : Moment S C O} → Delivered rules ballot moment [] moment
   -- the next one comes to a node
-  to_node : {a b : Moment S C O} {ks : List ℕ} (k n : ℕ) (r : ReplicaState S C) (m : Message C) →
-      slice_get a.world.sent k ≡ Some (n + 1, m) → slice_get a.world.nodes n ≡ Some r →
-      r.stopped ≡ false → outputs (received rules r m.from m.body).effects ≡ [] →
-      (received rules r m.from m.body).state.joined ≡ ballot →
-      Delivered rules ballot (after_outcome n (received rules r m.from m.body) a) ks b →
-      Delivered rules ballot a (k ∷ ks) b
+  to_node : {moment last : Moment S C O} {ks : List ℕ} (number index : ℕ)
+      (replica : ReplicaState S C) (message : Message C) →
+      slice_get moment.world.sent number ≡ Some (index + 1, message) →
+      slice_get moment.world.nodes index ≡ Some replica → replica.stopped ≡ false →
+      outputs (received rules replica message.from message.body).effects ≡ [] →
+      (received rules replica message.from message.body).state.joined ≡ ballot →
+      Delivered rules ballot
+      (after_outcome index (received rules replica message.from message.body) moment) ks last →
+      Delivered rules ballot moment (number ∷ ks) last
   -- it is an Activate, and comes to the master
-  to_master : {a b : Moment S C O} {ks : List ℕ} (k from asked : ℕ) →
-      slice_get a.world.sent k ≡ Some (0, record { from = from; body = Activate asked }) →
-      Delivered rules ballot (after_activate from asked a) ks b →
-      Delivered rules ballot a (k ∷ ks) b
+  to_master : {moment last : Moment S C O} {ks : List ℕ} (number from asked : ℕ) →
+      slice_get moment.world.sent number ≡ Some (0, record { from = from; body = Activate asked }) →
+      Delivered rules ballot (after_activate from asked moment) ks last →
+      Delivered rules ballot moment (number ∷ ks) last

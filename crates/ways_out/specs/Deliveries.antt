@@ -14,24 +14,29 @@ use Rattle.snapshots.specs.agreement.Moments.{Moment}
 use Rattle.snapshots.specs.agreement.World.{moved, outputs}
 use Rattle.snapshots.specs.agreement.Steps.{sends_from_master}
 
--- the moment after a step of the node at index n
+-- the moment after a step of the node at this index
 abbrev pub after_outcome : {S C O : Type 0} → ℕ → Outcome S C O → Moment S C O → Moment S C O
-after_outcome n o a = record { master = a.master; world = moved a.world n o.state o.effects }
+after_outcome index outcome moment =
+    record {
+      master = moment.master;
+      world = moved moment.world index outcome.state outcome.effects;
+    }
 
 -- the moment after an Activate that the master receives
 abbrev pub after_activate : {S C O : Type 0} → ℕ → ℕ → Moment S C O → Moment S C O
-after_activate {C = C} from ballot a =
+after_activate {C = C} from ballot moment =
     record {
-      master = (activated C a.master ballot from a.master.waiting).state;
-      world = sends_from_master a.world (activated C a.master ballot from a.master.waiting);
+      master = (activated C moment.master ballot from moment.master.waiting).state;
+      world = sends_from_master moment.world
+          (activated C moment.master ballot from moment.master.waiting);
     }
 
 -- the moment after an Assign that is not refused
 abbrev pub assigned_moment : {S C O : Type 0} → Config → Moment S C O → Moment S C O
-assigned_moment {C = C} config a =
+assigned_moment {C = C} config moment =
     record {
-      master = assigning a.master config;
-      world = sends_from_master a.world (assigned C a.master config);
+      master = assigning moment.master config;
+      world = sends_from_master moment.world (assigned C moment.master config);
     }
 
 -- messages come, one after another, to nodes that run, give no outputs then, and have joined the
@@ -39,42 +44,45 @@ assigned_moment {C = C} config a =
 pub data Delivered {S C O : Type 0} (rules : Rules S C O) (ballot : ℕ) :
     Moment S C O → List ℕ → Moment S C O → Type 0 where
   -- no message is left
-  all_came : {a : Moment S C O} → Delivered rules ballot a [] a
+  all_came : {moment : Moment S C O} → Delivered rules ballot moment [] moment
   -- the next one comes to a node
-  to_node : {a b : Moment S C O} {ks : List ℕ} (k n : ℕ) (r : ReplicaState S C) (m : Message C) →
-      slice_get a.world.sent k ≡ Some (n + 1, m) → slice_get a.world.nodes n ≡ Some r →
-      r.stopped ≡ false → outputs (received rules r m.from m.body).effects ≡ [] →
-      (received rules r m.from m.body).state.joined ≡ ballot →
-      Delivered rules ballot (after_outcome n (received rules r m.from m.body) a) ks b →
-      Delivered rules ballot a (k ∷ ks) b
+  to_node : {moment last : Moment S C O} {ks : List ℕ} (number index : ℕ)
+      (replica : ReplicaState S C) (message : Message C) →
+      slice_get moment.world.sent number ≡ Some (index + 1, message) →
+      slice_get moment.world.nodes index ≡ Some replica → replica.stopped ≡ false →
+      outputs (received rules replica message.from message.body).effects ≡ [] →
+      (received rules replica message.from message.body).state.joined ≡ ballot →
+      Delivered rules ballot
+      (after_outcome index (received rules replica message.from message.body) moment) ks last →
+      Delivered rules ballot moment (number ∷ ks) last
   -- it is an Activate, and comes to the master
-  to_master : {a b : Moment S C O} {ks : List ℕ} (k from asked : ℕ) →
-      slice_get a.world.sent k ≡ Some (0, record { from = from; body = Activate asked }) →
-      Delivered rules ballot (after_activate from asked a) ks b →
-      Delivered rules ballot a (k ∷ ks) b
+  to_master : {moment last : Moment S C O} {ks : List ℕ} (number from asked : ℕ) →
+      slice_get moment.world.sent number ≡ Some (0, record { from = from; body = Activate asked }) →
+      Delivered rules ballot (after_activate from asked moment) ks last →
+      Delivered rules ballot moment (number ∷ ks) last
 
 -- the node of this number exists, and the property holds for it
 pub record NodeIs {S C : Type 0} (P : ℕ → ReplicaState S C → Type 0)
-    (nodes : List (ReplicaState S C)) (m : ℕ) : Type 0 where
+    (nodes : List (ReplicaState S C)) (node : ℕ) : Type 0 where
   pub index : ℕ
-  pub number : m ≡ index + 1
+  pub number : node ≡ index + 1
   pub replica : ReplicaState S C
   pub stands : slice_get nodes index ≡ Some replica
-  pub is : P m replica
+  pub is : P node replica
 
 -- no number comes twice
 abbrev pub NumbersAreApart : List ℕ → Type 0
 NumbersAreApart [] = Unit {0}
-NumbersAreApart (m ∷ ms) = (In m ms → ⊥) × NumbersAreApart ms
+NumbersAreApart (number ∷ numbers) = (In number numbers → ⊥) × NumbersAreApart numbers
 
 -- as many numbers as the second says, each one more than the one before
 abbrev pub numbers_from : ℕ → ℕ → List ℕ
-numbers_from k zero = []
-numbers_from k (suc count) = k ∷ numbers_from (k + 1) count
+numbers_from first zero = []
+numbers_from first (suc count) = first ∷ numbers_from (first + 1) count
 
 -- a message to each of some others, and their answers
 abbrev pub asked_and_answered : ℕ → ℕ → List ℕ
-asked_and_answered k others = numbers_from k others ++ numbers_from (k + others) others
+asked_and_answered first others = numbers_from first others ++ numbers_from (first + others) others
 
 -- the number of the Activate, by the count of messages sent before, the count of members of the
 -- active ballot, and that of the members of the new one besides its primary

@@ -5,40 +5,41 @@ use Rattle.snapshots.specs.whole.Replica.{ReplicaState, progress_at}
 
 -- the whole list of commands of a node's log
 abbrev pub whole_log_of_node : {S C : Type 0} → ReplicaState S C → List C
-whole_log_of_node r = r.log
+whole_log_of_node replica = replica.log
 
 -- the node of a number runs
-pub record IsRunning {S C : Type 0} (m : ℕ) (r : ReplicaState S C) : Type 0 where
-  pub runs : r.stopped ≡ false
+pub record IsRunning {S C : Type 0} (number : ℕ) (replica : ReplicaState S C) : Type 0 where
+  pub runs : replica.stopped ≡ false
 
 -- the node runs, and its whole log is this one
-pub record RunsWith {S C : Type 0} (log : List C) (m : ℕ) (r : ReplicaState S C) : Type 0 where
-  pub runs : r.stopped ≡ false
-  pub log_is : whole_log_of_node r ≡ log
+pub record RunsWith {S C : Type 0} (log : List C) (number : ℕ)
+    (replica : ReplicaState S C) : Type 0 where
+  pub runs : replica.stopped ≡ false
+  pub log_is : whole_log_of_node replica ≡ log
 
 -- the node runs as a backup of a ballot, and holds this log there
-pub record Follows {S C : Type 0} (ballot : ℕ) (log : List C) (m : ℕ)
-    (r : ReplicaState S C) : Type 0 where
-  pub runs : r.stopped ≡ false
-  pub id : r.id ≡ m
-  pub joined : r.joined ≡ ballot
-  pub held : r.held_in ≡ ballot
-  pub role : r.role ≡ Backup
-  pub log_is : whole_log_of_node r ≡ log
+pub record Follows {S C : Type 0} (ballot : ℕ) (log : List C) (number : ℕ)
+    (replica : ReplicaState S C) : Type 0 where
+  pub runs : replica.stopped ≡ false
+  pub id : replica.id ≡ number
+  pub joined : replica.joined ≡ ballot
+  pub held : replica.held_in ≡ ballot
+  pub role : replica.role ≡ Backup
+  pub log_is : whole_log_of_node replica ≡ log
 
 -- the node runs as the active primary of a ballot
-pub record LeadsIn {S C : Type 0} (ballot : ℕ) (r : ReplicaState S C) : Type 0 where
-  pub runs : r.stopped ≡ false
-  pub joined : r.joined ≡ ballot
-  pub role : r.role ≡ Active
+pub record LeadsIn {S C : Type 0} (ballot : ℕ) (replica : ReplicaState S C) : Type 0 where
+  pub runs : replica.stopped ≡ false
+  pub joined : replica.joined ≡ ballot
+  pub role : replica.role ≡ Active
 
 -- the node leads the ballot, has applied all of this log, and knows that these others hold all of
 -- it
-pub record LeadsWhole {S C : Type 0} (ballot : ℕ) (log : List C) (others_of : List ℕ) (m : ℕ)
-    (r : ReplicaState S C) : Type 0 where
-  pub leads : LeadsIn ballot r
-  pub id : r.id ≡ m
-  pub held : r.held_in ≡ ballot
-  pub log_is : whole_log_of_node r ≡ log
-  pub applied : r.committed ≡ length log
-  pub progress_is : r.progress ≡ progress_at (length log) others_of
+pub record LeadsWhole {S C : Type 0} (ballot : ℕ) (log : List C) (others_of : List ℕ) (number : ℕ)
+    (replica : ReplicaState S C) : Type 0 where
+  pub leads : LeadsIn ballot replica
+  pub id : replica.id ≡ number
+  pub held : replica.held_in ≡ ballot
+  pub log_is : whole_log_of_node replica ≡ log
+  pub applied : replica.committed ≡ length log
+  pub progress_is : replica.progress ≡ progress_at (length log) others_of

@@ -7,10 +7,10 @@ use Rattle.whole.specs.Replica.{ReplicaState}
 
 -- the outputs of commands that are done one after another from a state, each with its place
 abbrev pub outputs_from : {S C O : Type 0} → Rules S C O → S → ℕ → List C → List (Effect C O)
-outputs_from rules s place [] = []
-outputs_from rules s place (command ∷ commands) =
-    map (Out place) (rules.gives s command)
-    ++ outputs_from rules (rules.after s command) (place + 1) commands
+outputs_from rules state place [] = []
+outputs_from rules state place (command ∷ commands) =
+    map (Out place) (rules.gives state command)
+    ++ outputs_from rules (rules.after state command) (place + 1) commands
 
 -- the outputs of the places from one length of the log up to another
 abbrev pub outputs_between : {S C O : Type 0} → Rules S C O → List C → ℕ → ℕ → List (Effect C O)
@@ -19,13 +19,14 @@ outputs_between rules log from to =
 
 -- the outputs of the places below `held` that are not yet applied
 abbrev pub outputs_to : {S C O : Type 0} → Rules S C O → ReplicaState S C → ℕ → List (Effect C O)
-outputs_to rules r held =
-    outputs_from rules r.machine r.committed (drop r.committed (take held r.log))
+outputs_to rules replica held =
+    outputs_from rules replica.machine replica.committed
+    (drop replica.committed (take held replica.log))
 
 -- the replica with all places below `held` applied
 abbrev pub applied_to : {S C O : Type 0} → Rules S C O → ReplicaState S C → ℕ → ReplicaState S C
-applied_to rules r held =
-    record r {
+applied_to rules replica held =
+    record replica {
       committed = held;
-      machine = replay_from rules r.machine (drop r.committed (take held r.log));
+      machine = replay_from rules replica.machine (drop replica.committed (take held replica.log));
     }

@@ -11,10 +11,10 @@ use Rattle.whole.specs.Replica.{ReplicaState, is_fetching, others}
 -- a new primary asks the earlier ballot's members, itself included if it is one, for their logs
 unfoldable pub on_new_ballot : {S C : Type 0} (O : Type 0) →
     ReplicaState S C → ℕ → List ℕ → ℕ → List ℕ → Outcome S C O
-on_new_ballot O r ballot members previous previous_members =
-    if nat_lt r.joined ballot
+on_new_ballot O replica ballot members previous previous_members =
+    if nat_lt replica.joined ballot
     then record {
-      state = record r {
+      state = record replica {
         joined = ballot;
         role = Fetching;
         members = members;
@@ -23,65 +23,69 @@ on_new_ballot O r ballot members previous previous_members =
         lacking = [];
         progress = [];
       };
-      effects = message_to_each O r.id (Join ballot previous) previous_members;
+      effects = message_to_each O replica.id (Join ballot previous) previous_members;
     }
-    else nothing_done O r
+    else nothing_done O replica
 
 -- Join(ballot, previous): the replica leaves all lower ballots, and sends its log
 unfoldable pub on_join : {S C : Type 0} (O : Type 0) → ReplicaState S C → ℕ → ℕ → ℕ → Outcome S C O
-on_join O r from ballot previous =
-    if nat_le r.joined ballot && nat_le previous r.held_in
+on_join O replica from ballot previous =
+    if nat_le replica.joined ballot && nat_le previous replica.held_in
     then record {
-      state = if nat_lt r.joined ballot then record r { joined = ballot; role = Backup } else r;
-      effects = message_to O r.id (State ballot r.log) from ∷ [];
+      state = if nat_lt replica.joined ballot
+          then record replica { joined = ballot; role = Backup } else replica;
+      effects = message_to O replica.id (State ballot replica.log) from ∷ [];
     }
-    else nothing_done O r
+    else nothing_done O replica
 
 -- the log is sent to the members that lack it; if there is none, the master may activate the ballot
 abbrev pub installs : {S C : Type 0} (O : Type 0) → ReplicaState S C → List ℕ → List (Effect C O)
-installs O r [] = message_to O r.id (Activate r.joined) master ∷ []
-installs O r (member ∷ members) =
-    message_to_each O r.id (Install r.joined r.log) (member ∷ members)
+installs O replica [] = message_to O replica.id (Activate replica.joined) master ∷ []
+installs O replica (member ∷ members) =
+    message_to_each O replica.id (Install replica.joined replica.log) (member ∷ members)
 
 -- State(ballot, log): the first log that comes is taken, unless it lacks an applied place; all
 -- other members lack it then
 unfoldable pub on_state : {S C : Type 0} (O : Type 0) →
     ReplicaState S C → ℕ → List C → Outcome S C O
-on_state O r ballot log =
-    let taken = record r {
+on_state O replica ballot log =
+    let taken = record replica {
       held_in = ballot;
       log = log;
       role = Installing;
-      lacking = others r.id r.members;
+      lacking = others replica.id replica.members;
     } in
-    if r.joined == ballot && (is_fetching r.role && nat_le r.committed (length log))
+    if replica.joined == ballot
+    && (is_fetching replica.role && nat_le replica.committed (length log))
     then record { state = taken; effects = installs O taken taken.lacking }
-    else nothing_done O r
+    else nothing_done O replica
 
 -- Install(ballot, log): a log is taken once, unless it lacks an applied place; later it is only
 -- answered, since more may have been added after it
 unfoldable pub on_install : {S C : Type 0} (O : Type 0) →
     ReplicaState S C → ℕ → ℕ → List C → Outcome S C O
-on_install O r from ballot log =
-    let installed = message_to O r.id (Installed ballot (length log)) from ∷ [] in
-    if (nat_lt r.joined ballot || (r.joined == ballot && nat_lt r.held_in ballot))
-    && nat_le r.committed (length log)
+on_install O replica from ballot log =
+    let installed = message_to O replica.id (Installed ballot (length log)) from ∷ [] in
+    if (nat_lt replica.joined ballot || (replica.joined == ballot && nat_lt replica.held_in ballot))
+    && nat_le replica.committed (length log)
     then record {
-      state = record r { joined = ballot; held_in = ballot; log = log; role = Backup };
+      state = record replica { joined = ballot; held_in = ballot; log = log; role = Backup };
       effects = installed;
     }
-    else if r.joined == ballot && r.held_in == ballot
-    then record { state = r; effects = installed }
-    else nothing_done O r
+    else if replica.joined == ballot && replica.held_in == ballot
+    then record { state = replica; effects = installed }
+    else nothing_done O replica
 
 -- a new primary repeats what it waits for
 abbrev pub on_tick_fetching : {S C : Type 0} (O : Type 0) → ReplicaState S C → Outcome S C O
-on_tick_fetching O r =
+on_tick_fetching O replica =
     record {
-      state = r;
-      effects = message_to_each O r.id (Join r.joined r.previous) r.previous_members;
+      state = replica;
+      effects = message_to_each O replica.id (Join replica.joined replica.previous)
+          replica.previous_members;
     }
 
 -- a primary that installs its log sends it at a tick to those that lack it
 abbrev pub on_tick_installing : {S C : Type 0} (O : Type 0) → ReplicaState S C → Outcome S C O
-on_tick_installing O r = record { state = r; effects = installs O r r.lacking }
+on_tick_installing O replica =
+    record { state = replica; effects = installs O replica replica.lacking }

@@ -11,15 +11,16 @@ pub data Thinned {C O : Type 0} : List (Effect C O) → List (Effect C O) → Ty
   -- nothing is left
   none : Thinned [] []
   -- the next effect is kept
-  keeps : {e : Effect C O} {xs ys : List (Effect C O)} → Thinned xs ys → Thinned (e ∷ xs) (e ∷ ys)
+  keeps : {effect : Effect C O} {xs ys : List (Effect C O)} →
+      Thinned xs ys → Thinned (effect ∷ xs) (effect ∷ ys)
   -- the next message is missing
-  loses : {receiver : ℕ} {m : Message C} {xs ys : List (Effect C O)} →
-      Thinned xs ys → Thinned xs (To receiver m ∷ ys)
+  loses : {receiver : ℕ} {message : Message C} {xs ys : List (Effect C O)} →
+      Thinned xs ys → Thinned xs (To receiver message ∷ ys)
 
 -- a replica that stopped, as memory ran out while it applied or its node crashed: its other fields
 -- stay as before, and its machine, which may have done a part of a command, is no longer shown
 abbrev pub halted : {S C O : Type 0} → Rules S C O → ReplicaState S C → ReplicaState S C
-halted rules r = record r { stopped = true; machine = rules.opening }
+halted rules replica = record replica { stopped = true; machine = rules.opening }
 
 -- a step with losses: some messages are missing, or nothing was done, or the replica stopped
 abbrev pub Loses : {S C O : Type 0} → Rules S C O →

@@ -21,30 +21,30 @@ pub data Input (C : Type 0) : Type 0 where
 
 -- a message, by its kind
 abbrev pub received : {S C O : Type 0} → Rules S C O → ReplicaState S C → ℕ → Body C → Outcome S C O
-received {O = O} rules r from (NewBallot ballot members previous previous_members) =
-    on_new_ballot O r ballot members previous previous_members
-received {O = O} rules r from (Join ballot previous) = on_join O r from ballot previous
-received {O = O} rules r from (State ballot log) = on_state O r ballot log
-received {O = O} rules r from (Install ballot log) = on_install O r from ballot log
-received {O = O} rules r from (Installed ballot held) = on_installed O r from ballot
-received {O = O} rules r from (Activate ballot) = nothing_done O r
-received {O = O} rules r from (Activated ballot) = on_activated rules r ballot
-received {O = O} rules r from (Superseded ballot) = on_superseded O r ballot
-received {O = O} rules r from (Append ballot place command) =
-    on_append O r from ballot place command
-received {O = O} rules r from (Held ballot held) = on_held rules r from ballot held
-received rules r from (Commit ballot held) = on_commit rules r ballot held
+received {O = O} rules replica from (NewBallot ballot members previous previous_members) =
+    on_new_ballot O replica ballot members previous previous_members
+received {O = O} rules replica from (Join ballot previous) = on_join O replica from ballot previous
+received {O = O} rules replica from (State ballot log) = on_state O replica ballot log
+received {O = O} rules replica from (Install ballot log) = on_install O replica from ballot log
+received {O = O} rules replica from (Installed ballot held) = on_installed O replica from ballot
+received {O = O} rules replica from (Activate ballot) = nothing_done O replica
+received {O = O} rules replica from (Activated ballot) = on_activated rules replica ballot
+received {O = O} rules replica from (Superseded ballot) = on_superseded O replica ballot
+received {O = O} rules replica from (Append ballot place command) =
+    on_append O replica from ballot place command
+received {O = O} rules replica from (Held ballot held) = on_held rules replica from ballot held
+received rules replica from (Commit ballot held) = on_commit rules replica ballot held
 
 -- a tick: a backup does nothing, and every other role repeats what others may have missed
 abbrev pub ticked : {S C : Type 0} (O : Type 0) → ReplicaState S C → Role → Outcome S C O
-ticked O r Backup = nothing_done O r
-ticked O r Fetching = on_tick_fetching O r
-ticked O r Installing = on_tick_installing O r
-ticked O r Active = on_tick_active O r
+ticked O replica Backup = nothing_done O replica
+ticked O replica Fetching = on_tick_fetching O replica
+ticked O replica Installing = on_tick_installing O replica
+ticked O replica Active = on_tick_active O replica
 
 -- the step of a replica that has not stopped
 abbrev pub replica_step : {S C O : Type 0} →
     Rules S C O → ReplicaState S C → Input C → Outcome S C O
-replica_step rules r (Receives message) = received rules r message.from message.body
-replica_step rules r (Proposes command) = proposed rules r command
-replica_step {O = O} rules r Ticks = ticked O r r.role
+replica_step rules replica (Receives message) = received rules replica message.from message.body
+replica_step rules replica (Proposes command) = proposed rules replica command
+replica_step {O = O} rules replica Ticks = ticked O replica replica.role

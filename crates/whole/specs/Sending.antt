@@ -13,7 +13,7 @@ pub record Outcome (S C O : Type 0) : Type 0 where
 
 -- nothing changes and there are no effects
 abbrev pub nothing_done : {S C : Type 0} (O : Type 0) → ReplicaState S C → Outcome S C O
-nothing_done O r = record { state = r; effects = [] }
+nothing_done O replica = record { state = replica; effects = [] }
 
 -- a message of this replica to a node
 abbrev pub message_to : {C : Type 0} (O : Type 0) → ℕ → Body C → ℕ → Effect C O

@@ -15,40 +15,42 @@ pub use Rattle.ballot_base.specs.Serving.{least, raised_progress, raised, max_pl
 -- places below `held` that are not yet applied are applied, their outputs returned, and the other
 -- members sent a Commit
 unfoldable pub commit_at : {S C O : Type 0} → Rules S C O → ReplicaState S C → ℕ → Outcome S C O
-commit_at {O = O} rules r held =
-    if nat_lt r.committed held
+commit_at {O = O} rules replica held =
+    if nat_lt replica.committed held
     then record {
-      state = applied_to rules r held;
-      effects =
-          outputs_to rules r held ++ message_to_followed O r.id (Commit r.joined held) r.progress;
+      state = applied_to rules replica held;
+      effects = outputs_to rules replica held
+          ++ message_to_followed O replica.id (Commit replica.joined held) replica.progress;
     }
-    else nothing_done O r
+    else nothing_done O replica
 
 -- what every member holds is committed
 unfoldable pub commit : {S C O : Type 0} → Rules S C O → ReplicaState S C → Outcome S C O
-commit rules r = commit_at rules r (least (length r.log) r.progress)
+commit rules replica = commit_at rules replica (least (length replica.log) replica.progress)
 
 -- a command is added after the log and sent to the other members; what all hold is committed
 unfoldable pub added : {S C O : Type 0} → Rules S C O → ReplicaState S C → C → Outcome S C O
-added {O = O} rules r command =
+added {O = O} rules replica command =
     sent_first
-    (message_to_followed O r.id (Append r.joined (length r.log) command) r.progress)
-    (commit rules (record r { log = r.log ++ command ∷ [] }))
+    (message_to_followed O replica.id (Append replica.joined (length replica.log) command)
+    replica.progress)
+    (commit rules (record replica { log = replica.log ++ command ∷ [] }))
 
 -- a proposal counts at an active primary whose log has room
 unfoldable pub proposed : {S C O : Type 0} → Rules S C O → ReplicaState S C → C → Outcome S C O
-proposed {O = O} rules r command =
-    if is_active r.role && nat_lt (length r.log) max_places
-    then added rules r command
-    else nothing_done O r
+proposed {O = O} rules replica command =
+    if is_active replica.role && nat_lt (length replica.log) max_places
+    then added rules replica command
+    else nothing_done O replica
 
 -- whether a replica is a backup that holds the log of a ballot
 abbrev pub follows : {S C : Type 0} → ReplicaState S C → ℕ → Bool
-follows r ballot = (r.joined == ballot && r.held_in == ballot) && is_backup r.role
+follows replica ballot =
+    (replica.joined == ballot && replica.held_in == ballot) && is_backup replica.role
 
 -- whether a replica is the active primary of the ballot
 abbrev pub leads : {S C : Type 0} → ReplicaState S C → ℕ → Bool
-leads r ballot = r.joined == ballot && is_active r.role
+leads replica ballot = replica.joined == ballot && is_active replica.role
 
 -- a log that takes a command if its place is the next one
 abbrev pub extended : {C : Type 0} → ℕ → C → List C → List C
@@ -57,29 +59,29 @@ extended place command log = if place == length log then log ++ command ∷ [] e
 -- Append(ballot, place, command)
 unfoldable pub on_append : {S C : Type 0} (O : Type 0) →
     ReplicaState S C → ℕ → ℕ → ℕ → C → Outcome S C O
-on_append O r from ballot place command =
-    let log = extended place command r.log in
-    if follows r ballot && nat_le place (length r.log)
+on_append O replica from ballot place command =
+    let log = extended place command replica.log in
+    if follows replica ballot && nat_le place (length replica.log)
     then record {
-      state = record r { log = log };
-      effects = message_to O r.id (Held ballot (length log)) from ∷ [];
+      state = record replica { log = log };
+      effects = message_to O replica.id (Held ballot (length log)) from ∷ [];
     }
-    else nothing_done O r
+    else nothing_done O replica
 
 -- Held(ballot, held)
 unfoldable pub on_held : {S C O : Type 0} →
     Rules S C O → ReplicaState S C → ℕ → ℕ → ℕ → Outcome S C O
-on_held {O = O} rules r from ballot held =
-    if leads r ballot
-    then commit rules (record r { progress = raised from held r.progress })
-    else nothing_done O r
+on_held {O = O} rules replica from ballot held =
+    if leads replica ballot
+    then commit rules (record replica { progress = raised from held replica.progress })
+    else nothing_done O replica
 
 -- Commit(ballot, held): only the primary returns the outputs, a backup drops them
 unfoldable pub on_commit : {S C O : Type 0} → Rules S C O → ReplicaState S C → ℕ → ℕ → Outcome S C O
-on_commit {O = O} rules r ballot held =
-    if follows r ballot && nat_le held (length r.log)
-    then record { state = applied_to rules r (max r.committed held); effects = [] }
-    else nothing_done O r
+on_commit {O = O} rules replica ballot held =
+    if follows replica ballot && nat_le held (length replica.log)
+    then record { state = applied_to rules replica (max replica.committed held); effects = [] }
+    else nothing_done O replica
 
 -- what a member may lack: the place at its progress, if the log has it
 abbrev pub append_at : {C : Type 0} (O : Type 0) → ℕ → ℕ → Progress → Option C → List (Effect C O)
@@ -95,9 +97,10 @@ appends_after O id ballot log progress =
 
 -- an active primary repeats what the other members lack, and what is committed
 unfoldable pub on_tick_active : {S C : Type 0} (O : Type 0) → ReplicaState S C → Outcome S C O
-on_tick_active O r =
+on_tick_active O replica =
     record {
-      state = r;
-      effects = appends_after O r.id r.joined r.log r.progress
-          ++ message_to_followed O r.id (Commit r.joined r.committed) r.progress;
+      state = replica;
+      effects = appends_after O replica.id replica.joined replica.log replica.progress
+          ++ message_to_followed O replica.id (Commit replica.joined replica.committed)
+          replica.progress;
     }

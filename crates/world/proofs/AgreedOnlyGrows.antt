@@ -39,7 +39,7 @@ leads_on nodes config g h went of rests =
       of = of;
       grows = λ xs ys before after. subst (λ (l : List Command). IsPrefixOf xs l) (one_agreed config (moment_of_nodes g ∷ of.earlier) xs ys before after) (prefix_same xs);
     }
-leads_on nodes config g k went of (goes_on {h = h} goes step) =
+leads_on nodes config g k went of (goes_on {next = h} goes step) =
     let so_far = leads_on nodes config g h went of goes in
     let further = past_goes_on config h k step so_far.of.earlier so_far.of.past in
     let between = has_agreed rules config (moment_of_nodes h) so_far.of.earlier so_far.of.past in

@@ -14,13 +14,13 @@ use Rattle.world.specs.World.{WorldState}
 
 -- the client of this identifier was asked to publish: its call was done, once, and the client may
 -- have lost its connection in it
-pub record AsksOne (name : List ℕ) (p : Publication) (old : WorldState)
+pub record AsksOne (name : List ℕ) (publication : Publication) (old : WorldState)
     (asked : List (ℕ × Publication)) (new : WorldState) : Type 0 where
   pub client : Named name old
   pub piped : Piped
-  pub does : SendsCall (Call.Publishes p) false client.client.piped piped
+  pub does : SendsCall (Call.Publishes publication) false client.client.piped piped
   pub is : new ≡ record (with_piped client.at client.client piped old) { losses = new.losses }
-  pub asked_is : asked ≡ (client.at, p) ∷ []
+  pub asked_is : asked ≡ (client.at, publication) ∷ []
 
 -- memory ran out before a client was asked: nothing was done, and that is counted
 pub record AsksNone (old : WorldState) (asked : List (ℕ × Publication))
@@ -30,8 +30,8 @@ pub record AsksNone (old : WorldState) (asked : List (ℕ × Publication))
 
 -- only a Publish asks a client
 abbrev pub AskedBy : Event → WorldState → List (ℕ × Publication) → WorldState → Type 0
-AskedBy (events.Publish name p) old asked new =
-    AsksOne name p old asked new ⊎ AsksNone old asked new
+AskedBy (events.Publish name publication) old asked new =
+    AsksOne name publication old asked new ⊎ AsksNone old asked new
 AskedBy _ old asked new = asked ≡ []
 
 -- only an event that was not idle asks a client

@@ -66,27 +66,30 @@ down_of (Some way) = way.down
 
 -- why an event cannot happen in a world, kind by kind
 abbrev pub CannotHappen : Event → WorldState → Type 0
-CannotHappen (events.Assign config) w = refusal w.nodes.master config ≡ None → ⊥
-CannotHappen (events.Deliver number) w = ComesToNobody (slice_get w.nodes.sent number) w.nodes
-CannotHappen (events.Tick node) w = running w.nodes.nodes node ≡ None
-CannotHappen (events.Cut node) w = cutting w.nodes.nodes node ≡ None
-CannotHappen (events.Expel name node) w =
-    (position (is_named name) w.clients ≡ None) ⊎ (proposing w.nodes.nodes node ≡ None)
-CannotHappen (events.Crash node) w = running w.nodes.nodes node ≡ None
-CannotHappen (events.Open name node) w =
-    CannotOpen (core_named name w.clients) ⊎ (is_serving (numbered_node w.nodes.nodes node) ≡ false)
-CannotHappen (events.CarryUp number count) w =
-    IsClosed (slot_numbered number w.connections) w.nodes.nodes
-    ⊎ IsNoPart count (up_of (way_of number w))
-CannotHappen (events.CarryDown number count) w =
-    (is_held (slot_numbered number w.connections) w.clients ≡ false)
-    ⊎ IsNoPart count (down_of (way_of number w))
-CannotHappen (events.Abandon name) w = HoldsNone (core_named name w.clients)
-CannotHappen (events.Disconnect name) w = HoldsNone (core_named name w.clients)
-CannotHappen (events.Notice number) w = IsClosed (slot_numbered number w.connections) w.nodes.nodes
-CannotHappen (events.Publish name publication) w =
-    RefusesCall (Call.Publishes publication) (core_named name w.clients)
-CannotHappen (events.Subscribe name filter qos) w =
-    RefusesCall (Call.Subscribes filter qos) (core_named name w.clients)
-CannotHappen (events.Unsubscribe name filter) w =
-    RefusesCall (Call.Unsubscribes filter) (core_named name w.clients)
+CannotHappen (events.Assign config) world = refusal world.nodes.master config ≡ None → ⊥
+CannotHappen (events.Deliver number) world =
+    ComesToNobody (slice_get world.nodes.sent number) world.nodes
+CannotHappen (events.Tick node) world = running world.nodes.nodes node ≡ None
+CannotHappen (events.Cut node) world = cutting world.nodes.nodes node ≡ None
+CannotHappen (events.Expel name node) world =
+    (position (is_named name) world.clients ≡ None) ⊎ (proposing world.nodes.nodes node ≡ None)
+CannotHappen (events.Crash node) world = running world.nodes.nodes node ≡ None
+CannotHappen (events.Open name node) world =
+    CannotOpen (core_named name world.clients)
+    ⊎ (is_serving (numbered_node world.nodes.nodes node) ≡ false)
+CannotHappen (events.CarryUp number count) world =
+    IsClosed (slot_numbered number world.connections) world.nodes.nodes
+    ⊎ IsNoPart count (up_of (way_of number world))
+CannotHappen (events.CarryDown number count) world =
+    (is_held (slot_numbered number world.connections) world.clients ≡ false)
+    ⊎ IsNoPart count (down_of (way_of number world))
+CannotHappen (events.Abandon name) world = HoldsNone (core_named name world.clients)
+CannotHappen (events.Disconnect name) world = HoldsNone (core_named name world.clients)
+CannotHappen (events.Notice number) world =
+    IsClosed (slot_numbered number world.connections) world.nodes.nodes
+CannotHappen (events.Publish name publication) world =
+    RefusesCall (Call.Publishes publication) (core_named name world.clients)
+CannotHappen (events.Subscribe name filter qos) world =
+    RefusesCall (Call.Subscribes filter qos) (core_named name world.clients)
+CannotHappen (events.Unsubscribe name filter) world =
+    RefusesCall (Call.Unsubscribes filter) (core_named name world.clients)

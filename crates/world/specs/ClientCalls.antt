@@ -11,8 +11,8 @@ use Rattle.world.specs.World.{WorldState}
 -- the client of this identifier does this, and nothing else changes
 abbrev pub ClientDoes : List ℕ → (Piped → Piped → Type 0) → WorldState → WorldState → Type 0
 ClientDoes name does old new =
-    (c : Named name old) × (piped : Piped) × does c.client.piped piped
-    × (new ≡ with_piped c.at c.client piped old)
+    (named : Named name old) × (piped : Piped) × does named.client.piped piped
+    × (new ≡ with_piped named.at named.client piped old)
 
 -- what the client writes is in transit; if losses are allowed, its connection may be lost instead
 abbrev pub SendsCall : Call → Bool → Piped → Piped → Type 0

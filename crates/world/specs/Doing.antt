@@ -66,16 +66,19 @@ DoesEvent whole (events.Expel name node) old new =
 DoesEvent whole (events.Crash node) old new = TakesItem whole node items.Crash old new
 DoesEvent whole (events.Open name node) old new = OpensWhere whole name node old new
 DoesEvent whole (events.CarryUp number count) old new =
-    (c : Connected number old)
-    × TakesItem whole c.slot.node (items.Bytes (port_at_node number) (take count c.way.up) 0)
-    (with_piped c.slot.client c.client (with_less c.slot.at count c.way c.client.piped) old) new
+    (connection : Connected number old)
+    × TakesItem whole connection.slot.node
+    (items.Bytes (port_at_node number) (take count connection.way.up) 0)
+    (with_piped connection.slot.client connection.client
+    (with_less connection.slot.at count connection.way connection.client.piped) old) new
 DoesEvent whole (events.CarryDown number count) old new =
-    (c : Connected number old) × (piped : Piped) × CarriesDownWhere whole count c.client.piped piped
-    × (new ≡ with_piped c.slot.client c.client piped old)
+    (connection : Connected number old) × (piped : Piped)
+    × CarriesDownWhere whole count connection.client.piped piped
+    × (new ≡ with_piped connection.slot.client connection.client piped old)
 DoesEvent whole (events.Abandon name) old new = ClientDoes name LosesConnection old new
 DoesEvent whole (events.Disconnect name) old new = ClientDoes name (SendsDisconnect whole) old new
 DoesEvent whole (events.Notice number) old new =
-    (c : Connected number old) × TakesItem whole c.slot.node
+    (connection : Connected number old) × TakesItem whole connection.slot.node
     (items.Ended (port_at_node number)) old new
 DoesEvent whole (events.Publish name publication) old new =
     ClientDoes name (SendsCall (Call.Publishes publication) whole) old new
@@ -89,9 +92,9 @@ DoesEvent whole (events.Unsubscribe name filter) old new =
 abbrev pub LosesAtClient : Event → WorldState → WorldState → Type 0
 LosesAtClient (events.Open name node) old new = OpensNone name node old new
 LosesAtClient (events.CarryDown number count) old new =
-    (c : Connected number old) × (piped : Piped)
-    × CarriesDown count c.client.piped (Err errors.Memory) piped
-    × (new ≡ with_piped c.slot.client c.client piped old)
+    (connection : Connected number old) × (piped : Piped)
+    × CarriesDown count connection.client.piped (Err errors.Memory) piped
+    × (new ≡ with_piped connection.slot.client connection.client piped old)
 LosesAtClient (events.Disconnect name) old new = ClientDoes name LosesLeaving old new
 LosesAtClient (events.Publish name publication) old new =
     ClientDoes name (LosesAsking (Call.Publishes publication)) old new

@@ -38,18 +38,19 @@ log_length_of (Some node) = places node.core.replica.state.log
 -- The master gives the next ballot to these members, and each of them runs. The first member of the
 -- active configuration that runs, given by its index, has room for two more commands. The client
 -- has a session that is not clean after the whole log of that member, agreed or not.
-pub record CanEscape (members : List ℕ) (name : Client) (w : WorldState) : Type 0 where
-  pub granted : refusal w.nodes.master (configuration_of members) ≡ None
-  pub live : list_all (is_running w.nodes.nodes) members ≡ true
+pub record CanEscape (members : List ℕ) (name : Client) (world : WorldState) : Type 0 where
+  pub granted : refusal world.nodes.master (configuration_of members) ≡ None
+  pub live : list_all (is_running world.nodes.nodes) members ≡ true
   pub index : ℕ
-  pub first : position (is_running w.nodes.nodes) w.nodes.master.members ≡ Some index
+  pub first : position (is_running world.nodes.nodes) world.nodes.master.members ≡ Some index
   pub source : ℕ
-  pub asked : slice_get w.nodes.master.members index ≡ Some source
-  pub room : log_length_of (numbered_node w.nodes.nodes source) + 2 ≤ max_places
+  pub asked : slice_get world.nodes.master.members index ≡ Some source
+  pub room : log_length_of (numbered_node world.nodes.nodes source) + 2 ≤ max_places
   pub core : Core
-  pub client : core_named name w.clients ≡ Some core
+  pub client : core_named name world.clients ≡ Some core
   pub session :
-      session_of (past_of usual_limits (whole_log_of w.nodes source)) core.state.client ≡ Some false
+      session_of (past_of usual_limits (whole_log_of world.nodes source)) core.state.client
+      ≡ Some false
 
 -- ---- what it leads to
 
@@ -66,7 +67,7 @@ pub record HasEscaped (name : Client) (old new : WorldState) : Type 0 where
 
 -- whatever happened before, if none of these events loses anything
 abbrev pub LeadsClientOut : Client → WorldState → List Event → Type 0
-LeadsClientOut name w events =
+LeadsClientOut name old events =
     (nodes : ℕ) (config : Config) (clients : List Client) (new : WorldState) →
-    IsReached nodes config clients w → EventsHappen events w new → WorldLosesNothing w new →
-    HasEscaped name w new
+    IsReached nodes config clients old → EventsHappen events old new → WorldLosesNothing old new →
+    HasEscaped name old new

@@ -27,16 +27,16 @@ abbrev pub core_named : List ℕ → List WorldClient → Option Core
 core_named name clients = core_at (position (is_named name) clients) clients
 
 -- the first client of this identifier is at this index
-pub record Named (name : List ℕ) (w : WorldState) : Type 0 where
+pub record Named (name : List ℕ) (world : WorldState) : Type 0 where
   pub at : ℕ
-  pub first : position (is_named name) w.clients ≡ Some at
+  pub first : position (is_named name) world.clients ≡ Some at
   pub client : WorldClient
-  pub stands : slice_get w.clients at ≡ Some client
+  pub stands : slice_get world.clients at ≡ Some client
 
 -- the client at this index has become this one, and nothing else changes
 abbrev pub with_piped : ℕ → WorldClient → Piped → WorldState → WorldState
-with_piped at client piped w =
-    record w { clients = set w.clients at (record client { piped = piped }) }
+with_piped at client piped world =
+    record world { clients = set world.clients at (record client { piped = piped }) }
 
 -- ---- a connection
 
@@ -56,17 +56,17 @@ way_at (Some slot) clients = way_in (slice_get clients slot.client) slot.at
 
 -- the connection of this number, if it was opened
 abbrev pub way_of : ℕ → WorldState → Option Way
-way_of number w = way_at (slot_numbered number w.connections) w.clients
+way_of number world = way_at (slot_numbered number world.connections) world.clients
 
 -- the port by which its node knows it
 abbrev pub port_at_node : ℕ → Port
 port_at_node number = record { 0 = number }
 
 -- A connection is found: its state, its client, and what is in transit on it.
-pub record Connected (number : ℕ) (w : WorldState) : Type 0 where
+pub record Connected (number : ℕ) (world : WorldState) : Type 0 where
   pub slot : ConnectionSlot
-  pub numbered : slot_numbered number w.connections ≡ Some slot
+  pub numbered : slot_numbered number world.connections ≡ Some slot
   pub client : WorldClient
-  pub owned : slice_get w.clients slot.client ≡ Some client
+  pub owned : slice_get world.clients slot.client ≡ Some client
   pub way : Way
   pub stands : slice_get client.piped.ways slot.at ≡ Some way

@@ -52,11 +52,11 @@ EventsHappen (event ∷ events) old new =
 
 -- a world as it opens: no client was ever connected
 pub record WorldOpens (nodes : ℕ) (config : Config) (clients : List Client)
-    (w : WorldState) : Type 0 where
-  pub group : NodesStandFor (opening_group nodes config) w.nodes
-  pub whole : w.nodes.losses ≡ 0
-  pub is : w ≡ record {
-    nodes = w.nodes;
+    (world : WorldState) : Type 0 where
+  pub group : NodesStandFor (opening_group nodes config) world.nodes
+  pub whole : world.nodes.losses ≡ 0
+  pub is : world ≡ record {
+    nodes = world.nodes;
     clients = map new_world_client clients;
     connections = [];
     losses = 0;

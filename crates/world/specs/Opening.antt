@@ -15,7 +15,7 @@ use Rattle.world_clients.specs.Opening.{NoneOpens}
 
 -- the number of the next connection
 abbrev pub next_connection_number : WorldState → ℕ
-next_connection_number w = suc (length w.connections)
+next_connection_number world = suc (length world.connections)
 
 -- a client has a new connection to a node: its CONNECT is in transit on it, under this number
 abbrev pub ConnectsTo : ℕ → ℕ → Piped → Piped → Type 0
@@ -24,14 +24,14 @@ ConnectsTo node number old new =
     (Ok tt) new
 
 -- the world with that client, and a slot for its new connection, whose end is open
-abbrev pub with_connection : {name : List ℕ} {w : WorldState} → Named name w → Piped → ℕ →
+abbrev pub with_connection : {name : List ℕ} {world : WorldState} → Named name world → Piped → ℕ →
     WorldState
-with_connection {w = w} c piped node =
-    record (with_piped c.at c.client piped w) {
-      connections = w.connections
+with_connection {world = world} named piped node =
+    record (with_piped named.at named.client piped world) {
+      connections = world.connections
           ++ record {
-            client = c.at;
-            at = length c.client.piped.ways;
+            client = named.at;
+            at = length named.client.piped.ways;
             node = node;
             is_open = true;
           } ∷ [];
@@ -40,18 +40,18 @@ with_connection {w = w} c piped node =
 -- the client's node takes the connection, and what the node queued then goes down
 abbrev pub OpensOne : Bool → List ℕ → ℕ → WorldState → WorldState → Type 0
 OpensOne whole name node old new =
-    (c : Named name old) × (piped : Piped)
-    × ConnectsTo node (next_connection_number old) c.client.piped piped
+    (named : Named name old) × (piped : Piped)
+    × ConnectsTo node (next_connection_number old) named.client.piped piped
     × TakesItem whole node (items.Opened (port_at_node (next_connection_number old)) 0)
-    (with_connection c piped node) new
+    (with_connection named piped node) new
 
 -- a client of a world opens no connection: no slot is added
 abbrev pub OpensNone : List ℕ → ℕ → WorldState → WorldState → Type 0
 OpensNone name node old new =
-    (c : Named name old) × (piped : Piped) × (between : NodesState)
-    × NoneOpens node (port_at_node (next_connection_number old)) old.nodes c.client.piped between
-    piped
-    × (new ≡ record (with_piped c.at c.client piped old) { nodes = between })
+    (named : Named name old) × (piped : Piped) × (between : NodesState)
+    × NoneOpens node (port_at_node (next_connection_number old)) old.nodes named.client.piped
+    between piped
+    × (new ≡ record (with_piped named.at named.client piped old) { nodes = between })
 
 -- Whether the names of the node's ballot are used up. Then the connection is closed at once,
 -- without a byte: nothing is left of it.

@@ -17,30 +17,31 @@ use Rattle.world_clients.specs.Handing.{HasNothingToHandOver}
 
 -- an item takes no memory at a node, which has nothing to hand over
 abbrev pub IsQuietAt : ℕ → Item → NodesState → Type 0
-IsQuietAt node item n = RestsAt node item n × HasNothingToHandOver node n
+IsQuietAt node item state = RestsAt node item state × HasNothingToHandOver node state
 
 -- a message that arrives takes no memory, including one that the master ignores
 abbrev pub ComesQuietly : Option (ℕ × Message Command) → NodesState → Type 0
-ComesQuietly None n = ⊥
-ComesQuietly (Some (zero, message)) n = IsUnheeded message.body
-ComesQuietly (Some (suc at, message)) n = IsQuietAt (suc at) (items.Peer message) n
+ComesQuietly None state = ⊥
+ComesQuietly (Some (zero, message)) state = IsUnheeded message.body
+ComesQuietly (Some (suc at, message)) state = IsQuietAt (suc at) (items.Peer message) state
 
 -- the end of a connection takes no memory at its node
 abbrev pub EndsQuietly : ℕ → Option ConnectionSlot → NodesState → Type 0
-EndsQuietly number None n = ⊥
-EndsQuietly number (Some slot) n = IsQuietAt slot.node (items.Ended (port_at_node number)) n
+EndsQuietly number None state = ⊥
+EndsQuietly number (Some slot) state = IsQuietAt slot.node (items.Ended (port_at_node number)) state
 
 -- An event takes no memory if a client only loses its connection, if an Open finds no name left, if
 -- a message reaches the master that it ignores, and in one case more. In it a message, a tick, the
 -- end of a connection or a crash reaches a node that then sends nothing and has nothing to hand
 -- over. Such a node adds nothing to its log, takes no log and applies nothing.
 abbrev pub EventTakesNoMemory : Event → WorldState → Type 0
-EventTakesNoMemory (events.Deliver number) w = ComesQuietly (slice_get w.nodes.sent number) w.nodes
-EventTakesNoMemory (events.Tick node) w = IsQuietAt node (items.Tick 0) w.nodes
-EventTakesNoMemory (events.Crash node) w = IsQuietAt node items.Crash w.nodes
-EventTakesNoMemory (events.Notice number) w =
-    EndsQuietly number (slot_numbered number w.connections) w.nodes
-EventTakesNoMemory (events.Open name node) w =
-    has_no_name_left (numbered_node w.nodes.nodes node) ≡ true
-EventTakesNoMemory (events.Abandon name) w = Unit {0}
-EventTakesNoMemory event w = ⊥
+EventTakesNoMemory (events.Deliver number) world =
+    ComesQuietly (slice_get world.nodes.sent number) world.nodes
+EventTakesNoMemory (events.Tick node) world = IsQuietAt node (items.Tick 0) world.nodes
+EventTakesNoMemory (events.Crash node) world = IsQuietAt node items.Crash world.nodes
+EventTakesNoMemory (events.Notice number) world =
+    EndsQuietly number (slot_numbered number world.connections) world.nodes
+EventTakesNoMemory (events.Open name node) world =
+    has_no_name_left (numbered_node world.nodes.nodes node) ≡ true
+EventTakesNoMemory (events.Abandon name) world = Unit {0}
+EventTakesNoMemory event world = ⊥

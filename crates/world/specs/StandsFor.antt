@@ -15,30 +15,31 @@ use Rattle.world_clients.specs.Clients.{ClientsStand}
 
 -- A world in code corresponds to one of the model: its nodes to the group, its clients to the
 -- clients. What was written, handled and agreed before is history: no field keeps it.
-pub record WorldStandsFor (m : World) (w : WorldState) : Type 0 where
-  pub nodes : NodesStandFor m.group w.nodes
-  pub clients : ClientsStand w.clients m.clients
+pub record WorldStandsFor (model : World) (world : WorldState) : Type 0 where
+  pub nodes : NodesStandFor model.group world.nodes
+  pub clients : ClientsStand world.clients model.clients
 
 -- ---- how it moves
 
 -- steps of a world, one after another
-pub data WorldSteps (m : World) : World → Type 0 where
+pub data WorldSteps (first : World) : World → Type 0 where
   -- no step
-  rests : WorldSteps m m
+  rests : WorldSteps first first
   -- one more step
-  goes_on : {n o : World} → WorldSteps m n → WorldStep n o → WorldSteps m o
+  goes_on : {next last : World} → WorldSteps first next → WorldStep next last →
+      WorldSteps first last
 
 -- what clients publish in these steps, the oldest first
-abbrev pub published_along : {m n : World} → WorldSteps m n → List (ℕ × Publication)
+abbrev pub published_along : {first last : World} → WorldSteps first last → List (ℕ × Publication)
 published_along rests = []
 published_along (goes_on steps step) = published_along steps ++ published_in_step step
 
 -- A world of the model moves by steps in which its clients publish this, and the world in code
 -- corresponds to the one after them.
-pub record ModelStepsTo (asked : List (ℕ × Publication)) (m : World) (new : WorldState)
+pub record ModelStepsTo (asked : List (ℕ × Publication)) (model : World) (new : WorldState)
     : Type 0 where
   pub after : World
-  pub steps : WorldSteps m after
+  pub steps : WorldSteps model after
   pub asked_is : published_along steps ≡ asked
   pub stands : WorldStandsFor after new
 
@@ -46,8 +47,8 @@ pub record ModelStepsTo (asked : List (ℕ × Publication)) (m : World) (new : W
 -- (`ModelStepsTo`)
 abbrev pub FollowsModelAsking : List (ℕ × Publication) → WorldState → WorldState → Type 0
 FollowsModelAsking asked old new =
-    (nodes : ℕ) (config : Config) (cs : List Client) (m : World) → Reached nodes config cs m →
-    WorldStandsFor m old → ModelStepsTo asked m new
+    (nodes : ℕ) (config : Config) (clients : List Client) (model : World) →
+    Reached nodes config clients model → WorldStandsFor model old → ModelStepsTo asked model new
 
 -- nothing is published
 abbrev pub FollowsModel : WorldState → WorldState → Type 0
@@ -58,30 +59,31 @@ FollowsModel old new = FollowsModelAsking [] old new
 -- A world in code corresponds to one that can be reached with this many nodes, in this
 -- configuration, with these clients, each of which has an identifier of its own. So the headline
 -- holds for each client, by the list on which its nodes agree.
-pub record IsReached (nodes : ℕ) (config : Config) (cs : List Client)
-    (w : WorldState) : Type 0 where
-  pub apart : ClientsAreApart cs
+pub record IsReached (nodes : ℕ) (config : Config) (clients : List Client)
+    (state : WorldState) : Type 0 where
+  pub apart : ClientsAreApart clients
   pub world : World
-  pub trail : Reached nodes config cs world
-  pub stands : WorldStandsFor world w
+  pub trail : Reached nodes config clients world
+  pub stands : WorldStandsFor world state
   pub exact : IsExact trail
 
 -- what its clients published until then: each publication with the index of its client
-abbrev pub asked_on : {nodes : ℕ} {config : Config} {cs : List Client} {w : WorldState} →
-    IsReached nodes config cs w → List (ℕ × Publication)
+abbrev pub asked_on : {nodes : ℕ} {config : Config} {clients : List Client} {state : WorldState} →
+    IsReached nodes config clients state → List (ℕ × Publication)
 asked_on reached = published_on_way reached.trail
 
 -- the connections of a client of the model's world, the newest first: history
 abbrev pub connections_in : Option ClientPipes → List ClientConnection
-connections_in (Some c) = c.connections
+connections_in (Some client) = client.connections
 connections_in None = []
 
 -- the connections of the client at this index
 abbrev pub connections_at : ℕ → World → List ClientConnection
-connections_at i world = connections_in (slice_get world.clients i)
+connections_at index world = connections_in (slice_get world.clients index)
 
 -- a world that can be reached still can after it, and this was published since
 abbrev pub KeepsReached : List (ℕ × Publication) → WorldState → WorldState → Type 0
 KeepsReached asked old new =
-    (nodes : ℕ) (config : Config) (cs : List Client) (before : IsReached nodes config cs old) →
-    (after : IsReached nodes config cs new) × (asked_on after ≡ asked_on before ++ asked)
+    (nodes : ℕ) (config : Config) (clients : List Client)
+    (before : IsReached nodes config clients old) →
+    (after : IsReached nodes config clients new) × (asked_on after ≡ asked_on before ++ asked)

@@ -17,10 +17,11 @@ new_world_client name = record { name = name; piped = new_piped name }
 
 -- the identifiers of clients, in order
 abbrev pub identifiers : List WorldClient → List Client
-identifiers clients = map (λ (c : WorldClient). c.name) clients
+identifiers clients = map (λ (client : WorldClient). client.name) clients
 
 -- each client corresponds to the model's client at its index
 abbrev pub ClientsStand : List WorldClient → List ClientPipes → Type 0
-ClientsStand (client ∷ clients) (c ∷ cs) = ClientStandsFor client.piped c × ClientsStand clients cs
+ClientsStand (client ∷ clients) (model ∷ models) =
+    ClientStandsFor client.piped model × ClientsStand clients models
 ClientsStand [] [] = Unit {0}
 ClientsStand _ _ = ⊥

@@ -39,8 +39,8 @@ HandsOverBytes (Some core) node port old new =
 
 -- a node has nothing to hand over
 abbrev pub HasNothingToHandOver : ℕ → NodesState → Type 0
-HasNothingToHandOver node n =
-    (core : CountedCore) → numbered_node n.nodes node ≡ Some core → WaitsNothing core.core
+HasNothingToHandOver node state =
+    (core : CountedCore) → numbered_node state.nodes node ≡ Some core → WaitsNothing core.core
 
 -- these bytes are in transit down on the client's connection at this index
 abbrev pub with_down : ℕ → Way → List ℕ → Piped → Piped

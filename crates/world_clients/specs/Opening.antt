@@ -30,9 +30,9 @@ NoneOpens node port old client new later =
     × ((new ≡ old) ⊎ NodeItemOrLost node (items.Opened port 0) old new))
 
 -- the node of this number exists, and has a connection at this port or not
-pub record IsKnown (has : Bool) (node : ℕ) (port : Port) (n : NodesState) : Type 0 where
+pub record IsKnown (has : Bool) (node : ℕ) (port : Port) (state : NodesState) : Type 0 where
   pub core : CountedCore
-  pub stands : numbered_node n.nodes node ≡ Some core
+  pub stands : numbered_node state.nodes node ≡ Some core
   pub known : is_some (listed_at port core.core) ≡ has
 
 -- a new connection is reported to a node, which then has it or not

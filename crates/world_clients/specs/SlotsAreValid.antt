@@ -27,12 +27,12 @@ pub record LeadsThere (all : List (List (ℕ × Port))) (number : ℕ)
 -- each slot leads to its client's connection, and each port that was used has a slot
 pub record SlotsAreValid (all : List (List (ℕ × Port)))
     (connections : List ConnectionSlot) : Type 0 where
-  -- connection n + 1 is at index n
-  pub known : (n : ℕ) (slot : ConnectionSlot) → slice_get connections n ≡ Some slot →
-      LeadsThere all (suc n) slot
+  -- connection 1 is at index 0, and so on
+  pub known : (index : ℕ) (slot : ConnectionSlot) → slice_get connections index ≡ Some slot →
+      LeadsThere all (suc index) slot
   -- no port above the number of connections was used
-  pub used : (i at node : ℕ) (port : Port) (ways : List (ℕ × Port)) → slice_get all i ≡ Some ways →
-      slice_get ways at ≡ Some (node, port)
+  pub used : (index at node : ℕ) (port : Port) (ways : List (ℕ × Port)) →
+      slice_get all index ≡ Some ways → slice_get ways at ≡ Some (node, port)
       → port.0 ≤ length connections
 
 -- ---- whose end is open

@@ -11,16 +11,17 @@ use Rattle.world_nodes.specs.Nodes.{NodesState, NodesStandFor}
 
 -- whatever the history of a group that corresponds to the nodes, this is its agreed list
 abbrev pub AgreeOn : NodesState → List Command → Type 0
-AgreeOn n list =
-    (config : Config) (g : Group) (earlier : List (Moment State Command Output)) →
-    NodesStandFor g n →
-    Moments rules config (moment_of_nodes g ∷ earlier) →
-    IsAgreed config (moment_of_nodes g ∷ earlier) list
+AgreeOn state list =
+    (config : Config) (group : Group) (earlier : List (Moment State Command Output)) →
+    NodesStandFor group state →
+    Moments rules config (moment_of_nodes group ∷ earlier) →
+    IsAgreed config (moment_of_nodes group ∷ earlier) list
 
 -- the list on which the nodes agree has this many commands
 abbrev pub AgreeOnSoMany : NodesState → ℕ → Type 0
-AgreeOnSoMany n count =
-    (config : Config) (g : Group) (earlier : List (Moment State Command Output)) →
-    NodesStandFor g n →
-    Moments rules config (moment_of_nodes g ∷ earlier) →
-    (list : List Command) → IsAgreed config (moment_of_nodes g ∷ earlier) list → count ≡ length list
+AgreeOnSoMany state count =
+    (config : Config) (group : Group) (earlier : List (Moment State Command Output)) →
+    NodesStandFor group state →
+    Moments rules config (moment_of_nodes group ∷ earlier) →
+    (list : List Command) → IsAgreed config (moment_of_nodes group ∷ earlier) list →
+    count ≡ length list

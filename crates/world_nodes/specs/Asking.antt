@@ -22,7 +22,7 @@ whole_log_in archive (Some node) = whole_log archive node.core.replica.state.log
 
 -- the whole log of the node of a number
 abbrev pub whole_log_of : NodesState → ℕ → List Command
-whole_log_of n node = whole_log_in n.archive (numbered_node n.nodes node)
+whole_log_of state node = whole_log_in state.archive (numbered_node state.nodes node)
 
 -- the name of the first connection of ballot 1
 abbrev pub first_connection : ConnectionName
@@ -30,7 +30,7 @@ first_connection = record { ballot = 1; count = 1 }
 
 -- whether an output is a CONNACK 0 with session present
 abbrev pub is_present : Output → Bool
-is_present (Send x (Connack (Accepted present))) = present
+is_present (Send connection (Connack (Accepted present))) = present
 is_present _ = false
 
 -- whether the first of these outputs is a CONNACK 0 with session present

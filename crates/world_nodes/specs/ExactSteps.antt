@@ -25,10 +25,10 @@ use Rattle.world_nodes.specs.Running.{running, numbered_node, cutting}
 
 -- the nodes after a call of the one at this index
 abbrev pub after_node_call : ℕ → CountedCore → NodeCall → NodesState → NodesState
-after_node_call at node node_call n =
-    record n {
-      nodes = slice_set n.nodes at (record node { core = (done node_call node.core).core });
-      sent = n.sent ++ messages (done node_call node.core).messages;
+after_node_call at node node_call state =
+    record state {
+      nodes = slice_set state.nodes at (record node { core = (done node_call node.core).core });
+      sent = state.sent ++ messages (done node_call node.core).messages;
     }
 
 -- The node of this number runs, and took just this item: its step is the definitions' step, and all
@@ -55,47 +55,48 @@ pub record GivesExactly (node : ℕ) (port : Port) (old new : NodesState) : Type
 
 -- a group does a call of a node, or of the master, exactly or with losses, and then corresponds to
 -- these nodes
-pub record GoesBy (node_call : Option (ℕ × NodeCall)) (g : Group) (new : NodesState) : Type 0 where
-  pub does : DoesCall g node_call
+pub record GoesBy (node_call : Option (ℕ × NodeCall)) (group : Group)
+    (new : NodesState) : Type 0 where
+  pub does : DoesCall group node_call
   pub stands : NodesStandFor does.after new
 
 -- each group that corresponds to the nodes before does so: the node at this index does this call
 abbrev pub NodeDoesCall : ℕ → NodeCall → NodesState → NodesState → Type 0
 NodeDoesCall at node_call old new =
-    (g : Group) → NodesStandFor g old → GoesBy (Some (at, node_call)) g new
+    (group : Group) → NodesStandFor group old → GoesBy (Some (at, node_call)) group new
 
 -- ---- what is handed over
 
 -- what the node of this number queued for a port is appended
 abbrev pub HandsOver : ℕ → Port → NodesState → List ℕ → List ℕ → Type 0
-HandsOver node port n before after =
-    (core : CountedCore) → numbered_node n.nodes node ≡ Some core →
+HandsOver node port state before after =
+    (core : CountedCore) → numbered_node state.nodes node ≡ Some core →
     after ≡ before ++ pending_bytes (listed_at port core.core)
 
 -- the answer to a handing over says whether more may come
 abbrev pub AnswersFor : ℕ → Port → NodesState → Handed → Type 0
-AnswersFor node port n handed =
-    (core : CountedCore) → numbered_node n.nodes node ≡ Some core →
+AnswersFor node port state handed =
+    (core : CountedCore) → numbered_node state.nodes node ≡ Some core →
     handed ≡ handed_after (listed_at port core.core)
 
 -- ---- the master
 
 -- the nodes after a step of the master, whose message was sent
 abbrev pub after_master : MasterOutcome Command → NodesState → NodesState
-after_master o n =
-    record n {
-      master = o.state;
-      sent = n.sent ++ (o.receiver, record { from = master; body = o.body }) ∷ [];
+after_master outcome state =
+    record state {
+      master = outcome.state;
+      sent = state.sent ++ (outcome.receiver, record { from = master; body = outcome.body }) ∷ [];
     }
 
 -- after an Assign that is not refused
 abbrev pub after_giving : Config → NodesState → NodesState
-after_giving config n = after_master (assigned Command n.master config) n
+after_giving config state = after_master (assigned Command state.master config) state
 
 -- the nodes after an Activate of a node that the master heard
 abbrev pub after_answer : ℕ → ℕ → NodesState → NodesState
-after_answer from ballot n =
-    after_master (activated Command n.master ballot from n.master.waiting) n
+after_answer from ballot state =
+    after_master (activated Command state.master ballot from state.master.waiting) state
 
 -- ---- a message reaches its receiver
 
@@ -112,6 +113,6 @@ MessageArrives (Some (suc at, message)) old new = TakesExactly (suc at) (Peer me
 
 -- a message reaches no node: none was sent, or its receiver is unknown or has stopped
 abbrev pub ComesToNobody : Option (ℕ × Message Command) → NodesState → Type 0
-ComesToNobody None n = Unit {0}
-ComesToNobody (Some (zero, message)) n = ⊥
-ComesToNobody (Some (suc at, message)) n = running n.nodes (suc at) ≡ None
+ComesToNobody None state = Unit {0}
+ComesToNobody (Some (zero, message)) state = ⊥
+ComesToNobody (Some (suc at, message)) state = running state.nodes (suc at) ≡ None

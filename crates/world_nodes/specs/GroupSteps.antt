@@ -20,7 +20,7 @@ NodeCallOrLost at node_call old new =
 
 -- by a step of the master, whose message may be lost; or nothing happened
 abbrev pub MasterGoes : NodesState → NodesState → Type 0
-MasterGoes old new = (g : Group) → NodesStandFor g old → GoesBy None g new
+MasterGoes old new = (group : Group) → NodesStandFor group old → GoesBy None group new
 
 -- the master answers; or memory ran out, and that is counted
 abbrev pub MasterStepOrLost : NodesState → NodesState → Type 0

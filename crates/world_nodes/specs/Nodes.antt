@@ -18,12 +18,12 @@ pub record NodesState : Type 0 where
 
 -- nodes without their counts of losses
 abbrev pub cores_of : List CountedCore → List CoreState
-cores_of nodes = map (λ (c : CountedCore). c.core) nodes
+cores_of nodes = map (λ (node : CountedCore). node.core) nodes
 
 -- A group corresponds to nodes: it has their master, what each of them keeps, their messages and
 -- their record. Which outputs its replicas gave before is history: no field keeps it.
-pub record NodesStandFor (g : Group) (n : NodesState) : Type 0 where
-  pub master : g.master ≡ n.master
-  pub nodes : g.nodes ≡ cores_of n.nodes
-  pub sent : g.sent ≡ n.sent
-  pub archive : g.archive ≡ n.archive
+pub record NodesStandFor (group : Group) (state : NodesState) : Type 0 where
+  pub master : group.master ≡ state.master
+  pub nodes : group.nodes ≡ cores_of state.nodes
+  pub sent : group.sent ≡ state.sent
+  pub archive : group.archive ≡ state.archive

@@ -18,9 +18,9 @@ use Rattle.world_nodes.specs.Nodes.{NodesState}
 
 -- The node of this number runs, and the item takes no memory there. It has no failed connection
 -- that is still to be reported to its broker, and its count of losses is below its greatest number.
-pub record RestsAt (node : ℕ) (item : Item) (n : NodesState) : Type 0 where
+pub record RestsAt (node : ℕ) (item : Item) (state : NodesState) : Type 0 where
   pub core : CountedCore
-  pub runs : running n.nodes node ≡ Some core
+  pub runs : running state.nodes node ≡ Some core
   pub takes : ItemTakesNoMemory item core.core
   pub none_failed : find has_failed core.core.connections ≡ None
   pub low : core.losses < greatest_count
@@ -32,12 +32,12 @@ IsUnheeded _ = Unit {0}
 
 -- a message that was sent reaches the master, which ignores it, or a node that does
 abbrev pub ComesUnheeded : Option (ℕ × Message Command) → NodesState → Type 0
-ComesUnheeded None n = ⊥
-ComesUnheeded (Some (zero, message)) n = IsUnheeded message.body
-ComesUnheeded (Some (suc at, message)) n = RestsAt (suc at) (Peer message) n
+ComesUnheeded None state = ⊥
+ComesUnheeded (Some (zero, message)) state = IsUnheeded message.body
+ComesUnheeded (Some (suc at, message)) state = RestsAt (suc at) (Peer message) state
 
 -- nothing waits at a node to be handed over for a port
 abbrev pub WaitsAtNone : ℕ → Port → NodesState → Type 0
-WaitsAtNone node port n =
-    (core : CountedCore) → numbered_node n.nodes node ≡ Some core →
+WaitsAtNone node port state =
+    (core : CountedCore) → numbered_node state.nodes node ≡ Some core →
     pending_bytes (listed_at port core.core) ≡ []

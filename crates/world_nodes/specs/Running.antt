@@ -7,7 +7,7 @@ use Rattle.node_core.specs.Effects.{has_room}
 -- the node, if it has not stopped
 abbrev pub unless_stopped : Option CountedCore → Option CountedCore
 unless_stopped None = None
-unless_stopped (Some c) = if c.core.replica.state.stopped then None else Some c
+unless_stopped (Some node) = if node.core.replica.state.stopped then None else Some node
 
 -- the node of a number, if it exists and has not stopped
 abbrev pub running : List CountedCore → ℕ → Option CountedCore
@@ -31,7 +31,7 @@ is_running nodes node = is_up (numbered_node nodes node)
 -- the node, if it has something to cut
 abbrev pub unless_whole : Option CountedCore → Option CountedCore
 unless_whole None = None
-unless_whole (Some c) = if can_cut c.core.replica.state then Some c else None
+unless_whole (Some node) = if can_cut node.core.replica.state then Some node else None
 
 -- the node of a number, if it runs and has something to cut
 abbrev pub cutting : List CountedCore → ℕ → Option CountedCore
@@ -40,7 +40,7 @@ cutting nodes node = unless_whole (running nodes node)
 -- the node, if it serves clients and its log has room
 abbrev pub unless_full : Option CountedCore → Option CountedCore
 unless_full None = None
-unless_full (Some c) = if has_room c.core then Some c else None
+unless_full (Some node) = if has_room node.core then Some node else None
 
 -- the node of a number, if it serves clients and its log has room
 abbrev pub proposing : List CountedCore → ℕ → Option CountedCore

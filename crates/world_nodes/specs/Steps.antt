@@ -24,7 +24,7 @@ NodesLoseNothing old new = (new.losses ≡ old.losses) × (old.losses < greatest
 
 -- nothing happened, except that one loss more is counted
 abbrev pub nodes_with_loss : NodesState → NodesState
-nodes_with_loss n = record n { losses = one_more n.losses }
+nodes_with_loss state = record state { losses = one_more state.losses }
 
 -- The node at this index did a step on the item with losses, as a node may, and some of its
 -- messages are missing. No other node, nor the master, has changed.
@@ -89,7 +89,7 @@ pub record NodeCutOrLost (node : ℕ) (old new : NodesState) : Type 0 where
 
 -- the master's message is lost, and that is counted
 abbrev pub unheard : NodesState → NodesState → NodesState
-unheard after n = record n { master = after.master; losses = one_more n.losses }
+unheard after state = record state { master = after.master; losses = one_more state.losses }
 
 -- The master gave a ballot, and sent it to its primary. Or it was not sent, or nothing happened:
 -- both are counted.

@@ -21,17 +21,17 @@ use Rattle.world_pipes.specs.StandsFor.{ClientStandsFor}
 
 -- the model's client moves by steps in which it publishes this, and the client in code corresponds
 -- to the one after them
-pub record ModelFollows (published : List Publication) (m : ClientPipes) (new : Piped)
+pub record ModelFollows (published : List Publication) (model : ClientPipes) (new : Piped)
     : Type 0 where
   pub next : ClientPipes
-  pub goes : ClientGoes m next
+  pub goes : ClientGoes model next
   pub publishes : published_in_steps goes ≡ published
   pub stands : ClientStandsFor new next
 
 -- each client of the model that corresponded to it before follows, and publishes this
 abbrev pub FollowsBy : List Publication → Piped → Piped → Type 0
 FollowsBy published old new =
-    (m : ClientPipes) → ClientStandsFor old m → ModelFollows published m new
+    (model : ClientPipes) → ClientStandsFor old model → ModelFollows published model new
 
 -- each client of the model that corresponded to it before follows, and publishes nothing
 abbrev pub FollowsAll : Piped → Piped → Type 0
@@ -41,13 +41,13 @@ FollowsAll old new = FollowsBy [] old new
 
 -- a client that loses its connection writes nothing
 abbrev pub after_losing : ClientPipes → ClientPipes
-after_losing m = after_writing (lost m.keeper) m.connections m
+after_losing client = after_writing (lost client.keeper) client.connections client
 
 -- the model's client loses its connection, and publishes nothing
 abbrev pub FollowsLosing : Piped → Piped → Type 0
 FollowsLosing old new =
-    (m : ClientPipes) → ClientStandsFor old m →
-    ClientStandsFor new (after_losing m) × (goes : ClientGoes m (after_losing m))
+    (model : ClientPipes) → ClientStandsFor old model →
+    ClientStandsFor new (after_losing model) × (goes : ClientGoes model (after_losing model))
     × (published_in_steps goes ≡ [])
 
 -- ---- a new connection: the model's, under any name that its node gives it
@@ -55,30 +55,30 @@ FollowsLosing old new =
 -- the model's client gets a new connection, or moves without one after an error
 abbrev pub ConnectingFollows : ℕ → Port → Piped → Result (Unit {0}) ClientError → Piped → Type 0
 ConnectingFollows node port old (Ok done) new =
-    (m : ClientPipes) (x : ConnectionName) → ClientStandsFor old m →
-    ClientStandsFor new (after_connecting x node port m)
+    (model : ClientPipes) (name : ConnectionName) → ClientStandsFor old model →
+    ClientStandsFor new (after_connecting name node port model)
     × IsPacket (packets.Connect
-    (record { client = m.keeper.client; clean = false; keep_alive = 0 }))
+    (record { client = model.keeper.client; clean = false; keep_alive = 0 }))
 ConnectingFollows node port old (Err cause) new = FollowsAll old new
 
 -- ---- a call
 
 -- one call of the model's client, which publishes this, leads to one that the client in code
 -- corresponds to
-pub record FollowsCalling (published : List Publication) (m : ClientPipes)
+pub record FollowsCalling (published : List Publication) (model : ClientPipes)
     (new : Piped) : Type 0 where
   pub story : Story
-  pub call : StoryStep usual_limits (story_alone m) story
+  pub call : StoryStep usual_limits (story_alone model) story
   pub is_one : is_call call ≡ true
   pub publishes : published_by_call call ≡ published
-  pub spelled : WritesCanBeSpelled m.connections story.connections
-  pub stands : ClientStandsFor new (after_writing story.keeper story.connections m)
+  pub spelled : WritesCanBeSpelled model.connections story.connections
+  pub stands : ClientStandsFor new (after_writing story.keeper story.connections model)
 
 -- A refusal changes nothing, and nothing is published. If there was no memory for what was written,
 -- the model's client lost its connection after its call.
 abbrev pub CallingFollows : List Publication → Piped → Result Sending ClientError → Piped → Type 0
 CallingFollows published old (Ok sendings.Sent) new =
-    (m : ClientPipes) → ClientStandsFor old m → FollowsCalling published m new
+    (model : ClientPipes) → ClientStandsFor old model → FollowsCalling published model new
 CallingFollows published old (Ok sendings.Lost) new = FollowsBy published old new
 CallingFollows published old (Err cause) new = new ≡ old
 
@@ -87,6 +87,6 @@ CallingFollows published old (Err cause) new = new ≡ old
 -- whatever a client does with bytes, the model's client may do, and publishes nothing
 abbrev pub CarryingFollows : Type 0
 CarryingFollows =
-    (count : ℕ) (old new : Piped) (result : Result (Unit {0}) ClientError) (m : ClientPipes) →
-    ClientStandsFor old m → is_holding old ≡ true →
-    CarriesDown count old result new → ModelFollows [] m new
+    (count : ℕ) (old new : Piped) (result : Result (Unit {0}) ClientError) (model : ClientPipes) →
+    ClientStandsFor old model → is_holding old ≡ true →
+    CarriesDown count old result new → ModelFollows [] model new

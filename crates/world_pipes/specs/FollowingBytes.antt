@@ -11,37 +11,37 @@ abbrev pub index_in_model : ℕ → Piped → ℕ
 index_in_model at client = length client.ways - 1 - at
 
 -- the model's connection for the one at this index, with its pipe
-pub record HasWay (at : ℕ) (old : Piped) (way : Way) (m : ClientPipes) : Type 0 where
+pub record HasWay (at : ℕ) (old : Piped) (way : Way) (model : ClientPipes) : Type 0 where
   pub connection : ClientConnection
   pub pipe : Pipe
-  pub connected : slice_get m.connections (index_in_model at old) ≡ Some connection
-  pub piped : slice_get m.pipes (index_in_model at old) ≡ Some pipe
+  pub connected : slice_get model.connections (index_in_model at old) ≡ Some connection
+  pub piped : slice_get model.pipes (index_in_model at old) ≡ Some pipe
   pub is_way : IsWay way pipe
 
 -- this many bytes have come up on the model's connection
 pub record FollowsUp (count at : ℕ) (old : Piped) (way : Way) (new : Piped)
-    (m : ClientPipes) : Type 0 where
-  pub there : HasWay at old way m
+    (model : ClientPipes) : Type 0 where
+  pub there : HasWay at old way model
   pub rest : List ℕ
   pub up : there.pipe.up ≡ take count way.up ++ rest
   pub stands : ClientStandsFor new
-      (with_pipe (index_in_model at old) (record there.pipe { up = rest }) m)
+      (with_pipe (index_in_model at old) (record there.pipe { up = rest }) model)
 
 -- each client of the model that corresponded to it before follows, with bytes taken up
 abbrev pub TakingUpFollows : ℕ → ℕ → Piped → Piped → Type 0
 TakingUpFollows at count old new =
-    (m : ClientPipes) → ClientStandsFor old m →
-    IfSome (slice_get old.ways at) (λ way. FollowsUp count at old way new m)
+    (model : ClientPipes) → ClientStandsFor old model →
+    IfSome (slice_get old.ways at) (λ way. FollowsUp count at old way new model)
 
 -- these bytes are in transit down on the model's connection
 pub record FollowsDown (bytes : List ℕ) (at : ℕ) (old : Piped) (way : Way) (new : Piped)
-    (m : ClientPipes) : Type 0 where
-  pub there : HasWay at old way m
+    (model : ClientPipes) : Type 0 where
+  pub there : HasWay at old way model
   pub stands : ClientStandsFor new
-      (with_pipe (index_in_model at old) (record there.pipe { down = bytes }) m)
+      (with_pipe (index_in_model at old) (record there.pipe { down = bytes }) model)
 
 -- each client of the model that corresponded to it before follows, with its bytes exchanged
 abbrev pub SwappingFollows : ℕ → List ℕ → Piped → Piped → Type 0
 SwappingFollows at bytes old new =
-    (m : ClientPipes) → ClientStandsFor old m →
-    IfSome (slice_get old.ways at) (λ way. FollowsDown bytes at old way new m)
+    (model : ClientPipes) → ClientStandsFor old model →
+    IfSome (slice_get old.ways at) (λ way. FollowsDown bytes at old way new model)

@@ -16,27 +16,27 @@ use Rattle.world_pipes.specs.Piped.{Piped, is_holding}
 
 -- A connection leads where the model's does. Of what is in transit up, the end may be missing if
 -- memory ran out: then the connection is lost.
-pub record IsWay (way : Way) (p : Pipe) : Type 0 where
-  pub node : p.node ≡ way.node
-  pub port : p.port ≡ way.port
-  pub up : IsPrefixOf way.up p.up
-  pub down : p.down ≡ way.down
+pub record IsWay (way : Way) (pipe : Pipe) : Type 0 where
+  pub node : pipe.node ≡ way.node
+  pub port : pipe.port ≡ way.port
+  pub up : IsPrefixOf way.up pipe.up
+  pub down : pipe.down ≡ way.down
 
 -- the connections correspond to the model's pipes, one to one and in the same order
 abbrev pub AreWays : List Way → List Pipe → Type 0
-AreWays (way ∷ ways) (p ∷ pipes) = IsWay way p × AreWays ways pipes
+AreWays (way ∷ ways) (pipe ∷ pipes) = IsWay way pipe × AreWays ways pipes
 AreWays [] [] = Unit {0}
 AreWays _ _ = ⊥
 
 -- the connection that is held, from end to end: what came and is not handled is what the client did
 -- not read
-pub record IsHolding (client : Piped) (m : ClientPipes) : Type 0 where
+pub record IsHolding (client : Piped) (model : ClientPipes) : Type 0 where
   pub connection : ClientConnection
   pub others : List ClientConnection
-  pub connections : m.connections ≡ connection ∷ others
+  pub connections : model.connections ≡ connection ∷ others
   pub pipe : Pipe
   pub further : List Pipe
-  pub pipes : m.pipes ≡ pipe ∷ further
+  pub pipes : model.pipes ≡ pipe ∷ further
   pub older : List Way
   pub way : Way
   pub ways : client.ways ≡ older ++ way ∷ []
@@ -55,11 +55,11 @@ pub record CanGoOut (state : ClientState) : Type 0 where
       (λ (kept : UnacknowledgedPublication). IsPacket (publish_kept false kept)) state.unsent
 
 -- the client in code corresponds to this one of the model
-pub record ClientStandsFor (client : Piped) (m : ClientPipes) : Type 0 where
-  pub keeper : history.KeeperStandsFor m.keeper client.core.state
+pub record ClientStandsFor (client : Piped) (model : ClientPipes) : Type 0 where
+  pub keeper : history.KeeperStandsFor model.keeper client.core.state
   pub fits : CanGoOut client.core.state
   -- at QoS 2 it shows what the model's client accepted, connection by connection
-  pub accepted : accepted_once client.core.state.accepted ≡ accepted_on m.connections
-  pub many : length m.connections ≡ length m.pipes
-  pub ways : AreWays (reverse client.ways) m.pipes
-  pub held : is_holding client ≡ true → IsHolding client m
+  pub accepted : accepted_once client.core.state.accepted ≡ accepted_on model.connections
+  pub many : length model.connections ≡ length model.pipes
+  pub ways : AreWays (reverse client.ways) model.pipes
+  pub held : is_holding client ≡ true → IsHolding client model

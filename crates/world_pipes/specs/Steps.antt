@@ -14,48 +14,54 @@ use Rattle.byte_world.specs.ClientSteps.{WritesCanBeSpelled, after_packet, story
 use Rattle.byte_world.specs.Published.{from_client, published_by_call, published_in_step}
 
 -- a step of a world, as the client that takes it sees it
-pub data ClientStep (c : ClientPipes) : ClientPipes → Type 0 where
+pub data ClientStep (client : ClientPipes) : ClientPipes → Type 0 where
   -- it calls, or loses its connection
-  calls : (t : Story) (h : StoryStep usual_limits (story_alone c) t) → is_call h ≡ true →
-      WritesCanBeSpelled c.connections t.connections →
-      ClientStep c (after_writing t.keeper t.connections c)
+  calls : (after : Story) (step : StoryStep usual_limits (story_alone client) after) →
+      is_call step ≡ true →
+      WritesCanBeSpelled client.connections after.connections →
+      ClientStep client (after_writing after.keeper after.connections client)
   -- a prefix of the bytes in transit reaches it
-  arrives : (j : ℕ) (connection : ClientConnection) (p : Pipe) (piece rest : List ℕ) →
-      slice_get c.connections j ≡ Some connection → slice_get c.pipes j ≡ Some p →
-      p.down ≡ piece ++ rest →
-      ClientStep c
-      (with_pipe j
-      (record p { down = rest; came = record p.came { bytes = p.came.bytes ++ piece } }) c)
+  arrives : (nth : ℕ) (connection : ClientConnection) (pipe : Pipe) (piece rest : List ℕ) →
+      slice_get client.connections nth ≡ Some connection → slice_get client.pipes nth ≡ Some pipe →
+      pipe.down ≡ piece ++ rest →
+      ClientStep client
+      (with_pipe nth
+      (record pipe { down = rest; came = record pipe.came { bytes = pipe.came.bytes ++ piece } })
+      client)
   -- it handles the next packet that came whole on the connection that it holds
-  handles : (connection : ClientConnection) (others : List ClientConnection) (p : Pipe)
+  handles : (connection : ClientConnection) (others : List ClientConnection) (pipe : Pipe)
       (pipes : List Pipe)
-      (packet : Packet) (left : Stream) → c.connections ≡ connection ∷ others →
-      c.pipes ≡ p ∷ pipes → c.keeper.is_open ≡ true → Takes p.came (Ok (Some packet)) left →
-      WritesCanBeSpelled c.connections
-      ((packet_handled packet (record { keeper = c.keeper; connection = connection })).connection
-      ∷ others) →
-      ClientStep c
-      (after_packet others pipes p left
-      (packet_handled packet (record { keeper = c.keeper; connection = connection })) c)
+      (packet : Packet) (left : Stream) → client.connections ≡ connection ∷ others →
+      client.pipes ≡ pipe ∷ pipes → client.keeper.is_open ≡ true →
+      Takes pipe.came (Ok (Some packet)) left →
+      WritesCanBeSpelled client.connections
+      ((packet_handled packet
+      (record { keeper = client.keeper; connection = connection })).connection ∷ others) →
+      ClientStep client
+      (after_packet others pipes pipe left
+      (packet_handled packet (record { keeper = client.keeper; connection = connection })) client)
 
 -- steps of a client, one after another
-pub data ClientGoes (c : ClientPipes) : ClientPipes → Type 0 where
+pub data ClientGoes (client : ClientPipes) : ClientPipes → Type 0 where
   -- no step
-  stays : ClientGoes c c
+  stays : ClientGoes client client
   -- one more step
-  goes_on : {d e : ClientPipes} → ClientGoes c d → ClientStep d e → ClientGoes c e
+  goes_on : {d e : ClientPipes} → ClientGoes client d → ClientStep d e → ClientGoes client e
 
 -- ---- what it publishes
 
 -- what a client publishes in a step
-abbrev pub published_with : {c d : ClientPipes} → ClientStep c d → List Publication
-published_with (ClientStep.calls t h is spelled) = published_by_call h
-published_with (ClientStep.arrives j client_connection p piece rest connection pipe down) = []
+abbrev pub published_with : {client next : ClientPipes} → ClientStep client next → List Publication
+published_with (ClientStep.calls after step is spelled) = published_by_call step
 published_with
-    (ClientStep.handles connection others p pipes packet left connections are up cut spelled) = []
+    (ClientStep.arrives nth client_connection client_pipe piece rest connection pipe down) = []
+published_with
+    (ClientStep.handles connection others client_pipe pipes packet left connections are up cut
+    spelled) = []
 
 -- what a client publishes in steps, one after another, the oldest first
-abbrev pub published_in_steps : {c d : ClientPipes} → ClientGoes c d → List Publication
+abbrev pub published_in_steps : {client next : ClientPipes} → ClientGoes client next →
+    List Publication
 published_in_steps ClientGoes.stays = []
 published_in_steps (ClientGoes.goes_on goes step) = published_in_steps goes ++ published_with step
 
@@ -63,12 +69,14 @@ published_in_steps (ClientGoes.goes_on goes step) = published_in_steps goes ++ p
 
 -- a client's step is a step of the world in which it is a client, and what it publishes is
 -- published there
-pub record StepsIn (w : World) (i : ℕ) {c d : ClientPipes} (step : ClientStep c d) : Type 0 where
-  pub is : WorldStep w (with_client i d w)
-  pub published : published_in_step is ≡ from_client i (published_with step)
+pub record StepsIn (world : World) (index : ℕ) {client next : ClientPipes}
+    (step : ClientStep client next) : Type 0 where
+  pub is : WorldStep world (with_client index next world)
+  pub published : published_in_step is ≡ from_client index (published_with step)
 
 -- each step of each client is a step of its world
 abbrev pub ClientsStepInWorlds : Type 0
 ClientsStepInWorlds =
-    (w : World) (i : ℕ) (c d : ClientPipes) → slice_get w.clients i ≡ Some c →
-    (step : ClientStep c d) → StepsIn w i step
+    (world : World) (index : ℕ) (client next : ClientPipes) →
+    slice_get world.clients index ≡ Some client →
+    (step : ClientStep client next) → StepsIn world index step

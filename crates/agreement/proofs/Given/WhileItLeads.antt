@@ -73,7 +73,7 @@ gave_between {S = S} {C = C} {O = O} rules config a past came n ballot old stood
           ∙ ap (λ us. given_of n came ++ us) (none_between rules xs old.committed) ∙ append-nil (given_of n came)),
     )
 gave_between {S = S} {C = C} {O = O} rules config a past came n ballot old stood c later xs more agreed
-    (leads_still {b = b} {later = earlier} {more = before} leads step p) new stands =
+    (leads_still {previous = b} {later = earlier} {more = before} leads step p) new stands =
     let mid = leads_now leads in
     let r = mid.replica in
     let ys = has_agreed rules config b earlier before in
@@ -97,7 +97,7 @@ gave_between {S = S} {C = C} {O = O} rules config a past came n ballot old stood
           (between_joins rules xs old.committed r.committed new.committed low (omega (arith, up, from)) (omega (arith, inside, longer))),
     )
 gave_between {S = S} {C = C} {O = O} rules config a past came n ballot old stood c later xs more agreed
-    (leads_beside {b = b} {later = earlier} {more = before} leads learns p) new stands =
+    (leads_beside {previous = b} {later = earlier} {more = before} leads learns p) new stands =
     let mid = leads_now leads in
     let r = mid.replica in
     let ys = has_agreed rules config b earlier before in

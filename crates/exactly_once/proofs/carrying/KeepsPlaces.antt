@@ -139,5 +139,5 @@ told_carried limits steady c s (begins_at list earlier own none numbers unsent a
       marked = past_is_marked limits list;
       numbers = (numbers, numbers_alone (length earlier) own (numbered (length earlier) own unsent));
     }
-told_carried limits steady c s (goes_on {s = r} told happens) =
+told_carried limits steady c s (goes_on {before = r} told happens) =
     events_keep_carried limits r s (told_stories_are_sound limits steady c r told) happens (told_carried limits steady c r told)

@@ -114,10 +114,10 @@ record IsWell (limits : Limits) (c : Client) (s : Story) : Type 0 where
 
 all_well : (limits : Limits) → IsSteady limits → (c : Client) (s : Story) → Lived limits c s → IsInStep s → IsWell limits c s
 all_well limits steady c s opens step = record { life = life_opens limits c; at = lasts (lasts_opens limits c) }
-all_well limits steady c t (goes_on {s = s} lived h) step =
+all_well limits steady c t (goes_on {before = s} lived h) step =
     let w = all_well limits steady c s lived (in_step_before limits s t h step) in
     record { life = life_goes limits c s t w.life h; at = goes limits steady c s t w.life w.at h step }
-all_well limits steady c t (is_expelled {s = s} lived) step =
+all_well limits steady c t (is_expelled {before = s} lived) step =
     let before = in_step_expelled limits c s step in
     let w = all_well limits steady c s lived before in
     record { life = life_expelled limits c s w.life; at = expelled limits steady c s w.life w.at before }

@@ -135,10 +135,10 @@ record IsFirst (limits : Limits) (c : Client) (s : Story) : Type 0 where
 
 lived_first : (limits : Limits) (c : Client) (s : Story) → Lived limits c s → IsUnexpelled c s.past → IsFirst limits c s
 lived_first limits c s opens h = record { life = life_opens limits c; first = inl refl }
-lived_first limits c t (goes_on {s = s} lived happens) h =
+lived_first limits c t (goes_on {before = s} lived happens) h =
     let f = lived_first limits c s lived (unexpelled_before limits c s t happens h) in
     record { life = life_goes limits c s t f.life happens; first = first_goes limits c s t f.life f.first happens }
-lived_first limits c t (is_expelled {s = s} lived) h = absurd (both_ways (same_client c c) h.0 (same_self c))
+lived_first limits c t (is_expelled {before = s} lived) h = absurd (both_ways (same_client c c) h.0 (same_self c))
 
 pub unexpelled_in_step : UnexpelledLivesAreInStep
 unexpelled_in_step limits c s lived h =

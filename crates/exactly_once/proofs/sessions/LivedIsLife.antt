@@ -10,5 +10,5 @@ use Rattle.exactly_once.proofs.sessions.EachSession.{life_opens}
 
 pub lived_is_life : (limits : Limits) (c : Client) (s : Story) → Lived limits c s → IsLife limits c s
 lived_is_life limits c s opens = life_opens limits c
-lived_is_life limits c t (goes_on {s = s} lived h) = life_goes limits c s t (lived_is_life limits c s lived) h
-lived_is_life limits c t (is_expelled {s = s} lived) = life_expelled limits c s (lived_is_life limits c s lived)
+lived_is_life limits c t (goes_on {before = s} lived h) = life_goes limits c s t (lived_is_life limits c s lived) h
+lived_is_life limits c t (is_expelled {before = s} lived) = life_expelled limits c s (lived_is_life limits c s lived)

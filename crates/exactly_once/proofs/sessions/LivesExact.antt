@@ -175,7 +175,7 @@ well_opens limits c =
 
 pub all_well : (limits : Limits) → IsSteady limits → (c : Client) (s : Story) → Lived limits c s → IsInStep s → IsWell limits c s
 all_well limits steady c s opens step = well_opens limits c
-all_well limits steady c t (goes_on {s = s} lived h) step =
+all_well limits steady c t (goes_on {before = s} lived h) step =
     let w = all_well limits steady c s lived (in_step_before limits s t h step) in
     let later = life_goes limits c s t w.life h in
     record {
@@ -184,7 +184,7 @@ all_well limits steady c t (goes_on {s = s} lived h) step =
       carried = keeps_carried limits s t (counted_all_within s.past s.connections w.life.connections.counted) h (stage_says limits steady c s t w.life w.stage w.carried h) w.carried;
       turn = turn_goes limits c s t w.life (stage_head limits c s w.life w.stage) w.turn h;
     }
-all_well limits steady c t (is_expelled {s = s} lived) step =
+all_well limits steady c t (is_expelled {before = s} lived) step =
     let w = all_well limits steady c s lived (in_step_expelled limits c s step) in
     let later = life_expelled limits c s w.life in
     record {
