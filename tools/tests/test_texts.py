@@ -1,0 +1,113 @@
+"""Tests of tools/twins, tools/scripts, tools/named and tools/numbers. The tables of the first and
+the last name crates of this repository, so the tests put other tables in their place."""
+from small import LOW, MANUAL, RIGHT, ToolTest
+
+OURS, THEIRS = "crates/low/specs/Twins.antt", "crates/high/specs/Twins.antt"
+OUR_CODE, THEIR_CODE = "crates/low/src/twins.rt", "crates/high/src/twins.rt"
+# Twins may differ in layout, bound names, comments and contracts.
+PAIR = "pub Pair : Type 0\nPair = ℕ × {}\n"
+DOUBLE = "pub {0} : ℕ → ℕ\n{0} {1} = {1} + {1}\n"
+KEPT = "pub record {} : Type 0 where\n  pub taken : List ℕ\n  pub given : {}\n"
+CODE = "const MOST: usize = 7;\nfn keep()\n    ensures {{ {} }}\n{{\n    rest();\n}}\n"
+SCRIPTS = "crates/example_scripts/src/scripts.rt"
+SCRIPT, TRANSCRIPT = "examples/greeting.script", "examples/greeting.transcript"
+CONTRACTS, REFUSALS = "docs/CONTRACTS.md", "docs/REFUSALS.md"
+REFUSING, HELP = "crates/low/src/refusal.rt", "crates/command_line/src/commands.rt"
+
+
+class Twins(ToolTest):
+    words, count = ["twins"], "5 pairs, {} differ"
+    tables = {
+        "SPECS": {("low", "high"): "Pair"}, "EQUATIONS": {("low", "high"): "twice=double"},
+        "CONSTANTS": {("low", "high"): "MOST"}, "BODIES": {("low", "high"): "keep"},
+        "FIELDS": {(("low", "Kept"), ("high", "Held")): "taken"},
+    }
+    files = {
+        OURS: PAIR.format("ℕ") + DOUBLE.format("twice", "number") + KEPT.format("Kept", "ℕ"),
+        THEIRS: "-- a comment\n" + PAIR.format("\n  ℕ") + DOUBLE.format("double", "n")
+            + KEPT.format("Held", "Pair"),
+        OUR_CODE: CODE.format("true"),
+        THEIR_CODE: "// a comment\npub(crate) " + CODE.format("result ≡ 1"),
+    }
+
+    def test_names_each_text_that_differs(self):
+        self.shows_edits(
+            (THEIRS, "× \n  ℕ", "×\n  Pair", f"{THEIRS}:3: Pair differs from {OURS}:1"),
+            (THEIRS, "n + n", "n + 2", f"{THEIRS}:6: twice differs from {OURS}:4"),
+            (THEIR_CODE, "= 7", "= 8", f"{THEIR_CODE}:2: MOST differs from {OUR_CODE}:1"),
+            (THEIR_CODE, "rest()", "all()", f"{THEIR_CODE}:6: keep differs from {OUR_CODE}:4"),
+            (THEIRS, "taken : List ℕ", "taken : ℕ", f"{THEIRS}:8: taken differs from {OURS}:6"),
+        )
+
+    def test_names_a_text_that_is_missing_and_one_that_comes_twice(self):
+        self.put({"crates/low/specs/Two.antt": PAIR.format("ℕ"), THEIR_CODE: CODE.split("fn")[0]})
+        self.shows("low: Pair stands 2 times", "high: keep stands 0 times")
+
+
+class Scripts(ToolTest):
+    words, count = ["scripts"], ""
+    files = {
+        SCRIPTS: 'pub const GREETING: [&str; 2] = [\n    "say \\"one\\"\\n\\\n    say two\\n",\n'
+            '    "one\\n\\\n    two\\n",\n];\n',
+        SCRIPT: 'say "one"\nsay two\n',
+        TRANSCRIPT: "one\ntwo\n",
+    }
+
+    def test_names_the_first_line_that_differs(self):
+        self.shows_edits(
+            (SCRIPTS, "say two", "say no", f"{SCRIPT}:2: differs from GREETING in {SCRIPTS}"),
+            (TRANSCRIPT, "one", "won", f"{TRANSCRIPT}:1: differs from GREETING in {SCRIPTS}"),
+        )
+
+    def test_names_a_text_that_stands_on_one_side_only(self):
+        (self.top / TRANSCRIPT).rename(self.top / "examples/farewell.transcript")
+        self.shows(f"examples/farewell.transcript: not in {SCRIPTS}",
+            f"{TRANSCRIPT}: missing, but GREETING is in {SCRIPTS}")
+
+
+class Named(ToolTest):
+    words, subject = ["named"], "words"
+    files = RIGHT | {CONTRACTS:
+        "```\npub fn letters(&self) -> usize\n    ensures { result ≡ self.letters }\n```\n"}
+
+    def test_names_each_call_word_and_contract_that_is_not_there(self):
+        self.shows_edits(
+            ("README.md", "letters", "spaces", "README.md: Word has no spaces"),
+            ("README.md", "MAX_LETTERS", "MAX_SPACES", "README.md: no file has MAX_SPACES"),
+            (CONTRACTS, "result ≡ self.letters", "true",
+                f"{CONTRACTS}: no file has pub fn letters(&self) -> usize ensures {{ true }} .."),
+        )
+
+    def test_names_each_path_that_is_not_there(self):
+        gone = ["docs/MANUEL.md", "docs/MAN", "crates/low/src/words.rt"]
+        self.put({"README.md": "".join(f"`{it}`\n" for it in gone)})
+        self.shows(*(f"README.md: there is no {it}" for it in gone))
+
+    def test_lets_pages_name_areas_of_commits_what_is_built_and_names_that_stand_for_any(self):
+        self.put({MANUAL: "`String::new` `docs/manual` `docs/` `crates/low/out/low` "
+            "`examples/NAME.script` `docs/planted/CRATE/NAME.edit`\n"})
+        self.shows()
+
+
+class Numbers(ToolTest):
+    words, count = ["numbers"], "2 refusals, 1 limits, {} differ"
+    tables = {"LIMITS": [("low", "MAX_LETTERS", 7, {MANUAL: "at most 7 letters"})]}
+    files = RIGHT | {
+        REFUSALS: "| 1 | TooLong | a word |\n| 2 | TooDeep | a sentence |\n",
+        REFUSING: "    pub fn number(&self) -> u8\n    {\n        match self {\n            "
+            "Refusal::TooLong => 1,\n            Refusal::TooDeep(_) => 2,\n        }\n    }\n",
+        MANUAL: "A word has at most\n7 letters.\n\n| Exit status | Means |\n|---|---|\n"
+            "| 0 | done |\n| 1 | a fault of file or memory |\n\n",
+        HELP: 'const HELP: &str = "Exit status: 0 done;\n1 a fault of file or memory.\n";\n',
+    }
+
+    def test_names_each_number_that_differs(self):
+        self.shows_edits(
+            (REFUSING, "=> 2", "=> 3", f"{REFUSING}: TooDeep is 3, and 2 in {REFUSALS}",
+                f"{REFUSALS}: no enum returns 2, TooDeep"),
+            (LOW, "= 7", "= 1 << 3", f"low: MAX_LETTERS is 8, and 7 here and in {MANUAL}"),
+            (MANUAL, "7 letters", "8 letters",
+                f"{MANUAL}: no words 'at most 7 letters', by which it tells low MAX_LETTERS"),
+            (HELP, "file", "clock",
+                f"{HELP}: 1 is ['memory', 'clock'], and ['file', 'memory'] in {MANUAL}"),
+        )
