@@ -18,10 +18,10 @@ use Rattle.node_group.specs.node_core.Core.{CoreState, StepOutcome, rules}
 use Rattle.node_group.specs.node_core.Effects.{without_messages}
 use Rattle.node_group.specs.node_moves.Closed.{listed_named}
 use Rattle.node_group.specs.node_moves.Ends.{IsOrderly}
-use Rattle.node_group.specs.node_moves.LossyMoves.{MoveOrLost}
+use Rattle.node_group.specs.node_moves.LossyMoves.{NodeMoveOrLost}
 use Rattle.node_group.specs.node_moves.LossyParts.{move_effects, inputs_in}
-use Rattle.node_group.specs.node_moves.LossyRuns.{AllFreeze, CutsThaw, RunOrLost, all_inputs}
-use Rattle.node_group.specs.node_moves.LossyRuns.RunOrLost.{rests, goes_on}
+use Rattle.node_group.specs.node_moves.LossyRuns.{AllFreeze, CutsThaw, MoveTraceOrLost, all_inputs}
+use Rattle.node_group.specs.node_moves.LossyRuns.MoveTraceOrLost.{rests, goes_on}
 use Rattle.node_group.proofs.of_node_moves.Kept.{named}
 use Rattle.node_group.proofs.of_node_moves.LossyClosed.{lossy_names_are_of_the_ballot}
 use Rattle.node_group.proofs.of_node_moves.LossyReads.{losses_read_in_order}
@@ -58,7 +58,7 @@ record LedOn {config : Config} (g : Group) {earlier : List (Moment State Command
   further : Further came (moment_of_nodes h) put
   led : AreLed g (moment_of_nodes g ∷ earlier) → AreLed h (moment_of_nodes h ∷ further.before)
 
-move_led : {config : Config} (g : Group) (n : ℕ) (core : CoreState) (outcome : StepOutcome) (m : MoveOrLost core outcome) (kept : Given) → slice_get g.nodes n ≡ Some core → WereSent g n (inputs_in m)
+move_led : {config : Config} (g : Group) (n : ℕ) (core : CoreState) (outcome : StepOutcome) (m : NodeMoveOrLost core outcome) (kept : Given) → slice_get g.nodes n ≡ Some core → WereSent g n (inputs_in m)
     → CutsThaw m → Thinned kept outcome.messages → IsOrderly core → {earlier : List (Moment State Command Output)} (came : Moments rules config (moment_of_nodes g ∷ earlier))
     → LedOn g came (group_after_outcome (with_record g (recorded_by g.archive m)) n (with_messages kept outcome) (move_effects m)) (put_in_move m)
 move_led {config = config} g n core outcome m kept at sent frozen t o {earlier = earlier} came =
@@ -77,7 +77,7 @@ move_led {config = config} g n core outcome m kept at sent frozen t o {earlier =
         (here_now before x has.connection (ap (listed_named x) (sym is) ∙ has.listed) (listed_named x core) refl)
     on before x k has (inr stood) = before x k (record { core = has.core; stands = stood; connection = has.connection; listed = has.listed })
 
-run_led : {config : Config} (g : Group) (n : ℕ) (core : CoreState) (outcome : StepOutcome) (run : RunOrLost core outcome) (kept : Given) → IsOrderly core → slice_get g.nodes n ≡ Some core
+run_led : {config : Config} (g : Group) (n : ℕ) (core : CoreState) (outcome : StepOutcome) (run : MoveTraceOrLost core outcome) (kept : Given) → IsOrderly core → slice_get g.nodes n ≡ Some core
     → WereSent g n (all_inputs run) → AllFreeze run → Thinned kept outcome.messages → {earlier : List (Moment State Command Output)} (came : Moments rules config (moment_of_nodes g ∷ earlier))
     → LedOn g came (group_after_outcome (with_record g (recorded_in g.archive run)) n (with_messages kept outcome) (all_given run)) (put_in_run run)
 run_led g n core outcome rests kept o at sent frozen t came =

@@ -12,10 +12,10 @@ use Rattle.node_group.specs.node_core.Handing.{listed_at}
 use Rattle.node_group.specs.node_core.Reading.{open_at}
 use Rattle.node_group.specs.node_moves.Ends.{came_on, piece_on}
 use Rattle.node_group.specs.node_moves.RunProposals.{bytes_on}
-use Rattle.node_group.specs.node_moves.Moves.{NodeCall, Moves, Runs, done}
+use Rattle.node_group.specs.node_moves.Moves.{NodeCall, NodeMove, MoveTrace, done}
 use Rattle.node_group.specs.node_moves.Moves.NodeCall.{takes, gives}
-use Rattle.node_group.specs.node_moves.Moves.Moves.{hears, opens_one, holds, reads_first, reads_later, closes, refuses, loses_one, loses_next, expels_one, cuts_log, crashes, settles, hands}
-use Rattle.node_group.specs.node_moves.Moves.Runs.{rests, goes_on}
+use Rattle.node_group.specs.node_moves.Moves.NodeMove.{hears, opens_one, holds, reads_first, reads_later, closes, refuses, loses_one, loses_next, expels_one, cuts_log, crashes, settles, hands}
+use Rattle.node_group.specs.node_moves.Moves.MoveTrace.{rests, goes_on}
 use Rattle.node_group.proofs.of_node_moves.PartsOfMoves.{BeginsWith, IsBare, Part, begins_hearing, part_in, part_of}
 use Rattle.node_group.proofs.of_node_moves.PartsOfMoves.Part.{heard, bytes_in, bytes_out}
 use Rattle.node_group.proofs.of_node_moves.StepsMove.{node_calls_begin}
@@ -77,7 +77,7 @@ node_call_sent g n core (takes Crash) sent = tt
 node_call_sent g n core (gives port) sent = tt
 
 -- .. of a move
-move_parts : (x : ConnectionName) {core : CoreState} {outcome : StepOutcome} (m : Moves core outcome) → (came_on x m ≡ comes_in x (part_in m) core) × (handed_on x m ≡ goes_out x (part_in m) core)
+move_parts : (x : ConnectionName) {core : CoreState} {outcome : StepOutcome} (m : NodeMove core outcome) → (came_on x m ≡ comes_in x (part_in m) core) × (handed_on x m ≡ goes_out x (part_in m) core)
 move_parts x (hears (Receives message) is) = (refl, refl)
 move_parts x (hears (Proposes command) is) = (refl, refl)
 move_parts x (hears Ticks is) = (refl, refl)
@@ -95,7 +95,7 @@ move_parts x crashes = (refl, refl)
 move_parts x settles = (refl, refl)
 move_parts x (hands port) = (refl, refl)
 
-move_sent : (g : Group) (n : ℕ) {core : CoreState} {outcome : StepOutcome} (m : Moves core outcome) → PartWasSent g n core (part_in m) → WasSent g n m
+move_sent : (g : Group) (n : ℕ) {core : CoreState} {outcome : StepOutcome} (m : NodeMove core outcome) → PartWasSent g n core (part_in m) → WasSent g n m
 move_sent g n (hears (Receives message) is) sent = sent
 move_sent g n (hears (Proposes command) is) sent = tt
 move_sent g n (hears Ticks is) sent = tt
@@ -116,7 +116,7 @@ move_sent g n (hands port) sent = tt
 -- ---- runs
 
 -- a run of bare moves carries nothing, and receives nothing
-bare_carries : (x : ConnectionName) {core : CoreState} {outcome : StepOutcome} (run : Runs core outcome) → IsBare run → (bytes_on x run ≡ []) × (handed_in_run x run ≡ [])
+bare_carries : (x : ConnectionName) {core : CoreState} {outcome : StepOutcome} (run : MoveTrace core outcome) → IsBare run → (bytes_on x run ≡ []) × (handed_in_run x run ≡ [])
 bare_carries x rests bare = (refl, refl)
 bare_carries x (goes_on {core = core} m run) bare =
     let p = move_parts x m in
@@ -125,12 +125,12 @@ bare_carries x (goes_on {core = core} m run) bare =
       ap (λ l. handed_on x m ++ l) rest.1 ∙ append-nil (handed_on x m) ∙ p.1 ∙ ap (λ part. goes_out x part core) bare.0.1,
     )
 
-bare_sent : (g : Group) (n : ℕ) {core : CoreState} {outcome : StepOutcome} (run : Runs core outcome) → IsBare run → AllWasSent g n run
+bare_sent : (g : Group) (n : ℕ) {core : CoreState} {outcome : StepOutcome} (run : MoveTrace core outcome) → IsBare run → AllWasSent g n run
 bare_sent g n rests bare = tt
 bare_sent g n (goes_on {core = core} m run) bare = (move_sent g n m (subst (PartWasSent g n core) (sym bare.0.1) tt), bare_sent g n run bare.1)
 
 -- one that begins with a part carries what that does
-begun_carries : (x : ConnectionName) (part : Part) {core : CoreState} {outcome : StepOutcome} (run : Runs core outcome) → BeginsWith part run
+begun_carries : (x : ConnectionName) (part : Part) {core : CoreState} {outcome : StepOutcome} (run : MoveTrace core outcome) → BeginsWith part run
     → (bytes_on x run ≡ comes_in x part core) × (handed_in_run x run ≡ goes_out x part core)
 begun_carries x part {core = core} rests begins = (ap (λ part. comes_in x part core) begins, ap (λ part. goes_out x part core) begins)
 begun_carries x part {core = core} (goes_on m run) begins =
@@ -140,7 +140,7 @@ begun_carries x part {core = core} (goes_on m run) begins =
       ap (λ l. handed_on x m ++ l) rest.1 ∙ append-nil (handed_on x m) ∙ p.1 ∙ ap (λ part. goes_out x part core) begins.0,
     )
 
-begun_sent : (g : Group) (n : ℕ) (part : Part) {core : CoreState} {outcome : StepOutcome} (run : Runs core outcome) → BeginsWith part run → PartWasSent g n core part → AllWasSent g n run
+begun_sent : (g : Group) (n : ℕ) (part : Part) {core : CoreState} {outcome : StepOutcome} (run : MoveTrace core outcome) → BeginsWith part run → PartWasSent g n core part → AllWasSent g n run
 begun_sent g n part rests begins sent = tt
 begun_sent g n part (goes_on {core = core} m run) begins sent = (move_sent g n m (subst (PartWasSent g n core) (sym begins.0) sent), bare_sent g n run begins.1)
 
@@ -149,7 +149,7 @@ abbrev recorded_part : List Command → CoreState → Part → List Command
 recorded_part archive core Part.cut = recorded archive (replica_of core)
 recorded_part archive core _ = archive
 
-move_records : (archive : List Command) {core : CoreState} {outcome : StepOutcome} (m : Moves core outcome) → recorded_by archive m ≡ recorded_part archive core (part_in m)
+move_records : (archive : List Command) {core : CoreState} {outcome : StepOutcome} (m : NodeMove core outcome) → recorded_by archive m ≡ recorded_part archive core (part_in m)
 move_records archive (hears (Receives message) is) = refl
 move_records archive (hears (Proposes command) is) = refl
 move_records archive (hears Ticks is) = refl
@@ -167,12 +167,12 @@ move_records archive crashes = refl
 move_records archive settles = refl
 move_records archive (hands port) = refl
 
-bare_records : (archive : List Command) {core : CoreState} {outcome : StepOutcome} (run : Runs core outcome) → IsBare run → recorded_in archive run ≡ archive
+bare_records : (archive : List Command) {core : CoreState} {outcome : StepOutcome} (run : MoveTrace core outcome) → IsBare run → recorded_in archive run ≡ archive
 bare_records archive rests bare = refl
 bare_records archive (goes_on {core = core} m run) bare =
     bare_records (recorded_by archive m) run bare.1 ∙ move_records archive m ∙ ap (recorded_part archive core) bare.0.1
 
-begun_records : (archive : List Command) (part : Part) {core : CoreState} {outcome : StepOutcome} (run : Runs core outcome) → BeginsWith part run →
+begun_records : (archive : List Command) (part : Part) {core : CoreState} {outcome : StepOutcome} (run : MoveTrace core outcome) → BeginsWith part run →
     recorded_in archive run ≡ recorded_part archive core part
 begun_records archive part {core = core} rests begins = ap (recorded_part archive core) begins
 begun_records archive part {core = core} (goes_on m run) begins =

@@ -19,11 +19,11 @@ use Rattle.node_group.specs.node_core.Core.{CoreState, StepOutcome}
 use Rattle.node_group.specs.node_core.LossyStep.{RunsOn}
 use Rattle.node_group.specs.node_core.Step.{next_name}
 use Rattle.node_group.specs.node_moves.Ends.{IsGiven, IsOrderly}
-use Rattle.node_group.specs.node_moves.Moves.{NodeCall, Runs, done}
+use Rattle.node_group.specs.node_moves.Moves.{NodeCall, MoveTrace, done}
 use Rattle.node_group.specs.node_moves.Moves.NodeCall.{takes, gives}
-use Rattle.node_group.specs.node_moves.LossyRuns.{RunOrLost}
+use Rattle.node_group.specs.node_moves.LossyRuns.{MoveTraceOrLost}
 use Rattle.node_group.specs.node_moves.ItemRuns.{IsRunOn, came_with}
-use Rattle.node_group.specs.node_moves.LossyRuns.RunOrLost.{rests, goes_on}
+use Rattle.node_group.specs.node_moves.LossyRuns.MoveTraceOrLost.{rests, goes_on}
 use Rattle.node_group.proofs.of_node_moves.LossyReads.{losses_read_in_order}
 use Rattle.node_group.specs.Group.{Group}
 use Rattle.node_group.specs.Steps.{GroupStep, GroupTrace}
@@ -60,7 +60,7 @@ of_each P all (there i) = of_each P all.1 i
 stays_after : (node_call : Option (ℕ × NodeCall)) (n : ℕ) (core : CoreState) → IsAfter node_call n core core
 stays_after node_call n core = record { given = λ x given. given; was = λ d i. inl (is_still core.connections d i) }
 
-run_given : (x : ConnectionName) (core : CoreState) (outcome : StepOutcome) (run : RunOrLost core outcome) → IsOrderly core → IsGiven core.last_name x → IsGiven outcome.core.last_name x
+run_given : (x : ConnectionName) (core : CoreState) (outcome : StepOutcome) (run : MoveTraceOrLost core outcome) → IsOrderly core → IsGiven core.last_name x → IsGiven outcome.core.last_name x
 run_given x core outcome rests o given = given
 run_given x core outcome (goes_on {first = first} {next = next} m run) o given =
     run_given x first.core next run (losses_read_in_order core first m o).0 (stays_given x core first m o given)
@@ -81,7 +81,7 @@ old_or_opened n (takes Cut) core d i = inl (of_each _ (each_was (takes Cut) core
 old_or_opened n (takes Crash) core d i = inl (of_each _ (each_was (takes Crash) core tt) i)
 old_or_opened n (gives port) core d i = inl (of_each _ (each_was (gives port) core tt) i)
 
-acts_after : (n : ℕ) (core : CoreState) (node_call : NodeCall) (outcome : StepOutcome) → Runs core outcome → outcome ≡ done node_call core → IsOrderly core → IsAfter (Some (n, node_call)) n core outcome.core
+acts_after : (n : ℕ) (core : CoreState) (node_call : NodeCall) (outcome : StepOutcome) → MoveTrace core outcome → outcome ≡ done node_call core → IsOrderly core → IsAfter (Some (n, node_call)) n core outcome.core
 acts_after n core node_call outcome run is o =
     record {
       given = λ x given. run_given x core outcome (losing_none run) o given;

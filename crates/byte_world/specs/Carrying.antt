@@ -7,7 +7,7 @@ use Rattle.node_group.specs.node_core.Handing.{listed_at}
 use Rattle.node_group.specs.node_core.Reading.{open_at}
 use Rattle.node_group.specs.node_moves.Ends.{piece_on}
 use Rattle.node_group.specs.node_moves.RunProposals.{bytes_on}
-use Rattle.node_group.specs.node_moves.Moves.{NodeCall, Runs}
+use Rattle.node_group.specs.node_moves.Moves.{NodeCall, MoveTrace}
 use Rattle.node_group.specs.node_moves.Moves.NodeCall.{takes, gives}
 use Rattle.node_group.specs.Group.{Group}
 use Rattle.node_group.specs.Steps.{GroupStep}
@@ -26,7 +26,7 @@ going_with name _ core = []
 
 -- the moves of a node carry just the bytes of its call
 abbrev pub CarriesItsBytes : {core : CoreState} {outcome : StepOutcome} → NodeCall →
-    Runs core outcome → Type 0
+    MoveTrace core outcome → Type 0
 CarriesItsBytes {core = core} node_call run =
     (name : ConnectionName) →
     (bytes_on name run ≡ coming_with name node_call core)

@@ -8,7 +8,7 @@ use Rattle.node_group.specs.node_core.declared.item.Item.TheVariants.{Peer, Cut}
 use Rattle.node_group.specs.ballot_base.Cutting.{can_cut}
 use Rattle.node_group.specs.node_core.Core.{CoreState, StepOutcome, rules}
 use Rattle.node_group.specs.node_moves.Hearing.{HearsAtFirst}
-use Rattle.node_group.specs.node_moves.Moves.{NodeCall, Runs, done}
+use Rattle.node_group.specs.node_moves.Moves.{NodeCall, MoveTrace, done}
 use Rattle.node_group.specs.node_moves.Moves.NodeCall.{takes}
 use Rattle.node_group.specs.Group.{Group, group_after_outcome, replica_of, with_record}
 use Rattle.node_group.specs.Steps.{AllWasSent}
@@ -35,7 +35,7 @@ recorded_after archive core _ = archive
 -- carried, and just a cut is recorded
 pub record RunsAs (group : Group) (node : ℕ) (node_call : NodeCall) (core : CoreState)
     (outcome : StepOutcome) : Type 0 where
-  pub run : Runs core outcome
+  pub run : MoveTrace core outcome
   pub first : HearsAtFirst run
   pub sent : AllWasSent group node run
   pub bytes : CarriesItsBytes node_call run

@@ -9,9 +9,9 @@ use Rattle.node_moves.specs.node_connections.ConnectionChanges.{noted_proposed, 
 use Rattle.node_moves.specs.node_core.Core.{CoreState, StepOutcome, rules}
 use Rattle.node_moves.specs.node_core.Lossy.{Account, TakesCommand}
 use Rattle.node_moves.specs.node_core.Reading.{changes}
-use Rattle.node_moves.specs.LossyMoves.{MoveOrLost}
+use Rattle.node_moves.specs.LossyMoves.{NodeMoveOrLost}
 use Rattle.node_moves.specs.LossyParts.{hears_in}
-use Rattle.node_moves.specs.LossyMoves.MoveOrLost.{exactly, hears_losing, first_losing, later_losing, tells_losing, expels_losing, forgets, halts, fails, unheard, drops}
+use Rattle.node_moves.specs.LossyMoves.NodeMoveOrLost.{exactly, hears_losing, first_losing, later_losing, tells_losing, expels_losing, forgets, halts, fails, unheard, drops}
 use Rattle.node_moves.proofs.LossyOutputs.{delivers_replica}
 use Rattle.node_moves.proofs.MovesOfReplica.{move_same}
 use Rattle.node_moves.proofs.ReplicaStays.{added_same}
@@ -27,7 +27,7 @@ taken_role command core between did same taken =
     ∙ taken.done.state)
     ∙ (added_same rules (replica_of between) command).role ∙ ap (λ (r : ReplicaState State Command). r.role) same
 
-pub calm_role : (core : CoreState) (outcome : StepOutcome) (m : MoveOrLost core outcome) → hears_in m ≡ false → (replica_of outcome.core).role ≡ (replica_of core).role
+pub calm_role : (core : CoreState) (outcome : StepOutcome) (m : NodeMoveOrLost core outcome) → hears_in m ≡ false → (replica_of outcome.core).role ≡ (replica_of core).role
 calm_role core outcome (exactly m) calm = (move_same core outcome m calm).role
 calm_role core outcome (hears_losing input did other drives) calm = absurd cc
 calm_role core outcome (first_losing now port c connect rest did at first is taken) calm =

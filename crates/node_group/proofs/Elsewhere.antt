@@ -19,11 +19,11 @@ use Rattle.node_moves.specs.Closed.{exact_refusal}
 use Rattle.node_moves.specs.Ends.{IsEnd, IsGiven, IsOrderly, open_named, piece_on}
 use Rattle.node_moves.specs.Ends.{came_on as exactly_came, move_proposal as exactly_proposed}
 use Rattle.node_moves.specs.Ends.IsEnd.{not_yet, is_open, is_over}
-use Rattle.node_moves.specs.LossyMoves.{MoveOrLost}
+use Rattle.node_moves.specs.LossyMoves.{NodeMoveOrLost}
 use Rattle.node_moves.specs.LossyParts.{came_on, move_proposal, refusal_in}
-use Rattle.node_moves.specs.LossyMoves.MoveOrLost.{exactly, first_losing, later_losing, drops}
-use Rattle.node_moves.specs.Moves.{Moves}
-use Rattle.node_moves.specs.Moves.Moves.{holds, reads_first, reads_later, refuses, loses_one, loses_next, expels_one}
+use Rattle.node_moves.specs.LossyMoves.NodeMoveOrLost.{exactly, first_losing, later_losing, drops}
+use Rattle.node_moves.specs.Moves.{NodeMove}
+use Rattle.node_moves.specs.Moves.NodeMove.{holds, reads_first, reads_later, refuses, loses_one, loses_next, expels_one}
 use Rattle.node_moves.proofs.Kept.{named}
 use Rattle.node_moves.proofs.NamesInOrder.{not_both}
 use Rattle.node_moves.proofs.ReadsInOrder.{found_given, found_open}
@@ -47,14 +47,14 @@ one_other x core port c command o none at same = by (named x c) refl
     by false other = ap (λ (b : Bool). let l : List Command = if b then command ∷ [] else [] in l) (same ∙ other)
 
 -- nothing is put for it
-exactly_none_put : (x : ConnectionName) (core : CoreState) (outcome : StepOutcome) (m : Moves core outcome) → IsOrderly core → open_named x core ≡ None
+exactly_none_put : (x : ConnectionName) (core : CoreState) (outcome : StepOutcome) (m : NodeMove core outcome) → IsOrderly core → open_named x core ≡ None
     → packet_commands x (exactly_proposed m) ≡ []
 exactly_none_put x core outcome (reads_first now port c connect rest at first is room) o none =
     one_other x core port c (commands.Connect c.name connect.client connect.clean) o none at refl
 exactly_none_put x core outcome (reads_later now port c packet rest at later is room) o none = one_other x core port c (commands.Packet c.name packet) o none at refl
 exactly_none_put x core outcome m o none = refl
 
-pub none_put : (x : ConnectionName) (core : CoreState) (outcome : StepOutcome) (m : MoveOrLost core outcome) → IsOrderly core → open_named x core ≡ None
+pub none_put : (x : ConnectionName) (core : CoreState) (outcome : StepOutcome) (m : NodeMoveOrLost core outcome) → IsOrderly core → open_named x core ≡ None
     → packet_commands x (move_proposal m) ≡ []
 none_put x core outcome (exactly m) o none = exactly_none_put x core outcome m o none
 none_put x core outcome (first_losing now port c connect rest did at first is taken) o none =
@@ -74,11 +74,11 @@ no_piece x core port piece o none = by (open_at port core) refl
     by None at = refl
     by (Some c) at = on c at (named x c) refl
 
-exactly_none_came : (x : ConnectionName) (core : CoreState) (outcome : StepOutcome) (m : Moves core outcome) → IsOrderly core → open_named x core ≡ None → exactly_came x m ≡ []
+exactly_none_came : (x : ConnectionName) (core : CoreState) (outcome : StepOutcome) (m : NodeMove core outcome) → IsOrderly core → open_named x core ≡ None → exactly_came x m ≡ []
 exactly_none_came x core outcome (holds port piece) o none = no_piece x core port piece o none
 exactly_none_came x core outcome m o none = refl
 
-pub none_came : (x : ConnectionName) (core : CoreState) (outcome : StepOutcome) (m : MoveOrLost core outcome) → IsOrderly core → open_named x core ≡ None → came_on x m ≡ []
+pub none_came : (x : ConnectionName) (core : CoreState) (outcome : StepOutcome) (m : NodeMoveOrLost core outcome) → IsOrderly core → open_named x core ≡ None → came_on x m ≡ []
 none_came x core outcome (exactly m) o none = exactly_none_came x core outcome m o none
 none_came x core outcome (drops port piece) o none = no_piece x core port piece o none
 none_came x core outcome m o none = refl
@@ -93,13 +93,13 @@ expelled_or_not : (x : ConnectionName) (client : List ℕ) (b : Bool) → packet
 expelled_or_not x client true = refl
 expelled_or_not x client false = refl
 
-exactly_packets : (x : ConnectionName) (core : CoreState) (outcome : StepOutcome) (m : Moves core outcome) → packet_commands x (exactly_put m) ≡ packet_commands x (exactly_proposed m)
+exactly_packets : (x : ConnectionName) (core : CoreState) (outcome : StepOutcome) (m : NodeMove core outcome) → packet_commands x (exactly_put m) ≡ packet_commands x (exactly_proposed m)
 exactly_packets x core outcome (loses_one port c at asked) = lost_or_not x c.name (serves core)
 exactly_packets x core outcome (loses_next c at) = lost_or_not x c.name (serves core)
 exactly_packets x core outcome (expels_one client) = expelled_or_not x client (serves core)
 exactly_packets x core outcome m = refl
 
-pub packets_put : (x : ConnectionName) (core : CoreState) (outcome : StepOutcome) (m : MoveOrLost core outcome) → packet_commands x (commands_put m) ≡ packet_commands x (move_proposal m)
+pub packets_put : (x : ConnectionName) (core : CoreState) (outcome : StepOutcome) (m : NodeMoveOrLost core outcome) → packet_commands x (commands_put m) ≡ packet_commands x (move_proposal m)
 packets_put x core outcome (exactly m) = exactly_packets x core outcome m
 packets_put x core outcome m = refl
 
@@ -116,7 +116,7 @@ no_stop rest held later code joined e = by rest joined
     by [] j = let f = sym (ap verdict j) ∙ stays in cc
     by (p ∷ ps) (front, left, sp, kp, is, j) = let f = sym (ap verdict is ∙ verdict_again p front left kp sp) ∙ stays in cc
 
-exactly_refused : (x : ConnectionName) (core : CoreState) (outcome : StepOutcome) (m : Moves core outcome) (written read : List Packet) (in_transit : List ℕ) → IsOrderly core
+exactly_refused : (x : ConnectionName) (core : CoreState) (outcome : StepOutcome) (m : NodeMove core outcome) (written read : List Packet) (in_transit : List ℕ) → IsOrderly core
     → IsEnd x core written read in_transit → exact_refusal x m ≡ []
 exactly_refused x core outcome (refuses port c code at first is) written read in_transit o end = by (same_connection c.name x) refl
   where
@@ -130,12 +130,12 @@ exactly_refused x core outcome (refuses port c code at first is) written read in
         one a b e = cc
     there named_so (is_over given none front) = not_there x core port c o none at named_so
 
-    by : (b : Bool) → same_connection c.name x ≡ b → (exact_refusal x (let k : Moves core outcome = refuses port c code at first is in k)) ≡ []
+    by : (b : Bool) → same_connection c.name x ≡ b → (exact_refusal x (let k : NodeMove core outcome = refuses port c code at first is in k)) ≡ []
     by true e = absurd (there e end)
     by false e = rw e refl
 exactly_refused x core outcome m written read in_transit o end = refl
 
-pub none_refused : (x : ConnectionName) (core : CoreState) (outcome : StepOutcome) (m : MoveOrLost core outcome) (written read : List Packet) (in_transit : List ℕ) → IsOrderly core
+pub none_refused : (x : ConnectionName) (core : CoreState) (outcome : StepOutcome) (m : NodeMoveOrLost core outcome) (written read : List Packet) (in_transit : List ℕ) → IsOrderly core
     → IsEnd x core written read in_transit → refusal_in x m ≡ []
 none_refused x core outcome (exactly m) written read in_transit o end = exactly_refused x core outcome m written read in_transit o end
 none_refused x core outcome m written read in_transit o end = refl

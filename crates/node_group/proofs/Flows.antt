@@ -15,10 +15,10 @@ use Rattle.node_moves.specs.node_core.Handing.{hands_over, left_by}
 use Rattle.node_moves.specs.node_core.Step.{next_name, with_next_connection, settled}
 use Rattle.node_moves.specs.Closed.{listed_named}
 use Rattle.node_moves.specs.Ends.{IsOrderly}
-use Rattle.node_moves.specs.LossyMoves.{MoveOrLost}
-use Rattle.node_moves.specs.LossyMoves.MoveOrLost.{exactly, hears_losing, first_losing, later_losing, tells_losing, expels_losing, forgets, halts, fails, unheard, drops}
-use Rattle.node_moves.specs.Moves.{Moves}
-use Rattle.node_moves.specs.Moves.Moves.{hears, opens_one, holds, reads_first, reads_later, closes, refuses, loses_one, loses_next, expels_one, cuts_log, crashes, settles, hands}
+use Rattle.node_moves.specs.LossyMoves.{NodeMoveOrLost}
+use Rattle.node_moves.specs.LossyMoves.NodeMoveOrLost.{exactly, hears_losing, first_losing, later_losing, tells_losing, expels_losing, forgets, halts, fails, unheard, drops}
+use Rattle.node_moves.specs.Moves.{NodeMove}
+use Rattle.node_moves.specs.Moves.NodeMove.{hears, opens_one, holds, reads_first, reads_later, closes, refuses, loses_one, loses_next, expels_one, cuts_log, crashes, settles, hands}
 use Rattle.node_moves.proofs.Kept.{live, named, named_kept}
 use Rattle.node_moves.proofs.LossyShuts.{lossy_shuts, sent_in}
 use Rattle.node_moves.proofs.NothingOnClosed.{found_pushed, move_shuts}
@@ -158,7 +158,7 @@ hands_flow x port core o = by (find (is_at port) core.connections) refl
 
 -- ---- each move
 
-exactly_flows : (x : ConnectionName) (core : CoreState) (outcome : StepOutcome) (m : Moves core outcome) → IsOrderly core
+exactly_flows : (x : ConnectionName) (core : CoreState) (outcome : StepOutcome) (m : NodeMove core outcome) → IsOrderly core
     → Flows (exactly_handed x m) (exactly_sent x m) (listed_named x core) (listed_named x outcome.core)
 exactly_flows x core outcome (opens_one port) o = opens_flow x port core
 exactly_flows x core outcome settles o = settles_flow x core o
@@ -175,7 +175,7 @@ exactly_flows x core outcome (expels_one client) o = from_shuts (move_shuts core
 exactly_flows x core outcome (cuts_log can) o = from_shuts (move_shuts core outcome (cuts_log can) o x tt)
 exactly_flows x core outcome crashes o = from_shuts (move_shuts core outcome crashes o x tt)
 
-pub move_flows : (x : ConnectionName) (core : CoreState) (outcome : StepOutcome) (m : MoveOrLost core outcome) → IsOrderly core
+pub move_flows : (x : ConnectionName) (core : CoreState) (outcome : StepOutcome) (m : NodeMoveOrLost core outcome) → IsOrderly core
     → Flows (handed_on x m) (sent_in x m) (listed_named x core) (listed_named x outcome.core)
 move_flows x core outcome (exactly m) o = exactly_flows x core outcome m o
 move_flows x core outcome (hears_losing input did other drives) o = from_shuts (lossy_shuts core outcome (hears_losing input did other drives) o x tt)

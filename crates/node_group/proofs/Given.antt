@@ -15,10 +15,10 @@ use Rattle.node_moves.specs.node_core.Reading.{changes}
 use Rattle.node_moves.specs.node_core.Step.{next_name, with_next_connection}
 use Rattle.node_moves.specs.node_core.Effects.{proposes}
 use Rattle.node_moves.specs.Ends.{IsGiven, IsOrderly}
-use Rattle.node_moves.specs.LossyMoves.{MoveOrLost}
-use Rattle.node_moves.specs.LossyMoves.MoveOrLost.{exactly, hears_losing, first_losing, later_losing, tells_losing, expels_losing, forgets, halts, fails, unheard, drops}
-use Rattle.node_moves.specs.Moves.{Moves}
-use Rattle.node_moves.specs.Moves.Moves.{hears, opens_one, holds, reads_first, reads_later, closes, refuses, loses_one, loses_next, expels_one, cuts_log, crashes, settles, hands}
+use Rattle.node_moves.specs.LossyMoves.{NodeMoveOrLost}
+use Rattle.node_moves.specs.LossyMoves.NodeMoveOrLost.{exactly, hears_losing, first_losing, later_losing, tells_losing, expels_losing, forgets, halts, fails, unheard, drops}
+use Rattle.node_moves.specs.Moves.{NodeMove}
+use Rattle.node_moves.specs.Moves.NodeMove.{hears, opens_one, holds, reads_first, reads_later, closes, refuses, loses_one, loses_next, expels_one, cuts_log, crashes, settles, hands}
 use Rattle.node_moves.proofs.Kept.{stays_crashed, stays_cut, stays_driven, stays_failed, stays_handed, stays_proposed, stays_settled}
 use Rattle.node_moves.proofs.LossyReads.{stays_drives, stays_takes}
 use Rattle.node_moves.proofs.NamesInOrder.{given_later, next_precedes}
@@ -44,7 +44,7 @@ opened_given x port core o given = by ((serves core && not (list_any (is_at port
     by true = given_later core.last_name (next_name core) x (next_precedes core o.within) given
     by false = given
 
-exactly_given : (x : ConnectionName) (core : CoreState) (outcome : StepOutcome) (m : Moves core outcome) → IsOrderly core → IsGiven core.last_name x → IsGiven outcome.core.last_name x
+exactly_given : (x : ConnectionName) (core : CoreState) (outcome : StepOutcome) (m : NodeMove core outcome) → IsOrderly core → IsGiven core.last_name x → IsGiven outcome.core.last_name x
 exactly_given x core outcome (hears input other) o given = by_same x core outcome.core (stays_driven input core o).last given
 exactly_given x core outcome (opens_one port) o given = opened_given x port core o given
 exactly_given x core outcome (holds port piece) o given = by_same x core outcome.core (same_last port _ core) given
@@ -73,7 +73,7 @@ taken_last : (command : Command) (core between : CoreState) (did : Account) → 
     → did.core.last_name ≡ core.last_name
 taken_last command core between did o same taken = (stays_takes command between did taken o).last ∙ same
 
-pub stays_given : (x : ConnectionName) (core : CoreState) (outcome : StepOutcome) (m : MoveOrLost core outcome) → IsOrderly core → IsGiven core.last_name x → IsGiven outcome.core.last_name x
+pub stays_given : (x : ConnectionName) (core : CoreState) (outcome : StepOutcome) (m : NodeMoveOrLost core outcome) → IsOrderly core → IsGiven core.last_name x → IsGiven outcome.core.last_name x
 stays_given x core outcome (exactly m) o given = exactly_given x core outcome m o given
 stays_given x core outcome (hears_losing input did other drives_so) o given = by_same x core outcome.core (stays_drives input core did drives_so o).last given
 stays_given x core outcome (first_losing now port c connect rest did at first is taken) o given =

@@ -7,13 +7,13 @@ use Rattle.node_moves.specs.Ends.{came_on}
 use Rattle.node_moves.specs.RunProposals.{bytes_on}
 use Rattle.node_moves.specs.Hearing.{HearsAtFirst, IsCalm}
 use Rattle.node_moves.specs.LossyParts.{inputs_of}
-use Rattle.node_moves.specs.LossyRuns.{AllFreeze, CutsThaw, RunOrLost, all_inputs}
+use Rattle.node_moves.specs.LossyRuns.{AllFreeze, CutsThaw, MoveTraceOrLost, all_inputs}
 use Rattle.node_moves.specs.LossyRuns.{HearsAtFirst as FirstLosing, HearsNothing as CalmLosing, bytes_on as bytes_losing}
-use Rattle.node_moves.specs.LossyMoves.MoveOrLost.{exactly}
-use Rattle.node_moves.specs.LossyRuns.RunOrLost.{rests as rests_losing, goes_on as goes_losing}
-use Rattle.node_moves.specs.Moves.{Moves, Runs}
-use Rattle.node_moves.specs.Moves.Moves.{hears, cuts_log}
-use Rattle.node_moves.specs.Moves.Runs.{rests, goes_on}
+use Rattle.node_moves.specs.LossyMoves.NodeMoveOrLost.{exactly}
+use Rattle.node_moves.specs.LossyRuns.MoveTraceOrLost.{rests as rests_losing, goes_on as goes_losing}
+use Rattle.node_moves.specs.Moves.{NodeMove, MoveTrace}
+use Rattle.node_moves.specs.Moves.NodeMove.{hears, cuts_log}
+use Rattle.node_moves.specs.Moves.MoveTrace.{rests, goes_on}
 use Rattle.node_moves.specs.Puts.{move_effects}
 use Rattle.node_group.specs.Group.{Group}
 use Rattle.node_group.specs.Steps.{AllWasSent, WasSent, all_given, put_in_move, put_in_run}
@@ -21,59 +21,59 @@ use Rattle.node_group.specs.Losing.{WereSent}
 use Rattle.node_group.specs.Losing.{all_given as given_losing, put_in_run as put_losing, recorded_in as recorded_losing}
 use Rattle.node_group.specs.Putting.{recorded_by, recorded_in}
 
-abbrev pub losing_none : {core : CoreState} {outcome : StepOutcome} → Runs core outcome → RunOrLost core outcome
+abbrev pub losing_none : {core : CoreState} {outcome : StepOutcome} → MoveTrace core outcome → MoveTraceOrLost core outcome
 losing_none rests = rests_losing
 losing_none (goes_on m run) = goes_losing (exactly m) (losing_none run)
 
 -- it is the same run
 
-pub same_given : {core : CoreState} {outcome : StepOutcome} (run : Runs core outcome) → given_losing (losing_none run) ≡ all_given run
+pub same_given : {core : CoreState} {outcome : StepOutcome} (run : MoveTrace core outcome) → given_losing (losing_none run) ≡ all_given run
 same_given rests = refl
 same_given (goes_on m run) = ap (λ l. move_effects m ++ l) (same_given run)
 
-pub same_put : {core : CoreState} {outcome : StepOutcome} (run : Runs core outcome) → put_losing (losing_none run) ≡ put_in_run run
+pub same_put : {core : CoreState} {outcome : StepOutcome} (run : MoveTrace core outcome) → put_losing (losing_none run) ≡ put_in_run run
 same_put rests = refl
 same_put (goes_on m run) = ap (λ l. put_in_move m ++ l) (same_put run)
 
-pub same_recorded : (archive : List Command) {core : CoreState} {outcome : StepOutcome} (run : Runs core outcome) →
+pub same_recorded : (archive : List Command) {core : CoreState} {outcome : StepOutcome} (run : MoveTrace core outcome) →
     recorded_losing archive (losing_none run) ≡ recorded_in archive run
 same_recorded archive rests = refl
 same_recorded archive (goes_on m run) = same_recorded (recorded_by archive m) run
 
-pub same_bytes : (x : ConnectionName) {core : CoreState} {outcome : StepOutcome} (run : Runs core outcome) → bytes_losing x (losing_none run) ≡ bytes_on x run
+pub same_bytes : (x : ConnectionName) {core : CoreState} {outcome : StepOutcome} (run : MoveTrace core outcome) → bytes_losing x (losing_none run) ≡ bytes_on x run
 same_bytes x rests = refl
 same_bytes x (goes_on m run) = ap (λ l. came_on x m ++ l) (same_bytes x run)
 
-calm_still : {core : CoreState} {outcome : StepOutcome} (run : Runs core outcome) → IsCalm run → CalmLosing (losing_none run)
+calm_still : {core : CoreState} {outcome : StepOutcome} (run : MoveTrace core outcome) → IsCalm run → CalmLosing (losing_none run)
 calm_still rests calm = tt
 calm_still (goes_on m run) calm = (calm.0, calm_still run calm.1)
 
-pub first_still : {core : CoreState} {outcome : StepOutcome} (run : Runs core outcome) → HearsAtFirst run → FirstLosing (losing_none run)
+pub first_still : {core : CoreState} {outcome : StepOutcome} (run : MoveTrace core outcome) → HearsAtFirst run → FirstLosing (losing_none run)
 first_still rests first = tt
 first_still (goes_on m run) calm = calm_still run calm
 
-sent_in_move : (g : Group) (n : ℕ) {core : CoreState} {outcome : StepOutcome} (m : Moves core outcome) → WasSent g n m → WereSent g n (inputs_of m)
+sent_in_move : (g : Group) (n : ℕ) {core : CoreState} {outcome : StepOutcome} (m : NodeMove core outcome) → WasSent g n m → WereSent g n (inputs_of m)
 sent_in_move g n (hears input other) sent = (sent, tt)
 sent_in_move g n m sent = tt
 
-pub sent_by : (g : Group) (n : ℕ) {core : CoreState} {outcome : StepOutcome} (m : Moves core outcome) → WereSent g n (inputs_of m) → CutsThaw (exactly m) → WasSent g n m
+pub sent_by : (g : Group) (n : ℕ) {core : CoreState} {outcome : StepOutcome} (m : NodeMove core outcome) → WereSent g n (inputs_of m) → CutsThaw (exactly m) → WasSent g n m
 sent_by g n (hears input other) sent frozen = sent.0
 sent_by g n (cuts_log can) sent frozen = frozen
 sent_by g n m sent frozen = tt
 
-freezes_by : (g : Group) (n : ℕ) {core : CoreState} {outcome : StepOutcome} (m : Moves core outcome) → WasSent g n m → CutsThaw (exactly m)
+freezes_by : (g : Group) (n : ℕ) {core : CoreState} {outcome : StepOutcome} (m : NodeMove core outcome) → WasSent g n m → CutsThaw (exactly m)
 freezes_by g n (cuts_log can) sent = sent
 freezes_by g n m sent = tt
 
-pub frozen_losing : (g : Group) (n : ℕ) {core : CoreState} {outcome : StepOutcome} (run : Runs core outcome) → AllWasSent g n run → AllFreeze (losing_none run)
+pub frozen_losing : (g : Group) (n : ℕ) {core : CoreState} {outcome : StepOutcome} (run : MoveTrace core outcome) → AllWasSent g n run → AllFreeze (losing_none run)
 frozen_losing g n rests sent = tt
 frozen_losing g n (goes_on m run) sent = (freezes_by g n m sent.0, frozen_losing g n run sent.1)
 
-sent_and : (g : Group) (n : ℕ) {core : CoreState} {outcome : StepOutcome} (m : Moves core outcome) {later : StepOutcome} (run : RunOrLost outcome.core later) → WereSent g n (inputs_of m) → WereSent g n (all_inputs run)
+sent_and : (g : Group) (n : ℕ) {core : CoreState} {outcome : StepOutcome} (m : NodeMove core outcome) {later : StepOutcome} (run : MoveTraceOrLost outcome.core later) → WereSent g n (inputs_of m) → WereSent g n (all_inputs run)
     → WereSent g n (inputs_of m ++ all_inputs run)
 sent_and g n (hears input other) run sent more = (sent.0, more)
 sent_and g n m run sent more = more
 
-pub sent_losing : (g : Group) (n : ℕ) {core : CoreState} {outcome : StepOutcome} (run : Runs core outcome) → AllWasSent g n run → WereSent g n (all_inputs (losing_none run))
+pub sent_losing : (g : Group) (n : ℕ) {core : CoreState} {outcome : StepOutcome} (run : MoveTrace core outcome) → AllWasSent g n run → WereSent g n (all_inputs (losing_none run))
 sent_losing g n rests sent = tt
 sent_losing g n (goes_on m run) sent = sent_and g n m (losing_none run) (sent_in_move g n m sent.0) (sent_losing g n run sent.1)

@@ -21,10 +21,10 @@ use Rattle.node_moves.specs.node_core.Core.{CoreState, StepOutcome, rules, serve
 use Rattle.node_moves.specs.node_core.Lossy.{Account, Drives, TakesCommand}
 use Rattle.node_moves.specs.node_core.Reading.{changes}
 use Rattle.node_moves.specs.node_core.Effects.{has_room, outcome_of_input}
-use Rattle.node_moves.specs.LossyMoves.{MoveOrLost, outcome_in}
+use Rattle.node_moves.specs.LossyMoves.{NodeMoveOrLost, outcome_in}
 use Rattle.node_moves.specs.LossyParts.{move_effects, inputs_in}
 use Rattle.node_moves.specs.LossyRuns.{CutsThaw}
-use Rattle.node_moves.specs.LossyMoves.MoveOrLost.{exactly, hears_losing, first_losing, later_losing, tells_losing, expels_losing, forgets, halts, fails, unheard, drops}
+use Rattle.node_moves.specs.LossyMoves.NodeMoveOrLost.{exactly, hears_losing, first_losing, later_losing, tells_losing, expels_losing, forgets, halts, fails, unheard, drops}
 use Rattle.node_moves.specs.Moves.{is_proposal}
 use Rattle.node_moves.proofs.LossyOutputs.{delivers_replica}
 use Rattle.node_group.specs.Group.{Group, group_after_outcome, moment_of_nodes, replica_of, with_record}
@@ -132,7 +132,7 @@ takes_happen g n core between command did kept at same taken t config earlier ca
 
 -- ---- each move
 
-pub losses_happen : (g : Group) (n : ℕ) (core : CoreState) (turn : StepOutcome) (m : MoveOrLost core turn) (kept : Given) → slice_get g.nodes n ≡ Some core → WereSent g n (inputs_in m)
+pub losses_happen : (g : Group) (n : ℕ) (core : CoreState) (turn : StepOutcome) (m : NodeMoveOrLost core turn) (kept : Given) → slice_get g.nodes n ≡ Some core → WereSent g n (inputs_in m)
     → CutsThaw m → Thinned kept turn.messages → (config : Config) (earlier : List (Moment State Command Output)) (came : Moments rules config (moment_of_nodes g ∷ earlier))
     → Once came (moment_of_nodes (group_after_outcome (with_record g (recorded_by g.archive m)) n (with_messages kept turn) (move_effects m))) (put_in_move m) n (outputs (move_effects m))
 losses_happen g n core turn (exactly m) kept at sent frozen t = moves_happen g n core turn m kept at (sent_by g n m sent frozen) t

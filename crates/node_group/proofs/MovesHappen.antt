@@ -54,8 +54,8 @@ use Rattle.node_moves.specs.node_connections.ConnectionChanges.{noted_proposed, 
 use Rattle.node_moves.specs.node_core.Handing.{hands_over}
 use Rattle.node_moves.specs.node_core.Reading.{connect_refused}
 use Rattle.node_moves.specs.node_core.Step.{with_next_connection, settled, with_cut}
-use Rattle.node_moves.specs.Moves.{Moves, is_proposal}
-use Rattle.node_moves.specs.Moves.Moves.{hears, opens_one, holds, reads_first, reads_later, closes, refuses, loses_one, loses_next, expels_one, cuts_log, crashes, settles, hands}
+use Rattle.node_moves.specs.Moves.{NodeMove, is_proposal}
+use Rattle.node_moves.specs.Moves.NodeMove.{hears, opens_one, holds, reads_first, reads_later, closes, refuses, loses_one, loses_next, expels_one, cuts_log, crashes, settles, hands}
 use Rattle.node_moves.specs.Puts.{move_effects}
 use Rattle.node_moves.specs.ballot_base.Cutting.{can_cut, cut}
 use Rattle.packet_world.specs.snapshots.World.{recorded}
@@ -248,7 +248,7 @@ no_step g n core outcome given config earlier came at replica none_sent none_lef
 -- ---- moves
 
 -- what must hold for each move, of which these messages are kept
-abbrev Happens : Group → ℕ → (core : CoreState) (outcome : StepOutcome) → Moves core outcome → Given → Type 0
+abbrev Happens : Group → ℕ → (core : CoreState) (outcome : StepOutcome) → NodeMove core outcome → Given → Type 0
 Happens g n core outcome m kept = (config : Config) (earlier : List (Moment State Command Output)) (came : Moments rules config (moment_of_nodes g ∷ earlier))
     → Once came (moment_of_nodes (group_after_outcome (with_record g (recorded_by g.archive m)) n (with_messages kept outcome) (move_effects m))) (put_in_move m) n (outputs (move_effects m))
 
@@ -403,7 +403,7 @@ cut_happens g n core kept at can reads t config earlier came =
     subst (λ (l : Given). Once came (moment_of_nodes (group_after_outcome (with_record g (recorded g.archive (replica_of core))) n (with_messages l (without_messages (with_cut core))) [])) [] n [])
     (sym (nothing_kept kept t)) (one_cut g n core config earlier came at can reads)
 
-pub moves_happen : (g : Group) (n : ℕ) (core : CoreState) (outcome : StepOutcome) (m : Moves core outcome) (kept : Given) → slice_get g.nodes n ≡ Some core → WasSent g n m
+pub moves_happen : (g : Group) (n : ℕ) (core : CoreState) (outcome : StepOutcome) (m : NodeMove core outcome) (kept : Given) → slice_get g.nodes n ≡ Some core → WasSent g n m
     → Thinned kept outcome.messages → Happens g n core outcome m kept
 moves_happen g n core outcome (hears input other) kept at sent t = heard_happens g n core input kept at other sent t
 moves_happen g n core outcome (opens_one port) kept at sent t = happens_without_messages g n core _ kept at (state_of (with_next_connection port core) core (opens_keeps port core)) t

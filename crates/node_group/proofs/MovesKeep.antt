@@ -27,7 +27,7 @@ use Rattle.node_moves.specs.Closed.{listed_named}
 use Rattle.node_moves.specs.Ends.{IsEnd, IsGiven, IsOrderly, packet_commands_from, open_named, stream_of}
 use Rattle.node_moves.specs.Ends.IsEnd.{not_yet}
 use Rattle.node_moves.specs.LossyLaws.{ReadsOn}
-use Rattle.node_moves.specs.LossyMoves.{MoveOrLost}
+use Rattle.node_moves.specs.LossyMoves.{NodeMoveOrLost}
 use Rattle.node_moves.specs.LossyParts.{came_on, move_effects, move_proposal, refusal_in}
 use Rattle.node_moves.specs.Puts.{outputs_of, spelled}
 use Rattle.node_moves.proofs.Kept.{live}
@@ -84,7 +84,7 @@ LeadsStill core outcome = (x : ConnectionName) (c : Connection) → listed_named
 
 -- what is known about a move of the node at an index of a group, of which these messages are kept
 pub record Known {config : Config} (g : Group) {earlier : List (Moment State Command Output)} (came : Moments rules config (moment_of_nodes g ∷ earlier)) (a : ℕ)
-    {core : CoreState} {outcome : StepOutcome} (m : MoveOrLost core outcome) (kept : List (Effect Command Output)) : Type 0 where
+    {core : CoreState} {outcome : StepOutcome} (m : NodeMoveOrLost core outcome) (kept : List (Effect Command Output)) : Type 0 where
   pub at : slice_get g.nodes a ≡ Some core
   pub orderly : IsOrderly core
   pub leads : LeadsStill core outcome
@@ -92,21 +92,21 @@ pub record Known {config : Config} (g : Group) {earlier : List (Moment State Com
 
 -- and of one connection in it
 record Here {config : Config} {g : Group} {earlier : List (Moment State Command Output)} {came : Moments rules config (moment_of_nodes g ∷ earlier)} {a : ℕ}
-    {core : CoreState} {outcome : StepOutcome} {m : MoveOrLost core outcome} {kept : List (Effect Command Output)} (k : Known g came a m kept) (x : ConnectionName) (put : List (ℕ × Command)) (xs ys : List Command) : Type 0 where
+    {core : CoreState} {outcome : StepOutcome} {m : NodeMoveOrLost core outcome} {kept : List (Effect Command Output)} (k : Known g came a m kept) (x : ConnectionName) (put : List (ℕ × Command)) (xs ys : List Command) : Type 0 where
   grown : IsPrefixOf xs ys
   sends : Sends x (replica_of core) (replica_of outcome.core) ys (spelled (sends_to x (outputs_of (move_effects m))))
   said : IsPrefixOf (packet_commands x ys) (packet_commands x (commands_in (put ++ put_in_move m)))
 
 abbrev After : {config : Config} {g : Group} {earlier : List (Moment State Command Output)} {came : Moments rules config (moment_of_nodes g ∷ earlier)} {a : ℕ}
-    {core : CoreState} {outcome : StepOutcome} {m : MoveOrLost core outcome} {kept : List (Effect Command Output)} → Known g came a m kept → ConnectionName → List Packet → List ℕ → List (ℕ × Command) → List ℕ → List Command → Type 0
+    {core : CoreState} {outcome : StepOutcome} {m : NodeMoveOrLost core outcome} {kept : List (Effect Command Output)} → Known g came a m kept → ConnectionName → List Packet → List ℕ → List (ℕ × Command) → List ℕ → List Command → Type 0
 After {g = g} {a = a} {outcome = outcome} {m = m} {kept = kept} k x written later put down ys =
     Stands x written later (group_after_outcome (with_record g (recorded_by g.archive m)) a (with_messages kept outcome) (move_effects m)) (moment_of_nodes (group_after_outcome (with_record g (recorded_by g.archive m)) a (with_messages kept outcome) (move_effects m)) ∷ k.once.further.before) (put ++ put_in_move m)
     (down ++ handed_on x m) ys
 
-unrefused : (x : ConnectionName) {core : CoreState} {outcome : StepOutcome} (m : MoveOrLost core outcome) → refusal_in x m ≡ [] → sent_in x m ≡ spelled (sends_to x (outputs_of (move_effects m)))
+unrefused : (x : ConnectionName) {core : CoreState} {outcome : StepOutcome} (m : NodeMoveOrLost core outcome) → refusal_in x m ≡ [] → sent_in x m ≡ spelled (sends_to x (outputs_of (move_effects m)))
 unrefused x m none = ap (λ l. spelled (l ++ sends_to x (outputs_of (move_effects m)))) none
 
-nothing_more : (x : ConnectionName) (put : List (ℕ × Command)) {core : CoreState} {outcome : StepOutcome} (m : MoveOrLost core outcome) → packet_commands x (move_proposal m) ≡ []
+nothing_more : (x : ConnectionName) (put : List (ℕ × Command)) {core : CoreState} {outcome : StepOutcome} (m : NodeMoveOrLost core outcome) → packet_commands x (move_proposal m) ≡ []
     → packet_commands x (commands_in (put ++ put_in_move m)) ≡ packet_commands x (commands_in put)
 nothing_more x put {core = core} {outcome = outcome} m none =
     packets_more x put m ∙ ap (λ l. packet_commands x (commands_in put) ++ l) (packets_put x core outcome m ∙ none) ∙ append-nil (packet_commands x (commands_in put))
@@ -114,7 +114,7 @@ nothing_more x put {core = core} {outcome = outcome} m none =
 -- ---- no node had it
 
 untouched_keeps : {config : Config} {g : Group} {earlier : List (Moment State Command Output)} {came : Moments rules config (moment_of_nodes g ∷ earlier)} {a : ℕ}
-    {core : CoreState} {outcome : StepOutcome} {m : MoveOrLost core outcome} {kept : List (Effect Command Output)} (k : Known g came a m kept) (x : ConnectionName) (written : List Packet) (later : List ℕ) (put : List (ℕ × Command)) (down : List ℕ)
+    {core : CoreState} {outcome : StepOutcome} {m : NodeMoveOrLost core outcome} {kept : List (Effect Command Output)} (k : Known g came a m kept) (x : ConnectionName) (written : List Packet) (later : List ℕ) (put : List (ℕ × Command)) (down : List ℕ)
     (xs ys : List Command) → Here k x put xs ys → Untouched x written (came_on x m ++ later) g put down → After k x written later put down ys
 untouched_keeps {g = g} {earlier = earlier} {a = a} {core = core} {outcome = outcome} {m = m} {kept = kept} k x written later put down xs ys h u =
     by (listed_named x outcome.core) refl (subst (λ (o : Option Connection). Flows (handed_on x m) (sent_in x m) o (listed_named x outcome.core)) none (move_flows x core outcome m k.orderly))
@@ -189,7 +189,7 @@ untouched_keeps {g = g} {earlier = earlier} {a = a} {core = core} {outcome = out
 -- ---- the node that has it
 
 held_here : {config : Config} {g : Group} {earlier : List (Moment State Command Output)} {came : Moments rules config (moment_of_nodes g ∷ earlier)} {a : ℕ}
-    {core : CoreState} {outcome : StepOutcome} {m : MoveOrLost core outcome} {kept : List (Effect Command Output)} (k : Known g came a m kept) (x : ConnectionName) (written : List Packet) (later : List ℕ) (put : List (ℕ × Command)) (down : List ℕ)
+    {core : CoreState} {outcome : StepOutcome} {m : NodeMoveOrLost core outcome} {kept : List (Effect Command Output)} (k : Known g came a m kept) (x : ConnectionName) (written : List Packet) (later : List ℕ) (put : List (ℕ × Command)) (down : List ℕ)
     (xs ys : List Command) → Here k x put xs ys → (held : Held x written (came_on x m ++ later) g (moment_of_nodes g ∷ earlier) put down xs) → held.n ≡ a → held.core ≡ core
     → After k x written later put down ys
 held_here {g = g} {earlier = earlier} {a = a} {core = core} {outcome = outcome} {m = m} {kept = kept} k x written later put down xs ys h held here_so same =
@@ -241,7 +241,7 @@ held_here {g = g} {earlier = earlier} {a = a} {core = core} {outcome = outcome} 
 -- ---- another node has it
 
 held_there : {config : Config} {g : Group} {earlier : List (Moment State Command Output)} {came : Moments rules config (moment_of_nodes g ∷ earlier)} {a : ℕ}
-    {core : CoreState} {outcome : StepOutcome} {m : MoveOrLost core outcome} {kept : List (Effect Command Output)} (k : Known g came a m kept) (x : ConnectionName) (written : List Packet) (later : List ℕ) (put : List (ℕ × Command)) (down : List ℕ)
+    {core : CoreState} {outcome : StepOutcome} {m : NodeMoveOrLost core outcome} {kept : List (Effect Command Output)} (k : Known g came a m kept) (x : ConnectionName) (written : List Packet) (later : List ℕ) (put : List (ℕ × Command)) (down : List ℕ)
     (xs ys : List Command) → Here k x put xs ys → (held : Held x written (came_on x m ++ later) g (moment_of_nodes g ∷ earlier) put down xs) → (a ≡ held.n → ⊥)
     → After k x written later put down ys
 held_there {config = config} {g = g} {earlier = earlier} {came = came} {a = a} {core = core} {outcome = outcome} {m = m} {kept = kept} k x written later put down xs ys h held apart =
@@ -284,7 +284,7 @@ held_there {config = config} {g = g} {earlier = earlier} {came = came} {a = a} {
 -- ---- the move
 
 pub move_keeps : {config : Config} {g : Group} {earlier : List (Moment State Command Output)} {came : Moments rules config (moment_of_nodes g ∷ earlier)} {a : ℕ}
-    {core : CoreState} {outcome : StepOutcome} {m : MoveOrLost core outcome} {kept : List (Effect Command Output)} (k : Known g came a m kept) (x : ConnectionName) (written : List Packet) (later : List ℕ) (put : List (ℕ × Command)) (down : List ℕ)
+    {core : CoreState} {outcome : StepOutcome} {m : NodeMoveOrLost core outcome} {kept : List (Effect Command Output)} (k : Known g came a m kept) (x : ConnectionName) (written : List Packet) (later : List ℕ) (put : List (ℕ × Command)) (down : List ℕ)
     (xs ys : List Command) → IsAgreed config (moment_of_nodes g ∷ earlier) xs → IsAgreed config (moment_of_nodes (group_after_outcome (with_record g (recorded_by g.archive m)) a (with_messages kept outcome) (move_effects m)) ∷ k.once.further.before) ys
     → IsPrefixOf (packet_commands x ys) (packet_commands x (commands_in (put ++ put_in_move m)))
     → Stands x written (came_on x m ++ later) g (moment_of_nodes g ∷ earlier) put down xs

@@ -20,7 +20,7 @@ use Rattle.node_moves.specs.Keeping.{AreOfTheBallot}
 use Rattle.node_moves.specs.LossyNames.{AreWhereItServes}
 use Rattle.node_moves.specs.Moves.{NodeCall, done}
 use Rattle.node_moves.specs.Moves.NodeCall.{takes, gives}
-use Rattle.node_moves.specs.Moves.Moves.{hands}
+use Rattle.node_moves.specs.Moves.NodeMove.{hands}
 use Rattle.node_moves.proofs.Kept.{named}
 use Rattle.node_moves.proofs.NamesKeepTheirBallot.{names_keep_their_ballot}
 use Rattle.node_moves.proofs.ProposesInOrder.{opening_orderly}

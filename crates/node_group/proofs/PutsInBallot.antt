@@ -18,13 +18,13 @@ use Rattle.node_moves.specs.node_core.Reading.{changes}
 use Rattle.node_moves.specs.Ends.{IsOrderly}
 use Rattle.node_moves.specs.Keeping.{AreOfTheBallot}
 use Rattle.node_moves.specs.LossyNames.{AreWhereItServes}
-use Rattle.node_moves.specs.LossyMoves.{MoveOrLost}
+use Rattle.node_moves.specs.LossyMoves.{NodeMoveOrLost}
 use Rattle.node_moves.specs.LossyParts.{move_proposal}
-use Rattle.node_moves.specs.LossyRuns.{HearsAtFirst, HearsNothing, RunOrLost}
-use Rattle.node_moves.specs.LossyMoves.MoveOrLost.{exactly, first_losing, later_losing, tells_losing, expels_losing}
-use Rattle.node_moves.specs.LossyRuns.RunOrLost.{rests, goes_on}
-use Rattle.node_moves.specs.Moves.{Moves}
-use Rattle.node_moves.specs.Moves.Moves.{reads_first, reads_later, loses_one, loses_next, expels_one}
+use Rattle.node_moves.specs.LossyRuns.{HearsAtFirst, HearsNothing, MoveTraceOrLost}
+use Rattle.node_moves.specs.LossyMoves.NodeMoveOrLost.{exactly, first_losing, later_losing, tells_losing, expels_losing}
+use Rattle.node_moves.specs.LossyRuns.MoveTraceOrLost.{rests, goes_on}
+use Rattle.node_moves.specs.Moves.{NodeMove}
+use Rattle.node_moves.specs.Moves.NodeMove.{reads_first, reads_later, loses_one, loses_next, expels_one}
 use Rattle.node_moves.proofs.LossyNames.{lossy_names_keep_their_ballot}
 use Rattle.node_moves.proofs.LossyReads.{losses_read_in_order}
 use Rattle.node_group.specs.Ballots.{IsInItsBallot}
@@ -47,7 +47,7 @@ none_of_an_expel core client true = (λ x is. absurd (both_ways (is_packet_of (c
 none_of_an_expel core client false = tt
 
 -- what is proposed is put by a node that serves
-proposed_in : (core : CoreState) (outcome : StepOutcome) (m : MoveOrLost core outcome) (command : Command) → IsOrderly core → AreWhereItServes core → serves core ≡ true → move_proposal m ≡ command ∷ []
+proposed_in : (core : CoreState) (outcome : StepOutcome) (m : NodeMoveOrLost core outcome) (command : Command) → IsOrderly core → AreWhereItServes core → serves core ≡ true → move_proposal m ≡ command ∷ []
     → IsInItsBallot ((replica_of core).joined, command)
 proposed_in core outcome m command o of serving is x named =
     lossy_names_keep_their_ballot.proposes core outcome m o of serving x command (subst (In command) (sym is) here) named
@@ -57,7 +57,7 @@ serves_who_takes : (core between : CoreState) (command : Command) (did : Account
 serves_who_takes core between command did same taken =
     sym (serves_as between core same) ∙ room_serves between (nat_lt (places (replica_of between).log) max_places) taken.room
 
-exactly_in : (core : CoreState) (outcome : StepOutcome) (m : Moves core outcome) → IsOrderly core → AreWhereItServes core → Each IsInItsBallot (exactly_put m)
+exactly_in : (core : CoreState) (outcome : StepOutcome) (m : NodeMove core outcome) → IsOrderly core → AreWhereItServes core → Each IsInItsBallot (exactly_put m)
 exactly_in core outcome (reads_first now port c connect rest at first is room) o of = (
   proposed_in core outcome (exactly (reads_first now port c connect rest at first is room)) (commands.Connect c.name connect.client connect.clean) o of
       (room_serves core (nat_lt (places (replica_of core).log) max_places) room) refl,
@@ -73,7 +73,7 @@ exactly_in core outcome (loses_next c at) o of = none_of_a_packet core c.name (s
 exactly_in core outcome (expels_one client) o of = none_of_an_expel core client (serves core)
 exactly_in core outcome m o of = tt
 
-puts_in : (core : CoreState) (outcome : StepOutcome) (m : MoveOrLost core outcome) → IsOrderly core → AreWhereItServes core → Each IsInItsBallot (put_in_move m)
+puts_in : (core : CoreState) (outcome : StepOutcome) (m : NodeMoveOrLost core outcome) → IsOrderly core → AreWhereItServes core → Each IsInItsBallot (put_in_move m)
 puts_in core outcome (exactly m) o of = exactly_in core outcome m o of
 puts_in core outcome (first_losing now port c connect rest did at first is taken) o of = (
   proposed_in core outcome (first_losing now port c connect rest did at first is taken) (commands.Connect c.name connect.client connect.clean) o of
@@ -93,24 +93,24 @@ puts_in core outcome m o of = tt
 -- ---- runs
 
 -- in a run what is put is put in its ballot; and what stays so after it
-pub record RunsWell {core : CoreState} {outcome : StepOutcome} (run : RunOrLost core outcome) : Type 0 where
+pub record RunsWell {core : CoreState} {outcome : StepOutcome} (run : MoveTraceOrLost core outcome) : Type 0 where
   pub orderly : IsOrderly outcome.core
   pub names : AreWhereItServes outcome.core
   pub puts : Each IsInItsBallot (put_in_run run)
 
-orderly_after : (core : CoreState) (outcome : StepOutcome) (m : MoveOrLost core outcome) → IsOrderly core → IsOrderly outcome.core
+orderly_after : (core : CoreState) (outcome : StepOutcome) (m : NodeMoveOrLost core outcome) → IsOrderly core → IsOrderly outcome.core
 orderly_after core outcome m o = (losses_read_in_order core outcome m o).0
 
 where_it_serves : (core : CoreState) → AreOfTheBallot core → AreWhereItServes core
 where_it_serves core of serving = of
 
-calm_run : {core : CoreState} {outcome : StepOutcome} (run : RunOrLost core outcome) → HearsNothing run → IsOrderly core → AreWhereItServes core → RunsWell run
+calm_run : {core : CoreState} {outcome : StepOutcome} (run : MoveTraceOrLost core outcome) → HearsNothing run → IsOrderly core → AreWhereItServes core → RunsWell run
 calm_run rests calm o of = record { orderly = o; names = of; puts = tt }
 calm_run {core = core} (goes_on {first = first} m run) calm o of =
     let r = calm_run run calm.1 (orderly_after core first m o) (lossy_names_keep_their_ballot.moves core first m o calm.0 of) in
     record { orderly = r.orderly; names = r.names; puts = each_append IsInItsBallot (put_in_move m) (put_in_run run) (puts_in core first m o of) r.puts }
 
-pub runs_well : {core : CoreState} {outcome : StepOutcome} (run : RunOrLost core outcome) → HearsAtFirst run → IsOrderly core → AreOfTheBallot core → RunsWell run
+pub runs_well : {core : CoreState} {outcome : StepOutcome} (run : MoveTraceOrLost core outcome) → HearsAtFirst run → IsOrderly core → AreOfTheBallot core → RunsWell run
 runs_well {core = core} rests first o of = record { orderly = o; names = where_it_serves core of; puts = tt }
 runs_well {core = core} (goes_on {first = first} m run) calm o of =
     let r = calm_run run calm (orderly_after core first m o) (lossy_names_keep_their_ballot.hears core first m o of) in

@@ -6,13 +6,13 @@ use Rattle.packet_world.specs.broker_spec.declared.command.Command.{Command}
 use Rattle.packet_world.specs.snapshots.World.{recorded}
 use Rattle.node_moves.specs.node_core.Core.{CoreState, StepOutcome}
 use Rattle.node_moves.specs.Keeping.{moves_replica}
-use Rattle.node_moves.specs.LossyMoves.{MoveOrLost}
+use Rattle.node_moves.specs.LossyMoves.{NodeMoveOrLost}
 use Rattle.node_moves.specs.LossyParts.{hears_in, inputs_in, inputs_of}
-use Rattle.node_moves.specs.LossyMoves.MoveOrLost.{exactly, hears_losing}
-use Rattle.node_moves.specs.LossyRuns.{CutsNothing, HearsAtFirst, RunOrLost, all_inputs, cuts_in, exactly_cuts}
-use Rattle.node_moves.specs.LossyRuns.RunOrLost.{rests, goes_on}
-use Rattle.node_moves.specs.Moves.{Moves}
-use Rattle.node_moves.specs.Moves.Moves.{hears, cuts_log, crashes}
+use Rattle.node_moves.specs.LossyMoves.NodeMoveOrLost.{exactly, hears_losing}
+use Rattle.node_moves.specs.LossyRuns.{CutsNothing, HearsAtFirst, MoveTraceOrLost, all_inputs, cuts_in, exactly_cuts}
+use Rattle.node_moves.specs.LossyRuns.MoveTraceOrLost.{rests, goes_on}
+use Rattle.node_moves.specs.Moves.{NodeMove}
+use Rattle.node_moves.specs.Moves.NodeMove.{hears, cuts_log, crashes}
 use Rattle.node_moves.proofs.BaseStays.{calm_base, calm_run_base}
 use Rattle.node_moves.proofs.LossyRuns.{calm_cuts_none, still_cuts}
 use Rattle.node_group.specs.Group.{replica_of}
@@ -21,15 +21,15 @@ use Rattle.node_group.specs.Putting.{recorded_by as exactly_recorded}
 
 -- ---- no log is cut
 
-exactly_none : (archive : List Command) {core : CoreState} {outcome : StepOutcome} (m : Moves core outcome) → exactly_cuts m ≡ false → exactly_recorded archive m ≡ archive
+exactly_none : (archive : List Command) {core : CoreState} {outcome : StepOutcome} (m : NodeMove core outcome) → exactly_cuts m ≡ false → exactly_recorded archive m ≡ archive
 exactly_none archive (cuts_log can) none = absurd cc
 exactly_none archive m none = refl
 
-none_by : (archive : List Command) {core : CoreState} {outcome : StepOutcome} (m : MoveOrLost core outcome) → cuts_in m ≡ false → recorded_by archive m ≡ archive
+none_by : (archive : List Command) {core : CoreState} {outcome : StepOutcome} (m : NodeMoveOrLost core outcome) → cuts_in m ≡ false → recorded_by archive m ≡ archive
 none_by archive (exactly m) none = exactly_none archive m none
 none_by archive m none = refl
 
-pub records_none : (archive : List Command) {core : CoreState} {outcome : StepOutcome} (run : RunOrLost core outcome) → CutsNothing run → recorded_in archive run ≡ archive
+pub records_none : (archive : List Command) {core : CoreState} {outcome : StepOutcome} (run : MoveTraceOrLost core outcome) → CutsNothing run → recorded_in archive run ≡ archive
 records_none archive rests none = refl
 records_none archive (goes_on m run) none = ap (λ (l : List Command). recorded_in l run) (none_by archive m none.0) ∙ records_none archive run none.1
 
@@ -59,7 +59,7 @@ goes_to : (archive : List Command) (core : CoreState) (b : Bool) → b ≡ true 
 goes_to archive core true e = refl
 goes_to archive core false e = absurd cc
 
-exactly_heard : (archive : List Command) (core : CoreState) (outcome : StepOutcome) (m : Moves core outcome) → moves_replica m ≡ true → inputs_of m ≡ []
+exactly_heard : (archive : List Command) (core : CoreState) (outcome : StepOutcome) (m : NodeMove core outcome) → moves_replica m ≡ true → inputs_of m ≡ []
     → exactly_recorded archive m ≡ recorded_to archive core (replica_of outcome.core).log.base
 exactly_heard archive core outcome (cuts_log can) moves none =
     goes_to archive core (nat_lt (replica_of core).log.base (replica_of core).committed)
@@ -68,13 +68,13 @@ exactly_heard archive core outcome crashes moves none = stays_at archive core (r
 exactly_heard archive core outcome (hears input other) moves none = absurd cc
 exactly_heard archive core outcome m moves none = absurd cc
 
-heard : (archive : List Command) (core : CoreState) (outcome : StepOutcome) (m : MoveOrLost core outcome) → hears_in m ≡ true → inputs_in m ≡ []
+heard : (archive : List Command) (core : CoreState) (outcome : StepOutcome) (m : NodeMoveOrLost core outcome) → hears_in m ≡ true → inputs_in m ≡ []
     → recorded_by archive m ≡ recorded_to archive core (replica_of outcome.core).log.base
 heard archive core outcome (exactly m) moves none = exactly_heard archive core outcome m moves none
 heard archive core outcome (hears_losing input did other drives) moves none = absurd cc
 heard archive core outcome m moves none = absurd cc
 
-first_records : (archive : List Command) (core : CoreState) (outcome : StepOutcome) (m : MoveOrLost core outcome) → inputs_in m ≡ []
+first_records : (archive : List Command) (core : CoreState) (outcome : StepOutcome) (m : NodeMoveOrLost core outcome) → inputs_in m ≡ []
     → recorded_by archive m ≡ recorded_to archive core (replica_of outcome.core).log.base
 first_records archive core outcome m none = by (hears_in m) refl
   where
@@ -86,7 +86,7 @@ none_at_first : {C : Type 0} (xs ys : List C) → xs ++ ys ≡ [] → xs ≡ []
 none_at_first [] ys e = refl
 none_at_first (x ∷ xs) ys e = absurd cc
 
-pub records_to : (archive : List Command) {core : CoreState} {outcome : StepOutcome} (run : RunOrLost core outcome) → HearsAtFirst run → all_inputs run ≡ []
+pub records_to : (archive : List Command) {core : CoreState} {outcome : StepOutcome} (run : MoveTraceOrLost core outcome) → HearsAtFirst run → all_inputs run ≡ []
     → recorded_in archive run ≡ recorded_to archive core (replica_of outcome.core).log.base
 records_to archive {core = core} rests calm none = stays_at archive core (replica_of core).log.base refl
 records_to archive {core = core} (goes_on {first = first} m run) calm none =

@@ -14,8 +14,8 @@ use Rattle.packet_world.specs.snapshots.Proposals.{proposals_of, taken_of}
 use Rattle.packet_world.specs.snapshots.World.{messages, outputs}
 use Rattle.node_moves.specs.node_core.Core.{CoreState, StepOutcome, rules}
 use Rattle.node_moves.specs.LossyParts.{move_effects, inputs_in}
-use Rattle.node_moves.specs.LossyRuns.{AllFreeze, RunOrLost, all_inputs}
-use Rattle.node_moves.specs.LossyRuns.RunOrLost.{rests, goes_on}
+use Rattle.node_moves.specs.LossyRuns.{AllFreeze, MoveTraceOrLost, all_inputs}
+use Rattle.node_moves.specs.LossyRuns.MoveTraceOrLost.{rests, goes_on}
 use Rattle.node_moves.specs.Moves.{and_then}
 use Rattle.node_group.specs.Group.{Group, group_after_outcome, moment_of_nodes, with_record}
 use Rattle.node_group.specs.Steps.{InputWasSent, with_messages}
@@ -87,7 +87,7 @@ kept_turns g n first next given more kept k =
     two_turns g n (with_messages k.front first) (with_messages k.rest next) given more
     ∙ ap (λ (l : Given). group_after_outcome g n (with_messages l (and_then first next)) (given ++ more)) (sym k.is)
 
-pub runs_happen : (g : Group) (n : ℕ) (core : CoreState) (outcome : StepOutcome) (run : RunOrLost core outcome) (kept : Given) → slice_get g.nodes n ≡ Some core → WereSent g n (all_inputs run)
+pub runs_happen : (g : Group) (n : ℕ) (core : CoreState) (outcome : StepOutcome) (run : MoveTraceOrLost core outcome) (kept : Given) → slice_get g.nodes n ≡ Some core → WereSent g n (all_inputs run)
     → AllFreeze run → Thinned kept outcome.messages → (config : Config) (earlier : List (Moment State Command Output)) (came : Moments rules config (moment_of_nodes g ∷ earlier))
     → Further came (moment_of_nodes (group_after_outcome (with_record g (recorded_in g.archive run)) n (with_messages kept outcome) (all_given run))) (put_in_run run)
 runs_happen g n core outcome rests kept at sent frozen t config earlier came = (happens_without_messages g n core core kept at refl t config earlier came).further

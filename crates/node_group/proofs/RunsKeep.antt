@@ -20,10 +20,10 @@ use Rattle.node_moves.specs.node_core.Core.{CoreState, StepOutcome, rules}
 use Rattle.node_moves.specs.node_core.Effects.{without_messages}
 use Rattle.node_moves.specs.Ends.{IsOrderly}
 use Rattle.node_moves.specs.Keeping.{AreOfTheBallot}
-use Rattle.node_moves.specs.LossyMoves.{MoveOrLost}
+use Rattle.node_moves.specs.LossyMoves.{NodeMoveOrLost}
 use Rattle.node_moves.specs.LossyParts.{came_on, move_effects, hears_in, inputs_in}
-use Rattle.node_moves.specs.LossyRuns.{AllFreeze, CutsThaw, HearsAtFirst, HearsNothing, RunOrLost, all_inputs, bytes_on}
-use Rattle.node_moves.specs.LossyRuns.RunOrLost.{rests, goes_on}
+use Rattle.node_moves.specs.LossyRuns.{AllFreeze, CutsThaw, HearsAtFirst, HearsNothing, MoveTraceOrLost, all_inputs, bytes_on}
+use Rattle.node_moves.specs.LossyRuns.MoveTraceOrLost.{rests, goes_on}
 use Rattle.node_moves.specs.Moves.{and_then}
 use Rattle.node_moves.proofs.Kept.{left_true}
 use Rattle.node_moves.proofs.LossyReads.{losses_read_in_order}
@@ -97,7 +97,7 @@ said_first {config = config} h {more = more} f x put is each ys after =
     let now = put_further put f is in
     in_agreed config h [] (put ++ more) (record { earlier = f.before; past = f.past; proposed = now.proposed; taken = now.taken; seen = tt }) each x ys after
 
-move_steps : {config : Config} (g : Group) (n : ℕ) (core : CoreState) (outcome : StepOutcome) (m : MoveOrLost core outcome) (kept : Given) → slice_get g.nodes n ≡ Some core → WereSent g n (inputs_in m)
+move_steps : {config : Config} (g : Group) (n : ℕ) (core : CoreState) (outcome : StepOutcome) (m : NodeMoveOrLost core outcome) (kept : Given) → slice_get g.nodes n ≡ Some core → WereSent g n (inputs_in m)
     → CutsThaw m → Thinned kept outcome.messages → IsOrderly core → LeadsStill core outcome → {earlier : List (Moment State Command Output)} (came : Moments rules config (moment_of_nodes g ∷ earlier))
     → Steps g came (group_after_outcome (with_record g (recorded_by g.archive m)) n (with_messages kept outcome) (move_effects m)) (put_in_move m) (λ x. came_on x m) (λ x. handed_on x m)
 move_steps {config = config} g n core outcome m kept at sent_so frozen t o leads {earlier = earlier} came =
@@ -144,7 +144,7 @@ steps_as {config = config} {g = g} {h = h} {earlier = earlier} came put more up 
 -- ---- runs
 
 -- a calm move leaves the replica in its role
-calm_leads : (core : CoreState) (outcome : StepOutcome) (m : MoveOrLost core outcome) → hears_in m ≡ false → LeadsStill core outcome
+calm_leads : (core : CoreState) (outcome : StepOutcome) (m : NodeMoveOrLost core outcome) → hears_in m ≡ false → LeadsStill core outcome
 calm_leads core outcome m calm x c there lives e = ap is_active (sym (calm_role core outcome m calm)) ∙ e
 
 -- at the beginning of a step who has open connections leads
@@ -152,7 +152,7 @@ first_leads : (core : CoreState) (outcome : StepOutcome) → AreOfTheBallot core
 first_leads core outcome of x c there lives e = left_true (is_active (replica_of core).role) _ (of.each x c there (open_if (is_closed c.stage) lives)).0
 
 -- one move, and a run after it
-move_and_run : {config : Config} (g : Group) (n : ℕ) (core : CoreState) (first next : StepOutcome) (m : MoveOrLost core first) (run : RunOrLost first.core next) (kept : Given)
+move_and_run : {config : Config} (g : Group) (n : ℕ) (core : CoreState) (first next : StepOutcome) (m : NodeMoveOrLost core first) (run : MoveTraceOrLost first.core next) (kept : Given)
     (k : KeptOfBoth kept first.messages next.messages) {earlier : List (Moment State Command Output)} (came : Moments rules config (moment_of_nodes g ∷ earlier))
     → (step : Steps g came (group_after_outcome (with_record g (recorded_by g.archive m)) n (with_messages k.front first) (move_effects m)) (put_in_move m) (λ x. came_on x m) (λ x. handed_on x m))
     → Steps (group_after_outcome (with_record g (recorded_by g.archive m)) n (with_messages k.front first) (move_effects m)) step.further.past
@@ -173,7 +173,7 @@ no_move g n core kept at t came =
     subst (λ (h : Group). Steps g came h [] (λ x. []) (λ x. []))
     (same_group g n core at ∙ ap (λ (l : Given). group_after_outcome g n (with_messages l (without_messages core)) []) (sym (nothing_kept kept t))) (nothing_steps g came)
 
-calm_steps : {config : Config} (g : Group) (n : ℕ) (core : CoreState) (outcome : StepOutcome) (run : RunOrLost core outcome) (kept : Given) → HearsNothing run → IsOrderly core → slice_get g.nodes n ≡ Some core
+calm_steps : {config : Config} (g : Group) (n : ℕ) (core : CoreState) (outcome : StepOutcome) (run : MoveTraceOrLost core outcome) (kept : Given) → HearsNothing run → IsOrderly core → slice_get g.nodes n ≡ Some core
     → WereSent g n (all_inputs run) → AllFreeze run → Thinned kept outcome.messages → {earlier : List (Moment State Command Output)} (came : Moments rules config (moment_of_nodes g ∷ earlier))
     → Steps g came (group_after_outcome (with_record g (recorded_in g.archive run)) n (with_messages kept outcome) (all_given run)) (put_in_run run) (λ x. bytes_on x run) (λ x. handed_losing x run)
 calm_steps g n core outcome rests kept calm o at sent frozen t came = no_move g n core kept at t came
@@ -186,7 +186,7 @@ calm_steps g n core outcome (goes_on {first = first} {next = next} m run) kept c
     (calm_steps (group_after_outcome (with_record g (recorded_by g.archive m)) n one (move_effects m)) n first.core next run k.rest calm.1 (losses_read_in_order core first m o).0 (get_of_set g.nodes n core first.core at)
     (were_still g (recorded_by g.archive m) n one (move_effects m) (all_inputs run) s.1) frozen.1 k.next step.further.past)
 
-pub run_steps : {config : Config} (g : Group) (n : ℕ) (core : CoreState) (outcome : StepOutcome) (run : RunOrLost core outcome) (kept : Given) → HearsAtFirst run → IsOrderly core → AreOfTheBallot core
+pub run_steps : {config : Config} (g : Group) (n : ℕ) (core : CoreState) (outcome : StepOutcome) (run : MoveTraceOrLost core outcome) (kept : Given) → HearsAtFirst run → IsOrderly core → AreOfTheBallot core
     → slice_get g.nodes n ≡ Some core → WereSent g n (all_inputs run) → AllFreeze run → Thinned kept outcome.messages
     → {earlier : List (Moment State Command Output)} (came : Moments rules config (moment_of_nodes g ∷ earlier))
     → Steps g came (group_after_outcome (with_record g (recorded_in g.archive run)) n (with_messages kept outcome) (all_given run)) (put_in_run run) (λ x. bytes_on x run) (λ x. handed_losing x run)

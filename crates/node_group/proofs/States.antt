@@ -23,7 +23,7 @@ use Rattle.node_moves.specs.node_core.Core.{CoreState, StepOutcome}
 use Rattle.node_moves.specs.node_core.Step.{next_name}
 use Rattle.node_moves.specs.Closed.{listed_named}
 use Rattle.node_moves.specs.Ends.{IsEnd, IsGiven, IsOrderly, Precedes, packet_commands_from, open_named, stream_of}
-use Rattle.node_moves.specs.LossyMoves.{MoveOrLost}
+use Rattle.node_moves.specs.LossyMoves.{NodeMoveOrLost}
 use Rattle.node_moves.specs.Names.{IsNextName}
 use Rattle.node_moves.proofs.Kept.{left_true, live, named}
 use Rattle.node_moves.proofs.NamesInOrder.{next_precedes}
@@ -86,7 +86,7 @@ rows_of ballot [] = refl
 rows_of ballot (command ∷ commands) = ap (λ l. command ∷ l) (rows_of ballot commands)
 
 -- the packets after a move are those before and those of the move
-pub packets_more : (x : ConnectionName) (put : List (ℕ × Command)) {core : CoreState} {outcome : StepOutcome} (m : MoveOrLost core outcome)
+pub packets_more : (x : ConnectionName) (put : List (ℕ × Command)) {core : CoreState} {outcome : StepOutcome} (m : NodeMoveOrLost core outcome)
     → packet_commands x (commands_in (put ++ put_in_move m)) ≡ packet_commands x (commands_in put) ++ packet_commands x (commands_put m)
 packets_more x put {core = core} m =
     ap (packet_commands x) (rows_joined put (put_in_move m) ∙ ap (λ l. commands_in put ++ l) (rows_of (replica_of core).joined (commands_put m)))

@@ -6,11 +6,11 @@ use Rattle.node_moves.specs.ballot_base.Protocol.{Input}
 use Rattle.packet_world.specs.broker_spec.declared.command.Command.{Command}
 use Rattle.packet_world.specs.broker_spec.declared.command.Output.{Output}
 use Rattle.node_moves.specs.node_core.Core.{CoreState, StepOutcome}
-use Rattle.node_moves.specs.LossyMoves.{MoveOrLost}
+use Rattle.node_moves.specs.LossyMoves.{NodeMoveOrLost}
 use Rattle.node_moves.specs.LossyParts.{move_effects, move_proposal}
-use Rattle.node_moves.specs.LossyRuns.{RunOrLost}
-use Rattle.node_moves.specs.LossyMoves.MoveOrLost.{exactly}
-use Rattle.node_moves.specs.LossyRuns.RunOrLost.{rests, goes_on}
+use Rattle.node_moves.specs.LossyRuns.{MoveTraceOrLost}
+use Rattle.node_moves.specs.LossyMoves.NodeMoveOrLost.{exactly}
+use Rattle.node_moves.specs.LossyRuns.MoveTraceOrLost.{rests, goes_on}
 use Rattle.node_group.specs.Group.{Group, replica_of}
 use Rattle.node_group.specs.Putting.{InputWasSent}
 use Rattle.node_group.specs.Putting.{commands_put as exactly_put, recorded_by as exactly_recorded}
@@ -22,38 +22,38 @@ WereSent group node (input ∷ inputs) = InputWasSent group node input × WereSe
 
 -- the record of places after a move
 abbrev pub recorded_by : List Command → {core : CoreState} {outcome : StepOutcome} →
-    MoveOrLost core outcome →
+    NodeMoveOrLost core outcome →
     List Command
 recorded_by archive (exactly move) = exactly_recorded archive move
 recorded_by archive _ = archive
 
 -- the record after a run
 abbrev pub recorded_in : List Command → {core : CoreState} {outcome : StepOutcome} →
-    RunOrLost core outcome →
+    MoveTraceOrLost core outcome →
     List Command
 recorded_in archive rests = archive
 recorded_in archive (goes_on move run) = recorded_in (recorded_by archive move) run
 
 -- the effects of its replica
-abbrev pub all_given : {core : CoreState} {outcome : StepOutcome} → RunOrLost core outcome →
+abbrev pub all_given : {core : CoreState} {outcome : StepOutcome} → MoveTraceOrLost core outcome →
     List (Effect Command Output)
 all_given rests = []
 all_given (goes_on move run) = move_effects move ++ all_given run
 
 -- the commands that a node proposes to its replica in a move
-abbrev pub commands_put : {core : CoreState} {outcome : StepOutcome} → MoveOrLost core outcome →
+abbrev pub commands_put : {core : CoreState} {outcome : StepOutcome} → NodeMoveOrLost core outcome →
     List Command
 commands_put (exactly move) = exactly_put move
 commands_put move = move_proposal move
 
 -- what a node proposes in a move, each with the ballot that it has joined then
-abbrev pub put_in_move : {core : CoreState} {outcome : StepOutcome} → MoveOrLost core outcome →
+abbrev pub put_in_move : {core : CoreState} {outcome : StepOutcome} → NodeMoveOrLost core outcome →
     List (ℕ × Command)
 put_in_move {core = core} move =
     map (λ command. ((replica_of core).joined, command)) (commands_put move)
 
 -- what a node proposes in a run, in order
-abbrev pub put_in_run : {core : CoreState} {outcome : StepOutcome} → RunOrLost core outcome →
+abbrev pub put_in_run : {core : CoreState} {outcome : StepOutcome} → MoveTraceOrLost core outcome →
     List (ℕ × Command)
 put_in_run rests = []
 put_in_run (goes_on move run) = put_in_move move ++ put_in_run run

@@ -10,9 +10,9 @@ use Rattle.packet_world.specs.broker_spec.declared.command.Command.TheVariants a
 use Rattle.packet_world.specs.broker_spec.declared.command.Output.{Output}
 use Rattle.node_moves.specs.node_core.Core.{CoreState, StepOutcome, rules, serves}
 use Rattle.packet_world.specs.snapshots.World.{recorded}
-use Rattle.node_moves.specs.Moves.{Moves, Runs}
-use Rattle.node_moves.specs.Moves.Runs.{rests, goes_on}
-use Rattle.node_moves.specs.Moves.Moves.{hears, cuts_log, reads_first, reads_later, loses_one, loses_next, expels_one}
+use Rattle.node_moves.specs.Moves.{NodeMove, MoveTrace}
+use Rattle.node_moves.specs.Moves.MoveTrace.{rests, goes_on}
+use Rattle.node_moves.specs.Moves.NodeMove.{hears, cuts_log, reads_first, reads_later, loses_one, loses_next, expels_one}
 use Rattle.node_moves.specs.Puts.{move_effects}
 use Rattle.node_group.specs.Group.{Group, replica_of}
 
@@ -24,7 +24,8 @@ InputWasSent group node Ticks = Unit {0}
 
 -- what a node receives in a move was sent, and the bytes to which it cuts its log thaw to its
 -- machine
-abbrev pub WasSent : Group → ℕ → {core : CoreState} {outcome : StepOutcome} → Moves core outcome →
+abbrev pub WasSent : Group → ℕ → {core : CoreState} {outcome : StepOutcome} →
+    NodeMove core outcome →
     Type 0
 WasSent group node (hears input is) = InputWasSent group node input
 WasSent group node {core = core} (cuts_log can) =
@@ -32,33 +33,34 @@ WasSent group node {core = core} (cuts_log can) =
 WasSent group node _ = Unit {0}
 
 -- what a node receives in each move of a run was sent
-abbrev pub AllWasSent : Group → ℕ → {core : CoreState} {outcome : StepOutcome} → Runs core outcome →
+abbrev pub AllWasSent : Group → ℕ → {core : CoreState} {outcome : StepOutcome} →
+    MoveTrace core outcome →
     Type 0
 AllWasSent group node rests = Unit {0}
 AllWasSent group node (goes_on move run) = WasSent group node move × AllWasSent group node run
 
 -- the record of places after a move: a cut adds what the log that is cut has applied
 abbrev pub recorded_by : List Command → {core : CoreState} {outcome : StepOutcome} →
-    Moves core outcome →
+    NodeMove core outcome →
     List Command
 recorded_by archive {core = core} (cuts_log can) = recorded archive (replica_of core)
 recorded_by archive _ = archive
 
 -- the record after a run
 abbrev pub recorded_in : List Command → {core : CoreState} {outcome : StepOutcome} →
-    Runs core outcome →
+    MoveTrace core outcome →
     List Command
 recorded_in archive rests = archive
 recorded_in archive (goes_on move run) = recorded_in (recorded_by archive move) run
 
 -- the effects of its replica
-abbrev pub all_given : {core : CoreState} {outcome : StepOutcome} → Runs core outcome →
+abbrev pub all_given : {core : CoreState} {outcome : StepOutcome} → MoveTrace core outcome →
     List (Effect Command Output)
 all_given rests = []
 all_given (goes_on move run) = move_effects move ++ all_given run
 
 -- the commands that a node proposes to its replica in a move
-abbrev pub commands_put : {core : CoreState} {outcome : StepOutcome} → Moves core outcome →
+abbrev pub commands_put : {core : CoreState} {outcome : StepOutcome} → NodeMove core outcome →
     List Command
 commands_put (reads_first now port connection connect rest at first is room) =
     commands.Connect connection.name connect.client connect.clean ∷ []
@@ -73,13 +75,13 @@ commands_put {core = core} (expels_one client) =
 commands_put _ = []
 
 -- what a node proposes in a move, each with the ballot that it has joined then
-abbrev pub put_in_move : {core : CoreState} {outcome : StepOutcome} → Moves core outcome →
+abbrev pub put_in_move : {core : CoreState} {outcome : StepOutcome} → NodeMove core outcome →
     List (ℕ × Command)
 put_in_move {core = core} move =
     map (λ command. ((replica_of core).joined, command)) (commands_put move)
 
 -- what a node proposes in a run, in order
-abbrev pub put_in_run : {core : CoreState} {outcome : StepOutcome} → Runs core outcome →
+abbrev pub put_in_run : {core : CoreState} {outcome : StepOutcome} → MoveTrace core outcome →
     List (ℕ × Command)
 put_in_run rests = []
 put_in_run (goes_on move run) = put_in_move move ++ put_in_run run

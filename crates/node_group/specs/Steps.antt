@@ -15,7 +15,7 @@ use Rattle.node_moves.specs.node_core.declared.item.Item.{Item}
 use Rattle.node_moves.specs.node_core.LossyStep.{RunsOn}
 use Rattle.node_moves.specs.Hearing.{HearsAtFirst}
 use Rattle.node_moves.specs.ItemRuns.{IsRunOn, heard_with}
-use Rattle.node_moves.specs.Moves.{NodeCall, Runs, done}
+use Rattle.node_moves.specs.Moves.{NodeCall, MoveTrace, done}
 use Rattle.node_group.specs.Group.{Group, group_after_outcome, opening_group, told_by_master, with_master, with_record}
 use Rattle.node_group.specs.Losing.{WereSent}
 use Rattle.node_group.specs.Losing.{all_given as given_losing, put_in_run as put_losing, recorded_in as recorded_losing}
@@ -36,7 +36,7 @@ pub data GroupStep (group : Group) : Group → Type 0 where
   -- a node takes an item, or hands over bytes, by these moves; what its replica receives, or a cut,
   -- comes first
   node_acts : (node : ℕ) (core : CoreState) (node_call : NodeCall) (outcome : StepOutcome)
-      (run : Runs core outcome) → slice_get group.nodes node ≡ Some core →
+      (run : MoveTrace core outcome) → slice_get group.nodes node ≡ Some core →
       outcome ≡ done node_call core → HearsAtFirst run → AllWasSent group node run →
       GroupStep group
       (group_after_outcome (with_record group (recorded_in group.archive run)) node outcome

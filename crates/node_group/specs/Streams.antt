@@ -8,9 +8,9 @@ use Rattle.node_moves.specs.node_core.Core.{CoreState, StepOutcome}
 use Rattle.node_moves.specs.node_core.Handing.{listed_at}
 use Rattle.node_moves.specs.RunProposals.{bytes_on}
 use Rattle.node_moves.specs.ItemRuns.{came_with}
-use Rattle.node_moves.specs.Moves.{Moves, Runs}
-use Rattle.node_moves.specs.Moves.Moves.{hands}
-use Rattle.node_moves.specs.Moves.Runs.{rests, goes_on}
+use Rattle.node_moves.specs.Moves.{NodeMove, MoveTrace}
+use Rattle.node_moves.specs.Moves.NodeMove.{hands}
+use Rattle.node_moves.specs.Moves.MoveTrace.{rests, goes_on}
 use Rattle.node_group.specs.Group.{Group}
 use Rattle.node_group.specs.Steps.{GroupStep, GroupTrace}
 use Rattle.node_group.specs.Steps.GroupStep.{node_acts, node_loses, master_assigns, master_hears, assigns_unheard, answers_unheard}
@@ -45,13 +45,13 @@ bytes_named named (Some connection) =
 
 -- what is handed over on a connection in a move
 abbrev pub handed_on : ConnectionName → {core : CoreState} {outcome : StepOutcome} →
-    Moves core outcome → List ℕ
+    NodeMove core outcome → List ℕ
 handed_on connection {core = core} (hands port) = bytes_named connection (listed_at port core)
 handed_on connection _ = []
 
 -- what is handed over on a connection in a run, in order
 abbrev pub handed_in_run : ConnectionName → {core : CoreState} {outcome : StepOutcome} →
-    Runs core outcome →
+    MoveTrace core outcome →
     List ℕ
 handed_in_run connection rests = []
 handed_in_run connection (goes_on move run) =

@@ -12,15 +12,15 @@ use Rattle.node_core.specs.Core.{CoreState, StepOutcome}
 use Rattle.node_core.specs.Reading.{changes}
 use Rattle.node_core.specs.Step.{node_step}
 use Rattle.node_core.specs.declared.item.Item.TheVariants.{Cut}
-use Rattle.node_moves.specs.LossyMoves.{MoveOrLost}
+use Rattle.node_moves.specs.LossyMoves.{NodeMoveOrLost}
 use Rattle.node_moves.specs.LossyParts.{hears_in}
-use Rattle.node_moves.specs.LossyMoves.MoveOrLost.{exactly, hears_losing, first_losing, later_losing, tells_losing, expels_losing, forgets, halts, fails, unheard, drops}
-use Rattle.node_moves.specs.LossyRuns.{HearsNothing, RunOrLost}
-use Rattle.node_moves.specs.LossyRuns.RunOrLost.{rests, goes_on}
-use Rattle.node_moves.specs.Moves.{Moves, Runs}
+use Rattle.node_moves.specs.LossyMoves.NodeMoveOrLost.{exactly, hears_losing, first_losing, later_losing, tells_losing, expels_losing, forgets, halts, fails, unheard, drops}
+use Rattle.node_moves.specs.LossyRuns.{HearsNothing, MoveTraceOrLost}
+use Rattle.node_moves.specs.LossyRuns.MoveTraceOrLost.{rests, goes_on}
+use Rattle.node_moves.specs.Moves.{NodeMove, MoveTrace}
 use Rattle.node_moves.specs.Moves.NodeCall.{takes}
-use Rattle.node_moves.specs.Moves.Moves.{hears, opens_one, holds, reads_first, reads_later, closes, refuses, loses_one, loses_next, expels_one, cuts_log, crashes, settles, hands}
-use Rattle.node_moves.specs.Moves.Runs.{rests as rests_exactly, goes_on as goes_exactly}
+use Rattle.node_moves.specs.Moves.NodeMove.{hears, opens_one, holds, reads_first, reads_later, closes, refuses, loses_one, loses_next, expels_one, cuts_log, crashes, settles, hands}
+use Rattle.node_moves.specs.Moves.MoveTrace.{rests as rests_exactly, goes_on as goes_exactly}
 use Rattle.node_moves.proofs.LossyNames.{taken_after, taken_same}
 use Rattle.node_moves.proofs.MovesOfReplica.{move_same}
 use Rattle.node_moves.proofs.PartsOfMoves.{BeginsWith, IsBare, Part, part_in}
@@ -30,7 +30,7 @@ use Rattle.node_moves.proofs.StepsMove.{First, node_calls_begin}
 base_of : (core later : CoreState) → later.replica ≡ core.replica → later.replica.state.log.base ≡ core.replica.state.log.base
 base_of core later e = ap (λ (r : CountedReplica State Command). r.state.log.base) e
 
-pub calm_base : (core : CoreState) (outcome : StepOutcome) (m : MoveOrLost core outcome) → hears_in m ≡ false → outcome.core.replica.state.log.base ≡ core.replica.state.log.base
+pub calm_base : (core : CoreState) (outcome : StepOutcome) (m : NodeMoveOrLost core outcome) → hears_in m ≡ false → outcome.core.replica.state.log.base ≡ core.replica.state.log.base
 calm_base core outcome (exactly m) calm = (move_same core outcome m calm).base
 calm_base core outcome (hears_losing input did other drives) calm = absurd cc
 calm_base core outcome (first_losing now port c connect rest did at first is taken) calm =
@@ -47,17 +47,17 @@ calm_base core outcome unheard calm = refl
 calm_base core outcome (drops port piece) calm = base_of core outcome.core (at_replica port closed_connection core)
 
 -- so it is in a run of such moves
-pub calm_run_base : {core : CoreState} {outcome : StepOutcome} (run : RunOrLost core outcome) → HearsNothing run → outcome.core.replica.state.log.base ≡ core.replica.state.log.base
+pub calm_run_base : {core : CoreState} {outcome : StepOutcome} (run : MoveTraceOrLost core outcome) → HearsNothing run → outcome.core.replica.state.log.base ≡ core.replica.state.log.base
 calm_run_base rests calm = refl
 calm_run_base {core = core} (goes_on {first = first} m run) calm = calm_run_base run calm.1 ∙ calm_base core first m calm.0
 
 -- ---- a cut
 
-bare_base : {core : CoreState} {outcome : StepOutcome} (run : Runs core outcome) → IsBare run → outcome.core.replica.state.log.base ≡ core.replica.state.log.base
+bare_base : {core : CoreState} {outcome : StepOutcome} (run : MoveTrace core outcome) → IsBare run → outcome.core.replica.state.log.base ≡ core.replica.state.log.base
 bare_base rests_exactly bare = refl
 bare_base {core = core} (goes_exactly {first = first} m run) bare = bare_base run bare.1 ∙ (move_same core first m bare.0.0).base
 
-cut_moves : {core : CoreState} {outcome : StepOutcome} (m : Moves core outcome) → part_in m ≡ Part.cut → outcome.core.replica.state.log.base ≡ core.replica.state.committed
+cut_moves : {core : CoreState} {outcome : StepOutcome} (m : NodeMove core outcome) → part_in m ≡ Part.cut → outcome.core.replica.state.log.base ≡ core.replica.state.committed
 cut_moves (cuts_log can) part = refl
 cut_moves (hears (Receives message) is) part = absurd cc
 cut_moves (hears (Proposes command) is) part = absurd cc
@@ -75,7 +75,7 @@ cut_moves crashes part = absurd cc
 cut_moves settles part = absurd cc
 cut_moves (hands port) part = absurd cc
 
-begins_cut : {core : CoreState} {outcome : StepOutcome} (run : Runs core outcome) → BeginsWith Part.cut run → outcome.core.replica.state.log.base ≡ core.replica.state.committed
+begins_cut : {core : CoreState} {outcome : StepOutcome} (run : MoveTrace core outcome) → BeginsWith Part.cut run → outcome.core.replica.state.log.base ≡ core.replica.state.committed
 begins_cut rests_exactly begins = absurd cc
 begins_cut (goes_exactly m run) begins = bare_base run begins.1 ∙ cut_moves m begins.0
 

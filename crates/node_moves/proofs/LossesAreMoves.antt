@@ -20,9 +20,9 @@ use Rattle.node_core.specs.Step.{crashed, with_next_connection, settled, with_cu
 use Rattle.node_moves.specs.Ends.{piece_on}
 use Rattle.node_moves.specs.LossyMoves.{with_loss, outcome_in}
 use Rattle.node_moves.specs.ItemRuns.{IsRunOn, LossesAreMoves, came_with, heard_with, is_cut}
-use Rattle.node_moves.specs.LossyMoves.MoveOrLost.{exactly, hears_losing, forgets, drops}
+use Rattle.node_moves.specs.LossyMoves.NodeMoveOrLost.{exactly, hears_losing, forgets, drops}
 use Rattle.node_moves.specs.Moves.{and_then}
-use Rattle.node_moves.specs.Moves.Moves.{holds, opens_one, cuts_log, crashes, settles}
+use Rattle.node_moves.specs.Moves.NodeMove.{holds, opens_one, cuts_log, crashes, settles}
 use Rattle.node_moves.proofs.LossyRuns.{Calm, First, Given, Still, all_failed, calm_join, calm_move, first_calm, first_move, still_ends, still_expelled, still_lost, still_reads, still_repeated, still_silent}
 
 -- what was done is such a run, whatever calm one comes after it

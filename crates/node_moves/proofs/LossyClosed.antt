@@ -13,9 +13,9 @@ use Rattle.node_moves.specs.Ends.{IsOrderly}
 use Rattle.node_moves.specs.LossyLaws.{IsClosedBy, LossesPutNothingOnClosed}
 use Rattle.node_moves.specs.LossyNames.{LossyNamesAreOfTheBallot}
 use Rattle.node_moves.specs.LossyLaws.IsClosedBy.{was_closed, closes_now}
-use Rattle.node_moves.specs.LossyMoves.{MoveOrLost}
-use Rattle.node_moves.specs.LossyMoves.MoveOrLost.{exactly, hears_losing, first_losing, later_losing, tells_losing, expels_losing, forgets, halts, fails, unheard, drops}
-use Rattle.node_moves.specs.Moves.{Moves}
+use Rattle.node_moves.specs.LossyMoves.{NodeMoveOrLost}
+use Rattle.node_moves.specs.LossyMoves.NodeMoveOrLost.{exactly, hears_losing, first_losing, later_losing, tells_losing, expels_losing, forgets, halts, fails, unheard, drops}
+use Rattle.node_moves.specs.Moves.{NodeMove}
 use Rattle.node_moves.proofs.Kept.{live}
 use Rattle.node_moves.proofs.LossyShuts.{Loses, lossy_shuts, sent_in}
 use Rattle.node_moves.proofs.NewNames.{new_names_are_of_the_ballot, stays_away}
@@ -26,7 +26,7 @@ use Rattle.node_moves.proofs.Views.{same_some}
 
 -- ---- nothing more is queued
 
-closed_by : (x : ConnectionName) (core : CoreState) (outcome : StepOutcome) (m : MoveOrLost core outcome) (d : Connection) (o p : Option Connection) → Shuts (sent_in x m) o p
+closed_by : (x : ConnectionName) (core : CoreState) (outcome : StepOutcome) (m : NodeMoveOrLost core outcome) (d : Connection) (o p : Option Connection) → Shuts (sent_in x m) o p
     → listed_named x core ≡ o → p ≡ Some d → is_closed d.stage ≡ true → IsClosedBy x m d
 closed_by x core outcome m d o None nobody before after over = cc
 closed_by x core outcome m d None (Some e) shuts before after over = elim shuts [ ]
@@ -37,12 +37,12 @@ closed_by x core outcome m d (Some c) (Some e) (is_shut front a b pending short)
 closed_by x core outcome m d (Some c) (Some e) (was_shut a b pending) before after over =
     was_closed c before (over_if (is_closed c.stage) a) (sym (ap (λ (z : Connection). z.pending) (same_some e d after)) ∙ pending)
 
-exactly_so : (x : ConnectionName) (core : CoreState) (outcome : StepOutcome) (m : Moves core outcome) (d : Connection) → IsExactlyClosedBy x m d →
-    IsClosedBy x (let k : MoveOrLost core outcome = exactly m in k) d
+exactly_so : (x : ConnectionName) (core : CoreState) (outcome : StepOutcome) (m : NodeMove core outcome) (d : Connection) → IsExactlyClosedBy x m d →
+    IsClosedBy x (let k : NodeMoveOrLost core outcome = exactly m in k) d
 exactly_so x core outcome m d (exact_was c there over pending) = was_closed c there over pending
 exactly_so x core outcome m d (exact_now c front there pending short) = closes_now c front there pending short
 
-lost_closed : (core : CoreState) (outcome : StepOutcome) (m : MoveOrLost core outcome) → IsOrderly core → Loses m → (x : ConnectionName) (d : Connection) →
+lost_closed : (core : CoreState) (outcome : StepOutcome) (m : NodeMoveOrLost core outcome) → IsOrderly core → Loses m → (x : ConnectionName) (d : Connection) →
     listed_named x outcome.core ≡ Some d → is_closed d.stage ≡ true → IsClosedBy x m d
 lost_closed core outcome m o may x d there over =
     closed_by x core outcome m d (listed_named x core) (listed_named x outcome.core) (lossy_shuts core outcome m o x may) refl there over
@@ -65,7 +65,7 @@ losses_put_nothing_on_closed core outcome (drops port piece) o x d there over = 
 
 -- ---- new names
 
-none_comes : (core : CoreState) (outcome : StepOutcome) (m : MoveOrLost core outcome) → IsOrderly core → Loses m → (x : ConnectionName) (d : Connection) →
+none_comes : (core : CoreState) (outcome : StepOutcome) (m : NodeMoveOrLost core outcome) → IsOrderly core → Loses m → (x : ConnectionName) (d : Connection) →
     listed_named x core ≡ None → listed_named x outcome.core ≡ Some d → ⊥
 none_comes core outcome m o may x d none there =
     stays_away (sent_in x m) (listed_named x core) (listed_named x outcome.core) d (lossy_shuts core outcome m o x may) none there

@@ -25,11 +25,11 @@ use Rattle.node_moves.specs.Closed.{listed_named}
 use Rattle.node_moves.specs.Ends.{IsOrderly}
 use Rattle.node_moves.specs.Keeping.{AreOfTheBallot, moves_replica}
 use Rattle.node_moves.specs.LossyNames.{AreWhereItServes, LossyNamesKeepTheirBallot}
-use Rattle.node_moves.specs.LossyMoves.{MoveOrLost, halting}
+use Rattle.node_moves.specs.LossyMoves.{NodeMoveOrLost, halting}
 use Rattle.node_moves.specs.LossyParts.{hears_in, move_proposal}
-use Rattle.node_moves.specs.LossyMoves.MoveOrLost.{exactly, hears_losing, first_losing, later_losing, tells_losing, expels_losing, forgets, halts, fails, unheard, drops}
-use Rattle.node_moves.specs.Moves.{Moves, is_proposal}
-use Rattle.node_moves.specs.Moves.Moves.{hears, opens_one, holds, reads_first, reads_later, closes, refuses, loses_one, loses_next, expels_one, cuts_log, crashes, settles, hands}
+use Rattle.node_moves.specs.LossyMoves.NodeMoveOrLost.{exactly, hears_losing, first_losing, later_losing, tells_losing, expels_losing, forgets, halts, fails, unheard, drops}
+use Rattle.node_moves.specs.Moves.{NodeMove, is_proposal}
+use Rattle.node_moves.specs.Moves.NodeMove.{hears, opens_one, holds, reads_first, reads_later, closes, refuses, loses_one, loses_next, expels_one, cuts_log, crashes, settles, hands}
 use Rattle.node_moves.proofs.Kept.{left_true}
 use Rattle.node_moves.proofs.LossyOutputs.{delivers_replica}
 use Rattle.node_moves.proofs.LossyShuts.{Loses, driven, lossy_shuts, sent_in}
@@ -75,12 +75,12 @@ taken_after command core between did same t =
 
 -- ---- a move in which it receives nothing
 
-by_same : (core : CoreState) (turn : StepOutcome) (m : MoveOrLost core turn) → IsOrderly core → Loses m → Same core.replica.state turn.core.replica.state
+by_same : (core : CoreState) (turn : StepOutcome) (m : NodeMoveOrLost core turn) → IsOrderly core → Loses m → Same core.replica.state turn.core.replica.state
     → AreWhereItServes core → AreWhereItServes turn.core
 by_same core turn m o may same of serving =
     record { each = λ x d e lives. by_shuts x core turn.core (sent_in x m) d (of (sym (serves_same core turn.core same) ∙ serving)) same (lossy_shuts core turn m o x may) e lives }
 
-exact_calm : (core : CoreState) (turn : StepOutcome) (m : Moves core turn) → IsOrderly core → moves_replica m ≡ false → AreWhereItServes core → AreWhereItServes turn.core
+exact_calm : (core : CoreState) (turn : StepOutcome) (m : NodeMove core turn) → IsOrderly core → moves_replica m ≡ false → AreWhereItServes core → AreWhereItServes turn.core
 exact_calm core turn m o calm of serving =
     names_keep_their_ballot.moves core turn m o calm (of (sym (serves_same core turn.core (move_same core turn m calm)) ∙ serving))
 
@@ -88,7 +88,7 @@ exact_calm core turn m o calm of serving =
 stopped_not : (core : CoreState) → AreWhereItServes (halting core)
 stopped_not core serving = absurd (both_ways (serves (halting core)) (and_false (is_active core.replica.state.role)) serving)
 
-calm_keeps : (core : CoreState) (turn : StepOutcome) (m : MoveOrLost core turn) → IsOrderly core → hears_in m ≡ false → AreWhereItServes core → AreWhereItServes turn.core
+calm_keeps : (core : CoreState) (turn : StepOutcome) (m : NodeMoveOrLost core turn) → IsOrderly core → hears_in m ≡ false → AreWhereItServes core → AreWhereItServes turn.core
 calm_keeps core turn (exactly m) o calm of = exact_calm core turn m o calm of
 calm_keeps core turn (hears_losing input did other drives) o calm of = absurd cc
 calm_keeps core turn (first_losing now port c connect rest did at first is taken) o calm of =
@@ -150,7 +150,7 @@ lossy_heard input core did other m o of =
 where_it_serves : (core : CoreState) → AreOfTheBallot core → AreWhereItServes core
 where_it_serves core of serving = of
 
-exact_keeps : (core : CoreState) (turn : StepOutcome) (m : Moves core turn) → IsOrderly core → AreOfTheBallot core → AreWhereItServes turn.core
+exact_keeps : (core : CoreState) (turn : StepOutcome) (m : NodeMove core turn) → IsOrderly core → AreOfTheBallot core → AreWhereItServes turn.core
 exact_keeps core turn (hears input other) o of = exact_heard core input o of
 exact_keeps core turn (cuts_log can) o of = λ serving. record { each = of.each }
 exact_keeps core turn crashes o of = λ serving. absurd (both_ways (serves (crashed core)) (and_false (is_active core.replica.state.role)) serving)
@@ -168,7 +168,7 @@ exact_keeps core turn (expels_one client) o of = exact_calm core turn (expels_on
 exact_keeps core turn settles o of = exact_calm core turn settles o refl (where_it_serves core of)
 exact_keeps core turn (hands port) o of = exact_calm core turn (hands port) o refl (where_it_serves core of)
 
-first_keeps : (core : CoreState) (turn : StepOutcome) (m : MoveOrLost core turn) → IsOrderly core → AreOfTheBallot core → AreWhereItServes turn.core
+first_keeps : (core : CoreState) (turn : StepOutcome) (m : NodeMoveOrLost core turn) → IsOrderly core → AreOfTheBallot core → AreWhereItServes turn.core
 first_keeps core turn (exactly m) o of = exact_keeps core turn m o of
 first_keeps core turn (hears_losing input did other drives) o of = lossy_heard input core did other drives o of
 first_keeps core turn (first_losing now port c connect rest did at first is taken) o of =
@@ -185,7 +185,7 @@ first_keeps core turn (drops port piece) o of = calm_keeps core turn (drops port
 
 -- ---- what is proposed
 
-proposes_of : (core : CoreState) (turn : StepOutcome) (m : MoveOrLost core turn) → IsOrderly core → AreOfTheBallot core → (x : ConnectionName) (command : Command)
+proposes_of : (core : CoreState) (turn : StepOutcome) (m : NodeMoveOrLost core turn) → IsOrderly core → AreOfTheBallot core → (x : ConnectionName) (command : Command)
     → In command (move_proposal m) → is_packet_of command x ≡ true → x.ballot ≡ core.replica.state.joined
 proposes_of core turn (exactly m) o of x command i named' = names_keep_their_ballot.proposes core turn m o of x command i named'
 proposes_of core turn (first_losing now port c connect rest did at first is taken) o of x command i named' =

@@ -17,11 +17,11 @@ use Rattle.node_core.specs.Reading.{changes}
 use Rattle.node_moves.specs.Ends.{IsEnd, IsOrderly, packet_commands_from}
 use Rattle.node_moves.specs.Ends.IsEnd.{not_yet}
 use Rattle.node_moves.specs.LossyLaws.{LossesAreTaken, LossesProposeInOrder, ReadsOn}
-use Rattle.node_moves.specs.LossyMoves.{MoveOrLost}
+use Rattle.node_moves.specs.LossyMoves.{NodeMoveOrLost}
 use Rattle.node_moves.specs.LossyParts.{came_on, move_proposal}
-use Rattle.node_moves.specs.LossyRuns.{RunOrLost, bytes_on, run_proposals}
-use Rattle.node_moves.specs.LossyMoves.MoveOrLost.{exactly, hears_losing, first_losing, later_losing, tells_losing, expels_losing, forgets, halts, fails, unheard, drops}
-use Rattle.node_moves.specs.LossyRuns.RunOrLost.{rests, goes_on}
+use Rattle.node_moves.specs.LossyRuns.{MoveTraceOrLost, bytes_on, run_proposals}
+use Rattle.node_moves.specs.LossyMoves.NodeMoveOrLost.{exactly, hears_losing, first_losing, later_losing, tells_losing, expels_losing, forgets, halts, fails, unheard, drops}
+use Rattle.node_moves.specs.LossyRuns.MoveTraceOrLost.{rests, goes_on}
 use Rattle.node_moves.proofs.LossyOutputs.{delivers_replica}
 use Rattle.node_moves.proofs.LossyReads.{losses_read_in_order}
 use Rattle.node_moves.proofs.ProposesInOrder.{commands_join, front_of, opening_orderly, still_to_come}
@@ -31,12 +31,12 @@ use Rattle.node_moves.proofs.Taken.{reads_are_taken}
 
 -- ---- all that is read
 
-record ReadsThrough (x : ConnectionName) {core : CoreState} {outcome : StepOutcome} (run : RunOrLost core outcome) (written read : List Packet) (later : List ℕ) : Type 0 where
+record ReadsThrough (x : ConnectionName) {core : CoreState} {outcome : StepOutcome} (run : MoveTraceOrLost core outcome) (written read : List Packet) (later : List ℕ) : Type 0 where
   more : List Packet
   end : IsEnd x outcome.core written (read ++ more) later
   proposed : filter (λ command. is_packet_of command x) (run_proposals run) ≡ packet_commands_from x (length read) more
 
-one_then : (x : ConnectionName) {core : CoreState} {first next : StepOutcome} (m : MoveOrLost core first) (run : RunOrLost first.core next) (written read : List Packet) (between later : List ℕ)
+one_then : (x : ConnectionName) {core : CoreState} {first next : StepOutcome} (m : NodeMoveOrLost core first) (run : MoveTraceOrLost first.core next) (written read : List Packet) (between later : List ℕ)
     → (one : ReadsOn x m written read between) → ReadsThrough x run written (read ++ one.more) later → ReadsThrough x (goes_on m run) written read later
 one_then x {next = next} m run written read between later one two =
     record {
@@ -49,7 +49,7 @@ one_then x {next = next} m run written read between later one two =
           ∙ sym (commands_join x (length read) one.more two.more);
     }
 
-runs_read : (x : ConnectionName) {core : CoreState} {outcome : StepOutcome} (run : RunOrLost core outcome) (written read : List Packet) (in_transit later : List ℕ) → IsOrderly core
+runs_read : (x : ConnectionName) {core : CoreState} {outcome : StepOutcome} (run : MoveTraceOrLost core outcome) (written read : List Packet) (in_transit later : List ℕ) → IsOrderly core
     → IsEnd x core written read in_transit → in_transit ≡ bytes_on x run ++ later → ReadsThrough x run written read later
 runs_read x {core = core} rests written read in_transit later o end same =
     record { more = []; end = subst (λ (ps : List Packet). IsEnd x core written ps later) (sym (append-nil read)) (subst (IsEnd x core written read) same end); proposed = refl }

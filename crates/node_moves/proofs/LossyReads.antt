@@ -25,10 +25,10 @@ use Rattle.node_core.specs.Effects.{outcome_of_input}
 use Rattle.node_moves.specs.Ends.{IsEnd, IsGiven, IsOrderly, packet_commands_from, is_nothing, open_named, piece_on}
 use Rattle.node_moves.specs.Ends.IsEnd.{is_over}
 use Rattle.node_moves.specs.LossyLaws.{LossesReadInOrder, ReadsOn}
-use Rattle.node_moves.specs.Moves.{Moves}
-use Rattle.node_moves.specs.LossyMoves.{MoveOrLost}
+use Rattle.node_moves.specs.Moves.{NodeMove}
+use Rattle.node_moves.specs.LossyMoves.{NodeMoveOrLost}
 use Rattle.node_moves.specs.LossyParts.{came_on, move_proposal}
-use Rattle.node_moves.specs.LossyMoves.MoveOrLost.{exactly, hears_losing, first_losing, later_losing, tells_losing, expels_losing, forgets, halts, fails, unheard, drops}
+use Rattle.node_moves.specs.LossyMoves.NodeMoveOrLost.{exactly, hears_losing, first_losing, later_losing, tells_losing, expels_losing, forgets, halts, fails, unheard, drops}
 use Rattle.node_moves.proofs.Kept.{Stays, changed_orderly, closed_is_mild, heard_up, kept_same, left_true, live, named, named_kept, stays_at, stays_failed, stays_joined}
 use Rattle.node_moves.proofs.LossyOutputs.{failing_is_mild, stays_delivers}
 use Rattle.node_moves.proofs.NamesInOrder.{same_le}
@@ -68,17 +68,17 @@ stays_takes command core did t o =
 
 -- ---- moves that read nothing
 
-none_more : (x : ConnectionName) {core : CoreState} {outcome : StepOutcome} (m : MoveOrLost core outcome) (written read : List Packet) (later : List ℕ)
+none_more : (x : ConnectionName) {core : CoreState} {outcome : StepOutcome} (m : NodeMoveOrLost core outcome) (written read : List Packet) (later : List ℕ)
     → IsEnd x outcome.core written read later → filter (λ command. is_packet_of command x) (move_proposal m) ≡ [] → ReadsOn x m written read later
 none_more x {outcome = outcome} m written read later end none =
     record { more = []; end = subst (λ (ps : List Packet). IsEnd x outcome.core written ps later) (sym (append-nil read)) end; proposed = none }
 
-abbrev ReadsAll : {core : CoreState} {outcome : StepOutcome} → MoveOrLost core outcome → Type 0
+abbrev ReadsAll : {core : CoreState} {outcome : StepOutcome} → NodeMoveOrLost core outcome → Type 0
 ReadsAll {core = core} {outcome = outcome} m = IsOrderly outcome.core
     × ((x : ConnectionName) (written read : List Packet) (in_transit later : List ℕ) → IsEnd x core written read in_transit → in_transit ≡ came_on x m ++ later
     → ReadsOn x m written read later)
 
-stays_reads : {core : CoreState} {outcome : StepOutcome} (m : MoveOrLost core outcome) → Stays core outcome.core → ((x : ConnectionName) → came_on x m ≡ [])
+stays_reads : {core : CoreState} {outcome : StepOutcome} (m : NodeMoveOrLost core outcome) → Stays core outcome.core → ((x : ConnectionName) → came_on x m ≡ [])
     → ((x : ConnectionName) → filter (λ command. is_packet_of command x) (move_proposal m) ≡ []) → ReadsAll m
 stays_reads {core = core} {outcome = outcome} m s no_bytes none = (
   s.orderly,
@@ -93,12 +93,12 @@ stays_reads {core = core} {outcome = outcome} m s no_bytes none = (
 abbrev first_move : (now : ℕ) (core : CoreState) (port : Port) (c : Connection) (connect : Connect) (rest : List ℕ) (did : Account) → open_at port core ≡ Some c → is_first c.stage ≡ true
     → verdict c.unread ≡ Ok (packets.Connect connect, rest)
     → TakesCommand (commands.Connect c.name connect.client connect.clean) (changes port (noted_proposed connect.keep_alive) (changes port (left_with now rest) core)) did
-    → MoveOrLost core (record { core = did.core; messages = did.messages })
+    → NodeMoveOrLost core (record { core = did.core; messages = did.messages })
 first_move now core port c connect rest did at first reads taken = first_losing now port c connect rest did at first reads taken
 
 abbrev later_move : (now : ℕ) (core : CoreState) (port : Port) (c : Connection) (packet : Packet) (rest : List ℕ) (did : Account) → open_at port core ≡ Some c → is_first c.stage ≡ false
     → verdict c.unread ≡ Ok (packet, rest) → TakesCommand (commands.Packet c.name packet) (changes port (left_with now rest) core) did
-    → MoveOrLost core (record { core = did.core; messages = did.messages })
+    → NodeMoveOrLost core (record { core = did.core; messages = did.messages })
 later_move now core port c packet rest did at later reads taken = later_losing now port c packet rest did at later reads taken
 
 first_reads : (now : ℕ) (core : CoreState) (port : Port) (c : Connection) (connect : Connect) (rest : List ℕ) (did : Account) (at : open_at port core ≡ Some c) (first : is_first c.stage ≡ true)
@@ -192,7 +192,7 @@ dropped_end x core port piece written read later o s (Some c) at end = by (named
         closed_end x core (changes port closed_connection core) port written read (piece ++ later) later c o at e (gone_closed x core port c o at e) s.last (with_test true e)
     by false e = end_kept x core (changes port closed_connection core) written read later (with_test false e) (s.kept x) s.last
 
-abbrev drop_move : (core : CoreState) (port : Port) (piece : List ℕ) → MoveOrLost core (record { core = changes port closed_connection core; messages = [] })
+abbrev drop_move : (core : CoreState) (port : Port) (piece : List ℕ) → NodeMoveOrLost core (record { core = changes port closed_connection core; messages = [] })
 drop_move core port piece = drops port piece
 
 drop_reads : (core : CoreState) (port : Port) (piece : List ℕ) → IsOrderly core → ReadsAll (drop_move core port piece)
@@ -206,7 +206,7 @@ drop_reads core port piece o =
 
 -- ---- each move
 
-exact_reads : {core : CoreState} {outcome : StepOutcome} (m : Moves core outcome) → IsOrderly core → ReadsAll (let k : MoveOrLost core outcome = exactly m in k)
+exact_reads : {core : CoreState} {outcome : StepOutcome} (m : NodeMove core outcome) → IsOrderly core → ReadsAll (let k : NodeMoveOrLost core outcome = exactly m in k)
 exact_reads {core = core} {outcome = outcome} m o =
     let r = nodes_read_in_order core outcome m o in (
       r.0,

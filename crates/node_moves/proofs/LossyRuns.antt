@@ -28,14 +28,14 @@ use Rattle.node_core.specs.LossyReading.LosesFailed.{none_failed, tells_one}
 use Rattle.node_core.specs.LossyReading.ReadsNext.{waits, first, later, refuses as refuses_it, ends}
 use Rattle.node_core.specs.Reading.{changes, open_at, connect_refused}
 use Rattle.node_core.specs.Effects.{without_messages}
-use Rattle.node_moves.specs.LossyMoves.{MoveOrLost, with_loss, halting, outcome_in}
+use Rattle.node_moves.specs.LossyMoves.{NodeMoveOrLost, with_loss, halting, outcome_in}
 use Rattle.node_moves.specs.LossyParts.{came_on, hears_in, inputs_in, is_handing}
-use Rattle.node_moves.specs.LossyRuns.{AllFreeze, CutsNothing, CutsThaw, HandsNothing, HearsAtFirst, HearsNothing, RunOrLost, all_inputs, bytes_on, cuts_in, exactly_cuts}
-use Rattle.node_moves.specs.LossyMoves.MoveOrLost.{exactly, hears_losing, first_losing, later_losing, tells_losing, expels_losing, forgets, halts, fails, unheard, drops}
-use Rattle.node_moves.specs.LossyRuns.RunOrLost.{rests, goes_on}
+use Rattle.node_moves.specs.LossyRuns.{AllFreeze, CutsNothing, CutsThaw, HandsNothing, HearsAtFirst, HearsNothing, MoveTraceOrLost, all_inputs, bytes_on, cuts_in, exactly_cuts}
+use Rattle.node_moves.specs.LossyMoves.NodeMoveOrLost.{exactly, hears_losing, first_losing, later_losing, tells_losing, expels_losing, forgets, halts, fails, unheard, drops}
+use Rattle.node_moves.specs.LossyRuns.MoveTraceOrLost.{rests, goes_on}
 use Rattle.node_moves.specs.Keeping.{moves_replica}
-use Rattle.node_moves.specs.Moves.{Moves, and_then}
-use Rattle.node_moves.specs.Moves.Moves.{hears, opens_one, holds, reads_first, reads_later, closes, refuses, loses_one, loses_next, expels_one, cuts_log, crashes, settles, hands}
+use Rattle.node_moves.specs.Moves.{NodeMove, and_then}
+use Rattle.node_moves.specs.Moves.NodeMove.{hears, opens_one, holds, reads_first, reads_later, closes, refuses, loses_one, loses_next, expels_one, cuts_log, crashes, settles, hands}
 use Rattle.node_moves.proofs.StepsMove.{twice}
 
 abbrev pub Given : Type 0
@@ -43,18 +43,18 @@ Given = List (Effect Command Output)
 
 -- ---- moves in which nothing is received, nothing comes, and nothing is handed over
 
-abbrev pub IsStill : {core : CoreState} {outcome : StepOutcome} → MoveOrLost core outcome → Type 0
+abbrev pub IsStill : {core : CoreState} {outcome : StepOutcome} → NodeMoveOrLost core outcome → Type 0
 IsStill m = (hears_in m ≡ false) × (is_handing m ≡ false) × (inputs_in m ≡ []) × ((x : ConnectionName) → came_on x m ≡ [])
 
-abbrev pub AreStill : {core : CoreState} {outcome : StepOutcome} → RunOrLost core outcome → Type 0
+abbrev pub AreStill : {core : CoreState} {outcome : StepOutcome} → MoveTraceOrLost core outcome → Type 0
 AreStill rests = Unit {0}
 AreStill (goes_on m run) = IsStill m × AreStill run
 
 -- a run of such
 abbrev pub Calm : CoreState → StepOutcome → Type 0
-Calm core outcome = (run : RunOrLost core outcome) × AreStill run
+Calm core outcome = (run : MoveTraceOrLost core outcome) × AreStill run
 
-calm_then : {core : CoreState} {a b : StepOutcome} (run : RunOrLost core a) → AreStill run → Calm a.core b → Calm core (and_then a b)
+calm_then : {core : CoreState} {a b : StepOutcome} (run : MoveTraceOrLost core a) → AreStill run → Calm a.core b → Calm core (and_then a b)
 calm_then rests still r = r
 calm_then {b = b} (goes_on {core = core} {first = one} {next = next} m run) still r =
     let rest = calm_then run still.1 r in
@@ -64,7 +64,7 @@ calm_then {b = b} (goes_on {core = core} {first = one} {next = next} m run) stil
 pub calm_join : {core : CoreState} {a b : StepOutcome} → Calm core a → Calm a.core b → Calm core (and_then a b)
 calm_join q r = calm_then q.0 q.1 r
 
-pub calm_move : {core : CoreState} {t : StepOutcome} (m : MoveOrLost core t) → IsStill m → Calm core t
+pub calm_move : {core : CoreState} {t : StepOutcome} (m : NodeMoveOrLost core t) → IsStill m → Calm core t
 calm_move {core = core} {t = t} m still =
     subst (λ (given : Given). Calm core (let u : StepOutcome = record { core = t.core; messages = given } in u)) (append-nil t.messages) (goes_on m rests, (still, tt))
 
@@ -224,36 +224,36 @@ still_reads now port core did (ends may runs) = still_ends port core did runs
 
 -- ---- a step
 
-calm_of : {core : CoreState} {outcome : StepOutcome} (run : RunOrLost core outcome) → AreStill run → HearsNothing run
+calm_of : {core : CoreState} {outcome : StepOutcome} (run : MoveTraceOrLost core outcome) → AreStill run → HearsNothing run
 calm_of rests still = tt
 calm_of (goes_on m run) still = (still.0.0, calm_of run still.1)
 
-hands_of : {core : CoreState} {outcome : StepOutcome} (run : RunOrLost core outcome) → AreStill run → HandsNothing run
+hands_of : {core : CoreState} {outcome : StepOutcome} (run : MoveTraceOrLost core outcome) → AreStill run → HandsNothing run
 hands_of rests still = tt
 hands_of (goes_on m run) still = (still.0.1, hands_of run still.1)
 
-inputs_none : {core : CoreState} {outcome : StepOutcome} (run : RunOrLost core outcome) → AreStill run → all_inputs run ≡ []
+inputs_none : {core : CoreState} {outcome : StepOutcome} (run : MoveTraceOrLost core outcome) → AreStill run → all_inputs run ≡ []
 inputs_none rests still = refl
 inputs_none (goes_on m run) still = ap (λ l. l ++ all_inputs run) still.0.2 ∙ inputs_none run still.1
 
-bytes_none : {core : CoreState} {outcome : StepOutcome} (run : RunOrLost core outcome) → AreStill run → (x : ConnectionName) → bytes_on x run ≡ []
+bytes_none : {core : CoreState} {outcome : StepOutcome} (run : MoveTraceOrLost core outcome) → AreStill run → (x : ConnectionName) → bytes_on x run ≡ []
 bytes_none rests still x = refl
 bytes_none (goes_on m run) still x = ap (λ l. l ++ bytes_on x run) (still.0.3 x) ∙ bytes_none run still.1 x
 
 -- in such a move no log is cut
-exactly_still : {core : CoreState} {outcome : StepOutcome} (m : Moves core outcome) → moves_replica m ≡ false → exactly_cuts m ≡ false
+exactly_still : {core : CoreState} {outcome : StepOutcome} (m : NodeMove core outcome) → moves_replica m ≡ false → exactly_cuts m ≡ false
 exactly_still (cuts_log can) calm = absurd cc
 exactly_still m calm = refl
 
-pub still_cuts : {core : CoreState} {outcome : StepOutcome} (m : MoveOrLost core outcome) → hears_in m ≡ false → cuts_in m ≡ false
+pub still_cuts : {core : CoreState} {outcome : StepOutcome} (m : NodeMoveOrLost core outcome) → hears_in m ≡ false → cuts_in m ≡ false
 still_cuts (exactly m) calm = exactly_still m calm
 still_cuts m calm = refl
 
-pub calm_cuts_none : {core : CoreState} {outcome : StepOutcome} (run : RunOrLost core outcome) → HearsNothing run → CutsNothing run
+pub calm_cuts_none : {core : CoreState} {outcome : StepOutcome} (run : MoveTraceOrLost core outcome) → HearsNothing run → CutsNothing run
 calm_cuts_none rests calm = tt
 calm_cuts_none (goes_on m run) calm = (still_cuts m calm.0, calm_cuts_none run calm.1)
 
-still_freezes : {core : CoreState} {outcome : StepOutcome} (m : MoveOrLost core outcome) → hears_in m ≡ false → CutsThaw m
+still_freezes : {core : CoreState} {outcome : StepOutcome} (m : NodeMoveOrLost core outcome) → hears_in m ≡ false → CutsThaw m
 still_freezes (exactly (hears input other)) calm = tt
 still_freezes (exactly (opens_one port)) calm = tt
 still_freezes (exactly (holds port piece)) calm = tt
@@ -279,13 +279,13 @@ still_freezes (fails port) calm = tt
 still_freezes unheard calm = tt
 still_freezes (drops port piece) calm = tt
 
-all_freeze : {core : CoreState} {outcome : StepOutcome} (run : RunOrLost core outcome) → AreStill run → AllFreeze run
+all_freeze : {core : CoreState} {outcome : StepOutcome} (run : MoveTraceOrLost core outcome) → AreStill run → AllFreeze run
 all_freeze rests still = tt
 all_freeze (goes_on m run) still = (still_freezes m still.0.0, all_freeze run still.1)
 
 -- a run in which these are received, at first, or a log is cut if it may be, and these bytes come
 pub record First (core : CoreState) (outcome : StepOutcome) (inputs : List (Input Command)) (may_cut : Bool) (bytes : ConnectionName → List ℕ) : Type 0 where
-  pub run : RunOrLost core outcome
+  pub run : MoveTraceOrLost core outcome
   pub first : HearsAtFirst run
   pub hears : all_inputs run ≡ inputs
   pub bytes_so : (x : ConnectionName) → bytes_on x run ≡ bytes x
@@ -307,7 +307,7 @@ first_calm may_cut bytes none (goes_on m run, still) =
       freezes = all_freeze (goes_on m run) still;
     }
 
-pub first_move : {core : CoreState} {one next : StepOutcome} (m : MoveOrLost core one) (may_cut : Bool) (bytes : ConnectionName → List ℕ) → is_handing m ≡ false
+pub first_move : {core : CoreState} {one next : StepOutcome} (m : NodeMoveOrLost core one) (may_cut : Bool) (bytes : ConnectionName → List ℕ) → is_handing m ≡ false
     → ((x : ConnectionName) → came_on x m ≡ bytes x) → (may_cut ≡ false → cuts_in m ≡ false) → CutsThaw m → Calm one.core next → First core (and_then one next) (inputs_in m) may_cut bytes
 first_move m may_cut bytes no_hand came no_cut frozen (run, still) =
     record {

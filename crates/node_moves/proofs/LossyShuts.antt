@@ -16,9 +16,9 @@ use Rattle.node_core.specs.Effects.{outcome_of_input}
 use Rattle.node_moves.specs.Closed.{listed_named}
 use Rattle.node_moves.specs.Ends.{IsOrderly, open_named}
 use Rattle.node_moves.specs.LossyLaws.{LossesPutInOrder}
-use Rattle.node_moves.specs.LossyMoves.{MoveOrLost}
+use Rattle.node_moves.specs.LossyMoves.{NodeMoveOrLost}
 use Rattle.node_moves.specs.LossyParts.{move_effects, refusal_in}
-use Rattle.node_moves.specs.LossyMoves.MoveOrLost.{exactly, hears_losing, first_losing, later_losing, tells_losing, expels_losing, forgets, halts, fails, unheard, drops}
+use Rattle.node_moves.specs.LossyMoves.NodeMoveOrLost.{exactly, hears_losing, first_losing, later_losing, tells_losing, expels_losing, forgets, halts, fails, unheard, drops}
 use Rattle.node_moves.specs.Puts.{outputs_of, spelled}
 use Rattle.node_moves.proofs.Kept.{heard_up, left_true, live, named}
 use Rattle.node_moves.proofs.LossyOutputs.{delivers_shuts, failing_shuts}
@@ -34,7 +34,7 @@ use Rattle.node_moves.proofs.ShutByOutputs.{bytes_for, right_true}
 use Rattle.node_moves.proofs.Views.{found_passes, same_some, some_none, view_of_changed}
 
 -- what a move queues for a name
-abbrev pub sent_in : ConnectionName → {core : CoreState} {outcome : StepOutcome} → MoveOrLost core outcome → List ℕ
+abbrev pub sent_in : ConnectionName → {core : CoreState} {outcome : StepOutcome} → NodeMoveOrLost core outcome → List ℕ
 sent_in x m = spelled (refusal_in x m ++ sends_to x (outputs_of (move_effects m)))
 
 -- ---- the replica
@@ -54,11 +54,11 @@ taken_shuts x command core did t o =
 -- ---- each move that loses
 
 -- a move with losses
-abbrev pub Loses : {core : CoreState} {outcome : StepOutcome} → MoveOrLost core outcome → Type 0
+abbrev pub Loses : {core : CoreState} {outcome : StepOutcome} → NodeMoveOrLost core outcome → Type 0
 Loses (exactly m) = ⊥
 Loses _ = Unit {0}
 
-pub lossy_shuts : (core : CoreState) (outcome : StepOutcome) (m : MoveOrLost core outcome) → IsOrderly core → (x : ConnectionName) → Loses m
+pub lossy_shuts : (core : CoreState) (outcome : StepOutcome) (m : NodeMoveOrLost core outcome) → IsOrderly core → (x : ConnectionName) → Loses m
     → Shuts (sent_in x m) (listed_named x core) (listed_named x outcome.core)
 lossy_shuts core outcome (exactly m) o x may = absurd may
 lossy_shuts core outcome (hears_losing input did other drives) o x may = driven x input core did drives o
@@ -97,16 +97,16 @@ put_by bytes (Some b) (Some e) c d (stays_open f g h) before after lives =
 put_by bytes (Some b) (Some e) c d (is_shut front f g h i) before after lives = absurd (both_ways (live d) (ap live (sym (same_some e d after)) ∙ g) lives)
 put_by bytes (Some b) (Some e) c d (was_shut f g h) before after lives = absurd (both_ways (live d) (ap live (sym (same_some e d after)) ∙ g) lives)
 
-lossy_puts : (core : CoreState) (outcome : StepOutcome) (m : MoveOrLost core outcome) → IsOrderly core → IsOrderly outcome.core → Loses m → (x : ConnectionName) (c d : Connection) →
+lossy_puts : (core : CoreState) (outcome : StepOutcome) (m : NodeMoveOrLost core outcome) → IsOrderly core → IsOrderly outcome.core → Loses m → (x : ConnectionName) (c d : Connection) →
     open_named x core ≡ Some c → open_named x outcome.core ≡ Some d → d.pending ≡ c.pending ++ sent_in x m
 lossy_puts core outcome m o later may x c d before after =
     put_by (sent_in x m) (listed_named x core) (listed_named x outcome.core) c d (lossy_shuts core outcome m o x may) (listed_of x core c o before)
     (listed_of x outcome.core d later after) (left_true (live d) (named x d) (found_passes (is_open_named x) outcome.core.connections d after))
 
-later_orderly : (core : CoreState) (outcome : StepOutcome) (m : MoveOrLost core outcome) → IsOrderly core → IsOrderly outcome.core
+later_orderly : (core : CoreState) (outcome : StepOutcome) (m : NodeMoveOrLost core outcome) → IsOrderly core → IsOrderly outcome.core
 later_orderly core outcome m o = (losses_read_in_order core outcome m o).0
 
-abbrev lost_puts : (core : CoreState) (outcome : StepOutcome) (m : MoveOrLost core outcome) → IsOrderly core → Loses m → (x : ConnectionName) (c d : Connection) →
+abbrev lost_puts : (core : CoreState) (outcome : StepOutcome) (m : NodeMoveOrLost core outcome) → IsOrderly core → Loses m → (x : ConnectionName) (c d : Connection) →
     open_named x core ≡ Some c → open_named x outcome.core ≡ Some d → d.pending ≡ c.pending ++ sent_in x m
 lost_puts core outcome m o may x c d before after = lossy_puts core outcome m o (later_orderly core outcome m o) may x c d before after
 

@@ -23,8 +23,8 @@ use Rattle.node_core.specs.Reading.{changes}
 use Rattle.node_core.specs.Step.{next_name, with_next_connection, settled}
 use Rattle.node_core.specs.Effects.{changes_named, after_replica_step, proposes, without_messages, with_effect}
 use Rattle.node_moves.specs.Keeping.{moves_replica}
-use Rattle.node_moves.specs.Moves.{Moves}
-use Rattle.node_moves.specs.Moves.Moves.{hears, opens_one, holds, reads_first, reads_later, closes, refuses, loses_one, loses_next, expels_one, cuts_log, crashes, settles, hands}
+use Rattle.node_moves.specs.Moves.{NodeMove}
+use Rattle.node_moves.specs.Moves.NodeMove.{hears, opens_one, holds, reads_first, reads_later, closes, refuses, loses_one, loses_next, expels_one, cuts_log, crashes, settles, hands}
 use Rattle.node_moves.proofs.ReplicaStays.{Same, proposed_same}
 use Rattle.node_moves.proofs.ShutByChanges.{at_replica}
 
@@ -91,7 +91,7 @@ hands_replica port core = by (find (is_at port) core.connections)
     by None = refl
     by (Some c) = refl
 
-pub move_same : (core : CoreState) (turn : StepOutcome) (m : Moves core turn) → moves_replica m ≡ false → Same core.replica.state turn.core.replica.state
+pub move_same : (core : CoreState) (turn : StepOutcome) (m : NodeMove core turn) → moves_replica m ≡ false → Same core.replica.state turn.core.replica.state
 move_same core turn (hears input other) calm = absurd cc
 move_same core turn (cuts_log can) calm = absurd cc
 move_same core turn crashes calm = absurd cc

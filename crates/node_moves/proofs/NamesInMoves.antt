@@ -10,8 +10,8 @@ use Rattle.node_core.specs.Step.{next_name, with_next_connection, settled}
 use Rattle.node_moves.specs.Closed.{listed_named}
 use Rattle.node_moves.specs.Ends.{IsOrderly}
 use Rattle.node_moves.specs.Keeping.{AreOfTheBallot, moves_replica}
-use Rattle.node_moves.specs.Moves.{Moves}
-use Rattle.node_moves.specs.Moves.Moves.{hears, opens_one, holds, reads_first, reads_later, closes, refuses, loses_one, loses_next, expels_one, cuts_log, crashes, settles, hands}
+use Rattle.node_moves.specs.Moves.{NodeMove}
+use Rattle.node_moves.specs.Moves.NodeMove.{hears, opens_one, holds, reads_first, reads_later, closes, refuses, loses_one, loses_next, expels_one, cuts_log, crashes, settles, hands}
 use Rattle.node_moves.proofs.Kept.{named}
 use Rattle.node_moves.proofs.MovesOfReplica.{serves_same}
 use Rattle.node_moves.proofs.OpenAfter.{found_front, handed_open, settled_open, shuts_open}
@@ -59,7 +59,7 @@ opened_of x port core d of same e lives (Some c) there' =
 
 -- ---- the moves
 
-pub move_of : (core : CoreState) (outcome : StepOutcome) (m : Moves core outcome) → IsOrderly core → AreOfTheBallot core → Same core.replica.state outcome.core.replica.state → moves_replica m ≡ false
+pub move_of : (core : CoreState) (outcome : StepOutcome) (m : NodeMove core outcome) → IsOrderly core → AreOfTheBallot core → Same core.replica.state outcome.core.replica.state → moves_replica m ≡ false
     → (x : ConnectionName) (d : Connection) → listed_named x outcome.core ≡ Some d → is_closed d.stage ≡ false → (serves outcome.core ≡ true) × (x.ballot ≡ outcome.core.replica.state.joined)
 move_of core outcome (hears input other) o of same calm x d e lives = absurd cc
 move_of core outcome (cuts_log can) o of same calm x d e lives = absurd cc

@@ -23,8 +23,8 @@ use Rattle.node_core.specs.Effects.{drives, outcome_of_input}
 use Rattle.node_moves.specs.Closed.{listed_named}
 use Rattle.node_moves.specs.Ends.{IsOrderly, move_proposal}
 use Rattle.node_moves.specs.Keeping.{AreOfTheBallot, NamesKeepTheirBallot}
-use Rattle.node_moves.specs.Moves.{Moves}
-use Rattle.node_moves.specs.Moves.Moves.{hears, opens_one, holds, reads_first, reads_later, closes, refuses, loses_one, loses_next, expels_one, cuts_log, crashes, settles, hands}
+use Rattle.node_moves.specs.Moves.{NodeMove}
+use Rattle.node_moves.specs.Moves.NodeMove.{hears, opens_one, holds, reads_first, reads_later, closes, refuses, loses_one, loses_next, expels_one, cuts_log, crashes, settles, hands}
 use Rattle.node_moves.proofs.Views.{found_passes, view_of_changed}
 use Rattle.node_moves.proofs.Kept.{left_true, live, named, stays_cut, stays_driven}
 use Rattle.node_moves.proofs.MovesOfReplica.{move_same, moved_replica, settled_replica}
@@ -111,7 +111,7 @@ pub only_one : (x : ConnectionName) (z command : Command) → In command (z ∷ 
 only_one x z command here is = is
 only_one x z command (there i) is = elim i [ ]
 
-proposes_of : (core : CoreState) (outcome : StepOutcome) (m : Moves core outcome) → IsOrderly core → AreOfTheBallot core → (x : ConnectionName) (command : Command)
+proposes_of : (core : CoreState) (outcome : StepOutcome) (m : NodeMove core outcome) → IsOrderly core → AreOfTheBallot core → (x : ConnectionName) (command : Command)
     → In command (move_proposal m) → is_packet_of command x ≡ true → x.ballot ≡ core.replica.state.joined
 proposes_of core outcome (reads_first now port c connect rest at first is room) o of x command i named' =
     proposed_of core port c x o of at (only_one x (commands.Connect c.name connect.client connect.clean) command i named')

@@ -13,7 +13,7 @@ use Rattle.node_core.specs.Handing.{hands_over, left_by}
 use Rattle.node_core.specs.Step.{next_name, with_next_connection, settled}
 use Rattle.node_moves.specs.Closed.{listed_named}
 use Rattle.node_moves.specs.Ends.{IsOrderly}
-use Rattle.node_moves.specs.Moves.Moves.{hears, opens_one, holds, reads_first, reads_later, closes, refuses, loses_one, loses_next, expels_one, cuts_log, crashes, settles, hands}
+use Rattle.node_moves.specs.Moves.NodeMove.{hears, opens_one, holds, reads_first, reads_later, closes, refuses, loses_one, loses_next, expels_one, cuts_log, crashes, settles, hands}
 use Rattle.node_moves.specs.Names.{IsNextName, NewNamesAreOfTheBallot}
 use Rattle.node_moves.proofs.Views.{found_passes, one_changed, one_mapped, some_none, view, view_of_changed, view_of_others}
 use Rattle.node_moves.proofs.Kept.{left_true, named, named_kept}

@@ -20,8 +20,8 @@ use Rattle.node_core.specs.Step.{next_name, with_next_connection, settled}
 use Rattle.node_moves.specs.Closed.{IsExactlyClosedBy, NothingOnClosed, listed_named, exact_refusal}
 use Rattle.node_moves.specs.Closed.IsExactlyClosedBy.{was_closed, closes_now}
 use Rattle.node_moves.specs.Ends.{IsOrderly}
-use Rattle.node_moves.specs.Moves.{Moves}
-use Rattle.node_moves.specs.Moves.Moves.{hears, opens_one, holds, reads_first, reads_later, closes, refuses, loses_one, loses_next, expels_one, cuts_log, crashes, settles, hands}
+use Rattle.node_moves.specs.Moves.{NodeMove}
+use Rattle.node_moves.specs.Moves.NodeMove.{hears, opens_one, holds, reads_first, reads_later, closes, refuses, loses_one, loses_next, expels_one, cuts_log, crashes, settles, hands}
 use Rattle.node_moves.specs.Puts.{move_effects, outputs_of, spelled}
 use Rattle.node_moves.proofs.Views.{one_changed, one_mapped, same_some, view, view_of_changed, view_of_others}
 use Rattle.node_moves.proofs.Kept.{live, named, named_kept, stays_failed}
@@ -39,11 +39,11 @@ open_if true e = cc
 open_if false e = refl
 
 -- what a move queues for a name
-abbrev pub sent_in : ConnectionName → {core : CoreState} {outcome : StepOutcome} → Moves core outcome → List ℕ
+abbrev pub sent_in : ConnectionName → {core : CoreState} {outcome : StepOutcome} → NodeMove core outcome → List ℕ
 sent_in x m = spelled (exact_refusal x m ++ sends_to x (outputs_of (move_effects m)))
 
 -- from what happens to a connection to how it came to be closed
-closed_by : (x : ConnectionName) (core : CoreState) (outcome : StepOutcome) (m : Moves core outcome) (d : Connection) (o p : Option Connection) → Shuts (sent_in x m) o p
+closed_by : (x : ConnectionName) (core : CoreState) (outcome : StepOutcome) (m : NodeMove core outcome) (d : Connection) (o p : Option Connection) → Shuts (sent_in x m) o p
     → listed_named x core ≡ o → p ≡ Some d → is_closed d.stage ≡ true → IsExactlyClosedBy x m d
 closed_by x core outcome m d o None nobody before after over = cc
 closed_by x core outcome m d None (Some e) shuts before after over = elim shuts [ ]
@@ -87,17 +87,17 @@ opened_closed x port core d e over =
 -- ---- all connections are closed, or those that are done are removed
 
 settled_closed : (x : ConnectionName) (core : CoreState) (d : Connection) → IsOrderly core → listed_named x (settled core) ≡ Some d → is_closed d.stage ≡ true
-    → IsExactlyClosedBy x (let m : Moves core _ = settles in m) d
+    → IsExactlyClosedBy x (let m : NodeMove core _ = settles in m) d
 unfolding settled
 settled_closed x core d o e over = by (serves core) e
   where
-    mapped : (c : Connection) → view all (named x) core.connections ≡ Some c → d ≡ closed_connection c → (b : Bool) → live c ≡ b → IsExactlyClosedBy x (let m : Moves core _ = settles in m) d
+    mapped : (c : Connection) → view all (named x) core.connections ≡ Some c → d ≡ closed_connection c → (b : Bool) → live c ≡ b → IsExactlyClosedBy x (let m : NodeMove core _ = settles in m) d
     mapped c there is true lives =
         closes_now c [] (listed_open x core.connections c there lives) (ap (λ (z : Connection). z.pending) is ∙ sym (append-nil c.pending)) (record { rest = []; is = refl })
     mapped c there is false dead = was_closed c there (over_if (is_closed c.stage) dead) (ap (λ (z : Connection). z.pending) is)
 
     by : (b : Bool) → view all (named x) (filter is_listed (if b then core.connections else map closed_connection core.connections)) ≡ Some d
-        → IsExactlyClosedBy x (let m : Moves core _ = settles in m) d
+        → IsExactlyClosedBy x (let m : NodeMove core _ = settles in m) d
     by true f = was_closed d (found_filtered x is_listed core.connections d (o.names x) f).0 over refl
     by false f =
         let g = found_filtered x is_listed (map closed_connection core.connections) d (one_mapped (named x) closed_connection core.connections (λ z. refl) (o.names x)) f in
@@ -145,14 +145,14 @@ failed_dead c failed = by c.stage failed
     by Failed e = refl
 
 -- a move that opens nothing, and does not settle or hand over
-abbrev pub Changes : {core : CoreState} {outcome : StepOutcome} → Moves core outcome → Type 0
+abbrev pub Changes : {core : CoreState} {outcome : StepOutcome} → NodeMove core outcome → Type 0
 Changes (opens_one port) = ⊥
 Changes settles = ⊥
 Changes (hands port) = ⊥
 Changes _ = Unit {0}
 
 -- changes the connection of a name, if there is one
-pub move_shuts : (core : CoreState) (outcome : StepOutcome) (m : Moves core outcome) → IsOrderly core → (x : ConnectionName) → Changes m
+pub move_shuts : (core : CoreState) (outcome : StepOutcome) (m : NodeMove core outcome) → IsOrderly core → (x : ConnectionName) → Changes m
     → Shuts (sent_in x m) (listed_named x core) (listed_named x outcome.core)
 move_shuts core outcome (hears input other) o x may = driven_shuts x input core o
 move_shuts core outcome (holds port piece) o x may = at_shuts x port (with_unread piece) core o (λ z. refl) (holding_shuts piece)
@@ -184,7 +184,7 @@ move_shuts core outcome (opens_one port) o x may = absurd may
 move_shuts core outcome settles o x may = absurd may
 move_shuts core outcome (hands port) o x may = absurd may
 
-changed_closed : (core : CoreState) (outcome : StepOutcome) (m : Moves core outcome) → IsOrderly core → (x : ConnectionName) (d : Connection) → Changes m →
+changed_closed : (core : CoreState) (outcome : StepOutcome) (m : NodeMove core outcome) → IsOrderly core → (x : ConnectionName) (d : Connection) → Changes m →
     listed_named x outcome.core ≡ Some d → is_closed d.stage ≡ true → IsExactlyClosedBy x m d
 changed_closed core outcome m o x d may there over =
     closed_by x core outcome m d (listed_named x core) (listed_named x outcome.core) (move_shuts core outcome m o x may) refl there over

@@ -10,10 +10,10 @@ use Rattle.node_core.specs.declared.item.Item.TheVariants.{Peer, Bytes, Cut}
 use Rattle.node_core.specs.Core.{CoreState, StepOutcome}
 use Rattle.node_moves.specs.Hearing.{HearsAtFirst, IsCalm}
 use Rattle.node_moves.specs.Keeping.{moves_replica}
-use Rattle.node_moves.specs.Moves.{NodeCall, Moves, Runs}
+use Rattle.node_moves.specs.Moves.{NodeCall, NodeMove, MoveTrace}
 use Rattle.node_moves.specs.Moves.NodeCall.{takes, gives}
-use Rattle.node_moves.specs.Moves.Moves.{hears, holds, cuts_log, hands}
-use Rattle.node_moves.specs.Moves.Runs.{rests, goes_on}
+use Rattle.node_moves.specs.Moves.NodeMove.{hears, holds, cuts_log, hands}
+use Rattle.node_moves.specs.Moves.MoveTrace.{rests, goes_on}
 
 pub data Part : Type 0 where
   nothing : Part
@@ -22,7 +22,7 @@ pub data Part : Type 0 where
   bytes_out : Port → Part
   cut : Part
 
-abbrev pub part_in : {core : CoreState} {outcome : StepOutcome} → Moves core outcome → Part
+abbrev pub part_in : {core : CoreState} {outcome : StepOutcome} → NodeMove core outcome → Part
 part_in (hears (Receives message) is) = Part.heard message
 part_in (holds port piece) = Part.bytes_in port piece
 part_in (hands port) = Part.bytes_out port
@@ -37,22 +37,22 @@ part_of (gives port) core = Part.bytes_out port
 part_of _ core = Part.nothing
 
 -- a move in which the replica receives nothing and does not stop, and no bytes are carried
-abbrev pub IsBareMove : {core : CoreState} {outcome : StepOutcome} → Moves core outcome → Type 0
+abbrev pub IsBareMove : {core : CoreState} {outcome : StepOutcome} → NodeMove core outcome → Type 0
 IsBareMove m = (moves_replica m ≡ false) × (part_in m ≡ Part.nothing)
 
-abbrev pub IsBare : {core : CoreState} {outcome : StepOutcome} → Runs core outcome → Type 0
+abbrev pub IsBare : {core : CoreState} {outcome : StepOutcome} → MoveTrace core outcome → Type 0
 IsBare rests = Unit {0}
 IsBare (goes_on m run) = IsBareMove m × IsBare run
 
 -- all but the first move are bare, and that one has this part
-abbrev pub BeginsWith : Part → {core : CoreState} {outcome : StepOutcome} → Runs core outcome → Type 0
+abbrev pub BeginsWith : Part → {core : CoreState} {outcome : StepOutcome} → MoveTrace core outcome → Type 0
 BeginsWith part rests = Part.nothing ≡ part
 BeginsWith part (goes_on m run) = (part_in m ≡ part) × IsBare run
 
-bare_is_calm : {core : CoreState} {outcome : StepOutcome} (run : Runs core outcome) → IsBare run → IsCalm run
+bare_is_calm : {core : CoreState} {outcome : StepOutcome} (run : MoveTrace core outcome) → IsBare run → IsCalm run
 bare_is_calm rests bare = tt
 bare_is_calm (goes_on m run) bare = (bare.0.0, bare_is_calm run bare.1)
 
-pub begins_hearing : (part : Part) {core : CoreState} {outcome : StepOutcome} (run : Runs core outcome) → BeginsWith part run → HearsAtFirst run
+pub begins_hearing : (part : Part) {core : CoreState} {outcome : StepOutcome} (run : MoveTrace core outcome) → BeginsWith part run → HearsAtFirst run
 begins_hearing part rests begins = tt
 begins_hearing part (goes_on m run) begins = bare_is_calm run begins.1

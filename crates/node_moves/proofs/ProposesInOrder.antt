@@ -11,8 +11,8 @@ use Rattle.node_core.specs.ballot_base.declared.config.Config.{Config}
 use Rattle.exactly_once.specs.lists.Lists.{IsPrefixOf}
 use Rattle.exactly_once.specs.StoryCommands.{is_packet_of, command_of}
 use Rattle.node_core.specs.Core.{CoreState, StepOutcome, opening_core}
-use Rattle.node_moves.specs.Moves.{Moves, Runs}
-use Rattle.node_moves.specs.Moves.Runs.{rests, goes_on}
+use Rattle.node_moves.specs.Moves.{NodeMove, MoveTrace}
+use Rattle.node_moves.specs.Moves.MoveTrace.{rests, goes_on}
 use Rattle.node_moves.specs.Ends.{Precedes, IsOrderly, IsEnd, move_proposal, came_on, packet_commands_from}
 use Rattle.node_moves.specs.ReadsInOrder.{ReadsOn}
 use Rattle.node_moves.specs.RunProposals.{NodesProposeInOrder, run_proposals, bytes_on}
@@ -31,12 +31,12 @@ commands_join x n (p ∷ ps) qs =
     moved_on n k = omega arith
 
 -- what is read in a run
-record ReadsThrough (x : ConnectionName) {core : CoreState} {outcome : StepOutcome} (run : Runs core outcome) (written read : List Packet) (later : List ℕ) : Type 0 where
+record ReadsThrough (x : ConnectionName) {core : CoreState} {outcome : StepOutcome} (run : MoveTrace core outcome) (written read : List Packet) (later : List ℕ) : Type 0 where
   more : List Packet
   end : IsEnd x outcome.core written (read ++ more) later
   proposed : filter (λ command. is_packet_of command x) (run_proposals run) ≡ packet_commands_from x (length read) more
 
-one_then : (x : ConnectionName) {core : CoreState} {first next : StepOutcome} (m : Moves core first) (run : Runs first.core next) (written read : List Packet) (between later : List ℕ)
+one_then : (x : ConnectionName) {core : CoreState} {first next : StepOutcome} (m : NodeMove core first) (run : MoveTrace first.core next) (written read : List Packet) (between later : List ℕ)
     → (one : ReadsOn x m written read between) → ReadsThrough x run written (read ++ one.more) later → ReadsThrough x (goes_on m run) written read later
 one_then x {next = next} m run written read between later one two =
     record {
@@ -49,7 +49,7 @@ one_then x {next = next} m run written read between later one two =
           ∙ sym (commands_join x (length read) one.more two.more);
     }
 
-runs_read : (x : ConnectionName) {core : CoreState} {outcome : StepOutcome} (run : Runs core outcome) (written read : List Packet) (in_transit later : List ℕ) → IsOrderly core
+runs_read : (x : ConnectionName) {core : CoreState} {outcome : StepOutcome} (run : MoveTrace core outcome) (written read : List Packet) (in_transit later : List ℕ) → IsOrderly core
     → IsEnd x core written read in_transit → in_transit ≡ bytes_on x run ++ later → ReadsThrough x run written read later
 runs_read x {core = core} rests written read in_transit later o end same =
     record { more = []; end = subst (λ (ps : List Packet). IsEnd x core written ps later) (sym (append-nil read)) (subst (IsEnd x core written read) same end); proposed = refl }

@@ -28,8 +28,8 @@ use Rattle.node_core.specs.Failing.{closes_failed}
 use Rattle.node_core.specs.Reading.{changes, connect_refused}
 use Rattle.node_core.specs.Effects.{without_messages, after_replica_step, with_effect, proposes, changes_named, drives, outcome_of_input, has_room}
 use Rattle.node_moves.specs.Ends.{AtMostOne, IsOrderly, open_named}
-use Rattle.node_moves.specs.Moves.{Moves}
-use Rattle.node_moves.specs.Moves.Moves.{hears, opens_one, holds, reads_first, reads_later, closes, refuses, loses_one, loses_next, expels_one, cuts_log, crashes, settles, hands}
+use Rattle.node_moves.specs.Moves.{NodeMove}
+use Rattle.node_moves.specs.Moves.NodeMove.{hears, opens_one, holds, reads_first, reads_later, closes, refuses, loses_one, loses_next, expels_one, cuts_log, crashes, settles, hands}
 use Rattle.node_moves.specs.Puts.{PutsInOrder, move_effects, is_handing, outputs_of, spelled}
 use Rattle.node_moves.proofs.Opening.{open_stays}
 use Rattle.node_moves.proofs.Views.{view, if_live, found_passes, same_some, some_none, none_changes, view_of_others, view_of_changed, view_filtered}
@@ -296,7 +296,7 @@ opened_puts x port core c o there =
     subst (λ (z : Option Connection). Puts [] z (open_named x (with_next_connection port core))) (sym there)
     (subst (Puts [] (Some c)) (sym (open_stays x port core c o there)) (put (sym (append-nil c.pending))))
 
-all_puts : (core : CoreState) (turn : StepOutcome) (m : Moves core turn) → IsOrderly core → is_handing m ≡ false → (x : ConnectionName) (c : Connection) → open_named x core ≡ Some c
+all_puts : (core : CoreState) (turn : StepOutcome) (m : NodeMove core turn) → IsOrderly core → is_handing m ≡ false → (x : ConnectionName) (c : Connection) → open_named x core ≡ Some c
     → Puts (bytes_for x (move_effects m)) (open_named x core) (open_named x turn.core)
 all_puts core turn (hears input other) o no_hand x c there = driven_puts x input core o
 all_puts core turn (opens_one port) o no_hand x c there = opened_puts x port core c o there

@@ -21,8 +21,8 @@ use Rattle.node_core.specs.Reading.{changes, open_at, connect_refused}
 use Rattle.node_core.specs.Failing.{closes_failed}
 use Rattle.node_core.specs.Step.{with_next_connection}
 use Rattle.node_core.specs.Effects.{without_messages, proposes, has_room}
-use Rattle.node_moves.specs.Moves.{Moves}
-use Rattle.node_moves.specs.Moves.Moves.{hears, opens_one, holds, reads_first, reads_later, closes, refuses, loses_one, loses_next, expels_one, cuts_log, crashes, settles, hands}
+use Rattle.node_moves.specs.Moves.{NodeMove}
+use Rattle.node_moves.specs.Moves.NodeMove.{hears, opens_one, holds, reads_first, reads_later, closes, refuses, loses_one, loses_next, expels_one, cuts_log, crashes, settles, hands}
 use Rattle.node_moves.specs.Ends.{Precedes, IsGiven, IsOrderly, IsEnd, open_named, move_proposal, came_on, piece_on, stream_of, is_nothing, packet_commands_from}
 use Rattle.node_moves.specs.ReadsInOrder.{ReadsOn, NodesReadInOrder}
 use Rattle.node_moves.specs.Ends.IsEnd.{not_yet, is_open, is_over}
@@ -61,18 +61,18 @@ end_kept x core later written read in_transit (is_over given is front) kept same
     by (Some d) None ended e f = absurd (some_none d e)
 
 -- nothing more is read
-none_more : (x : ConnectionName) {core : CoreState} {outcome : StepOutcome} (m : Moves core outcome) (written read : List Packet) (later : List ℕ)
+none_more : (x : ConnectionName) {core : CoreState} {outcome : StepOutcome} (m : NodeMove core outcome) (written read : List Packet) (later : List ℕ)
     → IsEnd x outcome.core written read later → filter (λ command. is_packet_of command x) (move_proposal m) ≡ [] → ReadsOn x m written read later
 none_more x {outcome = outcome} m written read later end none =
     record { more = []; end = subst (λ (ps : List Packet). IsEnd x outcome.core written ps later) (sym (append-nil read)) end; proposed = none }
 
 -- what holds for each connection in a move
-abbrev ReadsAll : {core : CoreState} {outcome : StepOutcome} → Moves core outcome → Type 0
+abbrev ReadsAll : {core : CoreState} {outcome : StepOutcome} → NodeMove core outcome → Type 0
 ReadsAll {core = core} {outcome = outcome} m = IsOrderly outcome.core
     × ((x : ConnectionName) (written read : List Packet) (in_transit later : List ℕ) → IsEnd x core written read in_transit → in_transit ≡ came_on x m ++ later
     → ReadsOn x m written read later)
 
-stays_reads : {core : CoreState} {outcome : StepOutcome} (m : Moves core outcome) → Stays core outcome.core → ((x : ConnectionName) → came_on x m ≡ [])
+stays_reads : {core : CoreState} {outcome : StepOutcome} (m : NodeMove core outcome) → Stays core outcome.core → ((x : ConnectionName) → came_on x m ≡ [])
     → ((x : ConnectionName) → filter (λ command. is_packet_of command x) (move_proposal m) ≡ []) → ReadsAll m
 stays_reads {core = core} {outcome = outcome} m s no_bytes none = (
   s.orderly,
@@ -212,11 +212,11 @@ left_change now core port c rest at =
 
 abbrev first_move : (now : ℕ) (core : CoreState) (port : Port) (c : Connection) (connect : Connect) (rest : List ℕ) → open_at port core ≡ Some c → is_first c.stage ≡ true
     → verdict c.unread ≡ Ok (packets.Connect connect, rest) → has_room core ≡ true
-    → Moves core (proposes (commands.Connect c.name connect.client connect.clean) (changes port (noted_proposed connect.keep_alive) (changes port (left_with now rest) core)))
+    → NodeMove core (proposes (commands.Connect c.name connect.client connect.clean) (changes port (noted_proposed connect.keep_alive) (changes port (left_with now rest) core)))
 first_move now core port c connect rest at first reads room = reads_first now port c connect rest at first reads room
 
 abbrev later_move : (now : ℕ) (core : CoreState) (port : Port) (c : Connection) (packet : Packet) (rest : List ℕ) → open_at port core ≡ Some c → is_first c.stage ≡ false
-    → verdict c.unread ≡ Ok (packet, rest) → has_room core ≡ true → Moves core (proposes (commands.Packet c.name packet) (changes port (left_with now rest) core))
+    → verdict c.unread ≡ Ok (packet, rest) → has_room core ≡ true → NodeMove core (proposes (commands.Packet c.name packet) (changes port (left_with now rest) core))
 later_move now core port c packet rest at later reads room = reads_later now port c packet rest at later reads room
 
 first_reads : (now : ℕ) (core : CoreState) (port : Port) (c : Connection) (connect : Connect) (rest : List ℕ) (at : open_at port core ≡ Some c) (first : is_first c.stage ≡ true)
@@ -315,7 +315,7 @@ held_end x core port piece written read later o (Some c) at end = by (named x c)
         (was_open x core port c written read (piece ++ later) o at e (with_test true e))
     by false e = change_other x core (changes port (with_unread piece) core) port c (with_unread piece) written read later h e (with_test false e)
 
-abbrev hold_move : (core : CoreState) (port : Port) (piece : List ℕ) → Moves core (without_messages (changes port (with_unread piece) core))
+abbrev hold_move : (core : CoreState) (port : Port) (piece : List ℕ) → NodeMove core (without_messages (changes port (with_unread piece) core))
 hold_move core port piece = holds port piece
 
 hold_reads : (core : CoreState) (port : Port) (piece : List ℕ) → IsOrderly core → ReadsAll (hold_move core port piece)
@@ -328,7 +328,7 @@ hold_reads core port piece o = (
 
 -- ---- each move
 
-abbrev open_move : (core : CoreState) (port : Port) → Moves core (without_messages (with_next_connection port core))
+abbrev open_move : (core : CoreState) (port : Port) → NodeMove core (without_messages (with_next_connection port core))
 open_move core port = opens_one port
 
 open_reads : (core : CoreState) (port : Port) → IsOrderly core → ReadsAll (open_move core port)

@@ -28,10 +28,10 @@ use Rattle.node_core.specs.Failing.{loses_failed, loses_if}
 use Rattle.node_core.specs.KeepAlive.{ends_if, ends_silent, lowest_silent}
 use Rattle.node_core.specs.Effects.{without_messages, proposes, drives, has_room, repeated}
 use Rattle.node_moves.specs.Hearing.{NodeCallsHearAtFirst}
-use Rattle.node_moves.specs.Moves.{Moves, Runs, NodeCall, and_then, done, NodeCallsAreMoves}
+use Rattle.node_moves.specs.Moves.{NodeMove, MoveTrace, NodeCall, and_then, done, NodeCallsAreMoves}
 use Rattle.node_moves.specs.Moves.NodeCall.{takes, gives}
-use Rattle.node_moves.specs.Moves.Moves.{hears, opens_one, holds, reads_first, reads_later, closes, refuses, loses_one, loses_next, expels_one, cuts_log, crashes, settles, hands}
-use Rattle.node_moves.specs.Moves.Runs.{rests, goes_on}
+use Rattle.node_moves.specs.Moves.NodeMove.{hears, opens_one, holds, reads_first, reads_later, closes, refuses, loses_one, loses_next, expels_one, cuts_log, crashes, settles, hands}
+use Rattle.node_moves.specs.Moves.MoveTrace.{rests, goes_on}
 use Rattle.node_moves.proofs.PartsOfMoves.{BeginsWith, IsBare, IsBareMove, Part, begins_hearing, part_in, part_of}
 
 abbrev Given : Type 0
@@ -39,20 +39,20 @@ Given = List (Effect Command Output)
 
 -- ---- runs join
 
-pub runs_join : {core : CoreState} {a b : StepOutcome} → Runs core a → Runs a.core b → Runs core (and_then a b)
+pub runs_join : {core : CoreState} {a b : StepOutcome} → MoveTrace core a → MoveTrace a.core b → MoveTrace core (and_then a b)
 runs_join rests r = r
 runs_join {b = b} (goes_on {core = core} {first = first} {next = next} m r) q =
-    subst (λ (given : Given). Runs core (let t : StepOutcome = record { core = b.core; messages = given } in t)) (sym (append_assoc first.messages next.messages b.messages))
+    subst (λ (given : Given). MoveTrace core (let t : StepOutcome = record { core = b.core; messages = given } in t)) (sym (append_assoc first.messages next.messages b.messages))
     (goes_on m (runs_join r q))
 
 -- runs of bare moves, and those of which the first one may have a part
 abbrev pub Calm : CoreState → StepOutcome → Type 0
-Calm core outcome = (run : Runs core outcome) × IsBare run
+Calm core outcome = (run : MoveTrace core outcome) × IsBare run
 
 abbrev pub First : Part → CoreState → StepOutcome → Type 0
-First part core outcome = (run : Runs core outcome) × BeginsWith part run
+First part core outcome = (run : MoveTrace core outcome) × BeginsWith part run
 
-calm_then : {core : CoreState} {a b : StepOutcome} (run : Runs core a) → IsBare run → Calm a.core b → Calm core (and_then a b)
+calm_then : {core : CoreState} {a b : StepOutcome} (run : MoveTrace core a) → IsBare run → Calm a.core b → Calm core (and_then a b)
 calm_then rests calm r = r
 calm_then {b = b} (goes_on {core = core} {first = first} {next = next} m run) calm r =
     let rest = calm_then run calm.1 r in
@@ -62,15 +62,15 @@ calm_then {b = b} (goes_on {core = core} {first = first} {next = next} m run) ca
 calm_join : {core : CoreState} {a b : StepOutcome} → Calm core a → Calm a.core b → Calm core (and_then a b)
 calm_join q r = calm_then q.0 q.1 r
 
-calm_move : {core : CoreState} {t : StepOutcome} (m : Moves core t) → IsBareMove m → Calm core t
+calm_move : {core : CoreState} {t : StepOutcome} (m : NodeMove core t) → IsBareMove m → Calm core t
 calm_move {core = core} {t = t} m calm =
     subst (λ (given : Given). Calm core (let u : StepOutcome = record { core = t.core; messages = given } in u)) (append-nil t.messages) (goes_on m rests, (calm, tt))
 
-calm_first : {core : CoreState} {a : StepOutcome} (run : Runs core a) → IsBare run → First Part.nothing core a
+calm_first : {core : CoreState} {a : StepOutcome} (run : MoveTrace core a) → IsBare run → First Part.nothing core a
 calm_first rests calm = (rests, refl)
 calm_first (goes_on m run) calm = (goes_on m run, (calm.0.1, calm.1))
 
-first_then : (part : Part) {core : CoreState} {a b : StepOutcome} (run : Runs core a) → BeginsWith part run → Calm a.core b → First part core (and_then a b)
+first_then : (part : Part) {core : CoreState} {a b : StepOutcome} (run : MoveTrace core a) → BeginsWith part run → Calm a.core b → First part core (and_then a b)
 first_then part {a = a} {b = b} rests begins r = subst (λ p. First p a.core b) begins (calm_first r.0 r.1)
 first_then part {b = b} (goes_on {core = core} {first = first} {next = next} m run) begins r =
     let rest = calm_then run begins.1 r in
@@ -80,7 +80,7 @@ first_then part {b = b} (goes_on {core = core} {first = first} {next = next} m r
 first_join : {part : Part} {core : CoreState} {a b : StepOutcome} → First part core a → Calm a.core b → First part core (and_then a b)
 first_join {part = part} q r = first_then part q.0 q.1 r
 
-first_move : {core : CoreState} {t : StepOutcome} (m : Moves core t) → First (part_in m) core t
+first_move : {core : CoreState} {t : StepOutcome} (m : NodeMove core t) → First (part_in m) core t
 first_move {core = core} {t = t} m =
     subst (λ (given : Given). First (part_in m) core (let u : StepOutcome = record { core = t.core; messages = given } in u)) (append-nil t.messages) (goes_on m rests, (refl, tt))
 

@@ -20,7 +20,7 @@ use Rattle.node_core.specs.node_connections.ConnectionChanges.{noted_proposed, l
 use Rattle.node_core.specs.Core.{CoreState, rules, serves}
 use Rattle.node_core.specs.Reading.{changes}
 use Rattle.node_core.specs.Effects.{after_replica_step, with_effect, proposes, has_room, changes_named}
-use Rattle.node_moves.specs.Moves.Moves.{hears, opens_one, holds, reads_first, reads_later, closes, refuses, loses_one, loses_next, expels_one, cuts_log, crashes, settles, hands}
+use Rattle.node_moves.specs.Moves.NodeMove.{hears, opens_one, holds, reads_first, reads_later, closes, refuses, loses_one, loses_next, expels_one, cuts_log, crashes, settles, hands}
 use Rattle.node_moves.specs.RunProposals.{ReadsAreTaken}
 use Rattle.node_moves.proofs.Kept.{left_true}
 

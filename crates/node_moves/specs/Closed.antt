@@ -11,8 +11,8 @@ use Rattle.node_core.specs.declared.Connection.{Connection}
 use Rattle.node_core.specs.node_connections.Connections.{is_closed}
 use Rattle.node_core.specs.Core.{CoreState, StepOutcome}
 use Rattle.node_moves.specs.Ends.{IsOrderly, open_named}
-use Rattle.node_moves.specs.Moves.{Moves}
-use Rattle.node_moves.specs.Moves.Moves.{refuses}
+use Rattle.node_moves.specs.Moves.{NodeMove}
+use Rattle.node_moves.specs.Moves.NodeMove.{refuses}
 use Rattle.node_moves.specs.Puts.{move_effects, outputs_of, spelled}
 
 -- the connection of a name: open, or closed with bytes that are still to be handed over
@@ -21,7 +21,7 @@ listed_named name core = find (λ connection. same_connection connection.name na
 
 -- the answer to a CONNECT that the node refuses itself in a move without losses (MQTT 3.2.2.3)
 abbrev pub exact_refusal : ConnectionName → {core : CoreState} {outcome : StepOutcome} →
-    Moves core outcome →
+    NodeMove core outcome →
     List Packet
 exact_refusal name (refuses port connection code at first is) =
     if same_connection connection.name name
@@ -30,7 +30,7 @@ exact_refusal name _ = []
 
 -- how a connection that is closed after a move without losses was closed
 pub data IsExactlyClosedBy (name : ConnectionName) {core : CoreState} {outcome : StepOutcome}
-    (move : Moves core outcome) (new : Connection) : Type 0 where
+    (move : NodeMove core outcome) (new : Connection) : Type 0 where
   -- it was closed before, with the same bytes to hand over
   was_closed : (old : Connection) → listed_named name core ≡ Some old → is_closed old.stage ≡ true →
       new.pending ≡ old.pending → IsExactlyClosedBy name move new
@@ -44,6 +44,6 @@ pub data IsExactlyClosedBy (name : ConnectionName) {core : CoreState} {outcome :
 -- each connection that is closed after a move was closed in one of the ways of `IsExactlyClosedBy`
 abbrev pub NothingOnClosed : Type 0
 NothingOnClosed =
-    (core : CoreState) (outcome : StepOutcome) (move : Moves core outcome) → IsOrderly core →
+    (core : CoreState) (outcome : StepOutcome) (move : NodeMove core outcome) → IsOrderly core →
     (name : ConnectionName) (new : Connection) → listed_named name outcome.core ≡ Some new →
     is_closed new.stage ≡ true → IsExactlyClosedBy name move new

@@ -13,8 +13,8 @@ use Rattle.node_core.specs.declared.Connection.{Connection}
 use Rattle.node_core.specs.node_connections.Connections.{is_first, is_open_named}
 use Rattle.node_core.specs.Core.{CoreState, StepOutcome}
 use Rattle.node_core.specs.Reading.{open_at}
-use Rattle.node_moves.specs.Moves.Moves.{hears, opens_one, holds, reads_first, reads_later, closes, refuses, loses_one, loses_next, expels_one, cuts_log, crashes, settles, hands}
-use Rattle.node_moves.specs.Moves.{Moves}
+use Rattle.node_moves.specs.Moves.NodeMove.{hears, opens_one, holds, reads_first, reads_later, closes, refuses, loses_one, loses_next, expels_one, cuts_log, crashes, settles, hands}
+use Rattle.node_moves.specs.Moves.{NodeMove}
 
 -- ---- a node's connections
 
@@ -51,7 +51,7 @@ pub record IsOrderly (core : CoreState) : Type 0 where
 -- ---- what a move does to one connection
 
 -- the command that it proposes
-abbrev pub move_proposal : {core : CoreState} {outcome : StepOutcome} → Moves core outcome →
+abbrev pub move_proposal : {core : CoreState} {outcome : StepOutcome} → NodeMove core outcome →
     List Command
 move_proposal (hears input is) = []
 move_proposal (opens_one port) = []
@@ -77,7 +77,7 @@ piece_on name piece (Some connection) = if same_connection connection.name name 
 
 -- the bytes that come on the connection of a name in a move
 abbrev pub came_on : ConnectionName → {core : CoreState} {outcome : StepOutcome} →
-    Moves core outcome → List ℕ
+    NodeMove core outcome → List ℕ
 came_on name {core = core} (holds port piece) = piece_on name piece (open_at port core)
 came_on name _ = []
 

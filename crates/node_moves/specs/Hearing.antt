@@ -2,16 +2,17 @@
 use Rattle.std.specs.Prelude.{◌≡◌, false}
 use Rattle.node_core.specs.Core.{CoreState, StepOutcome}
 use Rattle.node_moves.specs.Keeping.{moves_replica}
-use Rattle.node_moves.specs.Moves.{NodeCall, Runs, done}
-use Rattle.node_moves.specs.Moves.Runs.{rests, goes_on}
+use Rattle.node_moves.specs.Moves.{NodeCall, MoveTrace, done}
+use Rattle.node_moves.specs.Moves.MoveTrace.{rests, goes_on}
 
 -- in no move of a run the replica receives something, or stops
-abbrev pub IsCalm : {core : CoreState} {outcome : StepOutcome} → Runs core outcome → Type 0
+abbrev pub IsCalm : {core : CoreState} {outcome : StepOutcome} → MoveTrace core outcome → Type 0
 IsCalm rests = Unit {0}
 IsCalm (goes_on move run) = (moves_replica move ≡ false) × IsCalm run
 
 -- in no move of a run except the first the replica receives something, or stops
-abbrev pub HearsAtFirst : {core : CoreState} {outcome : StepOutcome} → Runs core outcome → Type 0
+abbrev pub HearsAtFirst : {core : CoreState} {outcome : StepOutcome} → MoveTrace core outcome →
+    Type 0
 HearsAtFirst rests = Unit {0}
 HearsAtFirst (goes_on move run) = IsCalm run
 
@@ -19,4 +20,4 @@ HearsAtFirst (goes_on move run) = IsCalm run
 abbrev pub NodeCallsHearAtFirst : Type 0
 NodeCallsHearAtFirst =
     (node_call : NodeCall) (core : CoreState) →
-    (run : Runs core (done node_call core)) × HearsAtFirst run
+    (run : MoveTrace core (done node_call core)) × HearsAtFirst run

@@ -12,7 +12,7 @@ use Rattle.node_core.specs.Core.{CoreState, StepOutcome}
 use Rattle.node_core.specs.LossyStep.{RunsOn}
 use Rattle.node_core.specs.Reading.{open_at}
 use Rattle.node_moves.specs.Ends.{piece_on}
-use Rattle.node_moves.specs.LossyRuns.{RunOrLost, HearsAtFirst, bytes_on, all_inputs, HandsNothing, CutsNothing, AllFreeze}
+use Rattle.node_moves.specs.LossyRuns.{MoveTraceOrLost, HearsAtFirst, bytes_on, all_inputs, HandsNothing, CutsNothing, AllFreeze}
 
 -- what the replica receives with an item
 abbrev pub heard_with : Item → List (Input Command)
@@ -34,7 +34,7 @@ is_cut _ = false
 -- receives what comes with the item. On each connection the bytes of the item come, and nothing is
 -- handed over. No log is cut unless the item is a cut, and what is frozen can be read.
 pub record IsRunOn (item : Item) (core : CoreState) (outcome : StepOutcome) : Type 0 where
-  pub run : RunOrLost core outcome
+  pub run : MoveTraceOrLost core outcome
   pub first : HearsAtFirst run
   pub hears : all_inputs run ≡ heard_with item
   pub bytes : (name : ConnectionName) → bytes_on name run ≡ came_with name item core

@@ -13,8 +13,8 @@ use Rattle.node_core.specs.Step.{crashed, settled, with_cut}
 use Rattle.node_core.specs.Effects.{drives}
 use Rattle.node_moves.specs.Closed.{listed_named}
 use Rattle.node_moves.specs.Ends.{IsOrderly, move_proposal}
-use Rattle.node_moves.specs.Moves.{Moves}
-use Rattle.node_moves.specs.Moves.Moves.{hears, cuts_log, crashes}
+use Rattle.node_moves.specs.Moves.{NodeMove}
+use Rattle.node_moves.specs.Moves.NodeMove.{hears, cuts_log, crashes}
 
 -- each open connection has a name of the ballot that the node leads as its active primary
 pub record AreOfTheBallot (core : CoreState) : Type 0 where
@@ -23,7 +23,7 @@ pub record AreOfTheBallot (core : CoreState) : Type 0 where
       (serves core ≡ true) × (name.ballot ≡ core.replica.state.joined)
 
 -- a move in which the replica receives something, cuts its log, or stops
-abbrev pub moves_replica : {core : CoreState} {outcome : StepOutcome} → Moves core outcome → Bool
+abbrev pub moves_replica : {core : CoreState} {outcome : StepOutcome} → NodeMove core outcome → Bool
 moves_replica (hears input other) = true
 moves_replica (cuts_log can) = true
 moves_replica crashes = true
@@ -35,7 +35,7 @@ moves_replica _ = false
 -- name only in the ballot of that name.
 pub record NamesKeepTheirBallot : Type 0 where
   pub opens : (id : ℕ) (config : Config) → AreOfTheBallot (opening_core id config)
-  pub moves : (core : CoreState) (outcome : StepOutcome) (move : Moves core outcome) →
+  pub moves : (core : CoreState) (outcome : StepOutcome) (move : NodeMove core outcome) →
       IsOrderly core → moves_replica move ≡ false → AreOfTheBallot core →
       AreOfTheBallot outcome.core
   pub hears : (core : CoreState) (input : Input Command) → IsOrderly core → AreOfTheBallot core →
@@ -43,7 +43,7 @@ pub record NamesKeepTheirBallot : Type 0 where
   pub cuts : (core : CoreState) → IsOrderly core → AreOfTheBallot core →
       AreOfTheBallot (settled (with_cut core))
   pub stops : (core : CoreState) → IsOrderly core → AreOfTheBallot (settled (crashed core))
-  pub proposes : (core : CoreState) (outcome : StepOutcome) (move : Moves core outcome) →
+  pub proposes : (core : CoreState) (outcome : StepOutcome) (move : NodeMove core outcome) →
       IsOrderly core → AreOfTheBallot core → (name : ConnectionName) (command : Command) →
       In command (move_proposal move) → is_packet_of command name ≡ true →
       name.ballot ≡ core.replica.state.joined

@@ -14,9 +14,9 @@ use Rattle.node_core.specs.Core.{CoreState, StepOutcome, opening_core}
 use Rattle.node_moves.specs.Closed.{listed_named}
 use Rattle.node_moves.specs.Ends.{IsEnd, IsOrderly, packet_commands_from, open_named}
 use Rattle.node_moves.specs.RunProposals.{Proposes}
-use Rattle.node_moves.specs.LossyMoves.{MoveOrLost}
+use Rattle.node_moves.specs.LossyMoves.{NodeMoveOrLost}
 use Rattle.node_moves.specs.LossyParts.{came_on, move_effects, is_handing, is_read, move_proposal, refusal_in}
-use Rattle.node_moves.specs.LossyRuns.{RunOrLost, bytes_on, run_proposals}
+use Rattle.node_moves.specs.LossyRuns.{MoveTraceOrLost, bytes_on, run_proposals}
 use Rattle.node_moves.specs.Puts.{outputs_of, spelled}
 
 -- ---- what is read
@@ -24,7 +24,8 @@ use Rattle.node_moves.specs.Puts.{outputs_of, spelled}
 -- what is newly read in a move: the next of the packets that were written, each of which is
 -- proposed under the name
 pub record ReadsOn (name : ConnectionName) {core : CoreState} {outcome : StepOutcome}
-    (move : MoveOrLost core outcome) (written read : List Packet) (later : List ℕ) : Type 0 where
+    (move : NodeMoveOrLost core outcome) (written read : List Packet)
+    (later : List ℕ) : Type 0 where
   pub more : List Packet
   pub end : IsEnd name outcome.core written (read ++ more) later
   pub proposed : filter (λ command. is_packet_of command name) (move_proposal move)
@@ -33,7 +34,8 @@ pub record ReadsOn (name : ConnectionName) {core : CoreState} {outcome : StepOut
 -- in each move a node reads on in order on each connection; none is skipped while it is open
 abbrev pub LossesReadInOrder : Type 0
 LossesReadInOrder =
-    (core : CoreState) (outcome : StepOutcome) (move : MoveOrLost core outcome) → IsOrderly core →
+    (core : CoreState) (outcome : StepOutcome) (move : NodeMoveOrLost core outcome) →
+    IsOrderly core →
     IsOrderly outcome.core
     × ((name : ConnectionName) (written read : List Packet) (in_transit later : List ℕ) →
     IsEnd name core written read in_transit →
@@ -44,7 +46,7 @@ LossesReadInOrder =
 abbrev pub LossesProposeInOrder : Type 0
 LossesProposeInOrder =
     (id : ℕ) (config : Config) (outcome : StepOutcome)
-    (run : RunOrLost (opening_core id config) outcome) (name : ConnectionName)
+    (run : MoveTraceOrLost (opening_core id config) outcome) (name : ConnectionName)
     (written : List Packet) (later : List ℕ) → 0 < name.count →
     Joins written (bytes_on name run ++ later) →
     Proposes name outcome.core (run_proposals run) written later
@@ -52,7 +54,7 @@ LossesProposeInOrder =
 -- each packet that is read is in the log at once, after everything that was there
 abbrev pub LossesAreTaken : Type 0
 LossesAreTaken =
-    (core : CoreState) (outcome : StepOutcome) (move : MoveOrLost core outcome) →
+    (core : CoreState) (outcome : StepOutcome) (move : NodeMoveOrLost core outcome) →
     is_read move ≡ true →
     outcome.core.replica.state.log
     ≡ record core.replica.state.log { rest = core.replica.state.log.rest ++ move_proposal move }
@@ -63,7 +65,8 @@ LossesAreTaken =
 -- what was queued before
 abbrev pub LossesPutInOrder : Type 0
 LossesPutInOrder =
-    (core : CoreState) (outcome : StepOutcome) (move : MoveOrLost core outcome) → IsOrderly core →
+    (core : CoreState) (outcome : StepOutcome) (move : NodeMoveOrLost core outcome) →
+    IsOrderly core →
     is_handing move ≡ false → (name : ConnectionName) (old new : Connection) →
     open_named name core ≡ Some old → open_named name outcome.core ≡ Some new →
     new.pending ≡ old.pending ++ spelled (sends_to name (outputs_of (move_effects move)))
@@ -71,7 +74,7 @@ LossesPutInOrder =
 -- a connection that is closed after a move was closed before, with the same bytes to hand over, or
 -- was open, and got a prefix of what is sent to it
 pub data IsClosedBy (name : ConnectionName) {core : CoreState} {outcome : StepOutcome}
-    (move : MoveOrLost core outcome) (new : Connection) : Type 0 where
+    (move : NodeMoveOrLost core outcome) (new : Connection) : Type 0 where
   -- it was closed before
   was_closed : (old : Connection) → listed_named name core ≡ Some old → is_closed old.stage ≡ true →
       new.pending ≡ old.pending → IsClosedBy name move new
@@ -85,6 +88,7 @@ pub data IsClosedBy (name : ConnectionName) {core : CoreState} {outcome : StepOu
 -- each connection that is closed after a move was closed in one of the ways of `IsClosedBy`
 abbrev pub LossesPutNothingOnClosed : Type 0
 LossesPutNothingOnClosed =
-    (core : CoreState) (outcome : StepOutcome) (move : MoveOrLost core outcome) → IsOrderly core →
+    (core : CoreState) (outcome : StepOutcome) (move : NodeMoveOrLost core outcome) →
+    IsOrderly core →
     (name : ConnectionName) (new : Connection) → listed_named name outcome.core ≡ Some new →
     is_closed new.stage ≡ true → IsClosedBy name move new

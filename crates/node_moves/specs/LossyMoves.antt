@@ -19,7 +19,7 @@ use Rattle.node_core.specs.Failing.{closes_failed}
 use Rattle.node_core.specs.Lossy.{Account, Drives, TakesCommand}
 use Rattle.node_core.specs.Reading.{changes, open_at}
 use Rattle.node_core.specs.Effects.{without_messages}
-use Rattle.node_moves.specs.Moves.{Moves, is_proposal}
+use Rattle.node_moves.specs.Moves.{NodeMove, is_proposal}
 
 -- ---- one move
 
@@ -43,13 +43,13 @@ halting core =
     }
 
 -- one move of a node, exact or with losses
-pub data MoveOrLost (core : CoreState) : StepOutcome → Type 0 where
+pub data NodeMoveOrLost (core : CoreState) : StepOutcome → Type 0 where
   -- a move without losses
-  exactly : {outcome : StepOutcome} → Moves core outcome → MoveOrLost core outcome
+  exactly : {outcome : StepOutcome} → NodeMove core outcome → NodeMoveOrLost core outcome
   -- the replica receives a message or a tick, perhaps with losses; some of the messages that it
   -- gives may be lost, and connections closed
   hears_losing : (input : Input Command) (did : Account) → is_proposal input ≡ false →
-      Drives input core did → MoveOrLost core (outcome_in did)
+      Drives input core did → NodeMoveOrLost core (outcome_in did)
   -- a CONNECT, the first packet of an open connection, is read and taken, perhaps with losses
   first_losing : (now : ℕ) (port : Port) (connection : Connection) (connect : Connect)
       (rest : List ℕ) (did : Account) → open_at port core ≡ Some connection →
@@ -58,30 +58,30 @@ pub data MoveOrLost (core : CoreState) : StepOutcome → Type 0 where
       TakesCommand (commands.Connect connection.name connect.client connect.clean)
       (changes port (noted_proposed connect.keep_alive) (changes port (left_with now rest) core))
       did →
-      MoveOrLost core (outcome_in did)
+      NodeMoveOrLost core (outcome_in did)
   -- a later packet is read and taken, perhaps with losses
   later_losing : (now : ℕ) (port : Port) (connection : Connection) (packet : Packet) (rest : List ℕ)
       (did : Account) → open_at port core ≡ Some connection →
       is_first connection.stage ≡ false → verdict connection.unread ≡ Ok (packet, rest) →
       TakesCommand (commands.Packet connection.name packet)
       (changes port (left_with now rest) core) did →
-      MoveOrLost core (outcome_in did)
+      NodeMoveOrLost core (outcome_in did)
   -- that a connection is lost is taken, perhaps with losses
   tells_losing : (name : ConnectionName) (did : Account) →
       TakesCommand (commands.Lost name) core did →
-      MoveOrLost core (outcome_in did)
+      NodeMoveOrLost core (outcome_in did)
   -- an Expel is taken, perhaps with losses
   expels_losing : (client : List ℕ) (did : Account) →
       TakesCommand (commands.Expel client) core did →
-      MoveOrLost core (outcome_in did)
+      NodeMoveOrLost core (outcome_in did)
   -- the replica does not take what it receives, and counts that
-  forgets : MoveOrLost core (without_messages (with_loss core))
+  forgets : NodeMoveOrLost core (without_messages (with_loss core))
   -- the replica stops, and counts that
-  halts : MoveOrLost core (without_messages (halting core))
+  halts : NodeMoveOrLost core (without_messages (halting core))
   -- a connection is closed as lost, and the loss is still to be reported to the broker
-  fails : (port : Port) → MoveOrLost core (without_messages (changes port failing core))
+  fails : (port : Port) → NodeMoveOrLost core (without_messages (changes port failing core))
   -- a connection that was closed as lost is closed for good, and its loss is not reported
-  unheard : MoveOrLost core (without_messages (closes_failed core))
+  unheard : NodeMoveOrLost core (without_messages (closes_failed core))
   -- bytes come in on an open connection that is closed, since there is no memory for them
   drops : (port : Port) (piece : List ℕ) →
-      MoveOrLost core (without_messages (changes port closed_connection core))
+      NodeMoveOrLost core (without_messages (changes port closed_connection core))

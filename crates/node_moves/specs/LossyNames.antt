@@ -9,14 +9,15 @@ use Rattle.node_core.specs.Core.{CoreState, StepOutcome, serves}
 use Rattle.node_moves.specs.Closed.{listed_named}
 use Rattle.node_moves.specs.Ends.{IsOrderly}
 use Rattle.node_moves.specs.Keeping.{AreOfTheBallot}
-use Rattle.node_moves.specs.LossyMoves.{MoveOrLost}
+use Rattle.node_moves.specs.LossyMoves.{NodeMoveOrLost}
 use Rattle.node_moves.specs.LossyParts.{hears_in, move_proposal}
 use Rattle.node_moves.specs.Names.{IsNextName}
 
 -- a connection that is new after a move has the next name of the ballot that the node leads
 abbrev pub LossyNamesAreOfTheBallot : Type 0
 LossyNamesAreOfTheBallot =
-    (core : CoreState) (outcome : StepOutcome) (move : MoveOrLost core outcome) → IsOrderly core →
+    (core : CoreState) (outcome : StepOutcome) (move : NodeMoveOrLost core outcome) →
+    IsOrderly core →
     (name : ConnectionName) (new : Connection) → listed_named name core ≡ None →
     listed_named name outcome.core ≡ Some new → IsNextName core name
 
@@ -28,12 +29,12 @@ AreWhereItServes core = serves core ≡ true → AreOfTheBallot core
 -- which it does, if that move began as a step does. And a node proposes under a name only in the
 -- ballot of that name.
 pub record LossyNamesKeepTheirBallot : Type 0 where
-  pub moves : (core : CoreState) (outcome : StepOutcome) (move : MoveOrLost core outcome) →
+  pub moves : (core : CoreState) (outcome : StepOutcome) (move : NodeMoveOrLost core outcome) →
       IsOrderly core → hears_in move ≡ false → AreWhereItServes core →
       AreWhereItServes outcome.core
-  pub hears : (core : CoreState) (outcome : StepOutcome) (move : MoveOrLost core outcome) →
+  pub hears : (core : CoreState) (outcome : StepOutcome) (move : NodeMoveOrLost core outcome) →
       IsOrderly core → AreOfTheBallot core → AreWhereItServes outcome.core
-  pub proposes : (core : CoreState) (outcome : StepOutcome) (move : MoveOrLost core outcome) →
+  pub proposes : (core : CoreState) (outcome : StepOutcome) (move : NodeMoveOrLost core outcome) →
       IsOrderly core → AreWhereItServes core → serves core ≡ true →
       (name : ConnectionName) (command : Command) →
       In command (move_proposal move) → is_packet_of command name ≡ true →

@@ -14,14 +14,14 @@ use Rattle.node_moves.specs.Closed.{exact_refusal}
 use Rattle.node_moves.specs.Ends.{came_on as exact_came, piece_on, move_proposal as exact_proposal}
 use Rattle.node_moves.specs.RunProposals.{is_read as exact_read}
 use Rattle.node_moves.specs.Keeping.{moves_replica}
-use Rattle.node_moves.specs.Moves.{Moves}
-use Rattle.node_moves.specs.Moves.Moves.{hears}
+use Rattle.node_moves.specs.Moves.{NodeMove}
+use Rattle.node_moves.specs.Moves.NodeMove.{hears}
 use Rattle.node_moves.specs.Puts.{move_effects as exact_given, is_handing as exact_handing}
-use Rattle.node_moves.specs.LossyMoves.{MoveOrLost}
-use Rattle.node_moves.specs.LossyMoves.MoveOrLost.{exactly, hears_losing, first_losing, later_losing, tells_losing, expels_losing, forgets, halts, fails, unheard, drops}
+use Rattle.node_moves.specs.LossyMoves.{NodeMoveOrLost}
+use Rattle.node_moves.specs.LossyMoves.NodeMoveOrLost.{exactly, hears_losing, first_losing, later_losing, tells_losing, expels_losing, forgets, halts, fails, unheard, drops}
 
 -- the effects of its replica in a move
-abbrev pub move_effects : {core : CoreState} {outcome : StepOutcome} → MoveOrLost core outcome →
+abbrev pub move_effects : {core : CoreState} {outcome : StepOutcome} → NodeMoveOrLost core outcome →
     List (Effect Command Output)
 move_effects (exactly move) = exact_given move
 move_effects (hears_losing input did other drives) = did.given
@@ -36,7 +36,8 @@ move_effects unheard = []
 move_effects (drops port piece) = []
 
 -- the command that it proposes
-abbrev pub move_proposal : {core : CoreState} {outcome : StepOutcome} → MoveOrLost core outcome →
+abbrev pub move_proposal : {core : CoreState} {outcome : StepOutcome} →
+    NodeMoveOrLost core outcome →
     List Command
 move_proposal (exactly move) = exact_proposal move
 move_proposal (hears_losing input did other drives) = []
@@ -54,7 +55,7 @@ move_proposal (drops port piece) = []
 
 -- the bytes that come on the connection of a name
 abbrev pub came_on : ConnectionName → {core : CoreState} {outcome : StepOutcome} →
-    MoveOrLost core outcome →
+    NodeMoveOrLost core outcome →
     List ℕ
 came_on name (exactly move) = exact_came name move
 came_on name {core = core} (drops port piece) = piece_on name piece (open_at port core)
@@ -62,38 +63,40 @@ came_on name _ = []
 
 -- the answer to a CONNECT that the node refuses itself
 abbrev pub refusal_in : ConnectionName → {core : CoreState} {outcome : StepOutcome} →
-    MoveOrLost core outcome →
+    NodeMoveOrLost core outcome →
     List Packet
 refusal_in name (exactly move) = exact_refusal name move
 refusal_in name _ = []
 
 -- whether bytes are handed over in a move
-abbrev pub is_handing : {core : CoreState} {outcome : StepOutcome} → MoveOrLost core outcome → Bool
+abbrev pub is_handing : {core : CoreState} {outcome : StepOutcome} → NodeMoveOrLost core outcome →
+    Bool
 is_handing (exactly move) = exact_handing move
 is_handing _ = false
 
 -- whether a packet is read in a move
-abbrev pub is_read : {core : CoreState} {outcome : StepOutcome} → MoveOrLost core outcome → Bool
+abbrev pub is_read : {core : CoreState} {outcome : StepOutcome} → NodeMoveOrLost core outcome → Bool
 is_read (exactly move) = exact_read move
 is_read (first_losing now port connection connect rest did at first is taken) = true
 is_read (later_losing now port connection packet rest did at later is taken) = true
 is_read _ = false
 
 -- what the replica receives in a move
-abbrev pub inputs_of : {core : CoreState} {outcome : StepOutcome} → Moves core outcome →
+abbrev pub inputs_of : {core : CoreState} {outcome : StepOutcome} → NodeMove core outcome →
     List (Input Command)
 inputs_of (hears input other) = input ∷ []
 inputs_of _ = []
 
 -- what the replica receives in a move that may have losses
-abbrev pub inputs_in : {core : CoreState} {outcome : StepOutcome} → MoveOrLost core outcome →
+abbrev pub inputs_in : {core : CoreState} {outcome : StepOutcome} → NodeMoveOrLost core outcome →
     List (Input Command)
 inputs_in (exactly move) = inputs_of move
 inputs_in (hears_losing input did other drives) = input ∷ []
 inputs_in _ = []
 
 -- whether the replica receives something in a move, or the node crashes
-abbrev pub hears_in : {core : CoreState} {outcome : StepOutcome} → MoveOrLost core outcome → Bool
+abbrev pub hears_in : {core : CoreState} {outcome : StepOutcome} → NodeMoveOrLost core outcome →
+    Bool
 hears_in (exactly move) = moves_replica move
 hears_in (hears_losing input did other drives) = true
 hears_in _ = false

@@ -31,65 +31,65 @@ is_proposal (Proposes command) = true
 is_proposal Ticks = false
 
 -- one move of a node, without losses
-pub data Moves (core : CoreState) : StepOutcome → Type 0 where
+pub data NodeMove (core : CoreState) : StepOutcome → Type 0 where
   -- the replica receives a message or a tick, and its effects are done
-  hears : (input : Input Command) → is_proposal input ≡ false → Moves core (drives input core)
+  hears : (input : Input Command) → is_proposal input ≡ false → NodeMove core (drives input core)
   -- a connection is opened
-  opens_one : (port : Port) → Moves core (without_messages (with_next_connection port core))
+  opens_one : (port : Port) → NodeMove core (without_messages (with_next_connection port core))
   -- bytes come in on an open connection
   holds : (port : Port) (piece : List ℕ) →
-      Moves core (without_messages (changes port (with_unread piece) core))
+      NodeMove core (without_messages (changes port (with_unread piece) core))
   -- the first packet of an open connection, a CONNECT, is read and proposed, whole at this time;
   -- the log has room for it
   reads_first : (now : ℕ) (port : Port) (connection : Connection) (connect : Connect)
       (rest : List ℕ) → open_at port core ≡ Some connection → is_first connection.stage ≡ true →
       verdict connection.unread ≡ Ok (packets.Connect connect, rest) → has_room core ≡ true →
-      Moves core (proposes (commands.Connect connection.name connect.client connect.clean)
+      NodeMove core (proposes (commands.Connect connection.name connect.client connect.clean)
       (changes port (noted_proposed connect.keep_alive) (changes port (left_with now rest) core)))
   -- each later packet of an open connection is read and proposed, if the log has room for it
   reads_later : (now : ℕ) (port : Port) (connection : Connection) (packet : Packet)
       (rest : List ℕ) → open_at port core ≡ Some connection → is_first connection.stage ≡ false →
       verdict connection.unread ≡ Ok (packet, rest) → has_room core ≡ true →
-      Moves core (proposes (commands.Packet connection.name packet)
+      NodeMove core (proposes (commands.Packet connection.name packet)
       (changes port (left_with now rest) core))
   -- a connection is closed, and nothing more is read from it
-  closes : (port : Port) → Moves core (without_messages (changes port closed_connection core))
+  closes : (port : Port) → NodeMove core (without_messages (changes port closed_connection core))
   -- a connection is closed with an answer: its first packet is a CONNECT that is refused
   refuses : (port : Port) (connection : Connection) (code : RefusalCode) →
       open_at port core ≡ Some connection → is_first connection.stage ≡ true →
       verdict connection.unread ≡ Err (stops.Refused code) →
-      Moves core (without_messages (changes port (connect_refused code) core))
+      NodeMove core (without_messages (changes port (connect_refused code) core))
   -- a connection is closed, and its loss is proposed, since its Connect was
   loses_one : (port : Port) (connection : Connection) → open_at port core ≡ Some connection →
       is_proposed connection.stage ≡ true →
-      Moves core (proposes (commands.Lost connection.name) (changes port closed_connection core))
+      NodeMove core (proposes (commands.Lost connection.name) (changes port closed_connection core))
   -- the loss of a connection is proposed that was closed for want of room for what was to be sent
   loses_next : (connection : Connection) → find has_failed core.connections ≡ Some connection →
-      Moves core (proposes (commands.Lost connection.name) (closes_failed core))
+      NodeMove core (proposes (commands.Lost connection.name) (closes_failed core))
   -- an Expel of a client is proposed
-  expels_one : (client : List ℕ) → Moves core (proposes (commands.Expel client) core)
+  expels_one : (client : List ℕ) → NodeMove core (proposes (commands.Expel client) core)
   -- the replica cuts its log
-  cuts_log : can_cut core.replica.state ≡ true → Moves core (without_messages (with_cut core))
+  cuts_log : can_cut core.replica.state ≡ true → NodeMove core (without_messages (with_cut core))
   -- the node crashes
-  crashes : Moves core (without_messages (crashed core))
+  crashes : NodeMove core (without_messages (crashed core))
   -- if it no longer serves clients all connections are closed; closed ones with nothing to hand
   -- over are removed
-  settles : Moves core (without_messages (settled core))
+  settles : NodeMove core (without_messages (settled core))
   -- what was queued for a port is handed over
-  hands : (port : Port) → Moves core (without_messages (hands_over port core))
+  hands : (port : Port) → NodeMove core (without_messages (hands_over port core))
 
 -- an outcome, and another after it
 abbrev pub and_then : StepOutcome → StepOutcome → StepOutcome
 and_then first next = record { core = next.core; messages = first.messages ++ next.messages }
 
 -- moves one after another
-pub data Runs : CoreState → StepOutcome → Type 0 where
+pub data MoveTrace : CoreState → StepOutcome → Type 0 where
   -- no move
-  rests : {core : CoreState} → Runs core (without_messages core)
+  rests : {core : CoreState} → MoveTrace core (without_messages core)
   -- one move, and others after it
-  goes_on : {core : CoreState} {first next : StepOutcome} → Moves core first →
-      Runs first.core next →
-      Runs core (and_then first next)
+  goes_on : {core : CoreState} {first next : StepOutcome} → NodeMove core first →
+      MoveTrace first.core next →
+      MoveTrace core (and_then first next)
 
 -- a call of a node: it takes an item, or hands over what was queued for a port
 pub data NodeCall : Type 0 where
@@ -110,4 +110,4 @@ all_done (node_call ∷ node_calls) core =
 -- all that a node ever does, call after call, is a run of moves
 abbrev pub NodeCallsAreMoves : Type 0
 NodeCallsAreMoves =
-    (node_calls : List NodeCall) (core : CoreState) → Runs core (all_done node_calls core)
+    (node_calls : List NodeCall) (core : CoreState) → MoveTrace core (all_done node_calls core)

@@ -6,7 +6,7 @@ use Rattle.node_core.specs.Core.{CoreState, StepOutcome, serves}
 use Rattle.node_core.specs.Step.{accepted}
 use Rattle.node_moves.specs.Closed.{listed_named}
 use Rattle.node_moves.specs.Ends.{IsOrderly}
-use Rattle.node_moves.specs.Moves.{Moves}
+use Rattle.node_moves.specs.Moves.{NodeMove}
 
 -- A name of the ballot that its replica leads as the active primary, with the next number there.
 pub record IsNextName (core : CoreState) (name : ConnectionName) : Type 0 where
@@ -17,6 +17,6 @@ pub record IsNextName (core : CoreState) (name : ConnectionName) : Type 0 where
 -- each connection that is new after a move has a name of the ballot
 abbrev pub NewNamesAreOfTheBallot : Type 0
 NewNamesAreOfTheBallot =
-    (core : CoreState) (outcome : StepOutcome) (move : Moves core outcome) → IsOrderly core →
+    (core : CoreState) (outcome : StepOutcome) (move : NodeMove core outcome) → IsOrderly core →
     (name : ConnectionName) (new : Connection) → listed_named name core ≡ None →
     listed_named name outcome.core ≡ Some new → IsNextName core name

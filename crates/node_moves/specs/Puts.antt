@@ -13,12 +13,12 @@ use Rattle.exactly_once.specs.Sends.{sends_to}
 use Rattle.node_core.specs.declared.Connection.{Connection}
 use Rattle.node_core.specs.Core.{CoreState, StepOutcome, rules, serves}
 use Rattle.node_core.specs.Effects.{outcome_of_input}
-use Rattle.node_moves.specs.Moves.{Moves}
-use Rattle.node_moves.specs.Moves.Moves.{hears, reads_first, reads_later, loses_one, loses_next, expels_one, hands}
+use Rattle.node_moves.specs.Moves.{NodeMove}
+use Rattle.node_moves.specs.Moves.NodeMove.{hears, reads_first, reads_later, loses_one, loses_next, expels_one, hands}
 use Rattle.node_moves.specs.Ends.{IsOrderly, open_named}
 
 -- the effects of its replica in a move
-abbrev pub move_effects : {core : CoreState} {outcome : StepOutcome} → Moves core outcome →
+abbrev pub move_effects : {core : CoreState} {outcome : StepOutcome} → NodeMove core outcome →
     List (Effect Command Output)
 move_effects {core = core} (hears input is) = (outcome_of_input input core.replica.state).effects
 move_effects {core = core} (reads_first now port connection connect rest at first is room) =
@@ -48,7 +48,7 @@ spelled [] = []
 spelled (packet ∷ packets) = spelling packet ++ spelled packets
 
 -- whether bytes are handed over in a move
-abbrev pub is_handing : {core : CoreState} {outcome : StepOutcome} → Moves core outcome → Bool
+abbrev pub is_handing : {core : CoreState} {outcome : StepOutcome} → NodeMove core outcome → Bool
 is_handing (hands port) = true
 is_handing _ = false
 
@@ -57,7 +57,7 @@ is_handing _ = false
 -- queued.
 abbrev pub PutsInOrder : Type 0
 PutsInOrder =
-    (core : CoreState) (outcome : StepOutcome) (move : Moves core outcome) → IsOrderly core →
+    (core : CoreState) (outcome : StepOutcome) (move : NodeMove core outcome) → IsOrderly core →
     is_handing move ≡ false → (name : ConnectionName) (old new : Connection) →
     open_named name core ≡ Some old → open_named name outcome.core ≡ Some new →
     new.pending ≡ old.pending ++ spelled (sends_to name (outputs_of (move_effects move)))

@@ -4,12 +4,12 @@ use Rattle.exactly_once.specs.packet.declared.packet.Packet.{Packet}
 use Rattle.exactly_once.specs.broker_spec.Connection.{ConnectionName}
 use Rattle.exactly_once.specs.StoryCommands.{is_packet_of}
 use Rattle.node_core.specs.Core.{CoreState, StepOutcome}
-use Rattle.node_moves.specs.Moves.{Moves}
+use Rattle.node_moves.specs.Moves.{NodeMove}
 use Rattle.node_moves.specs.Ends.{IsOrderly, move_proposal, came_on, IsEnd, packet_commands_from}
 
 -- In a move the next written packets are read. Each is proposed under the name, and nothing else.
 pub record ReadsOn (name : ConnectionName) {core : CoreState} {outcome : StepOutcome}
-    (move : Moves core outcome) (written read : List Packet) (later : List ℕ) : Type 0 where
+    (move : NodeMove core outcome) (written read : List Packet) (later : List ℕ) : Type 0 where
   pub more : List Packet
   pub end : IsEnd name outcome.core written (read ++ more) later
   pub proposed : filter (λ command. is_packet_of command name) (move_proposal move)
@@ -18,7 +18,7 @@ pub record ReadsOn (name : ConnectionName) {core : CoreState} {outcome : StepOut
 -- in each move a node reads on in order on each connection, and its connections stay in order
 abbrev pub NodesReadInOrder : Type 0
 NodesReadInOrder =
-    (core : CoreState) (outcome : StepOutcome) (move : Moves core outcome) → IsOrderly core →
+    (core : CoreState) (outcome : StepOutcome) (move : NodeMove core outcome) → IsOrderly core →
     IsOrderly outcome.core
     × ((name : ConnectionName) (written read : List Packet) (in_transit later : List ℕ) →
     IsEnd name core written read in_transit →

@@ -9,20 +9,20 @@ use Rattle.exactly_once.specs.lists.Lists.{IsPrefixOf}
 use Rattle.node_core.specs.cutter.Pipe.{Joins}
 use Rattle.exactly_once.specs.StoryCommands.{is_packet_of}
 use Rattle.node_core.specs.Core.{CoreState, StepOutcome, opening_core}
-use Rattle.node_moves.specs.Moves.Moves.{reads_first, reads_later}
-use Rattle.node_moves.specs.Moves.{Moves, Runs}
-use Rattle.node_moves.specs.Moves.Runs.{rests, goes_on}
+use Rattle.node_moves.specs.Moves.NodeMove.{reads_first, reads_later}
+use Rattle.node_moves.specs.Moves.{NodeMove, MoveTrace}
+use Rattle.node_moves.specs.Moves.MoveTrace.{rests, goes_on}
 use Rattle.node_moves.specs.Ends.{move_proposal, came_on, IsEnd, packet_commands_from}
 
 -- the commands that it proposes in a run, in order
-abbrev pub run_proposals : {core : CoreState} {outcome : StepOutcome} → Runs core outcome →
+abbrev pub run_proposals : {core : CoreState} {outcome : StepOutcome} → MoveTrace core outcome →
     List Command
 run_proposals rests = []
 run_proposals (goes_on move run) = move_proposal move ++ run_proposals run
 
 -- the bytes that come on the connection of a name in it, in order
 abbrev pub bytes_on : ConnectionName → {core : CoreState} {outcome : StepOutcome} →
-    Runs core outcome → List ℕ
+    MoveTrace core outcome → List ℕ
 bytes_on name rests = []
 bytes_on name (goes_on move run) = came_on name move ++ bytes_on name run
 
@@ -41,13 +41,14 @@ pub record Proposes (name : ConnectionName) (core : CoreState) (proposals : List
 -- have
 abbrev pub NodesProposeInOrder : Type 0
 NodesProposeInOrder =
-    (id : ℕ) (config : Config) (outcome : StepOutcome) (run : Runs (opening_core id config) outcome)
+    (id : ℕ) (config : Config) (outcome : StepOutcome)
+    (run : MoveTrace (opening_core id config) outcome)
     (name : ConnectionName) (written : List Packet) (later : List ℕ) → 0 < name.count →
     Joins written (bytes_on name run ++ later) →
     Proposes name outcome.core (run_proposals run) written later
 
 -- whether a move reads a packet
-abbrev pub is_read : {core : CoreState} {outcome : StepOutcome} → Moves core outcome → Bool
+abbrev pub is_read : {core : CoreState} {outcome : StepOutcome} → NodeMove core outcome → Bool
 is_read (reads_first now port connection connect rest at first is room) = true
 is_read (reads_later now port connection packet rest at later is room) = true
 is_read _ = false
@@ -56,6 +57,7 @@ is_read _ = false
 -- nothing is removed from it: so none is read after one that was not taken.
 abbrev pub ReadsAreTaken : Type 0
 ReadsAreTaken =
-    (core : CoreState) (outcome : StepOutcome) (move : Moves core outcome) → is_read move ≡ true →
+    (core : CoreState) (outcome : StepOutcome) (move : NodeMove core outcome) →
+    is_read move ≡ true →
     outcome.core.replica.state.log
     ≡ record core.replica.state.log { rest = core.replica.state.log.rest ++ move_proposal move }
