@@ -12,7 +12,7 @@ use Rattle.exactly_once.specs.Sends.{put_to}
 use Rattle.exactly_once.specs.Sides.{ClientConnection}
 use Rattle.packet_world.specs.World.{ClientsAreApart, ClientEnds, End, World, with_client}
 use Rattle.packet_world.specs.Steps.{HasPipe, Reached}
-use Rattle.packet_world.specs.Steps.Goes.{reads}
+use Rattle.packet_world.specs.Steps.PacketWorldStep.{reads}
 use Rattle.packet_world.specs.Steps.Reached.{goes_on}
 use Rattle.packet_world.specs.PutOut.{broker_rules, end_given}
 use Rattle.packet_world.proofs.Ends.{pipe_at}

@@ -21,7 +21,7 @@ use Rattle.exactly_once.specs.StoryCommands.{any_named}
 use Rattle.exactly_once.proofs.publishing.Grown.{handled_grows}
 use Rattle.packet_world.specs.World.{ClientsAreApart, ClientEnds, End, IsFresh, World, new_end, story_of, with_client}
 use Rattle.packet_world.specs.Steps.{Reached, after_opening, is_call}
-use Rattle.packet_world.specs.Steps.Goes.{calls, handles, opens}
+use Rattle.packet_world.specs.Steps.PacketWorldStep.{calls, handles, opens}
 use Rattle.packet_world.specs.Steps.Reached.{goes_on}
 use Rattle.packet_world.proofs.Ends.{pipe_at}
 use Rattle.packet_world.proofs.Holds.{HasPipes}

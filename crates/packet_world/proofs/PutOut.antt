@@ -19,7 +19,7 @@ use Rattle.exactly_once.specs.Sends.{sends_to}
 use Rattle.exactly_once.proofs.Deliveries.{sends_append}
 use Rattle.packet_world.specs.World.{End, ClientEnds, World, with_client}
 use Rattle.packet_world.specs.Steps.{Reached, shown}
-use Rattle.packet_world.specs.Steps.Goes.{answers}
+use Rattle.packet_world.specs.Steps.PacketWorldStep.{answers}
 use Rattle.packet_world.specs.Steps.Reached.{goes_on}
 use Rattle.packet_world.specs.PutOut.{GivenIsPutOut, outputs_alone, broker_rules, end_given}
 use Rattle.packet_world.proofs.BrokerRules.{gives_answers}

@@ -15,7 +15,7 @@ use Rattle.exactly_once.specs.Sides.{ClientConnection}
 use Rattle.exactly_once.specs.StoryCommands.{is_packet_of, with_one_counted, command_of}
 use Rattle.packet_world.specs.World.{End, ClientEnds, World, ClientsAreApart}
 use Rattle.packet_world.specs.Steps.{HasPipe, Reached, is_of_connection}
-use Rattle.packet_world.specs.Steps.Goes.{agrees, agrees_else}
+use Rattle.packet_world.specs.Steps.PacketWorldStep.{agrees, agrees_else}
 use Rattle.packet_world.specs.Steps.Reached.{goes_on}
 use Rattle.packet_world.specs.Exact.{commands_from}
 use Rattle.packet_world.specs.Served.{IsOfPipe, ServesWorld, untaken, CommandsLeadTo, WorldsAreServed}

@@ -23,7 +23,7 @@ use Rattle.exactly_once.specs.Story.StoryStep.{subscribes, publishes_one, loses}
 use Rattle.exactly_once.specs.Rows.{writer, first_name, second_name, news, asks_for_news}
 use Rattle.packet_world.specs.World.{End, ClientEnds, World}
 use Rattle.packet_world.specs.Steps.{Reached}
-use Rattle.packet_world.specs.Steps.Goes.{calls, opens as gets_connection, handles, reads, answers, closes, agrees, agrees_else}
+use Rattle.packet_world.specs.Steps.PacketWorldStep.{calls, opens as gets_connection, handles, reads, answers, closes, agrees, agrees_else}
 use Rattle.packet_world.specs.Steps.Reached.{begins, goes_on}
 use Rattle.packet_world.specs.Rows.{AcceptsOnce}
 

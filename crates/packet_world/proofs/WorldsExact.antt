@@ -8,8 +8,8 @@ use Rattle.snapshots.proofs.of_lists.OfEach.{each_then}
 use Rattle.exactly_once.specs.Sides.{ClientConnection}
 use Rattle.exactly_once.proofs.sessions.LivesExact.{lives_exact}
 use Rattle.packet_world.specs.World.{End, ClientEnds, World, ClientsAreApart, story_of, with_client}
-use Rattle.packet_world.specs.Steps.{Goes, Reached, HasPipe}
-use Rattle.packet_world.specs.Steps.Goes.{calls, opens, handles, reads, answers, closes, agrees, agrees_else}
+use Rattle.packet_world.specs.Steps.{PacketWorldStep, Reached, HasPipe}
+use Rattle.packet_world.specs.Steps.PacketWorldStep.{calls, opens, handles, reads, answers, closes, agrees, agrees_else}
 use Rattle.packet_world.specs.Steps.Reached.{begins, goes_on}
 use Rattle.packet_world.specs.Exact.{PipesInOrder, WorldsAreExact, IsExactInStep}
 use Rattle.packet_world.proofs.Lists.{each_get}
@@ -29,7 +29,7 @@ keeps_end w i j c κ e later h pipe keeps =
     (end_set w.agreed c.connections c.ends j κ later pipes pipe.connection (keeps (pipe_at w.agreed c.connections c.ends j κ e pipes pipe.connection pipe.end)))
     (record { client = refl; names = λ test. refl })
 
-holds_on : (v w : World) → Holds v → Goes v w → Holds w
+holds_on : (v w : World) → Holds v → PacketWorldStep v w → Holds w
 holds_on v w h (calls i c t happens there' call) = keeps_call v i c t happens h there' call
 holds_on v w h (opens i c x seen there' fresh within) = keeps_opened v i c x seen h there' fresh within (opened_parted v.clients i c x seen h.apart there' fresh)
 holds_on v w h (handles i c κ e others ends packet there' are ends_are opened next) = keeps_handled v i c κ e others ends packet h there' are ends_are opened next

@@ -66,55 +66,55 @@ pub record HasPipe (world : World) (index : ℕ) (client_ends : ClientEnds) (nth
   pub end : slice_get client_ends.ends nth ≡ Some node_end
 
 -- one step of a world
-pub data Goes (world : World) : World → Type 0 where
+pub data PacketWorldStep (world : World) : World → Type 0 where
   -- a client calls, or loses its connection
   calls : (index : ℕ) (client : ClientEnds) (after : Story)
       (step : StoryStep usual_limits (story_of world.agreed client) after) →
       slice_get world.clients index ≡ Some client → is_call step ≡ true →
-      Goes world (with_client index
+      PacketWorldStep world (with_client index
       (record client { keeper = after.keeper; connections = after.connections }) world)
   -- a client opens a connection, which gets a name that no connection ever had
   opens : (index : ℕ) (client : ClientEnds) (name : ConnectionName) (seen : ℕ) →
       slice_get world.clients index ≡ Some client → IsFresh name world.clients →
       seen ≤ length world.agreed →
-      Goes world (with_client index (after_opening name seen client) world)
+      PacketWorldStep world (with_client index (after_opening name seen client) world)
   -- a client handles the next packet that was sent on the connection that it holds
   handles : (index : ℕ) (client : ClientEnds) (connection : ClientConnection) (end : End)
       (others : List ClientConnection) (ends : List End) (packet : Packet) →
       slice_get world.clients index ≡ Some client → client.connections ≡ connection ∷ others →
       client.ends ≡ end ∷ ends → client.keeper.is_open ≡ true →
       slice_get end.put connection.handled ≡ Some packet →
-      Goes world (with_client index (after_packet others (end ∷ ends)
+      PacketWorldStep world (with_client index (after_packet others (end ∷ ends)
       (packet_handled packet (record { keeper = client.keeper; connection = connection }))) world)
   -- a node reads the next packet of an open connection, and proposes it
   reads : (index nth : ℕ) (client : ClientEnds) (connection : ClientConnection) (end : End) →
       HasPipe world index client nth connection end → end.is_open ≡ true →
-      end.read < length connection.written → Goes world (with_client index
+      end.read < length connection.written → PacketWorldStep world (with_client index
       (record client { ends = set client.ends nth (record end { read = suc end.read }) }) world)
   -- a node applies the next agreed place, and sends what the broker answers on an open connection
   answers : (index nth : ℕ) (client : ClientEnds) (connection : ClientConnection) (end : End)
       (next : Command) → HasPipe world index client nth connection end → end.is_open ≡ true →
-      slice_get world.agreed end.seen ≡ Some next → Goes world (with_client index (record client {
+      slice_get world.agreed end.seen ≡ Some next → PacketWorldStep world (with_client index (record client {
         ends = set client.ends nth (shown world.agreed connection.name next end);
       }) world)
   -- a node's end is closed, alone or with its node
   closes : (index nth : ℕ) (client : ClientEnds) (connection : ClientConnection) (end : End) →
-      HasPipe world index client nth connection end → Goes world (with_client index
+      HasPipe world index client nth connection end → PacketWorldStep world (with_client index
       (record client { ends = set client.ends nth (record end { is_open = false }) }) world)
   -- of what was proposed for a connection, the next comes next in the agreed list
   agrees : (index nth : ℕ) (client : ClientEnds) (connection : ClientConnection) (end : End)
       (written : Written) → HasPipe world index client nth connection end →
       connection.taken < end.read → slice_get connection.written connection.taken ≡ Some written →
-      Goes world (record {
+      PacketWorldStep world (record {
         agreed = world.agreed ++ command_of connection.name connection.taken written.packet ∷ [];
         clients = set world.clients index
             (record client { connections = with_one_counted nth client.connections });
       })
   -- the loss of a connection, the start of a ballot, or an Expel comes next in the agreed list
   agrees_else : (command : Command) → is_of_connection command ≡ false →
-      Goes world (record world { agreed = world.agreed ++ command ∷ [] })
+      PacketWorldStep world (record world { agreed = world.agreed ++ command ∷ [] })
 
 -- the worlds that are reached with these clients
 pub data Reached (clients : List Client) : World → Type 0 where
   begins : Reached clients (opening clients)  -- the world opens
-  goes_on : {v w : World} → Reached clients v → Goes v w → Reached clients w  -- one more step
+  goes_on : {v w : World} → Reached clients v → PacketWorldStep v w → Reached clients w  -- one more step
