@@ -29,8 +29,8 @@ use Rattle.master.specs.Outcomes.EventOutcome.{by_node, by_cut, by_master, unhee
 use Rattle.master.specs.Group.{GroupState}
 use Rattle.master.specs.Exact.{takes, hears, comes, gives, event_outcome, moment_after_event, group_step}
 use Rattle.master.specs.Outcomes.{NodeOutcome, EventOutcome, running, can_take, outcome_of_taking, stopping, cut_outcome, outcome_of_cutting}
-use Rattle.master.specs.Steps.{Freezes, Happens, GroupEventOrLost, GroupLosesNothing}
-use Rattle.master.specs.Steps.Happens.{nothing_happens, node_goes, master_goes}
+use Rattle.master.specs.Steps.{Freezes, GroupEventLosing, GroupEventOrLost, GroupLosesNothing}
+use Rattle.master.specs.Steps.GroupEventLosing.{nothing_happens, node_goes, master_goes}
 use Rattle.master.specs.Inside.{RunsAt, asks_for}
 use Rattle.master.specs.Inside.Losing.{GroupCutOrLost, GroupMasterStepOrLost, GroupNodeStepOrLost}
 
@@ -90,7 +90,7 @@ steps_turn {S = S} {C = C} {O = O} rules old new event t e took =
     by_way : ((took.state ≡ t.outcome.state) × (took.given ≡ t.outcome.effects) × (new.losses ≡ old.losses))
         ⊎ (Loses rules t.before t.outcome took.state took.given × (new.losses ≡ one_more old.losses)) →
         ((new.moment ≡ group_step rules event old.moment) × (new.losses ≡ old.losses))
-        ⊎ (Happens rules old.moment event new.moment × (new.losses ≡ one_more old.losses))
+        ⊎ (GroupEventLosing rules old.moment event new.moment × (new.losses ≡ one_more old.losses))
     by_way (inl (a, b, c)) =
         inl (
           took.moment ∙ ap (λ (s : ReplicaState S C). let z : Moment S C O = record old.moment { world = moved old.moment.world t.index s took.given } in z) a
@@ -98,7 +98,7 @@ steps_turn {S = S} {C = C} {O = O} rules old new event t e took =
               ∙ ap (moment_after_event old.moment) (sym e),
           c,
         )
-    by_way (inr (a, b)) = inr (subst (λ (v : Moment S C O). Happens rules old.moment event v) (sym took.moment) (node_goes t e a), b)
+    by_way (inr (a, b)) = inr (subst (λ (v : Moment S C O). GroupEventLosing rules old.moment event v) (sym took.moment) (node_goes t e a), b)
 
 -- and the same for one of the master
 pub steps_master : {S C O : Type 0} (rules : Rules S C O) (old new : GroupState S C O) (event : Event C) (o : MasterOutcome C) →
@@ -109,9 +109,9 @@ steps_master {S = S} {C = C} {O = O} rules old new event o e took =
     by_way : ((new.moment ≡ record { master = o.state; world = sends_from_master old.moment.world o }) × (new.losses ≡ old.losses))
         ⊎ ((new.moment ≡ record old.moment { master = o.state }) × (new.losses ≡ one_more old.losses)) →
         ((new.moment ≡ group_step rules event old.moment) × (new.losses ≡ old.losses))
-        ⊎ (Happens rules old.moment event new.moment × (new.losses ≡ one_more old.losses))
+        ⊎ (GroupEventLosing rules old.moment event new.moment × (new.losses ≡ one_more old.losses))
     by_way (inl (a, b)) = inl (a ∙ ap (moment_after_event old.moment) (sym e), b)
-    by_way (inr (a, b)) = inr (subst (λ (v : Moment S C O). Happens rules old.moment event v) (sym a) (master_goes o e), b)
+    by_way (inr (a, b)) = inr (subst (λ (v : Moment S C O). GroupEventLosing rules old.moment event v) (sym a) (master_goes o e), b)
 
 -- nothing happened, because memory ran out
 pub steps_lost : {S C O : Type 0} (rules : Rules S C O) (old new : GroupState S C O) (event : Event C) →
@@ -146,7 +146,7 @@ pub steps_exactly : {S C O : Type 0} (rules : Rules S C O) (old new : GroupState
 steps_exactly rules old new event s exact = by_way s.way
   where
     by_way : ((new.moment ≡ group_step rules event old.moment) × (new.losses ≡ old.losses))
-        ⊎ (Happens rules old.moment event new.moment × (new.losses ≡ one_more old.losses)) → new.moment ≡ group_step rules event old.moment
+        ⊎ (GroupEventLosing rules old.moment event new.moment × (new.losses ≡ one_more old.losses)) → new.moment ≡ group_step rules event old.moment
     by_way (inl (a, b)) = a
     by_way (inr (a, b)) =
         let f : old.losses ≡ min (old.losses + 1) (2 ^ 64 - 1) = sym exact.0 ∙ b in let below = exact.1 in absurd (omega (arith, f, below))

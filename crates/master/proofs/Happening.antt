@@ -31,8 +31,8 @@ use Rattle.master.specs.Group.{GroupState}
 use Rattle.master.specs.Exact.{takes, hears, comes, comes_to, gives, event_outcome, moment_after_event, group_step}
 use Rattle.master.specs.Outcomes.{NodeOutcome, EventOutcome, running, unless_stopped, can_take, outcome_of_taking, stopping, cut_outcome, outcome_of_cutting}
 use Rattle.master.specs.Outcomes.EventOutcome.{by_node, by_cut, by_master, unheeded}
-use Rattle.master.specs.Steps.{Freezes, GroupEventOrLost, Happens}
-use Rattle.master.specs.Steps.Happens.{nothing_happens, node_goes, master_goes}
+use Rattle.master.specs.Steps.{Freezes, GroupEventOrLost, GroupEventLosing}
+use Rattle.master.specs.Steps.GroupEventLosing.{nothing_happens, node_goes, master_goes}
 use Rattle.ballot.specs.ballot_base.Losses.{one_more}
 
 -- what may happen between two moments
@@ -349,7 +349,7 @@ master_turn_lost {S = S} {C = C} {O = O} rules a o (it_answers from b sent is) =
     subst (λ (x : MasterOutcome C). MayHappen rules a.master a.world x.state a.world) (sym is) (answer_lost from b sent)
 
 -- what an event does with losses may happen
-happens_may : {S C O : Type 0} (rules : Rules S C O) {a b : Moment S C O} {e : Event C} → Happens rules a e b → MayGo rules a b
+happens_may : {S C O : Type 0} (rules : Rules S C O) {a b : Moment S C O} {e : Event C} → GroupEventLosing rules a e b → MayGo rules a b
 happens_may rules {a = a} nothing_happens = nothing_may rules a
 happens_may rules {a = a} {e = e} (node_goes t {new = new} {given = given} is loses) =
     node_may rules a.master a.world t new given (turn_is rules a e t is) loses
@@ -371,7 +371,7 @@ pub step_may : {S C O : Type 0} (rules : Rules S C O) (old new : GroupState S C 
 step_may {S = S} {C = C} {O = O} rules old new e s = by_frozen s.freezes
   where
     by_way : Freezes rules (event_outcome rules old.moment e) → ((new.moment ≡ group_step rules e old.moment) × (new.losses ≡ old.losses))
-        ⊎ (Happens rules old.moment e new.moment × (new.losses ≡ one_more old.losses)) → MayGo rules old.moment new.moment
+        ⊎ (GroupEventLosing rules old.moment e new.moment × (new.losses ≡ one_more old.losses)) → MayGo rules old.moment new.moment
     by_way f (inl (a, b)) = subst (λ (v : Moment S C O). MayGo rules old.moment v) (sym a) (exactly_may rules old.moment e (event_outcome rules old.moment e) refl f)
     by_way f (inr (a, b)) = happens_may rules a
 

@@ -14,21 +14,21 @@ use Rattle.snapshots.proofs.PastsAgree.{agreed_grows, has_agreed, nodes_agree}
 use Rattle.master.specs.declared.event.Event.{Event}
 use Rattle.master.specs.Group.{GroupState}
 use Rattle.master.specs.Exact.{group_step, group_run}
-use Rattle.master.specs.Steps.{Happens, GroupRunOrLost, GroupEventOrLost, GroupLosesNothing}
-use Rattle.master.specs.Steps.GroupRunOrLost.{ends, goes_on}
+use Rattle.master.specs.Steps.{GroupEventLosing, GroupTraceOrLost, GroupEventOrLost, GroupLosesNothing}
+use Rattle.master.specs.Steps.GroupTraceOrLost.{ends, goes_on}
 use Rattle.master.specs.Agreement.{AgreesAfter}
 use Rattle.master.proofs.Counting.{steps_exactly}
 use Rattle.master.proofs.Happening.{step_may}
 
 -- what is seen of a group after some events
 pub record Ran {S C O : Type 0} (rules : Rules S C O) (old : GroupState S C O) (events : List (Event C)) (new : GroupState S C O) : Type 0 where
-  pub ran : GroupRunOrLost rules old events new
+  pub ran : GroupTraceOrLost rules old events new
   pub counts : old.losses ≤ 2 ^ 64 - 1 → (old.losses ≤ new.losses) × (new.losses ≤ 2 ^ 64 - 1)
   pub exact : GroupLosesNothing old new → new.moment ≡ group_run rules events old.moment
 
 -- one event more
 run_more : {S C O : Type 0} {rules : Rules S C O} {w v u : GroupState S C O} {events : List (Event C)} {e : Event C} →
-    GroupRunOrLost rules w events v → GroupEventOrLost rules v e u → GroupRunOrLost rules w (events ++ e ∷ []) u
+    GroupTraceOrLost rules w events v → GroupEventOrLost rules v e u → GroupTraceOrLost rules w (events ++ e ∷ []) u
 run_more ends s = goes_on s ends
 run_more (goes_on t r) s = goes_on t (run_more r s)
 
@@ -42,7 +42,7 @@ counted : {S C O : Type 0} (rules : Rules S C O) (old new : GroupState S C O) (e
 counted {S = S} {C = C} {O = O} rules old new e s = by_way s.way
   where
     by_way : ((new.moment ≡ group_step rules e old.moment) × (new.losses ≡ old.losses))
-        ⊎ (Happens rules old.moment e new.moment × (new.losses ≡ one_more old.losses)) → (new.losses ≡ old.losses) ⊎ (new.losses ≡ one_more old.losses)
+        ⊎ (GroupEventLosing rules old.moment e new.moment × (new.losses ≡ one_more old.losses)) → (new.losses ≡ old.losses) ⊎ (new.losses ≡ one_more old.losses)
     by_way (inl (a, b)) = inl b
     by_way (inr (a, b)) = inr b
 
@@ -93,7 +93,7 @@ one_agreed {S = S} {C = C} {O = O} config past xs ys x y = by_chosen x.chosen
     by_chosen (inr (b, active, chosen)) = y.longest b xs active chosen
 
 went : {S C O : Type 0} (rules : Rules S C O) (config : Config) (w v : GroupState S C O) (past : List (Moment S C O)) (events : List (Event C)) →
-    Moments rules config (w.moment ∷ past) → GroupRunOrLost rules w events v → Went rules config (w.moment ∷ past) v.moment
+    Moments rules config (w.moment ∷ past) → GroupTraceOrLost rules w events v → Went rules config (w.moment ∷ past) v.moment
 went rules config w v past events came ends =
     record { earlier = past; between = []; goes_on = refl; came = came; grown = λ xs ys before after. one_agreed config (map whole_moment (w.moment ∷ past)) xs ys before after }
 went {S = S} {C = C} {O = O} rules config w v past events came (goes_on {next = u} {e = e} {events = rest} s r) =
@@ -110,7 +110,7 @@ went {S = S} {C = C} {O = O} rules config w v past events came (goes_on {next = 
 
 -- so the nodes agree after a run
 pub agrees_after : {S C O : Type 0} (rules : Rules S C O) (config : Config) (first last : GroupState S C O) (past : List (Moment S C O)) (events : List (Event C)) →
-    Moments rules config (first.moment ∷ past) → GroupRunOrLost rules first events last → AgreesAfter rules config (first.moment ∷ past) last.moment
+    Moments rules config (first.moment ∷ past) → GroupTraceOrLost rules first events last → AgreesAfter rules config (first.moment ∷ past) last.moment
 agrees_after {S = S} {C = C} rules config first last past events came r =
     let q = went rules config first last past events came r in
     let xs = has_agreed rules config last.moment q.earlier q.came in

@@ -16,20 +16,22 @@ use Rattle.master.specs.Outcomes.EventOutcome.{by_node, by_cut, by_master, unhee
 
 -- what an event may do if memory runs out: nothing (then no log is cut), the step of its node with
 -- losses, or that of the master, whose message is lost
-pub data Happens {S C O : Type 0} (rules : Rules S C O) :
+pub data GroupEventLosing {S C O : Type 0} (rules : Rules S C O) :
     Moment S C O → Event C → Moment S C O → Type 0 where
   -- nothing is done
-  nothing_happens : {moment : Moment S C O} {event : Event C} → Happens rules moment event moment
+  nothing_happens : {moment : Moment S C O} {event : Event C} →
+      GroupEventLosing rules moment event moment
   -- the node of the event takes its step, with losses
   node_goes : {moment : Moment S C O} {event : Event C} (step : NodeOutcome S C O)
       {new : ReplicaState S C} {given : List (Effect C O)} →
       event_outcome rules moment event ≡ Some (by_node step) →
       Loses rules step.before step.outcome new given →
-      Happens rules moment event (record moment { world = moved moment.world step.index new given })
+      GroupEventLosing rules moment event
+      (record moment { world = moved moment.world step.index new given })
   -- the master goes on, and its message is lost
   master_goes : {moment : Moment S C O} {event : Event C} (answer : MasterOutcome C) →
       event_outcome rules moment event ≡ Some (by_master answer) →
-      Happens rules moment event (record moment { master = answer.state })
+      GroupEventLosing rules moment event (record moment { master = answer.state })
 
 -- an event that needs no memory: it reaches no node, or a master that ignores it; or, by the
 -- protocol, its node sends nothing, keeps its log and applies nothing, though it may learn
@@ -68,19 +70,19 @@ Freezes rules (Some unheeded) = Unit {0}
 pub record GroupEventOrLost {S C O : Type 0} (rules : Rules S C O) (old : GroupState S C O)
     (event : Event C) (new : GroupState S C O) : Type 0 where
   pub way : ((new.moment ≡ group_step rules event old.moment) × (new.losses ≡ old.losses))
-      ⊎ (Happens rules old.moment event new.moment × (new.losses ≡ one_more old.losses))
+      ⊎ (GroupEventLosing rules old.moment event new.moment × (new.losses ≡ one_more old.losses))
   pub freezes : Freezes rules (event_outcome rules old.moment event) ⊎ (new.moment ≡ old.moment)
 
 -- events one after another, each done exactly or with losses that were counted: no loss excuses
 -- another event
-pub data GroupRunOrLost {S C O : Type 0} (rules : Rules S C O) :
+pub data GroupTraceOrLost {S C O : Type 0} (rules : Rules S C O) :
     GroupState S C O → List (Event C) → GroupState S C O → Type 0 where
   -- no event
-  ends : {first : GroupState S C O} → GroupRunOrLost rules first [] first
+  ends : {first : GroupState S C O} → GroupTraceOrLost rules first [] first
   -- one event, exact or with a loss that is counted, and others after it
   goes_on : {first next last : GroupState S C O} {e : Event C} {events : List (Event C)} →
-      GroupEventOrLost rules first e next → GroupRunOrLost rules next events last →
-      GroupRunOrLost rules first (e ∷ events) last
+      GroupEventOrLost rules first e next → GroupTraceOrLost rules next events last →
+      GroupTraceOrLost rules first (e ∷ events) last
 
 -- the count is exact as long as it is below its greatest number
 abbrev pub GroupLosesNothing : {S C O : Type 0} → GroupState S C O → GroupState S C O → Type 0

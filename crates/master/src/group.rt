@@ -18,7 +18,7 @@ ghost use Rattle.master.specs.Exact.{event_outcome, group_step, group_run};
 ghost use Rattle.master.specs.Outcomes.{running};
 ghost use Rattle.master.specs.Inside.{HoldsAt, IsShort, RunsAt, held_by};
 ghost use Rattle.master.specs.Inside.Losing.{GroupNodeStepOrLost, input_of};
-ghost use Rattle.master.specs.Steps.{GroupRunOrLost, GroupEventOrLost, GroupTakesNoMemory, GroupLosesNothing, done_exactly};
+ghost use Rattle.master.specs.Steps.{GroupTraceOrLost, GroupEventOrLost, GroupTakesNoMemory, GroupLosesNothing, done_exactly};
 
 use crate::event::{Event, Idle};
 use crate::inputs::{Input, counted, part, step_replica};
@@ -153,7 +153,7 @@ impl<M: Machine> Group<M> {
     /// Lets events happen one after another. Idle ones are skipped.
     pub fn run(&mut self, events: &[Event<M::Command>])
         // Each event is done exactly, or with losses that are counted for it.
-        ensures run { GroupRunOrLost M.rules self.old events.now self.new }
+        ensures run { GroupTraceOrLost M.rules self.old events.now self.new }
         ensures exact { GroupLosesNothing self.old self.new →
             self.new.moment ≡ group_run M.rules events.now self.old.moment }
         // Whatever led to this group, the nodes agree after the events, the outputs that left are
