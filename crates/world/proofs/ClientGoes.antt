@@ -1,4 +1,4 @@
--- ClientGoes.antt: if a client takes a step, its world does.
+-- ClientTrace.antt: if a client takes a step, its world does.
 use Rattle.std.proofs.Common.{◌≡◌, ◌≤◌, ℕ, List, [], ◌++◌, Some, set, slice_get, refl, sym, ap, ap₂, ◌∙◌, subst, arith}
 use Rattle.std.proofs.lemmas.List.{append-nil, map-append, set-set}
 use Rattle.escaping_client.proofs.of_lists.Places.{get_set}
@@ -6,7 +6,7 @@ use Rattle.headline.specs.byte_world.World.{ClientPipes, World, with_client}
 use Rattle.headline.specs.byte_world.Published.{from_client}
 use Rattle.session_base.specs.declared.publication.Publication.{Publication}
 use Rattle.world_pipes.specs.Following.{FollowsAll, FollowsBy}
-use Rattle.world_pipes.specs.Steps.{ClientGoes, published_in_steps as published_with, published_with as published_with_one}
+use Rattle.world_pipes.specs.Steps.{ClientTrace, published_in_steps as published_with, published_with as published_with_one}
 use Rattle.world_pipes.specs.Piped.{Piped}
 use Rattle.world_pipes.proofs.StepsInWorlds.{steps_in_worlds}
 use Rattle.world_clients.specs.declared.connection_slot.ConnectionSlot.{ConnectionSlot}
@@ -35,13 +35,13 @@ record StepsTo (asked : List Publication) (w : World) (i : ℕ) (d : ClientPipes
   pub by : StepsBy (from_client i asked) w (set w.clients i d)
   pub at : slice_get (with_client i d w).clients i ≡ Some d
 
-steps_to : (w : World) (i : ℕ) {c d : ClientPipes} → slice_get w.clients i ≡ Some c → (goes : ClientGoes c d) → StepsTo (published_with goes) w i d
-steps_to w i {c = c} at ClientGoes.stays =
+steps_to : (w : World) (i : ℕ) {c d : ClientPipes} → slice_get w.clients i ≡ Some c → (goes : ClientTrace c d) → StepsTo (published_with goes) w i d
+steps_to w i {c = c} at ClientTrace.stays =
     record {
       by = subst (λ (cs : List ClientPipes). StepsBy [] w cs) (sym (set_itself w.clients i c at)) (record { steps = rests; asked_is = refl });
       at = get_set w.clients i c c at;
     }
-steps_to w i {c = c} at (ClientGoes.goes_on {d = d} {e = e} goes step) =
+steps_to w i {c = c} at (ClientTrace.goes_on {d = d} {e = e} goes step) =
     let first = steps_to w i at goes in
     let last = steps_in_worlds (with_client i d w) i d e first.at step in
     record {

@@ -2,7 +2,7 @@
 use Rattle.std.proofs.Common.{◌≡◌, ℕ, List, refl, sym, ap, ◌∙◌, subst, Bool, Result, Ok, Err}
 use Rattle.session_base.specs.declared.publication.Publication.{Publication}
 use Rattle.world_pipes.specs.Following.{FollowsAll, FollowsLosing, after_losing}
-use Rattle.world_pipes.specs.Steps.{ClientGoes}
+use Rattle.world_pipes.specs.Steps.{ClientTrace}
 use Rattle.world_pipes.specs.Piped.{Piped, Calls}
 use Rattle.client.specs.client_base.declared.error.ClientError.{ClientError}
 use Rattle.client.specs.client_base.declared.error.ClientError.TheVariants as errors
@@ -19,7 +19,7 @@ losing_goes old new follows m s = let f = follows m s in record { next = after_l
 
 -- one that receives nothing stays as it is
 pub stays_all : (old new : Piped) → new ≡ old → FollowsAll old new
-stays_all old new same m s = record { next = m; goes = ClientGoes.stays; publishes = refl; stands = subst (λ p. ClientStandsFor p m) (sym same) s }
+stays_all old new same m s = record { next = m; goes = ClientTrace.stays; publishes = refl; stands = subst (λ p. ClientStandsFor p m) (sym same) s }
 
 pub is_call : (call : Call) (old : Piped) (done : Result Sending ClientError) (new : Piped) → Calls (keeper_step call old.core.state) old done new → IsCall call old done new
 is_call call old (Ok sending) new calls = calls

@@ -14,7 +14,7 @@ use Rattle.client.specs.Core.{Core, AnswersCall, LeavesServer}
 use Rattle.world_pipes.specs.declared.sending.Sending.{Sending}
 use Rattle.world_pipes.specs.declared.sending.Sending.TheVariants as sendings
 use Rattle.world_pipes.specs.Following.{CallingFollows, FollowsBy}
-use Rattle.world_pipes.specs.Steps.{ClientGoes, ClientStep}
+use Rattle.world_pipes.specs.Steps.{ClientTrace, ClientStep}
 use Rattle.world_pipes.specs.Piped.{Calls, Piped, TakesLeave, is_holding, piped}
 use Rattle.world_pipes.specs.StandsFor.{ClientStandsFor}
 use Rattle.byte_world.specs.World.{after_writing}
@@ -127,9 +127,9 @@ calling_goes published old (Ok sendings.Sent) new follows = λ m s.
     let f = follows m s in
     record {
       next = after_writing f.story.keeper f.story.connections m;
-      goes = ClientGoes.goes_on ClientGoes.stays (ClientStep.calls f.story f.call f.is_one f.spelled);
+      goes = ClientTrace.goes_on ClientTrace.stays (ClientStep.calls f.story f.call f.is_one f.spelled);
       publishes = f.publishes;
       stands = f.stands;
     }
 calling_goes published old (Ok sendings.Lost) new follows = follows
-calling_goes published old (Err cause) new same = λ m s. record { next = m; goes = ClientGoes.stays; publishes = refl; stands = subst (λ p. ClientStandsFor p m) (sym same) s }
+calling_goes published old (Err cause) new same = λ m s. record { next = m; goes = ClientTrace.stays; publishes = refl; stands = subst (λ p. ClientStandsFor p m) (sym same) s }

@@ -21,7 +21,7 @@ use Rattle.world_pipes.specs.declared.sending.Sending.{Sending}
 use Rattle.world_pipes.specs.declared.sending.Sending.TheVariants as sendings
 use Rattle.world_pipes.specs.declared.way.Way.{Way}
 use Rattle.world_pipes.specs.Following.{CallingFollows, after_losing}
-use Rattle.world_pipes.specs.Steps.{ClientGoes, ClientStep}
+use Rattle.world_pipes.specs.Steps.{ClientTrace, ClientStep}
 use Rattle.world_pipes.specs.Piped.{Calls, GoesUp, GoesUpWhere, Piped, TakesLeave, broken, is_holding, piped}
 use Rattle.world_pipes.specs.Piped as pipings
 use Rattle.byte_world.specs.exactly_once.Acceptance.{accepted_on}
@@ -139,7 +139,7 @@ up_follows published outcome old core sendings.Lost new up has is = λ m s.
     let step : ClientStep m m₁ = ClientStep.calls (record { past = []; connections = c.connections; keeper = c.keeper }) c.call c.is_one h.spelled in
     record {
       next = after_losing m₁;
-      goes = ClientGoes.goes_on (ClientGoes.goes_on ClientGoes.stays step) (losing m₁);
+      goes = ClientTrace.goes_on (ClientTrace.goes_on ClientTrace.stays step) (losing m₁);
       publishes = ap (λ l. published_by_call c.call ++ l) (losing_silent m₁) ∙ append-nil (published_by_call c.call) ∙ called.1;
       stands = subst (λ p. ClientStandsFor p (after_losing m₁)) (sym (is ∙ ap (λ l. broken core l) held.ways))
           (lost_stands outcome core held.older held.way m c h);

@@ -16,7 +16,7 @@ use Rattle.byte_world.specs.exactly_once.Sides.{ClientConnection}
 use Rattle.byte_world.specs.World.{ClientPipes, Pipe, with_pipe}
 use Rattle.world_pipes.specs.declared.way.Way.{Way}
 use Rattle.world_pipes.specs.Following.{ModelFollows, CarryingFollows, after_losing}
-use Rattle.world_pipes.specs.Steps.{ClientGoes, ClientStep, published_in_steps, published_with}
+use Rattle.world_pipes.specs.Steps.{ClientTrace, ClientStep, published_in_steps, published_with}
 use Rattle.world_pipes.specs.Piped.{CarriesDown, Piped, broken, come_down, piped, piped_up}
 use Rattle.byte_world.specs.exactly_once.Acceptance.{accepted_on}
 use Rattle.world_pipes.specs.StandsFor.{AreWays, CanGoOut, IsWay, ClientStandsFor}
@@ -42,7 +42,7 @@ pub record IsLeft (before : List ℕ) (core : Core) (m : ClientPipes) (others : 
 
 record Leaves (before : List ℕ) (core : Core) (m : ClientPipes) (others : List ClientConnection) (p₀ : Pipe) (further : List Pipe) : Type 0 where
   pub last : ClientPipes
-  pub steps : ClientGoes m last
+  pub steps : ClientTrace m last
   pub silent : published_in_steps steps ≡ []
   pub left : IsLeft before core last others p₀ further
 
@@ -83,7 +83,7 @@ lose : (before : List ℕ) (core new : Core) (m : ClientPipes) (others : List Cl
 lose before core new m others p₀ further is l =
     record {
       last = after_losing l.last;
-      steps = ClientGoes.goes_on l.steps (losing l.last);
+      steps = ClientTrace.goes_on l.steps (losing l.last);
       silent = ap₂ (λ a b. a ++ b) l.silent (losing_silent l.last);
       left = subst (λ c. IsLeft before c (after_losing l.last) others p₀ further) (sym is) (left_lost before core l.last others p₀ further l.left);
     }
@@ -99,7 +99,7 @@ ends before last new m others p₀ further read up far end = by read end
     by (Ok done) end = subst (λ c. Leaves before c m others p₀ further) (sym end.1) kept
     by (Err errors.SessionLost) end =
         let one = one_goes before last end.1 new far.last others p₀ further end.0 up far.stands end.2 end.4 in
-        record { last = one.next; steps = ClientGoes.goes_on far.steps one.step; silent = ap₂ (λ a b. a ++ b) far.silent one.silent; left = left_so before new one.next others p₀ further one.stands }
+        record { last = one.next; steps = ClientTrace.goes_on far.steps one.step; silent = ap₂ (λ a b. a ++ b) far.silent one.silent; left = left_so before new one.next others p₀ further one.stands }
     by (Err errors.Memory) end = lose before last new m others p₀ further end kept
     by (Err errors.NotActive) end = lose before last new m others p₀ further end.1 kept
     by (Err errors.WindowFull) end = lose before last new m others p₀ further end.1 kept
@@ -159,18 +159,18 @@ finished older way before core shown m others p₀ further up rest l same many w
 
 -- ---- the whole call
 
-first_then : {c d e : ClientPipes} → ClientStep c d → ClientGoes d e → ClientGoes c e
-first_then step ClientGoes.stays = ClientGoes.goes_on ClientGoes.stays step
-first_then step (ClientGoes.goes_on goes later) = ClientGoes.goes_on (first_then step goes) later
+first_then : {c d e : ClientPipes} → ClientStep c d → ClientTrace d e → ClientTrace c e
+first_then step ClientTrace.stays = ClientTrace.goes_on ClientTrace.stays step
+first_then step (ClientTrace.goes_on goes later) = ClientTrace.goes_on (first_then step goes) later
 
-then_along : {c d e : ClientPipes} (step : ClientStep c d) (goes : ClientGoes d e) → published_in_steps (first_then step goes) ≡ published_with step ++ published_in_steps goes
+then_along : {c d e : ClientPipes} (step : ClientStep c d) (goes : ClientTrace d e) → published_in_steps (first_then step goes) ≡ published_with step ++ published_in_steps goes
 unfolding first_then
-then_along step ClientGoes.stays = sym (append-nil (published_with step))
-then_along step (ClientGoes.goes_on goes later) =
+then_along step ClientTrace.stays = sym (append-nil (published_with step))
+then_along step (ClientTrace.goes_on goes later) =
     ap (λ a. a ++ published_with later) (then_along step goes) ∙ append_assoc (published_with step) (published_in_steps goes) (published_with later)
 
 -- if no step publishes anything
-then_silent : {c d e : ClientPipes} (step : ClientStep c d) (goes : ClientGoes d e) → published_with step ≡ [] → published_in_steps goes ≡ [] → published_in_steps (first_then step goes) ≡ []
+then_silent : {c d e : ClientPipes} (step : ClientStep c d) (goes : ClientTrace d e) → published_with step ≡ [] → published_in_steps goes ≡ [] → published_in_steps (first_then step goes) ≡ []
 then_silent step goes silent none = then_along step goes ∙ ap₂ (λ a b. a ++ b) silent none
 
 pub carrying_follows : CarryingFollows

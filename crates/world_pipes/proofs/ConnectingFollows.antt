@@ -21,7 +21,7 @@ use Rattle.byte_world.specs.World.{ClientPipes, new_client}
 use Rattle.byte_world.specs.ClientSteps.{after_connecting}
 use Rattle.world_pipes.specs.declared.way.Way.{Way}
 use Rattle.world_pipes.specs.Following.{ConnectingFollows, FollowsAll}
-use Rattle.world_pipes.specs.Steps.{ClientGoes}
+use Rattle.world_pipes.specs.Steps.{ClientTrace}
 use Rattle.world_pipes.specs.Piped.{SendsConnect, Piped, is_holding, new_piped, new_way, piped, piped_up}
 use Rattle.byte_world.specs.exactly_once.Acceptance.{accepted_on}
 use Rattle.world_pipes.specs.StandsFor.{AreWays, CanGoOut, ClientStandsFor}
@@ -135,6 +135,6 @@ connecting_follows node port old new (Ok done) closed (core, opens, is) = λ m x
   connect_is_packet m.keeper.client (subst (λ c. IsTrue (is_client c)) s.keeper.client s.fits.client),
 )
 connecting_follows node port old new (Err cause) closed (memory, ways, inl same) = λ m s.
-    record { next = m; goes = ClientGoes.stays; publishes = refl; stands = subst (λ p. ClientStandsFor p m) (sym (ap₂ piped same ways)) s }
+    record { next = m; goes = ClientTrace.stays; publishes = refl; stands = subst (λ p. ClientStandsFor p m) (sym (ap₂ piped same ways)) s }
 connecting_follows node port old new (Err cause) closed (memory, ways, inr (core, opens, lost)) =
     subst (λ p. FollowsAll old p) (sym (ap₂ piped lost ways)) (opened_and_lost old core opens.0)

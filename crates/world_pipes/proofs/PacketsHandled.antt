@@ -20,7 +20,7 @@ use Rattle.byte_world.specs.exactly_once.Sides.{ClientConnection, Side}
 use Rattle.byte_world.specs.World.{ClientPipes, Pipe, newly_written}
 use Rattle.byte_world.specs.ClientSteps.{after_packet}
 use Rattle.byte_world.proofs.OnTheWay.{newly_is}
-use Rattle.world_pipes.specs.Steps.{ClientGoes, ClientStep, published_in_steps, published_with}
+use Rattle.world_pipes.specs.Steps.{ClientTrace, ClientStep, published_in_steps, published_with}
 use Rattle.byte_world.specs.exactly_once.Acceptance.{accepted_on}
 use Rattle.world_pipes.specs.StandsFor.{CanGoOut}
 use Rattle.byte_world.specs.Accepted.{accepted_once}
@@ -111,14 +111,14 @@ one_goes before core next after m others p₀ further packet up s reads done =
 -- all that were handled
 pub record GoFar (before : List ℕ) (core : Core) (m : ClientPipes) (others : List ClientConnection) (p₀ : Pipe) (further : List Pipe) : Type 0 where
   pub last : ClientPipes
-  pub steps : ClientGoes m last
+  pub steps : ClientTrace m last
   pub silent : published_in_steps steps ≡ []
   pub stands : IsInMidst before core last others p₀ further
 
 pub all_go : (before : List ℕ) (start last : Core) (m : ClientPipes) (others : List ClientConnection) (p₀ : Pipe) (further : List Pipe) → is_open start.state.stage ≡ true →
     IsInMidst before start m others p₀ further → Handles start last → GoFar before last m others p₀ further
-all_go before start last m others p₀ further up s Handles.none = record { last = m; steps = ClientGoes.stays; silent = refl; stands = s }
+all_go before start last m others p₀ further up s Handles.none = record { last = m; steps = ClientTrace.stays; silent = refl; stands = s }
 all_go before start last m others p₀ further up s (Handles.more {s = mid} {t = next} packet run reads taken done) =
     let far = all_go before start mid m others p₀ further up s run in
     let one = one_goes before mid next last far.last others p₀ further packet (handled_stays start mid run up) far.stands reads done in
-    record { last = one.next; steps = ClientGoes.goes_on far.steps one.step; silent = ap₂ (λ a b. a ++ b) far.silent one.silent; stands = one.stands }
+    record { last = one.next; steps = ClientTrace.goes_on far.steps one.step; silent = ap₂ (λ a b. a ++ b) far.silent one.silent; stands = one.stands }

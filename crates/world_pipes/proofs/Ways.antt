@@ -13,7 +13,7 @@ use Rattle.byte_world.specs.World.{ClientPipes, Pipe, newly_written, sent_up}
 use Rattle.byte_world.proofs.OnTheWay.{newly_is}
 use Rattle.world_pipes.specs.declared.way.Way.{Way}
 use Rattle.world_pipes.specs.Following.{FollowsLosing, after_losing}
-use Rattle.world_pipes.specs.Steps.{ClientGoes, ClientStep, published_in_steps, published_with}
+use Rattle.world_pipes.specs.Steps.{ClientTrace, ClientStep, published_in_steps, published_with}
 use Rattle.world_pipes.specs.Piped.{Piped, piped}
 use Rattle.world_pipes.specs.StandsFor.{AreWays, CanGoOut, IsWay}
 use Rattle.world_pipes.proofs.Newest.{last_index}
@@ -58,8 +58,8 @@ pub losing_silent : (m : ClientPipes) → published_with (losing m) ≡ []
 unfolding losing
 losing_silent m = refl
 
-pub losing_goes : (m : ClientPipes) → ClientGoes m (after_losing m)
-losing_goes m = ClientGoes.goes_on ClientGoes.stays (losing m)
+pub losing_goes : (m : ClientPipes) → ClientTrace m (after_losing m)
+losing_goes m = ClientTrace.goes_on ClientTrace.stays (losing m)
 
 pub losing_publishes : (m : ClientPipes) → published_in_steps (losing_goes m) ≡ []
 unfolding losing_goes losing

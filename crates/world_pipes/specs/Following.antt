@@ -15,7 +15,7 @@ use Rattle.byte_world.specs.ClientSteps.{WritesCanBeSpelled, after_connecting, s
 use Rattle.byte_world.specs.Published.{published_by_call}
 use Rattle.world_pipes.specs.declared.sending.Sending.{Sending}
 use Rattle.world_pipes.specs.declared.sending.Sending.TheVariants as sendings
-use Rattle.world_pipes.specs.Steps.{ClientGoes, published_in_steps}
+use Rattle.world_pipes.specs.Steps.{ClientTrace, published_in_steps}
 use Rattle.world_pipes.specs.Piped.{CarriesDown, Piped, is_holding}
 use Rattle.world_pipes.specs.StandsFor.{ClientStandsFor}
 
@@ -24,7 +24,7 @@ use Rattle.world_pipes.specs.StandsFor.{ClientStandsFor}
 pub record ModelFollows (published : List Publication) (model : ClientPipes) (new : Piped)
     : Type 0 where
   pub next : ClientPipes
-  pub goes : ClientGoes model next
+  pub goes : ClientTrace model next
   pub publishes : published_in_steps goes ≡ published
   pub stands : ClientStandsFor new next
 
@@ -47,7 +47,7 @@ after_losing client = after_writing (lost client.keeper) client.connections clie
 abbrev pub FollowsLosing : Piped → Piped → Type 0
 FollowsLosing old new =
     (model : ClientPipes) → ClientStandsFor old model →
-    ClientStandsFor new (after_losing model) × (goes : ClientGoes model (after_losing model))
+    ClientStandsFor new (after_losing model) × (goes : ClientTrace model (after_losing model))
     × (published_in_steps goes ≡ [])
 
 -- ---- a new connection: the model's, under any name that its node gives it

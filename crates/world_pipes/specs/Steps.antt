@@ -42,11 +42,11 @@ pub data ClientStep (client : ClientPipes) : ClientPipes → Type 0 where
       (packet_handled packet (record { keeper = client.keeper; connection = connection })) client)
 
 -- steps of a client, one after another
-pub data ClientGoes (client : ClientPipes) : ClientPipes → Type 0 where
+pub data ClientTrace (client : ClientPipes) : ClientPipes → Type 0 where
   -- no step
-  stays : ClientGoes client client
+  stays : ClientTrace client client
   -- one more step
-  goes_on : {d e : ClientPipes} → ClientGoes client d → ClientStep d e → ClientGoes client e
+  goes_on : {d e : ClientPipes} → ClientTrace client d → ClientStep d e → ClientTrace client e
 
 -- ---- what it publishes
 
@@ -60,10 +60,10 @@ published_with
     spelled) = []
 
 -- what a client publishes in steps, one after another, the oldest first
-abbrev pub published_in_steps : {client next : ClientPipes} → ClientGoes client next →
+abbrev pub published_in_steps : {client next : ClientPipes} → ClientTrace client next →
     List Publication
-published_in_steps ClientGoes.stays = []
-published_in_steps (ClientGoes.goes_on goes step) = published_in_steps goes ++ published_with step
+published_in_steps ClientTrace.stays = []
+published_in_steps (ClientTrace.goes_on goes step) = published_in_steps goes ++ published_with step
 
 -- ---- in a world
 
