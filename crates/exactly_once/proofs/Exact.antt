@@ -4,10 +4,10 @@ use Rattle.std.proofs.lemmas.List.{append-nil}
 use Rattle.lists.specs.Lists.{Each}
 use Rattle.exactly_once.specs.Items.{SenderItem, sent, item_released, finishing, start_first}
 use Rattle.exactly_once.specs.Handshake.{Forward, Backward, Transit, Handshake, answer, reply, sender_hears, receiver_takes, receiver_accepts, with_items}
-use Rattle.exactly_once.specs.HandshakeSteps.{Advances, HandshakeRun, opening_handshake}
+use Rattle.exactly_once.specs.HandshakeSteps.{HandshakeStep, HandshakeTrace, opening_handshake}
 use Rattle.exactly_once.specs.Exact.{is_pubrec_received, IsExact}
-use Rattle.exactly_once.specs.HandshakeSteps.Advances.{adds, starts, takes, takes_alone, hears, hears_alone, sender_leaves, receiver_leaves, parts, parts_ahead, restarts}
-use Rattle.exactly_once.specs.HandshakeSteps.HandshakeRun.{stays, goes_on}
+use Rattle.exactly_once.specs.HandshakeSteps.HandshakeStep.{adds, starts, takes, takes_alone, hears, hears_alone, sender_leaves, receiver_leaves, parts, parts_ahead, restarts}
+use Rattle.exactly_once.specs.HandshakeSteps.HandshakeTrace.{stays, goes_on}
 use Rattle.exactly_once.specs.HandshakeInvariant.{IsNew, IsAhead, FitsTransit, IsGood}
 use Rattle.exactly_once.proofs.SidesStart.{sides_add, sides_start, sent_waits, free_of}
 use Rattle.exactly_once.proofs.SidesHear.{sides_release, sides_finish}
@@ -95,7 +95,7 @@ good_hears_alone h g (Backward.Pubcomp id) b e =
     }
 
 -- each move keeps it
-pub good_moves : {V : Type 0} (h k : Handshake V) → IsGood h → Advances h k → IsGood k
+pub good_moves : {V : Type 0} (h k : Handshake V) → IsGood h → HandshakeStep h k → IsGood k
 good_moves h k g (adds v) =
     record {
       old = g.old;
@@ -131,7 +131,7 @@ good_moves h k g parts_ahead =
 good_moves h k g (restarts ids d r) =
     record { old = g.old; new = g.new; sides = g.sides; transit = joined_anew h.items h.accepted h.received g.old g.new ids g.sides d r }
 
-pub good_run : {V : Type 0} (h k : Handshake V) → IsGood h → HandshakeRun h k → IsGood k
+pub good_run : {V : Type 0} (h k : Handshake V) → IsGood h → HandshakeTrace h k → IsGood k
 good_run h k g stays = g
 good_run h k g (goes_on {next = m} r s) = good_moves m k (good_run h m g r) s
 
@@ -156,9 +156,9 @@ good_exact h g =
     record { prefix = g.old; others = g.new; is = g.sides.is; accepted = g.sides.accepted_is; rest = none_over h.received g.new g.sides.news }
 
 -- after every run from the opening
-pub runs_are_exact : (V : Type 0) (h : Handshake V) → HandshakeRun (opening_handshake V) h → IsExact h
+pub runs_are_exact : (V : Type 0) (h : Handshake V) → HandshakeTrace (opening_handshake V) h → IsExact h
 runs_are_exact V h r = good_exact h (good_run (opening_handshake V) h (good_opening V) r)
 
-pub run_then : {V : Type 0} {h k l : Handshake V} → HandshakeRun h k → HandshakeRun k l → HandshakeRun h l
+pub run_then : {V : Type 0} {h k l : Handshake V} → HandshakeTrace h k → HandshakeTrace k l → HandshakeTrace h l
 run_then r stays = r
 run_then r (goes_on q m) = goes_on (run_then r q) m

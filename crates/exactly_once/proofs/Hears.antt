@@ -18,8 +18,8 @@ use Rattle.broker_spec.specs.declared.command.Command.{Command}
 use Rattle.broker_spec.specs.declared.command.Command.TheVariants as commands
 use Rattle.exactly_once.specs.Items.{SenderItem, item_released, has_sent}
 use Rattle.exactly_once.specs.Handshake.{Forward, Backward, Transit, with_items, sender_hears, reply}
-use Rattle.exactly_once.specs.HandshakeSteps.Advances.{hears}
-use Rattle.exactly_once.specs.HandshakeSteps.HandshakeRun.{stays, goes_on}
+use Rattle.exactly_once.specs.HandshakeSteps.HandshakeStep.{hears}
+use Rattle.exactly_once.specs.HandshakeSteps.HandshakeTrace.{stays, goes_on}
 use Rattle.lists.proofs.Tests.{or_then}
 use Rattle.exactly_once.specs.HandshakeInvariant.{IsGood, IsJoined, FitsTransit}
 use Rattle.broker_spec.specs.Past.{current_connection}

@@ -10,9 +10,9 @@ use Rattle.broker_spec.specs.IdentifierLaws.{WaitingAreLast, IsWaitingEntry}
 use Rattle.broker_spec.proofs.LeastFree.{least-is-free}
 use Rattle.exactly_once.specs.Items.{SenderItem, busy, start_first, first_waiting}
 use Rattle.exactly_once.specs.Handshake.{sender_sends, with_items, Forward, Transit, Handshake}
-use Rattle.exactly_once.specs.HandshakeSteps.{HandshakeRun}
-use Rattle.exactly_once.specs.HandshakeSteps.Advances.{starts}
-use Rattle.exactly_once.specs.HandshakeSteps.HandshakeRun.{stays, goes_on}
+use Rattle.exactly_once.specs.HandshakeSteps.{HandshakeTrace}
+use Rattle.exactly_once.specs.HandshakeSteps.HandshakeStep.{starts}
+use Rattle.exactly_once.specs.HandshakeSteps.HandshakeTrace.{stays, goes_on}
 use Rattle.lists.proofs.Identifiers.{has_append}
 use Rattle.lists.proofs.Tests.{or_none, none_or}
 use Rattle.exactly_once.proofs.BusyIdentifiers.{busy_append}
@@ -83,7 +83,7 @@ Covers ids pre = (i : ℕ) → has_id i ids ≡ false → has_id i (busy pre) �
 
 pub record Starts (h : Handshake Publication) (items : List (SenderItem Publication)) (rows : List (ℕ × Publication)) : Type 0 where
   pub after : Handshake Publication
-  pub run : HandshakeRun h after
+  pub run : HandshakeTrace h after
   pub items_are : after.items ≡ items
   pub accepted : after.accepted ≡ h.accepted
   pub received : after.received ≡ h.received
@@ -110,7 +110,7 @@ in_front h pre items item rows s =
 -- the start of one that waits
 starts_one : (h : Handshake Publication) (pre : List (SenderItem Publication)) (id : ℕ) (p : Publication) (es : List Entry) (ids : List ℕ)
     → h.items ≡ pre ++ SenderItem.Waits p ∷ items_of_entries es → NoneWaits pre → Covers ids pre → has_id id ids ≡ false → AllByRecursion IsWaitingEntry es
-    → HandshakeRun h (with_items (start_first id h.items) (sender_sends (Forward.Publish id p) h.transit) h) × (start_first id h.items ≡ (pre ++ SenderItem.Sent p id ∷ []) ++ items_of_entries es)
+    → HandshakeTrace h (with_items (start_first id h.items) (sender_sends (Forward.Publish id p) h.transit) h) × (start_first id h.items ≡ (pre ++ SenderItem.Sent p id ∷ []) ++ items_of_entries es)
 starts_one h pre id p es ids e n c free w =
     let fresh : has_id id (busy h.items) ≡ false =
     ap (λ l. has_id id (busy l)) e ∙ ap (has_id id) (busy_append pre (SenderItem.Waits p ∷ items_of_entries es) ∙ ap (λ l. busy pre ++ l) (waiting_free es w) ∙ append-nil (busy pre)) ∙ c id free in

@@ -19,8 +19,8 @@ use Rattle.broker_spec.specs.Answers.{acknowledged}
 use Rattle.broker_spec.specs.AnswersInOrder.{answers_at}
 use Rattle.broker_spec.proofs.ClientsInOrder.{same_self}
 use Rattle.exactly_once.specs.Handshake.{Forward, Backward, Transit, Handshake, answer, receiver_takes, receiver_accepts}
-use Rattle.exactly_once.specs.HandshakeSteps.Advances.{takes}
-use Rattle.exactly_once.specs.HandshakeSteps.HandshakeRun.{stays, goes_on}
+use Rattle.exactly_once.specs.HandshakeSteps.HandshakeStep.{takes}
+use Rattle.exactly_once.specs.HandshakeSteps.HandshakeTrace.{stays, goes_on}
 use Rattle.exactly_once.specs.Sends.{sends_to, put_to}
 use Rattle.exactly_once.specs.Sides.{ClientConnection}
 use Rattle.client_base.specs.Keeper.{Keeper}

@@ -3,7 +3,7 @@ use Rattle.std.specs.Prelude.{◌≡◌, ℕ, Bool, true, false, List, ◌∷◌
 use Rattle.lists.specs.Lists.{In, Each}
 use Rattle.exactly_once.specs.Items.{SenderItem, value_of}
 use Rattle.exactly_once.specs.Handshake.{Forward, Transit, Handshake}
-use Rattle.exactly_once.specs.HandshakeSteps.{HandshakeRun, opening_handshake}
+use Rattle.exactly_once.specs.HandshakeSteps.{HandshakeTrace, opening_handshake}
 
 -- ---- what holds after every run
 
@@ -24,7 +24,7 @@ pub record IsExact {V : Type 0} (handshake : Handshake V) : Type 0 where
 -- each run from the opening leads to an exact handshake
 abbrev pub RunsAreExact : Type 0 → Type 0
 RunsAreExact V =
-    (handshake : Handshake V) → HandshakeRun (opening_handshake V) handshake → IsExact handshake
+    (handshake : Handshake V) → HandshakeTrace (opening_handshake V) handshake → IsExact handshake
 
 -- what comes next to the receiver
 abbrev pub next_of : {V : Type 0} → Transit V → Option (Forward V)
@@ -36,7 +36,7 @@ next_of _ = None
 -- one
 abbrev pub RepeatsWereAccepted : Type 0 → Type 0
 RepeatsWereAccepted V =
-    (handshake : Handshake V) → HandshakeRun (opening_handshake V) handshake →
+    (handshake : Handshake V) → HandshakeTrace (opening_handshake V) handshake →
     (id : ℕ) (value : V) →
     next_of handshake.transit ≡ Some (Forward.Publish id value) →
     handshake.received id ≡ true → In value handshake.accepted

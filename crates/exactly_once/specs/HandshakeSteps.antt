@@ -5,56 +5,56 @@ use Rattle.exactly_once.specs.Items.{SenderItem, busy, has_released, start_first
 use Rattle.exactly_once.specs.Handshake.{Forward, Backward, Transit, Handshake, answer, reply, receiver_takes, sender_hears, with_items, sender_sends, sender_resends}
 
 -- one step of a handshake; Packet Identifiers are those of the sender
-pub data Advances {V : Type 0} (handshake : Handshake V) : Handshake V → Type 0 where
-  adds : (value : V) → Advances handshake
+pub data HandshakeStep {V : Type 0} (handshake : Handshake V) : Handshake V → Type 0 where
+  adds : (value : V) → HandshakeStep handshake
       (with_items (handshake.items ++ SenderItem.Waits value ∷ []) handshake.transit handshake)
   -- the first that waits starts with a free identifier: its PUBLISH is sent (MQTT 4.3.3)
   starts : (id : ℕ) (value : V) → has_id id (busy handshake.items) ≡ false →
       first_waiting handshake.items ≡ Some value →
-      Advances handshake (with_items (start_first id handshake.items)
+      HandshakeStep handshake (with_items (start_first id handshake.items)
       (sender_sends (Forward.Publish id value) handshake.transit) handshake)
   takes : (packet : Forward V) (forward : List (Forward V)) (backward : List Backward) →
       handshake.transit ≡ Transit.Joined (packet ∷ forward) backward →
       -- it is taken and answered
-      Advances handshake (receiver_takes packet handshake
+      HandshakeStep handshake (receiver_takes packet handshake
       (Transit.Joined forward (backward ++ answer packet ∷ [])))
   takes_alone : (packet : Forward V) (forward : List (Forward V)) →
       handshake.transit ≡ Transit.Ahead (packet ∷ forward) →
       -- the sender left: the answer goes to nobody
-      Advances handshake (receiver_takes packet handshake (Transit.Ahead forward))
+      HandshakeStep handshake (receiver_takes packet handshake (Transit.Ahead forward))
   hears : (packet : Backward) (forward : List (Forward V)) (backward : List Backward) →
       -- the sender gets an answer: PUBREL follows PUBREC
       handshake.transit ≡ Transit.Joined forward (packet ∷ backward) →
-      Advances handshake (with_items (sender_hears packet handshake.items)
+      HandshakeStep handshake (with_items (sender_hears packet handshake.items)
       (Transit.Joined (forward ++ reply packet) backward) handshake)
   hears_alone : (packet : Backward) (backward : List Backward) →
       handshake.transit ≡ Transit.Behind (packet ∷ backward) →
       -- the receiver left: no PUBREL
-      Advances handshake (with_items (sender_hears packet handshake.items)
+      HandshakeStep handshake (with_items (sender_hears packet handshake.items)
       (Transit.Behind backward) handshake)
   sender_leaves : (forward : List (Forward V)) (backward : List Backward) →
       handshake.transit ≡ Transit.Joined forward backward →
       -- the sender leaves: no answer comes
-      Advances handshake (with_items handshake.items (Transit.Ahead forward) handshake)
+      HandshakeStep handshake (with_items handshake.items (Transit.Ahead forward) handshake)
   receiver_leaves : (forward : List (Forward V)) (backward : List Backward) →
       handshake.transit ≡ Transit.Joined forward backward →
       -- the receiver leaves: it takes no more
-      Advances handshake (with_items handshake.items (Transit.Behind backward) handshake)
+      HandshakeStep handshake (with_items handshake.items (Transit.Behind backward) handshake)
   -- what is in transit is lost
-  parts : Advances handshake (with_items handshake.items (Transit.Behind []) handshake)
+  parts : HandshakeStep handshake (with_items handshake.items (Transit.Behind []) handshake)
   -- the same, the sender left
-  parts_ahead : Advances handshake (with_items handshake.items (Transit.Ahead []) handshake)
+  parts_ahead : HandshakeStep handshake (with_items handshake.items (Transit.Ahead []) handshake)
   -- on a new connection PUBRELs are sent again, and each PUBLISH without PUBREC (MQTT 4.4)
   restarts : (releases : List ℕ) → IsDistinct releases →
       Each (λ id. has_released id handshake.items ≡ true) releases →
-      Advances handshake (with_items handshake.items
+      HandshakeStep handshake (with_items handshake.items
       (Transit.Joined (sender_resends releases handshake.items) []) handshake)
 
 -- steps one after another
-pub data HandshakeRun {V : Type 0} (handshake : Handshake V) : Handshake V → Type 0 where
-  stays : HandshakeRun handshake handshake  -- nothing happened
-  goes_on : {next last : Handshake V} → HandshakeRun handshake next → Advances next last →
-      HandshakeRun handshake last  -- one more step
+pub data HandshakeTrace {V : Type 0} (handshake : Handshake V) : Handshake V → Type 0 where
+  stays : HandshakeTrace handshake handshake  -- nothing happened
+  goes_on : {next last : Handshake V} → HandshakeTrace handshake next → HandshakeStep next last →
+      HandshakeTrace handshake last  -- one more step
 
 -- nothing was sent yet, and there is no connection
 abbrev pub opening_handshake : (V : Type 0) → Handshake V

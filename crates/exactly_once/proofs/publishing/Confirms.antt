@@ -9,7 +9,7 @@ use Rattle.broker_spec.specs.Place.{Past, Limits}
 use Rattle.broker_spec.specs.Past.{current_connection}
 use Rattle.exactly_once.specs.Items.{SenderItem, has_released}
 use Rattle.exactly_once.specs.Handshake.{Forward, Transit, Handshake, sender_resends}
-use Rattle.exactly_once.specs.HandshakeSteps.Advances.{parts, restarts}
+use Rattle.exactly_once.specs.HandshakeSteps.HandshakeStep.{parts, restarts}
 use Rattle.lists.proofs.Tests.{eq_same, or_left, or_right}
 use Rattle.lists.proofs.Identifiers.{distinct_front}
 use Rattle.exactly_once.specs.Sends.{put_to}

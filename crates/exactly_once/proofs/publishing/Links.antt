@@ -4,9 +4,9 @@ use Rattle.broker_spec.specs.Connection.{ConnectionName}
 use Rattle.broker_spec.specs.Place.{Past, Limits}
 use Rattle.exactly_once.specs.Items.{SenderItem}
 use Rattle.exactly_once.specs.Handshake.{Forward, Backward, Transit, Handshake, with_items, sender_hears, reply}
-use Rattle.exactly_once.specs.HandshakeSteps.{HandshakeRun, Advances}
-use Rattle.exactly_once.specs.HandshakeSteps.Advances.{hears, hears_alone, sender_leaves, receiver_leaves, parts}
-use Rattle.exactly_once.specs.HandshakeSteps.HandshakeRun.{stays, goes_on}
+use Rattle.exactly_once.specs.HandshakeSteps.{HandshakeTrace, HandshakeStep}
+use Rattle.exactly_once.specs.HandshakeSteps.HandshakeStep.{hears, hears_alone, sender_leaves, receiver_leaves, parts}
+use Rattle.exactly_once.specs.HandshakeSteps.HandshakeTrace.{stays, goes_on}
 use Rattle.exactly_once.proofs.Exact.{run_then}
 use Rattle.exactly_once.specs.Sides.{ClientConnection}
 use Rattle.exactly_once.specs.Inside.Projections.{forward_of_own, backward_of_own, to_come, to_be_taken, is_current, transit_of_own, GoesTo}
@@ -53,7 +53,7 @@ link_is limits past current online (Some κ) = by (is_current current κ.name) o
 
 pub record Reaches (h : Handshake ℕ) (items : List (SenderItem ℕ)) (l : Transit ℕ) : Type 0 where
   pub after : Handshake ℕ
-  pub run : HandshakeRun h after
+  pub run : HandshakeTrace h after
   pub items_are : after.items ≡ items
   pub accepted : after.accepted ≡ h.accepted
   pub received : after.received ≡ h.received
@@ -64,7 +64,7 @@ pub reaches_itself : (h : Handshake ℕ) (l : Transit ℕ) → h.transit ≡ l �
 reaches_itself h l e = record { after = h; run = stays; items_are = refl; accepted = refl; received = refl; transit = e }
 
 -- one move
-pub reaches_by : (h : Handshake ℕ) (items : List (SenderItem ℕ)) (l m : Transit ℕ) → Advances h (with_items items l h) → l ≡ m → Reaches h items m
+pub reaches_by : (h : Handshake ℕ) (items : List (SenderItem ℕ)) (l m : Transit ℕ) → HandshakeStep h (with_items items l h) → l ≡ m → Reaches h items m
 reaches_by h items l m move e =
     record { after = with_items items l h; run = goes_on stays move; items_are = refl; accepted = refl; received = refl; transit = e }
 

@@ -3,7 +3,7 @@ use Rattle.std.proofs.Common.{◌≡◌, ℕ, Bool, true, false, List, [], ◌�
 use Rattle.lists.specs.Lists.{has_id}
 use Rattle.exactly_once.specs.Items.{SenderItem, busy, start_first, first_waiting}
 use Rattle.exactly_once.specs.Handshake.{sender_sends, Forward, Backward, Handshake}
-use Rattle.exactly_once.specs.HandshakeSteps.Advances.{starts}
+use Rattle.exactly_once.specs.HandshakeSteps.HandshakeStep.{starts}
 use Rattle.lists.proofs.Identifiers.{has_join}
 use Rattle.exactly_once.proofs.BusyIdentifiers.{busy_append}
 use Rattle.exactly_once.proofs.publishing.Links.{link_by, Reaches, reaches_by}

@@ -11,9 +11,9 @@ use Rattle.broker_spec.proofs.SoundEntries.{AllWait, InOrder, Sound}
 use Rattle.broker_spec.proofs.SoundStarts.{sound_new}
 use Rattle.exactly_once.specs.Items.{SenderItem}
 use Rattle.exactly_once.specs.Handshake.{Handshake, with_items}
-use Rattle.exactly_once.specs.HandshakeSteps.{HandshakeRun}
-use Rattle.exactly_once.specs.HandshakeSteps.Advances.{adds}
-use Rattle.exactly_once.specs.HandshakeSteps.HandshakeRun.{stays, goes_on}
+use Rattle.exactly_once.specs.HandshakeSteps.{HandshakeTrace}
+use Rattle.exactly_once.specs.HandshakeSteps.HandshakeStep.{adds}
+use Rattle.exactly_once.specs.HandshakeSteps.HandshakeTrace.{stays, goes_on}
 use Rattle.exactly_once.proofs.Exact.{run_then}
 use Rattle.exactly_once.specs.Carried.{is_two}
 use Rattle.exactly_once.specs.Inside.Projections.{GoesTo}
@@ -89,7 +89,7 @@ place_starts w n current es ps h e s = by current (adds_all n ps h)
 
 -- after a run
 pub goes_started : (h k t : Handshake Publication) (w n : ℕ) (current : Option ConnectionName) (es : List Entry) (ps : List Publication)
-    → HandshakeRun h k → k.items ≡ items_of_entries es → Sound (suc n) es → k.accepted ≡ t.accepted → ((id : ℕ) → k.received id ≡ t.received id)
+    → HandshakeTrace h k → k.items ≡ items_of_entries es → Sound (suc n) es → k.accepted ≡ t.accepted → ((id : ℕ) → k.received id ≡ t.received id)
     → t.items ≡ items_of_entries (started w n current (es ++ map (Entry.Waits n) ps)) → t.transit ≡ sending_all (rows_at w current (es ++ map (Entry.Waits n) ps)) k.transit → GoesTo h t
 goes_started h k t w n current es ps run e s a r i l =
     let q = place_starts w n current es ps k e s in

@@ -6,7 +6,7 @@ use Rattle.broker_spec.specs.Place.{Limits}
 use Rattle.broker_spec.specs.Past.{current_connection}
 use Rattle.broker_spec.specs.Times.{at_puback, at_pubcomp, window_at, entries_of}
 use Rattle.exactly_once.specs.Handshake.{Backward, sender_hears, reply, with_items}
-use Rattle.exactly_once.specs.HandshakeSteps.HandshakeRun.{stays}
+use Rattle.exactly_once.specs.HandshakeSteps.HandshakeTrace.{stays}
 use Rattle.client_base.specs.Keeper.{Written}
 use Rattle.exactly_once.specs.Sides.{ClientConnection}
 use Rattle.exactly_once.specs.Story.{Story}

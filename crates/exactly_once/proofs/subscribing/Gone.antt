@@ -2,8 +2,8 @@
 use Rattle.std.proofs.Common.{◌≡◌, ℕ, List, [], ap, sym, ◌∙◌, inl, inr}
 use Rattle.session_base.specs.declared.publication.Publication.{Publication}
 use Rattle.exactly_once.specs.Handshake.{Backward, Transit, Handshake, with_items}
-use Rattle.exactly_once.specs.HandshakeSteps.Advances.{receiver_leaves, parts}
-use Rattle.exactly_once.specs.HandshakeSteps.HandshakeRun.{stays, goes_on}
+use Rattle.exactly_once.specs.HandshakeSteps.HandshakeStep.{receiver_leaves, parts}
+use Rattle.exactly_once.specs.HandshakeSteps.HandshakeTrace.{stays, goes_on}
 use Rattle.exactly_once.specs.Inside.Projections.{GoesTo}
 use Rattle.exactly_once.proofs.subscribing.Standing.{Stands}
 

@@ -4,9 +4,9 @@ use Rattle.std.proofs.lemmas.Bool.{both_ways}
 use Rattle.session_base.specs.declared.publication.Publication.{Publication}
 use Rattle.exactly_once.specs.Items.{SenderItem, has_sent}
 use Rattle.exactly_once.specs.Handshake.{Forward, Backward, Transit, Handshake, sender_hears, reply, with_items}
-use Rattle.exactly_once.specs.HandshakeSteps.{HandshakeRun}
-use Rattle.exactly_once.specs.HandshakeSteps.Advances.{hears, hears_alone}
-use Rattle.exactly_once.specs.HandshakeSteps.HandshakeRun.{stays, goes_on}
+use Rattle.exactly_once.specs.HandshakeSteps.{HandshakeTrace}
+use Rattle.exactly_once.specs.HandshakeSteps.HandshakeStep.{hears, hears_alone}
+use Rattle.exactly_once.specs.HandshakeSteps.HandshakeTrace.{stays, goes_on}
 use Rattle.exactly_once.specs.HandshakeInvariant.{IsGood, FitsTransit, IsJoined, IsBehind}
 use Rattle.lists.proofs.Tests.{or_then}
 use Rattle.exactly_once.proofs.subscribing.Standing.{Stands}
@@ -32,7 +32,7 @@ never_ahead l f m b e (inr (inr (k, g, n))) = no_cons m b n
 
 -- the sender receives what comes first
 pub hears_view : (h : Handshake Publication) (v : View) (m : Backward) (b : List Backward) → h.transit ≡ link_as v (m ∷ b) → Stands h.transit (m ∷ b)
-    → HandshakeRun h (with_items (sender_hears m h.items) (link_as (grown (reply m) v) b) h)
+    → HandshakeTrace h (with_items (sender_hears m h.items) (link_as (grown (reply m) v) b) h)
 hears_view h None m b e st = goes_on stays (hears_alone m b e)
 hears_view h (Some (f, true)) m b e st = goes_on stays (hears m f b e)
 hears_view h (Some (f, false)) m b e st = absurd (never_ahead h.transit f m b e st)

@@ -9,8 +9,8 @@ use Rattle.broker_spec.specs.Times.{entries_of}
 use Rattle.broker_spec.specs.AnswersInOrder.{answers_at}
 use Rattle.lists.specs.Lists.{Each}
 use Rattle.exactly_once.specs.Handshake.{Backward, Transit, Handshake, with_items}
-use Rattle.exactly_once.specs.HandshakeSteps.Advances.{sender_leaves, parts}
-use Rattle.exactly_once.specs.HandshakeSteps.HandshakeRun.{stays, goes_on}
+use Rattle.exactly_once.specs.HandshakeSteps.HandshakeStep.{sender_leaves, parts}
+use Rattle.exactly_once.specs.HandshakeSteps.HandshakeTrace.{stays, goes_on}
 use Rattle.exactly_once.specs.Sends.{sends_to}
 use Rattle.exactly_once.specs.Sides.{ClientConnection}
 use Rattle.client_base.specs.Keeper.{Keeper}

@@ -9,7 +9,7 @@ use Rattle.broker_spec.specs.Entries.{Entry}
 use Rattle.broker_spec.specs.Times.{started, window_at, entries_of}
 use Rattle.broker_spec.proofs.SoundEntries.{Sound}
 use Rattle.exactly_once.specs.Handshake.{Forward, Backward, Handshake, publishing}
-use Rattle.exactly_once.specs.HandshakeSteps.{HandshakeRun}
+use Rattle.exactly_once.specs.HandshakeSteps.{HandshakeTrace}
 use Rattle.exactly_once.specs.Sides.{ClientConnection}
 use Rattle.exactly_once.specs.Story.{Story}
 use Rattle.exactly_once.specs.Acceptance.{accepted_on}
@@ -44,7 +44,7 @@ pub place_goes : (limits : Limits) (s : Story) (place : Place) (connections : Li
     → HasShape limits s → GoesOn limits s place es ps more
     → view limits (place ∷ s.past) (current_connection s.past s.keeper.client) s.keeper connections ≡ view limits (place ∷ s.past) (current_connection s.past s.keeper.client) s.keeper s.connections
     → accepted_on connections ≡ accepted_on s.connections
-    → HandshakeRun (as_subscriber limits s) k → k.items ≡ items_of_entries es → k.accepted ≡ accepted_on s.connections → ((id : ℕ) → k.received id ≡ has_id id s.keeper.received)
+    → HandshakeTrace (as_subscriber limits s) k → k.items ≡ items_of_entries es → k.accepted ≡ accepted_on s.connections → ((id : ℕ) → k.received id ≡ has_id id s.keeper.received)
     → k.transit ≡ link_as (grown more (view limits s.past (current_connection s.past s.keeper.client) s.keeper s.connections)) (left_behind (current_connection s.past s.keeper.client) connections)
     → GoesTo (as_subscriber limits s) (as_subscriber limits (placed s place connections))
 place_goes limits s place connections es ps more k shape g same accepted run items accepts received transit =

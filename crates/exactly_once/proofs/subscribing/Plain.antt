@@ -14,7 +14,7 @@ use Rattle.broker_spec.proofs.AnswersStaySound.{sound_more}
 use Rattle.broker_base.proofs.QueueAfter.{sound_entries}
 use Rattle.broker_base.proofs.QuietPasts.{no_connection, entries_next, entries_none}
 use Rattle.exactly_once.specs.Handshake.{publishing}
-use Rattle.exactly_once.specs.HandshakeSteps.HandshakeRun.{stays}
+use Rattle.exactly_once.specs.HandshakeSteps.HandshakeTrace.{stays}
 use Rattle.exactly_once.specs.Sends.{sends_to}
 use Rattle.exactly_once.specs.Sides.{ClientConnection}
 use Rattle.exactly_once.specs.Story.{Story}

@@ -10,7 +10,7 @@ use Rattle.broker_spec.specs.Place.{Client, Past, Limits}
 use Rattle.broker_spec.specs.Past.{current_connection}
 use Rattle.lists.specs.Lists.{Each}
 use Rattle.exactly_once.specs.Handshake.{Backward, Transit}
-use Rattle.exactly_once.specs.HandshakeSteps.HandshakeRun.{stays}
+use Rattle.exactly_once.specs.HandshakeSteps.HandshakeTrace.{stays}
 use Rattle.client_base.specs.Keeper.{Own, Written, Keeper, ids_in_use, next_own_number}
 use Rattle.client_base.specs.declared.request.Request.{Request}
 use Rattle.client_base.specs.declared.request.Request.TheVariants as requests

@@ -12,7 +12,7 @@ use Rattle.broker_spec.specs.Past.{current_connection}
 use Rattle.broker_spec.specs.Received.{received_of}
 use Rattle.exactly_once.specs.Items.{SenderItem}
 use Rattle.exactly_once.specs.Handshake.{Forward, Backward, Transit, Handshake}
-use Rattle.exactly_once.specs.HandshakeSteps.{HandshakeRun}
+use Rattle.exactly_once.specs.HandshakeSteps.{HandshakeTrace}
 use Rattle.exactly_once.specs.Sends.{put_to}
 use Rattle.client_base.specs.Keeper.{Own, Written}
 use Rattle.exactly_once.specs.Sides.{ClientConnection}
@@ -116,5 +116,5 @@ pub record IsLike {A : Type 0} (h k : Handshake A) : Type 0 where
 -- a run of the first handshake ends in the second, apart from what is not relevant
 pub record GoesTo {A : Type 0} (h k : Handshake A) : Type 0 where
   pub between : Handshake A
-  pub run : HandshakeRun h between
+  pub run : HandshakeTrace h between
   pub like : IsLike between k

@@ -12,7 +12,7 @@ use Rattle.broker_spec.specs.Past.{current_connection}
 use Rattle.lists.specs.Lists.{Each}
 use Rattle.exactly_once.specs.Items.{SenderItem}
 use Rattle.exactly_once.specs.Handshake.{Forward, Backward, Handshake}
-use Rattle.exactly_once.specs.HandshakeSteps.Advances.{adds}
+use Rattle.exactly_once.specs.HandshakeSteps.HandshakeStep.{adds}
 use Rattle.client_base.specs.Keeper.{Own, Keeper, ids_in_use, next_own_number}
 use Rattle.exactly_once.specs.Sides.{ClientConnection}
 use Rattle.client_base.specs.Written.{written_publish}

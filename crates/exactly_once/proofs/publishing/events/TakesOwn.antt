@@ -10,9 +10,9 @@ use Rattle.broker_spec.specs.Received.{is_new, received_by, received_of}
 use Rattle.broker_spec.specs.Answers.{packet_answers}
 use Rattle.broker_spec.specs.declared.command.Command.TheVariants as commands
 use Rattle.exactly_once.specs.Handshake.{Forward, Backward, Transit, Handshake, answer, receiver_takes, receiver_accepts}
-use Rattle.exactly_once.specs.HandshakeSteps.{HandshakeRun}
-use Rattle.exactly_once.specs.HandshakeSteps.Advances.{takes, takes_alone}
-use Rattle.exactly_once.specs.HandshakeSteps.HandshakeRun.{stays, goes_on}
+use Rattle.exactly_once.specs.HandshakeSteps.{HandshakeTrace}
+use Rattle.exactly_once.specs.HandshakeSteps.HandshakeStep.{takes, takes_alone}
+use Rattle.exactly_once.specs.HandshakeSteps.HandshakeTrace.{stays, goes_on}
 use Rattle.exactly_once.specs.Sends.{sends_to, put_to}
 use Rattle.client_base.specs.Keeper.{Written, Keeper}
 use Rattle.exactly_once.specs.Sides.{ClientConnection}
@@ -90,7 +90,7 @@ ends_current limits past keeper connections i κ w mark o leaving old received n
 
 -- ---- it is of the handshake
 
-takes_by : (h : Handshake ℕ) (on : Bool) (m : Forward ℕ) (f : List (Forward ℕ)) (b : List Backward) → h.transit ≡ link_by true on (m ∷ f) b → HandshakeRun h (receiver_takes m h (link_by true on f (b ++ answer m ∷ [])))
+takes_by : (h : Handshake ℕ) (on : Bool) (m : Forward ℕ) (f : List (Forward ℕ)) (b : List Backward) → h.transit ≡ link_by true on (m ∷ f) b → HandshakeTrace h (receiver_takes m h (link_by true on f (b ++ answer m ∷ [])))
 takes_by h true m f b e = goes_on stays (takes m f b e)
 takes_by h false m f b e = goes_on stays (takes_alone m f e)
 

@@ -13,9 +13,9 @@ use Rattle.broker_spec.specs.NobodyLaws.{IsSteady}
 use Rattle.broker_spec.proofs.AnswersStaySound.{sound_more}
 use Rattle.broker_base.proofs.QueueAfter.{sound_entries}
 use Rattle.exactly_once.specs.Handshake.{Backward, Transit, Handshake, publishing, sender_resends, with_items}
-use Rattle.exactly_once.specs.HandshakeSteps.{HandshakeRun}
-use Rattle.exactly_once.specs.HandshakeSteps.Advances.{sender_leaves, parts, restarts}
-use Rattle.exactly_once.specs.HandshakeSteps.HandshakeRun.{stays, goes_on}
+use Rattle.exactly_once.specs.HandshakeSteps.{HandshakeTrace}
+use Rattle.exactly_once.specs.HandshakeSteps.HandshakeStep.{sender_leaves, parts, restarts}
+use Rattle.exactly_once.specs.HandshakeSteps.HandshakeTrace.{stays, goes_on}
 use Rattle.client_base.specs.Keeper.{Written}
 use Rattle.exactly_once.specs.Sides.{ClientConnection}
 use Rattle.exactly_once.specs.Story.{Story}
@@ -48,7 +48,7 @@ pub record IsOpening (limits : Limits) (s : Story) (i : ℕ) (κ : ClientConnect
 -- ---- accepted
 
 -- the transit if the sender left
-parted_run : (h : Handshake Publication) (v : View) (b : List Backward) → h.transit ≡ link_as v b → (k : Handshake Publication) × (HandshakeRun h k) × (k.items ≡ h.items) × (k.accepted ≡ h.accepted) × (k.received ≡ h.received) × (k.transit ≡ link_as (parted v) [])
+parted_run : (h : Handshake Publication) (v : View) (b : List Backward) → h.transit ≡ link_as v b → (k : Handshake Publication) × (HandshakeTrace h k) × (k.items ≡ h.items) × (k.accepted ≡ h.accepted) × (k.received ≡ h.received) × (k.transit ≡ link_as (parted v) [])
 parted_run h None b e = (with_items h.items (Transit.Behind []) h, goes_on stays parts, refl, refl, refl, refl)
 parted_run h (Some (f, true)) b e = (with_items h.items (Transit.Ahead f) h, goes_on stays (sender_leaves f b e), refl, refl, refl, refl)
 parted_run h (Some (f, false)) b e = (h, stays, refl, refl, refl, e)

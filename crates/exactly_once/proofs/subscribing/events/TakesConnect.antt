@@ -13,8 +13,8 @@ use Rattle.broker_spec.specs.AnswersInOrder.{answers_at}
 use Rattle.broker_spec.specs.declared.command.Output.TheVariants.{Close}
 use Rattle.broker_base.proofs.QuietPasts.{no_connection, entries_none}
 use Rattle.exactly_once.specs.Handshake.{Transit, with_items}
-use Rattle.exactly_once.specs.HandshakeSteps.Advances.{parts_ahead}
-use Rattle.exactly_once.specs.HandshakeSteps.HandshakeRun.{stays, goes_on}
+use Rattle.exactly_once.specs.HandshakeSteps.HandshakeStep.{parts_ahead}
+use Rattle.exactly_once.specs.HandshakeSteps.HandshakeTrace.{stays, goes_on}
 use Rattle.exactly_once.specs.Sends.{sends_to}
 use Rattle.client_base.specs.Keeper.{Written}
 use Rattle.exactly_once.specs.Sides.{ClientConnection}
