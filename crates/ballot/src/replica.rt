@@ -96,30 +96,30 @@ impl<M: Machine> Model for Replica<M> {
 
     ghost Value = { CountedReplica M M.Command };
 
-    ghost view = { λ r.
+    ghost view = { λ replica.
         record {
           state = record {
-            id = r.id;
-            joined = r.joined;
-            held_in = r.held_in;
-            log = r.log;
-            committed = r.committed;
-            machine = if r.stopped then M.rules.opening else r.machine;
-            role = r.role;
-            members = r.members;
-            previous = r.previous;
-            previous_members = r.previous_members;
-            lacking = r.lacking.items;
-            progress = r.progress.items;
-            stopped = r.stopped;
+            id = replica.id;
+            joined = replica.joined;
+            held_in = replica.held_in;
+            log = replica.log;
+            committed = replica.committed;
+            machine = if replica.stopped then M.rules.opening else replica.machine;
+            role = replica.role;
+            members = replica.members;
+            previous = replica.previous;
+            previous_members = replica.previous_members;
+            lacking = replica.lacking.items;
+            progress = replica.progress.items;
+            stopped = replica.stopped;
           };
-          losses = r.losses;
+          losses = replica.losses;
         } };
 
-    ghost invariant = { λ r.
-        (r.log.base ≤ r.committed)
-        × (r.committed ≤ places r.log)
-        × (r.log.base ≡ 0 → r.log.snapshot ≡ []) };
+    ghost invariant = { λ replica.
+        (replica.log.base ≤ replica.committed)
+        × (replica.committed ≤ places replica.log)
+        × (replica.log.base ≡ 0 → replica.log.snapshot ≡ []) };
 }
 
 impl<M: Machine> Replica<M> {

@@ -29,7 +29,7 @@ impl Model for Members {
 
     ghost Value = { List ℕ };
 
-    ghost view = { λ m. m.numbers.items };
+    ghost view = { λ members. members.numbers.items };
 }
 
 impl Members {

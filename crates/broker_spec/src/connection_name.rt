@@ -22,11 +22,12 @@ impl std::marker::Model for ConnectionName {
 
     ghost Value = { ConnectionName };
 
-    ghost view = { λ c. record { ballot = c.ballot; count = c.count } };
+    ghost view = { λ name. record { ballot = name.ballot; count = name.count } };
 
-    ghost inverse = { λ n. record { ballot = n.ballot; count = n.count } };
+    ghost inverse = { λ name. record { ballot = name.ballot; count = name.count } };
 
-    ghost invariant = { λ c. IsConnectionName (record { ballot = c.ballot; count = c.count }) };
+    ghost invariant = { λ name.
+        IsConnectionName (record { ballot = name.ballot; count = name.count }) };
 }
 
 impl ConnectionName {

@@ -59,22 +59,22 @@ impl Model for ClientCore {
 
     ghost Value = { Core };
 
-    ghost view = { λ c. record {
+    ghost view = { λ core. record {
       state = record {
-        client = c.client;
-        keep_alive = c.keep_alive;
-        released = c.released.items;
-        sent = c.sent.items;
-        unsent = c.unsent.items;
-        received = c.received.items;
-        requests = c.requests.items;
-        stage = c.stage;
-        session = c.session;
-        present = c.present;
-        accepted = c.accepted.items;
+        client = core.client;
+        keep_alive = core.keep_alive;
+        released = core.released.items;
+        sent = core.sent.items;
+        unsent = core.unsent.items;
+        received = core.received.items;
+        requests = core.requests.items;
+        stage = core.stage;
+        session = core.session;
+        present = core.present;
+        accepted = core.accepted.items;
       };
-      unread = c.cutter;
-      out = c.out.items;
+      unread = core.cutter;
+      out = core.out.items;
     } };
 }
 

@@ -27,7 +27,7 @@ impl<D> Model for Counted<D> {
 
     ghost Value = { Watched D };
 
-    ghost view = { λ c. record { device = c.device; faults = c.faults } };
+    ghost view = { λ counted. record { device = counted.device; faults = counted.faults } };
 }
 
 impl<D> Counted<D> {

@@ -63,8 +63,9 @@ pub trait Machine: Drop {
     // The laws.
     ghost opens: { IsState rules.opening };
 
-    ghost keeps: { (s : Self) (c : Self.Command) →
-        IsState s → IsCommand c → IsState (rules.after s c) };
+    ghost keeps: { (state : Self) (command : Self.Command) →
+        IsState state → IsCommand command → IsState (rules.after state command) };
 
-    ghost thaws: { (s : Self) → IsState s → rules.thawed (rules.frozen s) ≡ Some s };
+    ghost thaws: { (state : Self) →
+        IsState state → rules.thawed (rules.frozen state) ≡ Some state };
 }

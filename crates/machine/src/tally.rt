@@ -30,7 +30,7 @@ impl Machine for Tally {
 
     ghost rules = { tally_rules };
 
-    ghost IsState = { λ s. s.total < 2 ^ 64 };
+    ghost IsState = { λ tally. tally.total < 2 ^ 64 };
 
     ghost IsCommand = { IsTallyCommand };
 
@@ -80,7 +80,8 @@ impl Machine for Tally {
 
     ghost opens = { IsTotal-opening };
 
-    ghost keeps = { λ s c state command. IsTotal-after s.total c state };
+    ghost keeps = { λ tally command is_state is_command.
+        IsTotal-after tally.total command is_state };
 
-    ghost thaws = { λ s state. tally_of-bytes_of s.total state };
+    ghost thaws = { λ tally is_state. tally_of-bytes_of tally.total is_state };
 }

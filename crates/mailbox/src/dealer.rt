@@ -32,14 +32,15 @@ impl<T: Drop, J: Naming> Model for Dealer<T, J> {
     ghost use Rattle.crossbeam_queue.specs.Passes.{ruled_capacity};
     ghost use Rattle.mailbox.specs.Kept.{DealerKept};
 
-    ghost view = { λ d. record { inbox = d.inbox; lanes = length d.counts.items; taken = [] } };
+    ghost view = { λ dealer.
+        record { inbox = dealer.inbox; lanes = length dealer.counts.items; taken = [] } };
 
-    ghost invariant = { λ d. DealerKept
-        (arc_value d.queue).table.shared.table_id
-        (ruled_capacity (arc_value d.queue))
-        d.pass
-        (J.inbox_of d.inbox)
-        d.counts.items };
+    ghost invariant = { λ dealer. DealerKept
+        (arc_value dealer.queue).table.shared.table_id
+        (ruled_capacity (arc_value dealer.queue))
+        dealer.pass
+        (J.inbox_of dealer.inbox)
+        dealer.counts.items };
 }
 
 impl<T: Drop, J: Naming> Dealer<T, J> {

@@ -38,12 +38,12 @@ impl<T: Drop> Model for Inbox<T> {
     ghost use Rattle.crossbeam_queue.specs.Passes.{ruled_capacity};
     ghost use Rattle.mailbox.specs.Kept.{InboxKept};
 
-    ghost view = { λ n. (arc_value n.queue).table.shared.table_id };
+    ghost view = { λ inbox. (arc_value inbox.queue).table.shared.table_id };
 
-    ghost invariant = { λ n. InboxKept
-        (arc_value n.queue).table.shared.table_id
-        (ruled_capacity (arc_value n.queue))
-        n.pass };
+    ghost invariant = { λ inbox. InboxKept
+        (arc_value inbox.queue).table.shared.table_id
+        (ruled_capacity (arc_value inbox.queue))
+        inbox.pass };
 }
 
 impl<T: Drop> Inbox<T> {

@@ -34,20 +34,20 @@ impl<T: Drop, J: Naming> Model for Lane<T, J> {
     ghost use Rattle.crossbeam_queue.specs.Passes.{view as known_by, ruled_capacity};
     ghost use Rattle.mailbox.specs.Kept.{LaneKept};
 
-    ghost view = { λ l. record {
-      inbox = l.inbox;
-      lane = l.lane;
-      met = (known_by l.pass).met;
-      sent = (known_by l.pass).sent;
+    ghost view = { λ lane. record {
+      inbox = lane.inbox;
+      lane = lane.lane;
+      met = (known_by lane.pass).met;
+      sent = (known_by lane.pass).sent;
     } };
 
-    ghost invariant = { λ l. LaneKept
-        (arc_value l.queue).table.shared.table_id
-        (ruled_capacity (arc_value l.queue))
-        l.pass
-        (J.inbox_of l.inbox)
-        l.lane
-        l.count };
+    ghost invariant = { λ lane. LaneKept
+        (arc_value lane.queue).table.shared.table_id
+        (ruled_capacity (arc_value lane.queue))
+        lane.pass
+        (J.inbox_of lane.inbox)
+        lane.lane
+        lane.count };
 }
 
 impl<T: Drop, J: Naming> Lane<T, J> {

@@ -73,7 +73,7 @@ impl<T> Split<View<T>> for Seals {
 
     ghost left = { sealed };
 
-    ghost right = { λ v. nobody };
+    ghost right = { λ known. nobody };
 }
 
 /// A lane gives all that it knows to a pass that the receiver takes.
@@ -82,9 +82,9 @@ pub struct Lends;
 impl<T> Split<View<T>> for Lends {
     ghost use Rattle.mailbox.specs.Inside.{nobody};
 
-    ghost left = { λ v. nobody };
+    ghost left = { λ known. nobody };
 
-    ghost right = { λ v. v };
+    ghost right = { λ known. known };
 }
 
 /// A lane says what it has sent, by a pass of its own.
@@ -93,7 +93,7 @@ pub struct LaneKnows;
 impl<T> Split<View<T>> for LaneKnows {
     ghost use Rattle.mailbox.specs.Inside.{lane_knows};
 
-    ghost left = { λ v. v };
+    ghost left = { λ known. known };
 
     ghost right = { lane_knows };
 }
@@ -104,7 +104,7 @@ pub struct ReceiverKnows;
 impl<T> Split<View<T>> for ReceiverKnows {
     ghost use Rattle.mailbox.specs.Inside.{receiver_knows};
 
-    ghost left = { λ v. v };
+    ghost left = { λ known. known };
 
     ghost right = { receiver_knows };
 }
@@ -115,7 +115,7 @@ pub struct Ends;
 impl<T> Split<View<T>> for Ends {
     ghost use Rattle.mailbox.specs.Inside.{ended, nobody};
 
-    ghost left = { λ v. nobody };
+    ghost left = { λ known. nobody };
 
     ghost right = { ended };
 }
@@ -145,7 +145,7 @@ impl<T> Join<View<T>> for Meets {
 impl<T> Lesson<(u8, T), View<T>> for Meets {
     ghost use Rattle.mailbox.specs.Inside.{Learned};
 
-    ghost fact = { λ v _. Learned v };
+    ghost fact = { λ known _. Learned known };
 }
 
 impl<T> Split<View<T>> for Meets {

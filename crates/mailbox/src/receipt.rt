@@ -22,7 +22,8 @@ impl<T: Drop, J: Naming> Model for Receipt<T, J> {
     ghost use Rattle.crossbeam_queue.specs.Passes.{view as known_by};
     ghost use Rattle.mailbox.specs.Kept.{ReceiptKept};
 
-    ghost view = { λ r. record { inbox = r.inbox; bounds = (known_by r.pass).bounds } };
+    ghost view = { λ receipt.
+        record { inbox = receipt.inbox; bounds = (known_by receipt.pass).bounds } };
 
-    ghost invariant = { λ r. ReceiptKept r.pass (J.inbox_of r.inbox) };
+    ghost invariant = { λ receipt. ReceiptKept receipt.pass (J.inbox_of receipt.inbox) };
 }

@@ -36,18 +36,18 @@ impl<T: Drop, J: Naming> Model for Receiver<T, J> {
     ghost use Rattle.crossbeam_queue.specs.Passes.{view as known_by, ruled_capacity};
     ghost use Rattle.mailbox.specs.Kept.{ReceiverKept};
 
-    ghost view = { λ r. record {
-      inbox = r.inbox;
-      lanes = length r.counts.items;
-      taken = (known_by r.pass).taken;
+    ghost view = { λ receiver. record {
+      inbox = receiver.inbox;
+      lanes = length receiver.counts.items;
+      taken = (known_by receiver.pass).taken;
     } };
 
-    ghost invariant = { λ r. ReceiverKept
-        (arc_value r.queue).table.shared.table_id
-        (ruled_capacity (arc_value r.queue))
-        r.pass
-        (J.inbox_of r.inbox)
-        r.counts.items };
+    ghost invariant = { λ receiver. ReceiverKept
+        (arc_value receiver.queue).table.shared.table_id
+        (ruled_capacity (arc_value receiver.queue))
+        receiver.pass
+        (J.inbox_of receiver.inbox)
+        receiver.counts.items };
 }
 
 impl<T: Drop, J: Naming> Receiver<T, J> {

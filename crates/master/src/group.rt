@@ -72,18 +72,20 @@ impl<M: Machine> Model for Group<M> {
 
     ghost Value = { GroupState M M.Command M.Output };
 
-    ghost view = { λ g.
+    ghost view = { λ group.
         record {
-          moment = moment_of g.archive.items g.master g.nodes.items g.sent.items g.left.items;
-          losses = g.losses;
+          moment = moment_of group.archive.items group.master group.nodes.items
+              group.sent.items group.left.items;
+          losses = group.losses;
         } };
 
     // Some past led to this group, and each loss of a replica was counted.
-    ghost invariant = { λ g.
-        (messages g.left.items ≡ []) ×
-        IsGroup M.rules (moment_of g.archive.items g.master g.nodes.items g.sent.items g.left.items)
-        g.told g.next ×
-        CountsAtMost g.losses g.nodes.items };
+    ghost invariant = { λ group.
+        (messages group.left.items ≡ []) ×
+        IsGroup M.rules (moment_of group.archive.items group.master group.nodes.items
+        group.sent.items group.left.items)
+        group.told group.next ×
+        CountsAtMost group.losses group.nodes.items };
 }
 
 impl<M: Machine> Group<M> {

@@ -39,15 +39,15 @@ impl Model for Master {
 
     ghost Value = { MasterState };
 
-    ghost view = { λ m.
+    ghost view = { λ master.
         record {
-          active = m.active;
-          members = m.members;
-          waiting = m.waiting;
-          given = m.given;
+          active = master.active;
+          members = master.members;
+          waiting = master.waiting;
+          given = master.given;
         } };
 
-    ghost invariant = { λ m. m.given ≤ max_ballot };
+    ghost invariant = { λ master. master.given ≤ max_ballot };
 }
 
 impl Master {

@@ -29,13 +29,13 @@ impl Model for Told {
 
     ghost Value = { ToldIn };
 
-    ghost view = { λ t.
+    ghost view = { λ told.
         record {
-          ballot = t.ballot;
-          held = t.held.items;
+          ballot = told.ballot;
+          held = told.held.items;
         } };
 
-    ghost invariant = { λ t. length t.held.items ≡ 16 };
+    ghost invariant = { λ told. length told.held.items ≡ 16 };
 }
 
 impl Told {

@@ -38,20 +38,20 @@ impl Model for Intake {
 
     ghost Value = { Taking };
 
-    ghost view = { λ it. record {
-      status = it.status;
-      entering = it.entering;
-      earlier_end = it.earlier_end;
-      earlier = it.earlier;
-      later = it.later;
+    ghost view = { λ intake. record {
+      status = intake.status;
+      entering = intake.entering;
+      earlier_end = intake.earlier_end;
+      earlier = intake.earlier;
+      later = intake.later;
     } };
 
-    ghost invariant = { λ it. IsBounded (record {
-      status = it.status;
-      entering = it.entering;
-      earlier_end = it.earlier_end;
-      earlier = it.earlier;
-      later = it.later;
+    ghost invariant = { λ intake. IsBounded (record {
+      status = intake.status;
+      entering = intake.entering;
+      earlier_end = intake.earlier_end;
+      earlier = intake.earlier;
+      later = intake.later;
     }) };
 }
 

@@ -60,17 +60,17 @@ impl Model for SteppingNode {
 
     ghost Value = { RunningStep };
 
-    ghost view = { λ s.
+    ghost view = { λ stepping.
         record {
           core = record {
-            replica = s.replica;
-            last_name = record { ballot = s.last_ballot; count = s.last_count };
-            connections = s.connections.items;
+            replica = stepping.replica;
+            last_name = record { ballot = stepping.last_ballot; count = stepping.last_count };
+            connections = stepping.connections.items;
           };
-          out_of_memory = s.out_of_memory;
+          out_of_memory = stepping.out_of_memory;
         } };
 
-    ghost invariant = { λ s. s.last_count ≤ max_count };
+    ghost invariant = { λ stepping. stepping.last_count ≤ max_count };
 }
 
 impl SteppingNode {

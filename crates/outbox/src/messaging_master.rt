@@ -81,9 +81,9 @@ impl Model for MessagingMaster {
 
     ghost Value = { MasterState };
 
-    ghost view = { λ it. it.master };
+    ghost view = { λ messaging. messaging.master };
 
-    ghost invariant = { λ it. IsReachable it.master };
+    ghost invariant = { λ messaging. IsReachable messaging.master };
 }
 
 impl MessagingMaster {

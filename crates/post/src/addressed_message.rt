@@ -28,7 +28,8 @@ impl Model for AddressedMessage {
 
     ghost Value = { Addressed };
 
-    ghost view = { λ it. record { receiver = it.receiver; message = it.message } };
+    ghost view = { λ addressed.
+        record { receiver = addressed.receiver; message = addressed.message } };
 
     ghost invariant = { λ addressed. WasGiven (To addressed.receiver addressed.message) };
 }

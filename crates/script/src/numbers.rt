@@ -15,7 +15,7 @@ impl Model for Numbers {
 
     ghost Value = { List ℕ };
 
-    ghost view = { λ n. n.numbers.items };
+    ghost view = { λ list. list.numbers.items };
 }
 
 impl Numbers {

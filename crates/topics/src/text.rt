@@ -41,7 +41,7 @@ impl Model for Text {
 
     ghost Value = { List ℕ };
 
-    ghost view = { λ it. arc_str_bytes it.text };
+    ghost view = { λ text. arc_str_bytes text.text };
 }
 
 impl Text {
@@ -86,7 +86,7 @@ impl Eq for Text {
 }
 
 impl PartialOrd for Text {
-    ghost partial_cmp = { λ x y. Some (slice_cmp nat_cmp x y) };
+    ghost partial_cmp = { λ text other. Some (slice_cmp nat_cmp text other) };
 
     ghost laws = { texts_po };
 
@@ -100,7 +100,7 @@ impl Ord for Text {
 
     ghost total = { nat_list_cmp_total };
 
-    ghost matches_partial_cmp = { λ x y. refl };
+    ghost matches_partial_cmp = { λ text other. refl };
 
     ghost matches_eq = { texts_ties };
 

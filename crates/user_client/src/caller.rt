@@ -43,7 +43,7 @@ impl Model for Caller {
 
     ghost Value = { Called };
 
-    ghost view = { λ c. record { core = c.core; was_accepted = c.was_accepted } };
+    ghost view = { λ caller. record { core = caller.core; was_accepted = caller.was_accepted } };
 }
 
 impl Caller {

@@ -40,7 +40,7 @@ impl Model for Publisher {
 
     ghost Value = { Publishing };
 
-    ghost view = { λ p. record { caller = p.caller; once = p.once } };
+    ghost view = { λ publisher. record { caller = publisher.caller; once = publisher.once } };
 }
 
 // The progress of a publisher on one connection.

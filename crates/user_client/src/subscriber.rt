@@ -41,7 +41,8 @@ impl Model for Subscriber {
 
     ghost Value = { Listening };
 
-    ghost view = { λ s. record { caller = s.caller; count = s.count; left = s.left } };
+    ghost view = { λ subscriber.
+        record { caller = subscriber.caller; count = subscriber.count; left = subscriber.left } };
 }
 
 impl Subscriber {

@@ -56,16 +56,17 @@ impl Model for World {
 
     ghost Value = { WorldState };
 
-    ghost view = { λ w.
+    ghost view = { λ world.
         record {
-          nodes = w.nodes;
-          clients = w.clients.items;
-          connections = w.connections.items;
-          losses = w.losses;
+          nodes = world.nodes;
+          clients = world.clients.items;
+          connections = world.connections.items;
+          losses = world.losses;
         } };
 
-    ghost invariant = { λ w. SlotsAreValid (targets_of_clients w.clients.items) w.connections.items
-        × (w.open_ends.items ≡ open_from 1 w.connections.items) };
+    ghost invariant = { λ world.
+        SlotsAreValid (targets_of_clients world.clients.items) world.connections.items
+        × (world.open_ends.items ≡ open_from 1 world.connections.items) };
 }
 
 impl World {

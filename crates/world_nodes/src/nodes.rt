@@ -56,24 +56,24 @@ impl Model for Nodes {
 
     ghost Value = { NodesState };
 
-    ghost view = { λ n.
+    ghost view = { λ state.
         record {
-          master = n.master;
-          nodes = n.nodes.items;
-          sent = n.sent.items;
-          archive = n.archive.items;
-          losses = n.losses;
+          master = state.master;
+          nodes = state.nodes.items;
+          sent = state.sent.items;
+          archive = state.archive.items;
+          losses = state.losses;
         } };
 
     // Some past led up to here.
-    ghost invariant = { λ n.
+    ghost invariant = { λ state.
         HaveCounted (record {
-          master = n.master;
-          nodes = n.nodes.items;
-          sent = n.sent.items;
-          archive = n.archive.items;
-          losses = n.losses;
-        }) n.counters.told n.counters.next };
+          master = state.master;
+          nodes = state.nodes.items;
+          sent = state.sent.items;
+          archive = state.archive.items;
+          losses = state.losses;
+        }) state.counters.told state.counters.next };
 }
 
 impl Nodes {

@@ -43,9 +43,9 @@ impl Model for PipedClient {
 
     ghost Value = { Piped };
 
-    ghost view = { λ c. record { core = c.core; ways = c.ways.items } };
+    ghost view = { λ piped. record { core = piped.core; ways = piped.ways.items } };
 
-    ghost invariant = { λ c. IsHeld c.holds c.core c.ways.items };
+    ghost invariant = { λ piped. IsHeld piped.holds piped.core piped.ways.items };
 }
 
 impl PipedClient {
