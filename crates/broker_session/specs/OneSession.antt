@@ -39,5 +39,10 @@ sent_to_resumed window None = []
 
 -- the copy of a publication for a client that is granted it at this QoS (MQTT 3.3.1.3, 3.3.5)
 abbrev pub lowered : Publication → QoS → Publication
-lowered p qos =
-    record { retain = false; qos = lower_qos p.qos qos; topic = p.topic; payload = p.payload }
+lowered publication qos =
+    record {
+      retain = false;
+      qos = lower_qos publication.qos qos;
+      topic = publication.topic;
+      payload = publication.payload;
+    }

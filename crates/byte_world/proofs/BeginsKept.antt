@@ -54,4 +54,4 @@ step_begins v w each (handles i c κ others p pipes packet left at are piped is_
 
 pub all_begin_kept : {nodes : ℕ} {config : Config} {cs : List Client} (w : World) → Reached nodes config cs w → Each AllBeginKept w.clients
 all_begin_kept {cs = cs} w (begins can) = new_clients cs
-all_begin_kept w (goes_on {v = v} before step) = step_begins v w (all_begin_kept v before) step
+all_begin_kept w (goes_on {old = v} before step) = step_begins v w (all_begin_kept v before) step

@@ -144,7 +144,7 @@ names_so_far {nodes = nodes} {config = config} {g = g} (opened can) =
     only : (e : Group) → In e (g ∷ []) → (moments : List (Moment State Command Output)) → AreLed e moments
     only e here moments = none moments
     only e (there i) moments = elim i [ ]
-names_so_far {g = h} (then_went {g = g} went step) =
+names_so_far {g = h} (then_went {group = g} went step) =
     let before = names_so_far went in
     let s = step_led g h went step before.past in
     let now = s.led before.now in

@@ -75,7 +75,7 @@ step_holds v w went h (handles i c κ others p pipes packet left at first piped 
 
 pub reached_holds : {nodes : ℕ} {config : Config} {cs : List Client} (w : World) (trail : Reached nodes config cs w) → Holds w (trace_of trail)
 reached_holds {nodes = nodes} {config = config} {cs = cs} w (begins can) = opens_hold nodes config cs (opened can) (λ x. (refl, refl))
-reached_holds w (goes_on {v = v} before step) = step_holds v w (trace_of before) (reached_holds v before) step
+reached_holds w (goes_on {old = v} before step) = step_holds v w (trace_of before) (reached_holds v before) step
 
 -- ---- the law
 

@@ -102,5 +102,5 @@ pub data Reached (nodes : ℕ) (config : Config) (clients : List Client) : World
   begins : can_open nodes config ≡ true →
       Reached nodes config clients (opening nodes config clients)
   -- one more step
-  goes_on : {v w : World} → Reached nodes config clients v → WorldStep v w →
-      Reached nodes config clients w
+  goes_on : {old new : World} → Reached nodes config clients old → WorldStep old new →
+      Reached nodes config clients new

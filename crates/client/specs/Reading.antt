@@ -27,9 +27,9 @@ pub data Handles (start : Core) : Core → Type 0 where
   -- no packet
   none : Handles start start
   -- one more packet, which is not refused
-  more : {s t u : Core} (packet : Packet) → Handles start s → ReadsPacket s packet t
-      → (outcome_of_packet packet t).refusal ≡ None
-      → IsDone (outcome_of_packet packet t) t u → Handles start u
+  more : {before read after : Core} (packet : Packet) → Handles start before
+      → ReadsPacket before packet read → (outcome_of_packet packet read).refusal ≡ None
+      → IsDone (outcome_of_packet packet read) read after → Handles start after
 
 -- A fault of the stream: a CONNECT that is refused with a code is a packet that only a client
 -- sends.

@@ -74,7 +74,7 @@ module _ (piece : List ℕ) (old : Core) (whole : verdict piece ≡ Ok (connack,
 
   handled : (last : Core) → Handles (fed piece old) last → (last ≡ fed piece old) ⊎ After last
   handled last none = inl refl
-  handled last (more {s = s} {t = t} packet before reads taken done) = by (handled s before)
+  handled last (more {before = s} {read = t} packet before reads taken done) = by (handled s before)
     where
       by : (s ≡ fed piece old) ⊎ After s → (last ≡ fed piece old) ⊎ After last
       by (inl same) =

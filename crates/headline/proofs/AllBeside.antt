@@ -71,5 +71,5 @@ step_goes apart v w went s (handles i c κ others p pipes packet left at first p
 
 pub goes_beside : {nodes : ℕ} {config : Config} {cs : List Client} → ClientsAreApart cs → (w : World) (trail : Reached nodes config cs w) → GoesBeside nodes config cs w (trace_of trail)
 goes_beside {nodes = nodes} {config = config} {cs = cs} apart w (begins can) = opens_so nodes config cs apart can
-goes_beside apart w (goes_on {v = v} before step) =
+goes_beside apart w (goes_on {old = v} before step) =
     let s = goes_beside apart v before in step_goes apart v w (trace_of before) s step (step_holds v w (trace_of before) s.holds step)

@@ -98,7 +98,7 @@ step_named g h (answers_unheard from ballot sent) all = all
 all_named : {nodes : ℕ} {config : Config} (g : Group) → GroupTrace nodes config g → Each AreNamed g.nodes
 all_named {nodes = nodes} {config = config} g (opened can) =
     each_then (λ (core : CoreState). core.connections ≡ []) AreNamed (opening_cores nodes config) (λ core none. subst (Each IsNamed) (sym none) tt) (no_connections nodes config)
-all_named h (then_went {g = g} went step) = step_named g h step (all_named g went)
+all_named h (then_went {group = g} went step) = step_named g h step (all_named g went)
 
 name_fits : (e : Group) (x : ConnectionName) (n : ℕ) → HasName x e n → Each AreNamed e.nodes → IsConnectionName x
 name_fits e x n has all =

@@ -53,8 +53,8 @@ data Form (words : List Text) : Type 0 where
 form_of : {words : List Text} {order : Order} → Orders words order → Form words
 form_of Orders.quit = Form.quit refl
 form_of Orders.status = Form.status refl
-form_of (Orders.crash {n = n} {node = node} is) = Form.crash n node refl is
-form_of (Orders.assign {m = m} {p = p} {config = config} are is) = Form.assign m p config.members config.primary refl are is
+form_of (Orders.crash {name = n} {node = node} is) = Form.crash n node refl is
+form_of (Orders.assign {members = m} {primary = p} {config = config} are is) = Form.assign m p config.members config.primary refl are is
 
 count : {xs ys : List Text} → xs ≡ ys → length xs ≡ length ys
 count same = ap (λ (all : List Text). length all) same

@@ -58,12 +58,12 @@ pub data Orders : List Text → Order → Type 0 where
   quit : Orders (codes "quit" ∷ []) orders.Quit
   status : Orders (codes "status" ∷ []) orders.Status
   -- `crash 1`
-  crash : {n : Text} {node : ℕ} → named_node n ≡ Some node
-      → Orders (codes "crash" ∷ n ∷ []) (orders.Crash node)
+  crash : {name : Text} {node : ℕ} → named_node name ≡ Some node
+      → Orders (codes "crash" ∷ name ∷ []) (orders.Crash node)
   -- `assign 2,3 2`
-  assign : {m p : Text} {config : Config}
-      → AreNumbers m config.members → named_node p ≡ Some config.primary
-      → Orders (codes "assign" ∷ m ∷ p ∷ []) (orders.Assign config)
+  assign : {members primary : Text} {config : Config}
+      → AreNumbers members config.members → named_node primary ≡ Some config.primary
+      → Orders (codes "assign" ∷ members ∷ primary ∷ []) (orders.Assign config)
 
 -- the words are no order
 abbrev pub OrderNothing : List Text → Type 0

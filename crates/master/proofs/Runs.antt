@@ -96,7 +96,7 @@ went : {S C O : Type 0} (rules : Rules S C O) (config : Config) (w v : GroupStat
     Moments rules config (w.moment ∷ past) → GroupTraceOrLost rules w events v → Went rules config (w.moment ∷ past) v.moment
 went rules config w v past events came ends =
     record { earlier = past; between = []; goes_on = refl; came = came; grown = λ xs ys before after. one_agreed config (map whole_moment (w.moment ∷ past)) xs ys before after }
-went {S = S} {C = C} {O = O} rules config w v past events came (goes_on {next = u} {e = e} {events = rest} s r) =
+went {S = S} {C = C} {O = O} rules config w v past events came (goes_on {next = u} {event = e} {events = rest} s r) =
     let now : Moments rules config (u.moment ∷ (w.moment ∷ past)) = went_on came (step_may rules w u e s) in
     let q = went rules config u v (w.moment ∷ past) rest now r in
     let mid = has_agreed rules config u.moment (w.moment ∷ past) now in

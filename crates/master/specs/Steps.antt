@@ -80,9 +80,9 @@ pub data GroupTraceOrLost {S C O : Type 0} (rules : Rules S C O) :
   -- no event
   ends : {first : GroupState S C O} → GroupTraceOrLost rules first [] first
   -- one event, exact or with a loss that is counted, and others after it
-  goes_on : {first next last : GroupState S C O} {e : Event C} {events : List (Event C)} →
-      GroupEventOrLost rules first e next → GroupTraceOrLost rules next events last →
-      GroupTraceOrLost rules first (e ∷ events) last
+  goes_on : {first next last : GroupState S C O} {event : Event C} {events : List (Event C)} →
+      GroupEventOrLost rules first event next → GroupTraceOrLost rules next events last →
+      GroupTraceOrLost rules first (event ∷ events) last
 
 -- the count is exact as long as it is below its greatest number
 abbrev pub GroupLosesNothing : {S C O : Type 0} → GroupState S C O → GroupState S C O → Type 0

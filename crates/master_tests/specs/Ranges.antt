@@ -8,9 +8,9 @@ use Rattle.master.specs.agreement.MasterState.{MasterState, refusal, ballots_spe
 -- the 4,294,967,296th ballot is given, and none after it
 abbrev pub MaxBallotIs : Type 0
 MaxBallotIs =
-    (m : MasterState) (config : Config) → is_lawful config.members config.primary ≡ true →
-    (m.given ≡ 4294967295 → refusal m config ≡ None)
-    × (m.given ≡ 4294967296 → refusal m config ≡ Some ballots_spent)
+    (master : MasterState) (config : Config) → is_lawful config.members config.primary ≡ true →
+    (master.given ≡ 4294967295 → refusal master config ≡ None)
+    × (master.given ≡ 4294967296 → refusal master config ≡ Some ballots_spent)
 
 -- a log has room for 1,099,511,627,776 commands
 abbrev pub MaxPlacesAre : Type 0

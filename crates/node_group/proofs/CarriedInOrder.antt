@@ -173,7 +173,7 @@ carried_on {nodes = nodes} {config = config} g h went before step =
 -- the same holds for all steps
 pub carried_so : {nodes : ℕ} {config : Config} {g : Group} (went : GroupTrace nodes config g) → CarriedSo went
 carried_so {nodes = nodes} {config = config} (opened can) = carried_at_first nodes config can
-carried_so {g = h} (then_went {g = g} went step) = (carried_on g h went (carried_so went) step).now
+carried_so {g = h} (then_went {group = g} went step) = (carried_on g h went (carried_so went) step).now
 
 -- ---- what it says
 

@@ -65,7 +65,7 @@ seen_still (h ∷ groups) kept all = (kept (moment_of_nodes h) all.0, seen_still
 
 pub groups_are_pasts : GroupsArePasts
 groups_are_pasts nodes config g (opened can) = record { earlier = []; past = began nodes can (opens_as nodes config); proposed = refl; taken = λ x. refl; seen = (here, tt) }
-groups_are_pasts nodes config h (then_went {g = g} went step) =
+groups_are_pasts nodes config h (then_went {group = g} went step) =
     let so_far = groups_are_pasts nodes config g went in
     let further = goes_on config g h step so_far.earlier so_far.past in
     record {

@@ -130,7 +130,7 @@ steps_well g h (answers_unheard from ballot sent) well = record { nodes = well; 
 
 pub all_well : (nodes : ℕ) (config : Config) (g : Group) (went : GroupTrace nodes config g) → Each IsWell g.nodes × Each IsInItsBallot (all_proposed went)
 all_well nodes config g (opened can) = (opening_well nodes config, tt)
-all_well nodes config h (then_went {g = g} went step) =
+all_well nodes config h (then_went {group = g} went step) =
     let before = all_well nodes config g went in
     let now = steps_well g h step before.0 in
     (now.nodes, each_append IsInItsBallot (all_proposed went) (put_in_step step) before.1 now.puts)

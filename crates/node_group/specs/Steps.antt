@@ -75,7 +75,7 @@ pub data GroupTrace (nodes : ℕ) (config : Config) : Group → Type 0 where
   -- the group opens
   opened : can_open nodes config ≡ true → GroupTrace nodes config (opening_group nodes config)
   -- one more step
-  then_went : {g next : Group} → GroupTrace nodes config g → GroupStep g next →
+  then_went : {group next : Group} → GroupTrace nodes config group → GroupStep group next →
       GroupTrace nodes config next
 
 -- what nodes proposed to their replicas, each command with the ballot that its node had joined, in

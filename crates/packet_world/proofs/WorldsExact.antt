@@ -41,7 +41,7 @@ holds_on v w h (agrees_else command other) = keeps_else v command h other
 
 pub reached_holds : (cs : List Client) (w : World) → ClientsAreApart cs → Reached cs w → Holds w
 reached_holds cs w apart begins = opening_holds cs apart
-reached_holds cs w apart (goes_on {v = v} reached goes) = holds_on v w (reached_holds cs v apart reached) goes
+reached_holds cs w apart (goes_on {old = v} reached goes) = holds_on v w (reached_holds cs v apart reached) goes
 
 pub worlds_are_exact : WorldsAreExact
 worlds_are_exact cs w apart reached =

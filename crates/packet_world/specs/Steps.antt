@@ -94,9 +94,9 @@ pub data PacketWorldStep (world : World) : World → Type 0 where
   -- a node applies the next agreed place, and sends what the broker answers on an open connection
   answers : (index nth : ℕ) (client : ClientEnds) (connection : ClientConnection) (end : End)
       (next : Command) → HasPipe world index client nth connection end → end.is_open ≡ true →
-      slice_get world.agreed end.seen ≡ Some next → PacketWorldStep world (with_client index (record client {
-        ends = set client.ends nth (shown world.agreed connection.name next end);
-      }) world)
+      slice_get world.agreed end.seen ≡ Some next → PacketWorldStep world (with_client index
+      (record client { ends = set client.ends nth (shown world.agreed connection.name next end) })
+      world)
   -- a node's end is closed, alone or with its node
   closes : (index nth : ℕ) (client : ClientEnds) (connection : ClientConnection) (end : End) →
       HasPipe world index client nth connection end → PacketWorldStep world (with_client index
@@ -114,7 +114,7 @@ pub data PacketWorldStep (world : World) : World → Type 0 where
   agrees_else : (command : Command) → is_of_connection command ≡ false →
       PacketWorldStep world (record world { agreed = world.agreed ++ command ∷ [] })
 
--- the worlds that are reached with these clients
+-- the worlds that are reached with these clients, by no step or by one more
 pub data Reached (clients : List Client) : World → Type 0 where
   begins : Reached clients (opening clients)  -- the world opens
-  goes_on : {v w : World} → Reached clients v → PacketWorldStep v w → Reached clients w  -- one more step
+  goes_on : {old new : World} → Reached clients old → PacketWorldStep old new → Reached clients new

@@ -44,7 +44,7 @@ none_taken row false i = elim i [ ]
 proposal_stands : {S C O : Type 0} (rules : Rules S C O) (m : MasterState) (w : CutGroupWorld S C O) (i : ℕ) (r : ReplicaState S C) (c : C) (new : ReplicaState S C)
     (given : List (Effect C O)) (stands : slice_get w.nodes i ≡ Some r) (runs : r.stopped ≡ false) (may : MayTake w i (Proposes c))
     (loses : Loses rules r (replica_step rules r (Proposes c)) new given) → IsBased w.archive r → new.log.base ≤ length w.archive →
-    StandsAtOnce (node_goes {m = m} {w = w} (takes i r (Proposes c) stands runs may loses))
+    StandsAtOnce (node_goes {state = m} {world = w} (takes i r (Proposes c) stands runs may loses))
 proposal_stands {S = S} {C = C} {O = O} rules m w i r c new given stands runs may loses based within =
     record {
       stands = λ n row j. z.stands n row (subst (In row) (sym (s.1.takes_at n ∙ ap (λ us. cond (i == n) us []) taken)) j);

@@ -30,8 +30,8 @@ world_after {C = C} state world config None = sends_from_master world (assigned 
 pub data MayHappen {S C O : Type 0} (rules : Rules S C O) :
     MasterState → CutGroupWorld S C O → MasterState → CutGroupWorld S C O → Type 0 where
   -- a node takes a step, stops, or cuts its log
-  node_goes : {m : MasterState} {w next_world : CutGroupWorld S C O} → NodeGoes rules w next_world →
-      MayHappen rules m w m next_world
+  node_goes : {state : MasterState} {world next_world : CutGroupWorld S C O} →
+      NodeGoes rules world next_world → MayHappen rules state world state next_world
   -- an Assign: the master refuses it, or sends NewBallot to the primary of the configuration
   master_assigns : {state : MasterState} {world : CutGroupWorld S C O} (config : Config) →
       MayHappen rules state world (master_after state config (refusal state config))

@@ -17,16 +17,19 @@ use Rattle.broker_form.specs.broker_spec.declared.command.Output.TheVariants.{Cl
 
 -- an entry is released at QoS 2 alone, and finished without a release at QoS 1 alone
 abbrev pub FitsItsQoS : Entry → Type 0
-FitsItsQoS (Entry.Released made p id start release) = is_acknowledged p.qos ≡ false
-FitsItsQoS (Entry.Finished made p id start None finish) = is_acknowledged p.qos ≡ true
-FitsItsQoS (Entry.Finished made p id start (Some release) finish) = is_acknowledged p.qos ≡ false
+FitsItsQoS (Entry.Released made publication id start release) =
+    is_acknowledged publication.qos ≡ false
+FitsItsQoS (Entry.Finished made publication id start None finish) =
+    is_acknowledged publication.qos ≡ true
+FitsItsQoS (Entry.Finished made publication id start (Some release) finish) =
+    is_acknowledged publication.qos ≡ false
 FitsItsQoS _ = Unit {0}
 
 -- each entry of each session fits its QoS
 abbrev pub EntriesFitTheirQoS : Type 0
 EntriesFitTheirQoS =
-    (limits : Limits) (past : Past) (c : Client)
-    → AllByRecursion FitsItsQoS (entries_of limits past c)
+    (limits : Limits) (past : Past) (client : Client)
+    → AllByRecursion FitsItsQoS (entries_of limits past client)
 
 -- b is sent x at QoS 1 with identifier 1 and y at QoS 2 with identifier 2. A PUBREC of 1 and a
 -- PUBACK of 2 are nothing: when b comes back it is sent both again

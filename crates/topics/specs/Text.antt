@@ -47,7 +47,7 @@ levels_of (Some text) = levels text.now
 
 -- whether the byte occurs in the text
 abbrev pub contains_byte : ℕ → List ℕ → Bool
-contains_byte byte text = list_any (λ b. b == byte) text
+contains_byte byte text = list_any (λ other. other == byte) text
 
 -- 1 to 65,535 bytes (MQTT 4.7.3)
 abbrev pub has_length : List ℕ → Bool

@@ -41,7 +41,7 @@ steps_to w i {c = c} at ClientTrace.stays =
       by = subst (λ (cs : List ClientPipes). StepsBy [] w cs) (sym (set_itself w.clients i c at)) (record { steps = rests; asked_is = refl });
       at = get_set w.clients i c c at;
     }
-steps_to w i {c = c} at (ClientTrace.goes_on {d = d} {e = e} goes step) =
+steps_to w i {c = c} at (ClientTrace.goes_on {before = d} {after = e} goes step) =
     let first = steps_to w i at goes in
     let last = steps_in_worlds (with_client i d w) i d e first.at step in
     record {

@@ -118,7 +118,7 @@ pub record GoFar (before : List ℕ) (core : Core) (m : ClientPipes) (others : L
 pub all_go : (before : List ℕ) (start last : Core) (m : ClientPipes) (others : List ClientConnection) (p₀ : Pipe) (further : List Pipe) → is_open start.state.stage ≡ true →
     IsInMidst before start m others p₀ further → Handles start last → GoFar before last m others p₀ further
 all_go before start last m others p₀ further up s Handles.none = record { last = m; steps = ClientTrace.stays; silent = refl; stands = s }
-all_go before start last m others p₀ further up s (Handles.more {s = mid} {t = next} packet run reads taken done) =
+all_go before start last m others p₀ further up s (Handles.more {before = mid} {read = next} packet run reads taken done) =
     let far = all_go before start mid m others p₀ further up s run in
     let one = one_goes before mid next last far.last others p₀ further packet (handled_stays start mid run up) far.stands reads done in
     record { last = one.next; steps = ClientTrace.goes_on far.steps one.step; silent = ap₂ (λ a b. a ++ b) far.silent one.silent; stands = one.stands }

@@ -97,7 +97,7 @@ outcome_stays packet stages.Online state is ok = ap is_open (later_stays packet 
 
 pub handled_stays : (start last : Core) → Handles start last → is_open start.state.stage ≡ true → is_open last.state.stage ≡ true
 handled_stays start last Handles.none up = up
-handled_stays start last (Handles.more {s = s} {t = t} packet before reads taken done) up =
+handled_stays start last (Handles.more {before = s} {read = t} packet before reads taken done) up =
     ap (λ (state : ClientState). is_open state.stage) done.0
     ∙ outcome_stays packet t.state.stage t.state refl (ap goes_on taken)
 

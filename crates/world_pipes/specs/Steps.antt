@@ -46,7 +46,8 @@ pub data ClientTrace (client : ClientPipes) : ClientPipes → Type 0 where
   -- no step
   stays : ClientTrace client client
   -- one more step
-  goes_on : {d e : ClientPipes} → ClientTrace client d → ClientStep d e → ClientTrace client e
+  goes_on : {before after : ClientPipes} →
+      ClientTrace client before → ClientStep before after → ClientTrace client after
 
 -- ---- what it publishes
 
