@@ -36,8 +36,8 @@ any_at test (y ∷ xs) (suc i) x e is = by (test y) (any_at test xs i x e is)
 
 leads_used : (v : World) (n : ℕ) (port : Port) → LeadsToPort v n port → is_used n port v.clients ≡ true
 leads_used v n port l =
-    any_at (λ (c : ClientPipes). list_any (leads_to n port) c.pipes) v.clients l.i l.c l.has.client
-    (any_at (leads_to n port) l.c.pipes l.j l.p l.has.pipe (both (l.p.node == n) (l.p.port.0 == port.0) (ap (λ k. l.p.node == k) (sym l.node) ∙ eq_same l.p.node) (ap (λ k. l.p.port.0 == k) (sym l.at) ∙ eq_same l.p.port.0)))
+    any_at (λ (c : ClientPipes). list_any (leads_to n port) c.pipes) v.clients l.index l.client l.has.client
+    (any_at (leads_to n port) l.client.pipes l.nth l.pipe l.has.pipe (both (l.pipe.node == n) (l.pipe.port.0 == port.0) (ap (λ k. l.pipe.node == k) (sym l.node) ∙ eq_same l.pipe.node) (ap (λ k. l.pipe.port.0 == k) (sym l.at) ∙ eq_same l.pipe.port.0)))
   where
     both : (a b : Bool) → a ≡ true → b ≡ true → (a && b) ≡ true
     both a b e f = rw (e, f) refl
@@ -70,7 +70,7 @@ module _ {nodes : ℕ} {config : Config} (v : World) (went : GroupTrace nodes co
   old_led : (m : ℕ) (old : CoreState) (e : NodesEnd) → slice_get v.group.nodes m ≡ Some old → IsOfOld old.connections e → LeadsToPort v m e.port
   old_led m old e at o =
       let l = h.used m old o.was at o.among in
-      record { i = l.i; c = l.c; j = l.j; connection = l.connection; p = l.p; has = l.has; node = l.node; at = l.at ∙ sym (ap (λ (z : Port). z.0) o.later.port) }
+      record { index = l.index; client = l.client; nth = l.nth; connection = l.connection; pipe = l.pipe; has = l.has; node = l.node; at = l.at ∙ sym (ap (λ (z : Port). z.0) o.later.port) }
 
   opened_there : (m : ℕ) (old : CoreState) (e : NodesEnd) → IsOpened (node_call_of d.step) m old e → (m ≡ n) × (e.port.0 ≡ port.0)
   opened_there m old e o = (ap opened_place (sym o.is ∙ d.is), ap (λ (z : Port). z.0) o.new.port_is ∙ ap opened_port (sym o.is ∙ d.is))
@@ -86,7 +86,7 @@ module _ {nodes : ℕ} {config : Config} (v : World) (went : GroupTrace nodes co
   old_holds i c j κ p has =
       apart_on went d.step κ p
       (λ old e at o same. let z = opened_there p.node old e o in
-      no_lead (record { i = i; c = c; j = j; connection = κ; p = p; has = has; node = z.0; at = sym same ∙ z.1 }))
+      no_lead (record { index = i; client = c; nth = j; connection = κ; pipe = p; has = has; node = z.0; at = sym same ∙ z.1 }))
       (quiet κ.name).0 (quiet κ.name).1 (h.each i c j κ p has)
 
   pub opens_unused : OpensUnused v went n port now d

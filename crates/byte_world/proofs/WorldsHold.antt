@@ -83,8 +83,8 @@ holds_on v w went after h back forth olds knows =
   where
     leads : (n : ℕ) (port : Port) → LeadsToPort v n port → LeadsToPort w n port
     leads n port l =
-        let s = forth l.i l.c l.j l.connection l.p l.has in
-        record { i = l.i; c = s.c; j = l.j; connection = s.later; p = s.q; has = s.has; node = s.node ∙ l.node; at = ap (λ (z : Port). z.0) s.port ∙ l.at }
+        let s = forth l.index l.client l.nth l.connection l.pipe l.has in
+        record { index = l.index; client = s.c; nth = l.nth; connection = s.later; pipe = s.q; has = s.has; node = s.node ∙ l.node; at = ap (λ (z : Port). z.0) s.port ∙ l.at }
 
     by : (x : ConnectionName) → IsUnheard after x ⊎ IsKnown v x → IsUnheard after x ⊎ IsKnown w x
     by x (inl none) = inl none

@@ -166,7 +166,7 @@ still_used v g went step none h n core d at i = by (stood_as v.group g went step
     by : (old : CoreState) → slice_get v.group.nodes n ≡ Some old → IsOfOld old.connections d ⊎ IsOpened (node_call_of step) n old d → LeadsToPort v n d.port
     by old stood (inl o) =
         let l = h.used n old o.was stood o.among in
-        record { i = l.i; c = l.c; j = l.j; connection = l.connection; p = l.p; has = l.has; node = l.node; at = l.at ∙ sym (ap (λ (z : Port). z.0) o.later.port) }
+        record { index = l.index; client = l.client; nth = l.nth; connection = l.connection; pipe = l.pipe; has = l.has; node = l.node; at = l.at ∙ sym (ap (λ (z : Port). z.0) o.later.port) }
     by old stood (inr opened) = absurd (both_ways (opens_in (node_call_of step)) none (ap opens_in opened.is))
 
 apart_opens_none : (o : Option (ℕ × NodeCall)) → is_apart o ≡ true → opens_in o ≡ false

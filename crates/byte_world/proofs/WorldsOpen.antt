@@ -64,7 +64,7 @@ module _ {nodes : ℕ} {config : Config} (v : World) (went : GroupTrace nodes co
   facts = opens_unused v went h n port now d unused
 
   led_at : (m : ℕ) (p q : Port) → p.0 ≡ q.0 → LeadsToPort v m p → LeadsToPort v m q
-  led_at m p q same l = record { i = l.i; c = l.c; j = l.j; connection = l.connection; p = l.p; has = l.has; node = l.node; at = l.at ∙ same }
+  led_at m p q same l = record { index = l.index; client = l.client; nth = l.nth; connection = l.connection; pipe = l.pipe; has = l.has; node = l.node; at = l.at ∙ same }
 
   was : StoodAs v.group d.after (node_call_of d.step) n core
   was = stood_as v.group d.after went d.step n core stands
@@ -198,7 +198,7 @@ module _ {nodes : ℕ} {config : Config} (v : World) (went : GroupTrace nodes co
     one_place k l κ p a b μ q (old m e has is) (old o r other at_too) same = let z = h.one k e m κ p a r o μ q has other same in same_places k l a b m o z.0 z.1 is at_too
 
     led_on : (m : ℕ) (q : Port) → LeadsToPort v m q → LeadsToPort w m q
-    led_on m q l = let s = forth l.i l.c l.j l.connection l.p l.has in record { i = l.i; c = s.0; j = s.1; connection = l.connection; p = l.p; has = s.2; node = l.node; at = l.at }
+    led_on m q l = let s = forth l.index l.client l.nth l.connection l.pipe l.has in record { index = l.index; client = s.0; nth = s.1; connection = l.connection; pipe = l.pipe; has = s.2; node = l.node; at = l.at }
 
     each_led : (m : ℕ) (z : CoreState) (e : NodesEnd) → slice_get d.after.nodes m ≡ Some z → In e z.connections → LeadsToPort w m e.port
     each_led m z e stood j = by (stood_as v.group d.after went d.step m z stood).core (stood_as v.group d.after went d.step m z stood).stands ((stood_as v.group d.after went d.step m z stood).after.was e j)
@@ -206,7 +206,7 @@ module _ {nodes : ℕ} {config : Config} (v : World) (went : GroupTrace nodes co
         by : (before : CoreState) → slice_get v.group.nodes m ≡ Some before → IsOfOld before.connections e ⊎ IsOpened (node_call_of d.step) m before e → LeadsToPort w m e.port
         by before at_before (inl o) = led_on m e.port (facts.old_led m before e at_before o)
         by before at_before (inr o) =
-            let f = facts.opened_there m before e o in record { i = i; c = later; j = 0; connection = κ_new; p = p_new; has = new_there; node = sym f.0; at = sym f.1 }
+            let f = facts.opened_there m before e o in record { index = i; client = later; nth = 0; connection = κ_new; pipe = p_new; has = new_there; node = sym f.0; at = sym f.1 }
 
     each_known : (x : ConnectionName) → IsUnheard went x ⊎ IsKnown v x → IsUnheard after x ⊎ IsKnown w x
     each_known x (inl none) = inl (facts.still_unheard x none)

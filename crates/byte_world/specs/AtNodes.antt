@@ -14,14 +14,14 @@ use Rattle.byte_world.specs.Steps.{Reached}
 
 -- a pipe leads to this port of the node
 pub record LeadsToPort (world : World) (node_index : ℕ) (port : Port) : Type 0 where
-  pub i : ℕ
-  pub c : ClientPipes
-  pub j : ℕ
+  pub index : ℕ
+  pub client : ClientPipes
+  pub nth : ℕ
   pub connection : ClientConnection
-  pub p : Pipe
-  pub has : HasPipe world i c j connection p
-  pub node : p.node ≡ node_index
-  pub at : p.port.0 ≡ port.0
+  pub pipe : Pipe
+  pub has : HasPipe world index client nth connection pipe
+  pub node : pipe.node ≡ node_index
+  pub at : pipe.port.0 ≡ port.0
 
 -- whatever happened, a pipe leads to the port of each connection that a node lists, open or with
 -- bytes to hand over

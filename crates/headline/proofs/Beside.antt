@@ -121,8 +121,8 @@ module _ (cs : List Client) (apart : ClientsAreApart cs) (agreed later : List Co
               let z = map_back untaken_connection c.connections o.j o.connection (ap (λ (y : Alone). slice_get y.connections o.j) is ∙ o.at) in
               let full = each_get (IsFull agreed) b.world.clients o.i c b.full at in
               record {
-                i = o.i;
-                j = o.j;
+                index = o.i;
+                nth = o.j;
                 client = c;
                 connection = z.0;
                 end = end_of agreed z.0;

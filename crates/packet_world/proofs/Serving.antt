@@ -69,35 +69,35 @@ pipe_before w i j c κ v there' k l d μ f pipe = by (set_get w.clients i k c la
 
 -- and one that was there is there
 pipe_after : (w : World) (i j : ℕ) (c : ClientEnds) (κ : ClientConnection) (v : Written) → slice_get w.clients i ≡ Some c → (command : Command) → IsOfPipe w command → IsOfPipe (after w i j c κ v) command
-pipe_after w i j c κ v there' command of = by (same_or_other of.i i)
+pipe_after w i j c κ v there' command of = by (same_or_other of.index i)
   where
     later : ClientEnds
     later = record c { connections = with_one_counted j c.connections }
 
-    by : (of.i ≡ i) ⊎ (of.i ≡ i → ⊥) → IsOfPipe (after w i j c κ v) command
+    by : (of.index ≡ i) ⊎ (of.index ≡ i → ⊥) → IsOfPipe (after w i j c κ v) command
     by (inr other) =
         record {
-          i = of.i;
-          j = of.j;
+          index = of.index;
+          nth = of.nth;
           client = of.client;
           connection = of.connection;
           end = of.end;
-          pipe = record { client = get_set_other w.clients i of.i later other ∙ of.pipe.client; connection = of.pipe.connection; end = of.pipe.end };
+          pipe = record { client = get_set_other w.clients i of.index later other ∙ of.pipe.client; connection = of.pipe.connection; end = of.pipe.end };
           named = of.named;
         }
     by (inl same) =
         let one : of.client ≡ c = some_is of.client c (sym of.pipe.client ∙ ap (slice_get w.clients) same ∙ there') in
-        let on = counted_on j of.j c.connections of.connection (subst (λ (z : ClientEnds). slice_get z.connections of.j ≡ Some of.connection) one of.pipe.connection) in
+        let on = counted_on j of.nth c.connections of.connection (subst (λ (z : ClientEnds). slice_get z.connections of.nth ≡ Some of.connection) one of.pipe.connection) in
         record {
-          i = i;
-          j = of.j;
+          index = i;
+          nth = of.nth;
           client = later;
           connection = on.0;
           end = of.end;
           pipe = record {
             client = get_set w.clients i c later there';
             connection = on.1;
-            end = subst (λ (z : ClientEnds). slice_get z.ends of.j ≡ Some of.end) one of.pipe.end;
+            end = subst (λ (z : ClientEnds). slice_get z.ends of.nth ≡ Some of.end) one of.pipe.end;
           };
           named = ap (is_packet_of command) on.2.name ∙ of.named;
         }
@@ -142,8 +142,8 @@ comes_to cs (y ∷ rest) w later apart reached served is = by (cases_Bool (is_of
           known = λ command among own.
               let of = served.known command among own in
               record {
-                i = of.i;
-                j = of.j;
+                index = of.index;
+                nth = of.nth;
                 client = of.client;
                 connection = of.connection;
                 end = of.end;
@@ -154,19 +154,19 @@ comes_to cs (y ∷ rest) w later apart reached served is = by (cases_Bool (is_of
         record { after = came.after; reached = came.reached; agreed = came.agreed; clients = came.clients }
     by (inl own) next =
         let of = served.known y (subst (In y) (sym is) (in_right w.agreed here)) own in
-        let n = next_of w later rest y of.i of.j of.client of.connection of.end (reached_holds cs w apart reached) served is of.pipe of.named in
+        let n = next_of w later rest y of.index of.nth of.client of.connection of.end (reached_holds cs w apart reached) served is of.pipe of.named in
         let κ = of.connection in
-        let v = after w of.i of.j of.client κ n.written in
+        let v = after w of.index of.nth of.client κ n.written in
         let is' : later ≡ v.agreed ++ rest = is ∙ ap (λ z. w.agreed ++ z ∷ rest) (n.is ∙ ap (λ k. command_of κ.name k n.written.packet) (from_zero κ.taken)) ∙ pushed w.agreed rest (command_of κ.name κ.taken n.written.packet) in
-        let came = next v (goes_on reached (agrees of.i of.j of.client κ of.end n.written of.pipe n.less n.stands))
-        (served_after w later rest of.i of.j of.client κ n.written of.pipe.client served is') is' in
+        let came = next v (goes_on reached (agrees of.index of.nth of.client κ of.end n.written of.pipe n.less n.stands))
+        (served_after w later rest of.index of.nth of.client κ n.written of.pipe.client served is') is' in
         record {
           after = came.after;
           reached = came.reached;
           agreed = came.agreed;
           clients = came.clients
-              ∙ map_set untaken w.clients of.i of.client (record of.client { connections = with_one_counted of.j of.client.connections }) of.pipe.client
-              (ap (λ l. let z : ClientEnds = record of.client { connections = l } in z) (counted_untaken of.j of.client.connections));
+              ∙ map_set untaken w.clients of.index of.client (record of.client { connections = with_one_counted of.nth of.client.connections }) of.pipe.client
+              (ap (λ l. let z : ClientEnds = record of.client { connections = l } in z) (counted_untaken of.nth of.client.connections));
         }
 
 pub worlds_are_served : WorldsAreServed

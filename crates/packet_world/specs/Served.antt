@@ -12,12 +12,12 @@ use Rattle.packet_world.specs.Exact.{commands_from}
 
 -- a command is of a connection that is there
 pub record IsOfPipe (world : World) (command : Command) : Type 0 where
-  pub i : ℕ
-  pub j : ℕ
+  pub index : ℕ
+  pub nth : ℕ
   pub client : ClientEnds
   pub connection : ClientConnection
   pub end : End
-  pub pipe : HasPipe world i client j connection end
+  pub pipe : HasPipe world index client nth connection end
   pub named : is_packet_of command connection.name ≡ true
 
 -- The list only grew; for each connection it has a prefix of the packets that the node read and

@@ -22,7 +22,7 @@ is_gathered number place is_open old mid new at positive h is =
     let down : WorldState = record (with_piped place.client h.client
     (with_down place.at h.way (h.way.down ++ bytes_put_out (port_at_node number) (numbered_node old.nodes.nodes place.node)) h.client.piped) old) { nodes = h.between } in
     record {
-      c = record { slot = place; numbered = numbered_at number old.connections (Some place) positive at; client = h.client; owned = h.owned; way = h.way; stands = h.stands };
+      connected = record { slot = place; numbered = numbered_at number old.connections (Some place) positive at; client = h.client; owned = h.owned; way = h.way; stands = h.stands };
       node = numbered_node old.nodes.nodes place.node;
       is_node = refl;
       between = h.between;

@@ -70,7 +70,7 @@ gives_rises (Some core) node port old new is = let same = ap (λ (n : NodesState
 
 gathered_rises : (number : ℕ) (old new : WorldState) → MayBeGathered false number old new → Rises old.nodes new.nodes
 gathered_rises number old new (inl a) =
-    let low = gives_rises a.node a.c.slot.node (port_at_node number) old.nodes a.between a.gives in
+    let low = gives_rises a.node a.connected.slot.node (port_at_node number) old.nodes a.between a.gives in
     let same = ap (λ (w : WorldState). w.nodes.losses) a.is in
     omega (arith, low, same)
 gathered_rises number old new (inr is) = forgets_rises old.nodes new.nodes (ap (λ (w : WorldState). w.nodes) is)

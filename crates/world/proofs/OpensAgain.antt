@@ -58,16 +58,16 @@ module _ {nodes : ℕ} {config : Config} {cs : List Client} (m : World) (trail :
   new_port = none_passes (is_at next) node.core.connections (λ d i e. by d (ports_have_pipes nodes config cs m trail at node.core d in_model i) e)
     where
       by : (d : Connection) → LeadsToPort m at d.port → is_at next d ≡ true → ⊥
-      by d l e = clash (at_none (leads_to at next) l.c.pipes l.j l.p
-          (at_none (λ (c : ClientPipes). list_any (leads_to at next) c.pipes) m.clients l.i l.c none_used l.has.client) l.has.pipe)
+      by d l e = clash (at_none (leads_to at next) l.client.pipes l.nth l.pipe
+          (at_none (λ (c : ClientPipes). list_any (leads_to at next) c.pipes) m.clients l.index l.client none_used l.has.client) l.has.pipe)
         where
-          same : l.p.port.0 ≡ next.0
+          same : l.pipe.port.0 ≡ next.0
           same = l.at ∙ eq_is d.port.0 next.0 e
 
-          clash : leads_to at next l.p ≡ false → ⊥
+          clash : leads_to at next l.pipe ≡ false → ⊥
           clash f =
-              let t : leads_to at next l.p ≡ true =
-              ap (λ (b : Bool). b && (l.p.port.0 == next.0)) (eq-eqb l.p.node at l.node) ∙ eq-eqb l.p.port.0 next.0 same in
+              let t : leads_to at next l.pipe ≡ true =
+              ap (λ (b : Bool). b && (l.pipe.port.0 == next.0)) (eq-eqb l.pipe.node at l.node) ∙ eq-eqb l.pipe.port.0 next.0 same in
               let z = sym t ∙ f in cc
 
   -- no open connection has the first name of a ballot above all in which the node gave one

@@ -109,32 +109,32 @@ at_number (suc n) connections place positive e =
 
 module _ (number : ℕ) (old new : WorldState) (a : IsGathered number old new) (housed : SlotsAreValid (targets_of_clients old.clients) old.connections) (positive : 0 < number) where
   abbrev place : ConnectionSlot
-  place = a.c.slot
+  place = a.connected.slot
 
   abbrev port : Port
   port = port_at_node number
 
   abbrev bytes : List ℕ
-  bytes = a.c.way.down ++ bytes_put_out port a.node
+  bytes = a.connected.way.down ++ bytes_put_out port a.node
 
   abbrev later : Piped
-  later = with_down place.at a.c.way bytes a.c.client.piped
+  later = with_down place.at a.connected.way bytes a.connected.client.piped
 
   abbrev down : WorldState
-  down = put_down place.client a.c.client later a.between old
+  down = put_down place.client a.connected.client later a.between old
 
   found : slice_get old.connections (number - 1) ≡ Some place
-  found = at_number number old.connections place positive a.c.numbered
+  found = at_number number old.connections place positive a.connected.numbered
 
-  given : Hands a.node place.node port a.c.way.down old.nodes a.between
-  given = handed a.node place.node port a.c.way.down old.nodes a.between a.is_node a.gives
+  given : Hands a.node place.node port a.connected.way.down old.nodes a.between
+  given = handed a.node place.node port a.connected.way.down old.nodes a.between a.is_node a.gives
 
-  may_put : MayPutDown place.at place.node port old.nodes a.c.client.piped a.between later
+  may_put : MayPutDown place.at place.node port old.nodes a.connected.client.piped a.between later
   may_put way there =
-      let same : a.c.way ≡ way = same_Some a.c.way way (sym a.c.stands ∙ there) in (
+      let same : a.connected.way ≡ way = same_Some a.connected.way way (sym a.connected.stands ∙ there) in (
         bytes,
         subst (λ (w : Way). MayHandDown place.node port old.nodes w.down a.between bytes) same given.may,
-        ap (λ (w : Way). with_down place.at w bytes a.c.client.piped) same,
+        ap (λ (w : Way). with_down place.at w bytes a.connected.client.piped) same,
       )
 
   pub asked_passes : Passes [] old new
@@ -143,13 +143,13 @@ module _ (number : ℕ) (old new : WorldState) (a : IsGathered number old new) (
       (record {
         nodes = given.goes;
         world = world_goes_join old down (record down { connections = set old.connections (number - 1) (record place { is_open = is_told_open port a.node }) })
-            (puts_down old number place a.c.client a.between later (led_there (targets_of_clients old.clients) old.connections number place housed found positive) a.c.owned may_put)
+            (puts_down old number place a.connected.client a.between later (led_there (targets_of_clients old.clients) old.connections number place housed found positive) a.connected.owned may_put)
             (world_stays down (record down { connections = set old.connections (number - 1) (record place { is_open = is_told_open port a.node }) }) refl refl);
         housed = housed_mark (targets_of_clients down.clients) old.connections (number - 1) place (is_told_open port a.node) found
-            (housed_client old.clients old.connections place.client a.c.client (record a.c.client { piped = later }) a.c.owned
-            (leads_set a.c.client.piped.ways place.at a.c.way (record a.c.way { down = bytes }) a.c.stands refl) housed);
-        clients = map-set seen_of old.clients place.client (record a.c.client { piped = later })
-            ∙ set_itself (map seen_of old.clients) place.client (seen_of a.c.client) (get_mapped seen_of old.clients place.client a.c.client a.c.owned);
+            (housed_client old.clients old.connections place.client a.connected.client (record a.connected.client { piped = later }) a.connected.owned
+            (leads_set a.connected.client.piped.ways place.at a.connected.way (record a.connected.way { down = bytes }) a.connected.stands refl) housed);
+        clients = map-set seen_of old.clients place.client (record a.connected.client { piped = later })
+            ∙ set_itself (map seen_of old.clients) place.client (seen_of a.connected.client) (get_mapped seen_of old.clients place.client a.connected.client a.connected.owned);
         many = length-set old.connections (number - 1) (record place { is_open = is_told_open port a.node });
         come = given.come;
       })

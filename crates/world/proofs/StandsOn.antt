@@ -48,87 +48,87 @@ module _ (i at number node : ℕ) (core : Core) (up down : List ℕ) (is_open : 
         client = later;
         found = ap (λ (w : WorldState). slice_get w.clients i) a.is
             ∙ ap (λ (j : ℕ). slice_get (set old.clients j later) i) client_is
-            ∙ get_set old.clients i a.c.client later owned;
+            ∙ get_set old.clients i a.connected.client later owned;
         core_is = ap (λ (c : WorldClient). c.piped.core) same_client ∙ s.core_is;
         way = below;
-        stands = ap (λ (j : ℕ). slice_get (set a.c.client.piped.ways j below) at) at_is ∙ get_set a.c.client.piped.ways at a.c.way below there;
-        many = length-set a.c.client.piped.ways a.c.slot.at below ∙ ap (λ (c : WorldClient). length c.piped.ways) same_client ∙ s.many;
+        stands = ap (λ (j : ℕ). slice_get (set a.connected.client.piped.ways j below) at) at_is ∙ get_set a.connected.client.piped.ways at a.connected.way below there;
+        many = length-set a.connected.client.piped.ways a.connected.slot.at below ∙ ap (λ (c : WorldClient). length c.piped.ways) same_client ∙ s.many;
         up_is = ap (λ (w : Way). w.up) same_way ∙ s.up_is;
         down_is = ap (λ (w : Way). w.down ++ bytes_put_out (port_at_node number) a.node) same_way
             ∙ ap (λ (l : List ℕ). l ++ bytes_put_out (port_at_node number) a.node) s.down_is
             ∙ ap (λ (o : Option CountedCore). down ++ bytes_put_out (port_at_node number) o) node_is;
         place = ap (λ (w : WorldState). slice_get w.connections (number - 1)) a.is
-            ∙ get_set old.connections (number - 1) a.c.slot (record a.c.slot { is_open = is_told_open (port_at_node number) a.node }) found
+            ∙ get_set old.connections (number - 1) a.connected.slot (record a.connected.slot { is_open = is_told_open (port_at_node number) a.node }) found
             ∙ ap (λ (p : ConnectionSlot). Some (let q : ConnectionSlot = record p { is_open = is_told_open (port_at_node number) a.node } in q)) place_is
             ∙ ap (λ (o : Option CountedCore). Some (newest_place i at node (is_told_open (port_at_node number) o))) node_is;
         last = ap (λ (w : WorldState). length w.connections) a.is
-            ∙ length-set old.connections (number - 1) (record a.c.slot { is_open = is_told_open (port_at_node number) a.node }) ∙ s.last;
+            ∙ length-set old.connections (number - 1) (record a.connected.slot { is_open = is_told_open (port_at_node number) a.node }) ∙ s.last;
       }
     where
-      found : slice_get old.connections (number - 1) ≡ Some a.c.slot
-      found = at_number number old.connections a.c.slot positive a.c.numbered
+      found : slice_get old.connections (number - 1) ≡ Some a.connected.slot
+      found = at_number number old.connections a.connected.slot positive a.connected.numbered
 
-      place_is : a.c.slot ≡ newest_place i at node is_open
-      place_is = same_Some a.c.slot (newest_place i at node is_open) (sym found ∙ s.place)
+      place_is : a.connected.slot ≡ newest_place i at node is_open
+      place_is = same_Some a.connected.slot (newest_place i at node is_open) (sym found ∙ s.place)
 
-      client_is : a.c.slot.client ≡ i
+      client_is : a.connected.slot.client ≡ i
       client_is = ap (λ (p : ConnectionSlot). p.client) place_is
 
-      at_is : a.c.slot.at ≡ at
+      at_is : a.connected.slot.at ≡ at
       at_is = ap (λ (p : ConnectionSlot). p.at) place_is
 
       node_is : a.node ≡ numbered_node old.nodes.nodes node
       node_is = a.is_node ∙ ap (λ (p : ConnectionSlot). numbered_node old.nodes.nodes p.node) place_is
 
-      owned : slice_get old.clients i ≡ Some a.c.client
-      owned = ap (slice_get old.clients) (sym client_is) ∙ a.c.owned
+      owned : slice_get old.clients i ≡ Some a.connected.client
+      owned = ap (slice_get old.clients) (sym client_is) ∙ a.connected.owned
 
-      same_client : a.c.client ≡ s.client
-      same_client = same_Some a.c.client s.client (sym owned ∙ s.found)
+      same_client : a.connected.client ≡ s.client
+      same_client = same_Some a.connected.client s.client (sym owned ∙ s.found)
 
-      there : slice_get a.c.client.piped.ways at ≡ Some a.c.way
-      there = ap (slice_get a.c.client.piped.ways) (sym at_is) ∙ a.c.stands
+      there : slice_get a.connected.client.piped.ways at ≡ Some a.connected.way
+      there = ap (slice_get a.connected.client.piped.ways) (sym at_is) ∙ a.connected.stands
 
-      same_way : a.c.way ≡ s.way
-      same_way = same_Some a.c.way s.way (sym there ∙ ap (λ (c : WorldClient). slice_get c.piped.ways at) same_client ∙ s.stands)
+      same_way : a.connected.way ≡ s.way
+      same_way = same_Some a.connected.way s.way (sym there ∙ ap (λ (c : WorldClient). slice_get c.piped.ways at) same_client ∙ s.stands)
 
       below : Way
-      below = record a.c.way { down = a.c.way.down ++ bytes_put_out (port_at_node number) a.node }
+      below = record a.connected.way { down = a.connected.way.down ++ bytes_put_out (port_at_node number) a.node }
 
       later : WorldClient
-      later = record a.c.client { piped = with_down a.c.slot.at a.c.way (a.c.way.down ++ bytes_put_out (port_at_node number) a.node) a.c.client.piped }
+      later = record a.connected.client { piped = with_down a.connected.slot.at a.connected.way (a.connected.way.down ++ bytes_put_out (port_at_node number) a.node) a.connected.client.piped }
 
   -- ---- another is asked
 
   pub gathered_another : (other : ℕ) → 0 < number → 0 < other → (other ≡ number → ⊥) → SlotsAreValid (targets_of_clients old.clients) old.connections → IsGathered other old new →
       IsNewest i at number node core up down is_open new
-  gathered_another other positive some apart housed a = by (same_or_other i a.c.slot.client)
+  gathered_another other positive some apart housed a = by (same_or_other i a.connected.slot.client)
     where
-      found : slice_get old.connections (other - 1) ≡ Some a.c.slot
-      found = at_number other old.connections a.c.slot some a.c.numbered
+      found : slice_get old.connections (other - 1) ≡ Some a.connected.slot
+      found = at_number other old.connections a.connected.slot some a.connected.numbered
 
       elsewhere : number - 1 ≡ other - 1 → ⊥
       elsewhere same = apart (omega (arith, same, positive, some))
 
       place : slice_get new.connections (number - 1) ≡ Some (newest_place i at node is_open)
       place = ap (λ (w : WorldState). slice_get w.connections (number - 1)) a.is
-          ∙ get_set_other old.connections (other - 1) (number - 1) (record a.c.slot { is_open = is_told_open (port_at_node other) a.node }) elsewhere ∙ s.place
+          ∙ get_set_other old.connections (other - 1) (number - 1) (record a.connected.slot { is_open = is_told_open (port_at_node other) a.node }) elsewhere ∙ s.place
 
       last : length new.connections ≡ number
       last = ap (λ (w : WorldState). length w.connections) a.is
-          ∙ length-set old.connections (other - 1) (record a.c.slot { is_open = is_told_open (port_at_node other) a.node }) ∙ s.last
+          ∙ length-set old.connections (other - 1) (record a.connected.slot { is_open = is_told_open (port_at_node other) a.node }) ∙ s.last
 
       bytes : List ℕ
-      bytes = a.c.way.down ++ bytes_put_out (port_at_node other) a.node
+      bytes = a.connected.way.down ++ bytes_put_out (port_at_node other) a.node
 
       later : WorldClient
-      later = record a.c.client { piped = with_down a.c.slot.at a.c.way bytes a.c.client.piped }
+      later = record a.connected.client { piped = with_down a.connected.slot.at a.connected.way bytes a.connected.client.piped }
 
-      by : (i ≡ a.c.slot.client) ⊎ (i ≡ a.c.slot.client → ⊥) → IsNewest i at number node core up down is_open new
+      by : (i ≡ a.connected.slot.client) ⊎ (i ≡ a.connected.slot.client → ⊥) → IsNewest i at number node core up down is_open new
       by (inr different) =
           record {
             client = s.client;
-            found = ap (λ (w : WorldState). slice_get w.clients i) a.is ∙ get_set_other old.clients a.c.slot.client i later different ∙ s.found;
+            found = ap (λ (w : WorldState). slice_get w.clients i) a.is ∙ get_set_other old.clients a.connected.slot.client i later different ∙ s.found;
             core_is = s.core_is;
             way = s.way;
             stands = s.stands;
@@ -142,36 +142,36 @@ module _ (i at number node : ℕ) (core : Core) (up down : List ℕ) (is_open : 
           record {
             client = later;
             found = ap (λ (w : WorldState). slice_get w.clients i) a.is
-                ∙ ap (λ (j : ℕ). slice_get (set old.clients j later) i) (sym same) ∙ get_set old.clients i a.c.client later owned;
+                ∙ ap (λ (j : ℕ). slice_get (set old.clients j later) i) (sym same) ∙ get_set old.clients i a.connected.client later owned;
             core_is = ap (λ (c : WorldClient). c.piped.core) same_client ∙ s.core_is;
             way = s.way;
-            stands = get_set_other a.c.client.piped.ways a.c.slot.at at (record a.c.way { down = bytes }) not_here
+            stands = get_set_other a.connected.client.piped.ways a.connected.slot.at at (record a.connected.way { down = bytes }) not_here
                 ∙ ap (λ (c : WorldClient). slice_get c.piped.ways at) same_client ∙ s.stands;
-            many = length-set a.c.client.piped.ways a.c.slot.at (record a.c.way { down = bytes }) ∙ ap (λ (c : WorldClient). length c.piped.ways) same_client ∙ s.many;
+            many = length-set a.connected.client.piped.ways a.connected.slot.at (record a.connected.way { down = bytes }) ∙ ap (λ (c : WorldClient). length c.piped.ways) same_client ∙ s.many;
             up_is = s.up_is;
             down_is = s.down_is;
             place = place;
             last = last;
           }
         where
-          owned : slice_get old.clients i ≡ Some a.c.client
-          owned = ap (slice_get old.clients) same ∙ a.c.owned
+          owned : slice_get old.clients i ≡ Some a.connected.client
+          owned = ap (slice_get old.clients) same ∙ a.connected.owned
 
-          same_client : a.c.client ≡ s.client
-          same_client = same_Some a.c.client s.client (sym owned ∙ s.found)
+          same_client : a.connected.client ≡ s.client
+          same_client = same_Some a.connected.client s.client (sym owned ∙ s.found)
 
           -- else both would lead to one port
           mine : IsLed s.client.piped.ways number (newest_place i at node is_open)
           mine = led old.clients number (newest_place i at node is_open) s.client
               (led_there (targets_of_clients old.clients) old.connections number (newest_place i at node is_open) housed s.place positive) s.found
 
-          its : IsLed a.c.client.piped.ways other a.c.slot
-          its = led old.clients other a.c.slot a.c.client (led_there (targets_of_clients old.clients) old.connections other a.c.slot housed found some) a.c.owned
+          its : IsLed a.connected.client.piped.ways other a.connected.slot
+          its = led old.clients other a.connected.slot a.connected.client (led_there (targets_of_clients old.clients) old.connections other a.connected.slot housed found some) a.connected.owned
 
-          not_here : at ≡ a.c.slot.at → ⊥
+          not_here : at ≡ a.connected.slot.at → ⊥
           not_here here =
               let one : mine.way ≡ its.way = same_Some mine.way its.way
-              (sym mine.found ∙ ap (λ (c : WorldClient). slice_get c.piped.ways at) (sym same_client) ∙ ap (slice_get a.c.client.piped.ways) here ∙ its.found) in
+              (sym mine.found ∙ ap (λ (c : WorldClient). slice_get c.piped.ways at) (sym same_client) ∙ ap (slice_get a.connected.client.piped.ways) here ∙ its.found) in
               apart (ap (λ (p : Port). p.0) (sym its.port ∙ ap (λ (w : Way). w.port) (sym one) ∙ mine.port))
 
 -- ---- the connections of a node

@@ -19,18 +19,18 @@ use Rattle.world_clients.specs.Handing.{bytes_put_out, is_told_open, HandsOverBy
 -- What a connection's node queued for it is in transit down, after what was, and its end there
 -- counts as open exactly if the node says that it is.
 pub record IsGathered (number : ℕ) (old new : WorldState) : Type 0 where
-  pub c : Connected number old
+  pub connected : Connected number old
   pub node : Option CountedCore
-  pub is_node : node ≡ numbered_node old.nodes.nodes c.slot.node
+  pub is_node : node ≡ numbered_node old.nodes.nodes connected.slot.node
   pub between : NodesState
-  pub gives : HandsOverBytes node c.slot.node (port_at_node number) old.nodes between
-  pub is : new ≡ record (with_piped c.slot.client c.client
-      (with_down c.slot.at c.way (c.way.down
-      ++ bytes_put_out (port_at_node number) node) c.client.piped)
+  pub gives : HandsOverBytes node connected.slot.node (port_at_node number) old.nodes between
+  pub is : new ≡ record (with_piped connected.slot.client connected.client
+      (with_down connected.slot.at connected.way (connected.way.down
+      ++ bytes_put_out (port_at_node number) node) connected.client.piped)
       old) {
         nodes = between;
         connections = set old.connections (number - 1)
-            (record c.slot { is_open = is_told_open (port_at_node number) node });
+            (record connected.slot { is_open = is_told_open (port_at_node number) node });
       }
 
 -- whether a connection leads to this node, and its end there is open
