@@ -31,7 +31,7 @@ impl<M: Machine> Replica<M> {
         out: &mut Vec<Effect<M::Command, M::Output>>,
     ) -> Result<(), Halted>
         requires { self.old.state.stopped ≡ false }
-        ensures went { PlainStepOrLost M.rules self.old (on_activated M.rules self.old.state ballot)
+        ensures step { PlainStepOrLost M.rules self.old (on_activated M.rules self.old.state ballot)
             self.new out.old.items out.new.items }
         ensures ok { OnOk result (self.new.state.stopped ≡ false) }
         ensures err { OnErr result ((self.new.state.stopped ≡ true) ×

@@ -25,7 +25,7 @@ impl<M: Machine> Replica<M> {
         previous_members: Members,
         out: &mut Vec<Effect<M::Command, M::Output>>,
     )
-        ensures went { PlainStepOrLost M.rules self.old
+        ensures step { PlainStepOrLost M.rules self.old
             (on_new_ballot M.Output self.old.state ballot members previous previous_members)
             self.new out.old.items out.new.items }
         ensures runs { self.new.state.stopped ≡ self.old.state.stopped }
@@ -53,7 +53,7 @@ impl<M: Machine> Replica<M> {
         previous: u64,
         out: &mut Vec<Effect<M::Command, M::Output>>,
     )
-        ensures went { PlainStepOrLost M.rules self.old
+        ensures step { PlainStepOrLost M.rules self.old
             (on_join M.Output self.old.state from ballot previous)
             self.new out.old.items out.new.items }
         ensures runs { self.new.state.stopped ≡ self.old.state.stopped }
@@ -89,7 +89,7 @@ impl<M: Machine> Replica<M> {
         out: &mut Vec<Effect<M::Command, M::Output>>,
     )
         requires { self.old.state.stopped ≡ false }
-        ensures went { ReadingStepOrLost M.rules self.old
+        ensures step { ReadingStepOrLost M.rules self.old
             (on_state M.rules self.old.state ballot log)
             (is_unread M.rules self.old.state (Body.State ballot log))
             self.new out.old.items out.new.items }
@@ -125,7 +125,7 @@ impl<M: Machine> Replica<M> {
         out: &mut Vec<Effect<M::Command, M::Output>>,
     )
         requires { self.old.state.stopped ≡ false }
-        ensures went { ReadingStepOrLost M.rules self.old
+        ensures step { ReadingStepOrLost M.rules self.old
             (on_install M.rules self.old.state from ballot log)
             (is_unread M.rules self.old.state (Body.Install ballot log))
             self.new out.old.items out.new.items }

@@ -19,7 +19,7 @@ impl<M: Machine> Replica<M> {
         ballot: u64,
         out: &mut Vec<Effect<M::Command, M::Output>>,
     )
-        ensures went { PlainStepOrLost M.rules self.old
+        ensures step { PlainStepOrLost M.rules self.old
             (on_installed M.Output self.old.state from ballot)
             self.new out.old.items out.new.items }
         ensures runs { self.new.state.stopped ≡ self.old.state.stopped }
@@ -36,7 +36,7 @@ impl<M: Machine> Replica<M> {
 
     /// Handles Superseded: the replica gives the ballot up, and waits for a later one.
     pub(super) fn on_superseded(&mut self, ballot: u64)
-        ensures went { PlainStepOrLost M.rules self.old
+        ensures step { PlainStepOrLost M.rules self.old
             (on_superseded M.Output self.old.state ballot) self.new [] [] }
         ensures runs { self.new.state.stopped ≡ self.old.state.stopped }
     {

@@ -60,7 +60,7 @@ impl<M: Machine> Replica<M> {
         out: &mut Vec<Effect<M::Command, M::Output>>,
     ) -> Result<(), Halted>
         requires { self.old.state.stopped ≡ false }
-        ensures went { ReadingStepOrLost M.rules self.old
+        ensures step { ReadingStepOrLost M.rules self.old
             (received M.rules self.old.state from body)
             (is_unread M.rules self.old.state body) self.new out.old.items out.new.items }
         ensures unread { is_unread M.rules self.old.state body ≡ true →
@@ -98,7 +98,7 @@ impl<M: Machine> Replica<M> {
         command: M::Command,
         out: &mut Vec<Effect<M::Command, M::Output>>,
     )
-        ensures went { PlainStepOrLost M.rules self.old
+        ensures step { PlainStepOrLost M.rules self.old
             (on_append M.Output self.old.state from ballot place command) self.new
             out.old.items out.new.items }
         ensures runs { self.new.state.stopped ≡ self.old.state.stopped }
@@ -141,7 +141,7 @@ impl<M: Machine> Replica<M> {
         out: &mut Vec<Effect<M::Command, M::Output>>,
     ) -> Result<(), Halted>
         requires { self.old.state.stopped ≡ false }
-        ensures went { PlainStepOrLost M.rules self.old
+        ensures step { PlainStepOrLost M.rules self.old
             (on_held M.rules self.old.state from ballot held)
             self.new out.old.items out.new.items }
         ensures ok { OnOk result (self.new.state.stopped ≡ false) }
@@ -171,7 +171,7 @@ impl<M: Machine> Replica<M> {
     // outputs.
     fn on_commit(&mut self, ballot: u64, held: u64) -> Result<(), Halted>
         requires { self.old.state.stopped ≡ false }
-        ensures went { PlainStepOrLost M.rules self.old
+        ensures step { PlainStepOrLost M.rules self.old
             (on_commit M.rules self.old.state ballot held) self.new [] [] }
         ensures ok { OnOk result (self.new.state.stopped ≡ false) }
         ensures err { OnErr result (self.new.state.stopped ≡ true) }

@@ -7,13 +7,13 @@ use Rattle.ballot.proofs.MessagesTaken.{went_same}
 use Rattle.ballot.proofs.ActivationTaken.{activated_lost, activated_halted, become_active_is, activated_begun, begun_runs, start_after, start_after_active, start_after_stopped}
 use Rattle.ballot.proofs.replica.Replica.on_activated.Goals as goal
 
-pub returns-then-not-may_begin-clause-went : goal.returns-then-not-may_begin-clause-went
-returns-then-not-may_begin-clause-went g c =
+pub returns-then-not-may_begin-clause-step : goal.returns-then-not-may_begin-clause-step
+returns-then-not-may_begin-clause-step g c =
     let steps = g.M.Machine.rules in
     went_same _ _ _ (on_activated-stays steps _ c.args.ballot (sym c.may_begin.ensures ∙ c.if-not-may_begin.true))
 
-pub returns-in_default-clause-went : goal.returns-in_default-clause-went
-returns-in_default-clause-went g c =
+pub returns-in_default-clause-step : goal.returns-in_default-clause-step
+returns-in_default-clause-step g c =
     let steps = g.M.Machine.rules in
     activated_lost steps c.args.self.now _ c.args.ballot _ (sym c.may_begin.ensures ∙ c.if-not-may_begin.false)
     (ap (λ (z : CountedReplica _ _). z.state) (c.self-2.view_is ∙ c.in_default.ensures.err))
@@ -42,8 +42,8 @@ take_back_start-requires g c =
           (start_after c.args.self.now c.add_start.new.self _ c.in-Ok.ensures.state within);
     }
 
-pub returns-in-Ok-become_active-clause-went : goal.returns-in-Ok-become_active-clause-went
-returns-in-Ok-become_active-clause-went g c =
+pub returns-in-Ok-become_active-clause-step : goal.returns-in-Ok-become_active-clause-step
+returns-in-Ok-become_active-clause-step g c =
     let steps = g.M.Machine.rules in
     activated_begun steps c.begin.result c.args.self.now c.become_active.new.self c.begin.new.self c.args.ballot c.self.inside.committed
     c.in-Ok-become_active.waiting.items _ _ (sym c.may_begin.ensures ∙ c.if-not-may_begin.false)
@@ -61,8 +61,8 @@ returns-in-Ok-become_active-clause-ok g c =
     (become_active_is steps c.args.self.now c.add_start.new.self c.become_active.new.self c.args.ballot c.in-Ok.progress.items
     c.in-Ok.ensures.state c.in-Ok.ensures.progress c.in-Ok-become_active.ensures.state) c.requires c.begin.ensures.outcome).0
 
-pub returns-in-Err-clause-went : goal.returns-in-Err-clause-went
-returns-in-Err-clause-went g c =
+pub returns-in-Err-clause-step : goal.returns-in-Err-clause-step
+returns-in-Err-clause-step g c =
     let steps = g.M.Machine.rules in
     activated_halted steps c.args.self.now c.add_start.new.self c.become_active.new.self _ c.args.ballot _
     (sym c.may_begin.ensures ∙ c.if-not-may_begin.false) c.in-Ok.ensures.state c.in-Err.ensures.stops c.take_back_start.ensures

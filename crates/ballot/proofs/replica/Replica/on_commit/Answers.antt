@@ -6,28 +6,28 @@ use Rattle.ballot.proofs.MachineShown.{shown_applied}
 use Rattle.ballot.proofs.MessagesTaken.{went_same, commit_known, commit_taken, commit_halted}
 use Rattle.ballot.proofs.replica.Replica.on_commit.Goals as goal
 
-pub returns-then-not-follows-clause-went : goal.returns-then-not-follows-clause-went
-returns-then-not-follows-clause-went g c =
+pub returns-then-not-follows-clause-step : goal.returns-then-not-follows-clause-step
+returns-then-not-follows-clause-step g c =
     let steps = g.M.Machine.rules in
     went_same _ _ _ (on_commit-elsewhere steps _ c.args.ballot c.args.held (sym c.follows.ensures ∙ c.if-not-follows.true))
 
-pub returns-then-held-places-clause-went : goal.returns-then-held-places-clause-went
-returns-then-held-places-clause-went g c =
+pub returns-then-held-places-clause-step : goal.returns-then-held-places-clause-step
+returns-then-held-places-clause-step g c =
     let steps = g.M.Machine.rules in
     let past : places c.args.self.now.state.log < c.args.held =
     rw (← c.self.view_is) (omega (arith, c.places.ensures, c.if-held-places.true)) in
     went_same _ _ _ (on_commit-past steps _ c.args.ballot c.args.held (sym c.follows.ensures ∙ c.if-not-follows.false) past)
 
-pub returns-then-held-self-clause-went : goal.returns-then-held-self-clause-went
-returns-then-held-self-clause-went g c =
+pub returns-then-held-self-clause-step : goal.returns-then-held-self-clause-step
+returns-then-held-self-clause-step g c =
     let steps = g.M.Machine.rules in
     let within : c.args.held ≤ places c.args.self.now.state.log =
     rw (← c.self.view_is) (omega (arith, c.places.ensures, c.if-held-places.false)) in
     let known : c.args.held ≤ c.args.self.now.state.committed = rw (← c.self.view_is) c.if-held-self.true in
     went_same _ _ _ (commit_known steps _ c.args.ballot c.args.held (sym c.follows.ensures ∙ c.if-not-follows.false) within known)
 
-pub returns-in-Ok-clause-went : goal.returns-in-Ok-clause-went
-returns-in-Ok-clause-went g c =
+pub returns-in-Ok-clause-step : goal.returns-in-Ok-clause-step
+returns-in-Ok-clause-step g c =
     let steps = g.M.Machine.rules in
     let within : c.args.held ≤ places c.args.self.now.state.log =
     rw (← c.self.view_is) (omega (arith, c.places.ensures, c.if-held-places.false)) in
@@ -43,8 +43,8 @@ returns-in-Ok-clause-went g c =
     c.in-Ok.ensures))
     (rw (← c.self.view_is) refl)
 
-pub returns-in-Err-clause-went : goal.returns-in-Err-clause-went
-returns-in-Err-clause-went g c =
+pub returns-in-Err-clause-step : goal.returns-in-Err-clause-step
+returns-in-Err-clause-step g c =
     let steps = g.M.Machine.rules in
     let within : c.args.held ≤ places c.args.self.now.state.log =
     rw (← c.self.view_is) (omega (arith, c.places.ensures, c.if-held-places.false)) in

@@ -7,8 +7,8 @@ use Rattle.ballot_base.proofs.MessageRows.{on_held-elsewhere}
 use Rattle.ballot.proofs.MessagesTaken.{went_same, held_taken, held_halted, written_back, taken_back}
 use Rattle.ballot.proofs.replica.Replica.on_held.Goals as goal
 
-pub returns-then-not-leads-clause-went : goal.returns-then-not-leads-clause-went
-returns-then-not-leads-clause-went g c =
+pub returns-then-not-leads-clause-step : goal.returns-then-not-leads-clause-step
+returns-then-not-leads-clause-step g c =
     let steps = g.M.Machine.rules in
     went_same _ _ _ (on_held-elsewhere steps _ c.args.from c.args.ballot c.args.held
     (sym c.leads.ensures ∙ c.if-not-leads.true))
@@ -19,8 +19,8 @@ commit_at-requires-clause-within g c =
     least-le _ (raised c.args.from c.args.held c.deref.result.now) in
     rw (← c.self.view_is, c.least_raised-least.ensures) (omega (arith, below, c.places.ensures))
 
-pub returns-in-Ok-clause-went : goal.returns-in-Ok-clause-went
-returns-in-Ok-clause-went g c =
+pub returns-in-Ok-clause-step : goal.returns-in-Ok-clause-step
+returns-in-Ok-clause-step g c =
     let steps = g.M.Machine.rules in
     let long : c.places.result ≡ places c.args.self.now.state.log =
     rw (← c.self.view_is) c.places.ensures in
@@ -46,8 +46,8 @@ returns-in-Ok-clause-ok g c =
     ap (λ (z : CountedReplica _ _). z.state.stopped) (c.self-2.view_is ∙ c.in-Ok.ensures.state)
     ∙ commit_at-stopped steps c.args.self.now.state c.least_raised-least.result ∙ c.requires
 
-pub returns-in-Err-clause-went : goal.returns-in-Err-clause-went
-returns-in-Err-clause-went g c =
+pub returns-in-Err-clause-step : goal.returns-in-Err-clause-step
+returns-in-Err-clause-step g c =
     let steps = g.M.Machine.rules in
     let long : c.places.result ≡ places c.args.self.now.state.log =
     rw (← c.self.view_is) c.places.ensures in

@@ -9,8 +9,8 @@ use Rattle.ballot.proofs.MessagesTaken.{went_same}
 use Rattle.ballot.proofs.ChangesTaken.{install_taken, install_lost, install_answered, lost_is, not_read, taken_is_read}
 use Rattle.ballot.proofs.replica.Replica.on_install.Goals as goal
 
-pub returns-then-lacks-clause-went : goal.returns-then-lacks-clause-went
-returns-then-lacks-clause-went g c =
+pub returns-then-lacks-clause-step : goal.returns-then-lacks-clause-step
+returns-then-lacks-clause-step g c =
     let steps = g.M.Machine.rules in
     install_taken {rules = steps} c.args.self.now c.take.new.self _ c.send_counted.new.self c.args.from c.args.ballot c.places-held.result c.args.log _ _ _
     (sym c.lacks.ensures ∙ c.if-lacks.true) c.places-held.ensures c.if-not-take.ensures.took.0 c.if-not-take.ensures.took.1
@@ -20,8 +20,8 @@ returns-then-lacks-clause-went g c =
     } in y) c.self.view_is)
     c.send_counted.ensures
 
-pub returns-then-not-take-clause-went : goal.returns-then-not-take-clause-went
-returns-then-not-take-clause-went g c =
+pub returns-then-not-take-clause-step : goal.returns-then-not-take-clause-step
+returns-then-not-take-clause-step g c =
     let steps = g.M.Machine.rules in
     let same = c.self.view_is ∙ c.if-not-take.ensures.unread.0 in
     install_lost {rules = steps} c.args.self.now _ c.args.from c.args.ballot c.places-held.result c.args.log _
@@ -29,14 +29,14 @@ returns-then-not-take-clause-went g c =
     (ap (λ (z : CountedReplica _ _). z.state) same)
     (c.counted-self-inside.ensures ∙ ap (λ (z : CountedReplica _ _). one_more z.losses) same)
 
-pub returns-then-holds-clause-went : goal.returns-then-holds-clause-went
-returns-then-holds-clause-went g c =
+pub returns-then-holds-clause-step : goal.returns-then-holds-clause-step
+returns-then-holds-clause-step g c =
     let steps = g.M.Machine.rules in
     install_answered {rules = steps} c.args.self.now _ c.args.from c.args.ballot c.places-held.result c.args.log _ _ _
     (sym c.lacks.ensures ∙ c.if-lacks.false) (sym c.holds.ensures ∙ c.if-holds.true) c.places-held.ensures c.send_counted-then-holds.ensures
 
-pub returns-clause-went : goal.returns-clause-went
-returns-clause-went g c =
+pub returns-clause-step : goal.returns-clause-step
+returns-clause-step g c =
     let steps = g.M.Machine.rules in
     went_same _ _ _ (on_install-stays steps _ c.args.from c.args.ballot c.args.log
     (ap (lacks c.args.self.now.state c.args.ballot) (sym c.places-held.ensures) ∙ sym c.lacks.ensures ∙ c.if-lacks.false)

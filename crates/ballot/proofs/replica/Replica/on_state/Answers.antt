@@ -9,14 +9,14 @@ use Rattle.ballot.proofs.MessagesTaken.{went_same}
 use Rattle.ballot.proofs.ChangesTaken.{state_taken, state_lost, lost_is, not_read, taken_is_read}
 use Rattle.ballot.proofs.replica.Replica.on_state.Goals as goal
 
-pub returns-then-not-waits_for-clause-went : goal.returns-then-not-waits_for-clause-went
-returns-then-not-waits_for-clause-went g c =
+pub returns-then-not-waits_for-clause-step : goal.returns-then-not-waits_for-clause-step
+returns-then-not-waits_for-clause-step g c =
     let steps = g.M.Machine.rules in
     went_same _ _ _ (on_state-stays steps _ c.args.ballot c.args.log
     (ap (waits_for c.args.self.now.state c.args.ballot) (sym c.places.ensures) ∙ sym c.waits_for.ensures ∙ c.if-not-waits_for.true))
 
-pub returns-in_default-clause-went : goal.returns-in_default-clause-went
-returns-in_default-clause-went g c =
+pub returns-in_default-clause-step : goal.returns-in_default-clause-step
+returns-in_default-clause-step g c =
     let steps = g.M.Machine.rules in
     let waits : waits_for c.args.self.now.state c.args.ballot (places c.args.log) ≡ true =
     ap (waits_for c.args.self.now.state c.args.ballot) (sym c.places.ensures) ∙ sym c.waits_for.ensures ∙ c.if-not-waits_for.false in
@@ -24,8 +24,8 @@ returns-in_default-clause-went g c =
     (ap (λ (z : CountedReplica _ _). z.state) c.self.view_is)
     (c.counted-self-inside.ensures ∙ ap (λ (z : CountedReplica _ _). one_more z.losses) c.self.view_is)
 
-pub returns-then-not-take-clause-went : goal.returns-then-not-take-clause-went
-returns-then-not-take-clause-went g c =
+pub returns-then-not-take-clause-step : goal.returns-then-not-take-clause-step
+returns-then-not-take-clause-step g c =
     let steps = g.M.Machine.rules in
     let waits : waits_for c.args.self.now.state c.args.ballot (places c.args.log) ≡ true =
     ap (waits_for c.args.self.now.state c.args.ballot) (sym c.places.ensures) ∙ sym c.waits_for.ensures ∙ c.if-not-waits_for.false in
@@ -34,8 +34,8 @@ returns-then-not-take-clause-went g c =
     (ap (λ (z : CountedReplica _ _). z.state) same)
     (c.counted-self-inside-then-not-take.ensures ∙ ap (λ (z : CountedReplica _ _). one_more z.losses) same)
 
-pub returns-clause-went : goal.returns-clause-went
-returns-clause-went g c =
+pub returns-clause-step : goal.returns-clause-step
+returns-clause-step g c =
     let steps = g.M.Machine.rules in
     let waits : waits_for c.args.self.now.state c.args.ballot (places c.args.log) ≡ true =
     ap (waits_for c.args.self.now.state c.args.ballot) (sym c.places.ensures) ∙ sym c.waits_for.ensures ∙ c.if-not-waits_for.false in
