@@ -63,7 +63,8 @@ pub struct Replica<M: Machine> {
     machine: M,
     // Whether it does nothing any more.
     stopped: bool,
-    // How many of its calls ran out of memory, up to 2^64 - 1.
+    // How many of its calls lost something, for want of memory or since a snapshot was not read; up
+    // to 2^64 - 1.
     losses: u64,
 }
 
@@ -215,7 +216,8 @@ impl<M: Machine> Replica<M> {
         self.log.rest()
     }
 
-    /// Returns how many calls ran out of memory (saturates at 2^64 - 1).
+    /// Returns how many calls lost something, for want of memory or since a snapshot was not read
+    /// (saturates at 2^64 - 1).
     pub fn losses(&self) -> u64
         ensures { result ≡ self.now.losses }
     {

@@ -1,4 +1,5 @@
--- A step in which memory ran out, and how such steps are counted.
+-- A step in which something was lost, for want of memory or since a snapshot was not read, and how
+-- such steps are counted.
 use Rattle.std.specs.Prelude.{ℕ, ◌+◌, ◌-◌, ◌^◌, ◌≡◌, ◌⊎◌, true, List, [], ◌∷◌, ◌++◌, min}
 use Rattle.machine.specs.Machine.{Rules}
 use Rattle.ballot_base.specs.declared.message.Message.{Message}

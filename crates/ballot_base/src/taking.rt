@@ -23,7 +23,7 @@ pub fn append_next<C: Drop>(log: &mut Log<C>, place: u64, command: C) -> bool
     }
 }
 
-/// Returns the count of losses after a call that was whole, or in which memory ran out.
+/// Returns the count of losses after a call that was whole, or in which something was lost.
 pub fn counted(losses: u64, whole: bool) -> u64
     ensures { result ≡ (if whole then losses else one_more losses) }
 {

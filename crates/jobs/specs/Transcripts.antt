@@ -7,7 +7,7 @@ use Rattle.play.specs.Transcripts.{Plays}
 use Rattle.play.specs.Ways.{TellsWay}
 use Rattle.jobs.specs.Orders.{AreNumbers}
 
--- the text's transcript was written, from a world in which memory ran out in this many events
+-- the text's transcript was written, from a world in which this many events lost something
 pub record Prints (text : List ℕ) (old new : Option (List ℕ)) (losses : ℕ) : Type 0 where
   pub transcript : List ℕ
   pub played : Plays text [] transcript losses

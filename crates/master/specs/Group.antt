@@ -3,7 +3,7 @@ use Rattle.std.specs.Prelude.{ℕ}
 use Rattle.snapshots.specs.Moments.{Moment}
 
 -- a group: its moment, which is its master with the nodes, the messages and the outputs that left,
--- and the number of its steps in which memory ran out
+-- and the number of its steps in which something was lost
 pub record GroupState (S C O : Type 0) : Type 0 where
   pub moment : Moment S C O
   pub losses : ℕ

@@ -229,7 +229,7 @@ impl<M: Machine> Group<M> {
         self.master.active()
     }
 
-    /// Returns how many steps ran out of memory (saturates at 2^64 - 1).
+    /// Returns how many steps lost something for want of memory (saturates at 2^64 - 1).
     pub fn losses(&self) -> u64
         ensures { result ≡ self.now.losses }
     {

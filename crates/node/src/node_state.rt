@@ -225,7 +225,8 @@ impl<J: NodeNaming> NodeState<J> {
         self.core.can_cut() && is_large(self.grown, commands, snapshot)
     }
 
-    /// Returns how many steps ran out of memory (saturates at 2^64 - 1).
+    /// Returns how many steps lost something, for want of memory or since a snapshot was not read
+    /// (saturates at 2^64 - 1).
     pub fn losses(&self) -> u64
         ensures { result ≡ self.now.node.losses }
     {

@@ -1,4 +1,4 @@
--- How steps of a node in which memory ran out are counted, and which steps never are.
+-- How steps of a node in which something was lost are counted, and which steps never are.
 use Rattle.std.specs.Prelude.{◌≡◌, ◌⊎◌, ◌<◌, Bool, false, List, [], ◌++◌, Option, Some, None}
 use Rattle.std.specs.List.{find}
 use Rattle.ballot.specs.lists.Lists.{Each}

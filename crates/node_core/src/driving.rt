@@ -119,7 +119,7 @@ impl SteppingNode {
         self.note_losses(before);
     }
 
-    // Notes whether memory ran out in a call of the replica, by its count of losses, which was
+    // Notes whether something was lost in a call of the replica, by its count of losses, which was
     // `before` until then.
     fn note_losses(&mut self, before: u64)
         ensures kept { self.new.core ≡ self.old.core }

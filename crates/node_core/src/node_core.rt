@@ -109,7 +109,8 @@ impl NodeCore {
         self.stepping.can_cut()
     }
 
-    /// Returns how many steps ran out of memory (saturates at 2^64 - 1).
+    /// Returns how many steps lost something, for want of memory or since a snapshot was not read
+    /// (saturates at 2^64 - 1).
     pub fn losses(&self) -> u64
         ensures { result ≡ self.now.losses }
     {
@@ -208,7 +209,7 @@ impl NodeCore {
     }
 }
 
-// Returns the count of steps in which memory ran out, after one more step.
+// Returns the count of steps in which something was lost, after one more step.
 fn losses_after(losses: u64, out_of_memory: bool) -> u64
     ensures { result ≡ (if out_of_memory then one_more losses else losses) }
 {

@@ -79,8 +79,8 @@ pub record IsTranscript (script : Script) (last : WorldState) (transcript : List
   pub are_agreed : AgreeOnSoMany last.nodes agreed
   pub is : transcript ≡ lines ++ end_line agreed last.nodes.master.active
 
--- A text is a script that was played to its end, and its transcript was appended; memory ran out in
--- this many events. Even so, at the end the nodes agree, and the headline holds for each client.
+-- A text is a script that was played to its end, and its transcript was appended; this many events
+-- lost something. Even so, at the end the nodes agree, and the headline holds for each client.
 pub record Plays (text old new : List ℕ) (losses : ℕ) : Type 0 where
   pub script : Script
   pub is_script : IsScript (lines_of text) script

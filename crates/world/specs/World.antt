@@ -5,8 +5,8 @@ use Rattle.world_clients.specs.declared.world_client.WorldClient.{WorldClient}
 use Rattle.world_nodes.specs.Nodes.{NodesState}
 
 -- The nodes with their master; the clients, each with its identifier and all its connections; the
--- state of each connection, the first opened first; and the count of steps in which memory ran out,
--- up to 2^64 - 1.
+-- state of each connection, the first opened first; and the count of steps in which something was
+-- lost, up to 2^64 - 1.
 pub record WorldState : Type 0 where
   pub nodes : NodesState
   pub clients : List WorldClient

@@ -180,14 +180,14 @@ impl World {
         self.nodes.active()
     }
 
-    /// Returns how many steps ran out of memory (saturates at 2^64 - 1).
+    /// Returns how many steps lost something for want of memory (saturates at 2^64 - 1).
     pub fn losses(&self) -> u64
         ensures { result ≡ self.now.losses }
     {
         self.losses
     }
 
-    /// Counts that memory ran out.
+    /// Counts that something was lost.
     pub(crate) fn count_loss(&mut self)
         ensures lost { self.new ≡ record self.old { losses = one_more self.old.losses } }
         ensures rises { self.old.losses ≤ self.new.losses }
@@ -195,8 +195,8 @@ impl World {
         self.losses = self.losses.saturating_add(1);
     }
 
-    // Counts a step in which the nodes ran out of memory: they had counted `before`. Does not count
-    // it again if the world did so already: it had counted `counted`.
+    // Counts a step in which the nodes lost something: they had counted `before`. Does not count it
+    // again if the world did so already: it had counted `counted`.
     fn count(&mut self, before: u64, counted: u64)
         ensures counts { IsCounted before counted self.old self.new }
         ensures nodes { self.new.nodes ≡ self.old.nodes }
@@ -208,8 +208,8 @@ impl World {
         }
     }
 
-    /// Says whether the nodes have counted no step in which memory ran out since they had counted
-    /// `before`.
+    /// Says whether the nodes have counted no step in which something was lost since they had
+    /// counted `before`.
     pub(crate) fn is_whole(&self, before: u64) -> bool
         ensures yes { result ≡ true →
             (self.now.nodes.losses ≡ before) × (before < greatest_count) }

@@ -7,8 +7,8 @@ use Rattle.node_core.specs.Core.{CoreState, CountedCore}
 use Rattle.byte_world.specs.node_group.Group.{Group}
 
 -- Node n + 1 is at index n; all messages that were ever sent stay, each with its receiver. The
--- record has the places below the bases of all logs. Losses count the steps in which memory ran
--- out, up to 2^64 - 1.
+-- record has the places below the bases of all logs. Losses count the steps in which something
+-- was lost, up to 2^64 - 1.
 pub record NodesState : Type 0 where
   pub master : MasterState
   pub nodes : List CountedCore

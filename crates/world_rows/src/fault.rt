@@ -86,7 +86,7 @@ pub fn fault_at(alloc: Global, world: &World, at: usize, row: &'static Row) -> F
     }
 }
 
-/// Returns what this world shows after this many rows, if a step ran out of memory.
+/// Returns what this world shows after this many rows, if a step lost something.
 pub fn fault_after(world: &World, rows: usize) -> Option<Fault> {
     if world.losses() == 0 {
         return None;

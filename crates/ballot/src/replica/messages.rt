@@ -23,7 +23,7 @@ impl<M: Machine> Replica<M> {
         message: Message<M::Command>,
         out: &mut Vec<Effect<M::Command, M::Output>>,
     ) -> Result<(), Halted>
-        // The protocol's step, or one in which memory ran out and that was counted.
+        // The protocol's step, or one in which something was lost and that was counted.
         ensures step { self.old.state.stopped ≡ false →
             AppendedStepOrLost M.rules self.old
             (replica_step M.rules self.old.state (Receives message))
