@@ -4,6 +4,7 @@ use crate::served_node::ServedNode;
 use node::{Gate, NodeNaming, Stated};
 use std::sync::Wait;
 use std::time::Clock;
+use writer::FIRST_INDEX;
 
 /// How many rounds over all nodes a thread makes at most, before it leaves what still comes to the
 /// nodes' own threads.
@@ -57,7 +58,7 @@ impl<'a, J: NodeNaming, S: Stated<J>, G: Gate> ServedNode<'a, J, S, G> {
     // Writes what another node queued for its connections, and waits for no socket.
     fn write_for<R: Wait>(&self, rt: &R, node: &ServedNode<'a, J, S, G>) {
         if node.shared.context.peer.number != self.shared.context.peer.number {
-            node.shared.writer().write_busy(rt, 0, false);
+            node.shared.writer().write_busy(rt, FIRST_INDEX, false);
         }
     }
 }

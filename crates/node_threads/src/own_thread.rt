@@ -15,6 +15,7 @@ use std::hint;
 use std::sync::Wait;
 use std::time::{Clock, Duration};
 use streams::{Closed, Link, MAX_CONNECTIONS};
+use writer::FIRST_INDEX;
 
 /// How often the node gets the time, in milliseconds.
 const TICK_MILLIS: u64 = 200;
@@ -46,7 +47,7 @@ impl<'a, J: NodeNaming, S: Stated<J>, G: Gate> ServedNode<'a, J, S, G> {
             }
             let latest = self.do_own_turn(rt, last);
             shared.context.cluster.wake_urgent(rt);
-            shared.writer().write_busy(rt, 0, false);
+            shared.writer().write_busy(rt, FIRST_INDEX, false);
             if latest.time > last.time {
                 shared.end_overdue(rt, latest.time);
             }

@@ -8,4 +8,4 @@ mod writer;
 mod writing;
 
 pub use blocked_links::BlockedLinks;
-pub use writer::Writer;
+pub use writer::{FIRST_INDEX, Writer};

@@ -13,6 +13,9 @@ use streams::{IdleLanes, Link, Listener, MAX_CONNECTIONS};
 /// more to write to, the list grows under the lock of the connections.
 const BUSY_CAPACITY: usize = 8;
 
+/// The lowest index of a connection. [`Writer::write_busy`] begins there if none is to come first.
+pub const FIRST_INDEX: usize = 0;
+
 /// What writes to the connections of a node. It holds no lock while it writes or sleeps.
 #[derive(Drop)]
 pub struct Writer<'e, 'a, J: NodeNaming, S: Stated<J>, G: Gate> {
