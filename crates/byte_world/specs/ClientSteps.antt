@@ -31,7 +31,7 @@ after_connecting name node port client =
       } ∷ client.pipes;
     }
 
--- the client after a packet that its newest connection's cutter gave
+-- the client after a packet that its newest connection's cutter returned
 abbrev pub after_packet : List ClientConnection → List Pipe → Pipe → Stream → Side → ClientPipes →
     ClientPipes
 after_packet others pipes pipe left side client =

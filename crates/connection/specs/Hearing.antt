@@ -49,7 +49,7 @@ abbrev pub was_let_in : Ending → Bool
 was_let_in endings.Refused = false
 was_let_in _ = true
 
--- the hearer was asked whether the connection may be read, and gave this answer
+-- the hearer was asked whether the connection may be read, and returned this answer
 pub record WasLet {H : Type 0} (lets : H → Bool → Type 0) (answer : Bool) : Type 0 where
   pub hearer : H
   pub answered : lets hearer answer
@@ -60,7 +60,7 @@ faults_after endings.Fault faults = counted_once faults
 faults_after _ faults = faults
 
 -- What was reported after the earlier reports is a whole connection, its pieces are what the device
--- gave, and their times do not fall.
+-- returned, and their times do not fall.
 pub record Hears
     (port : Port) (old new : List Item) (ending : Ending) (before after : Option (List ℕ))
     : Type 0 where

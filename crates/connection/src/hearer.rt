@@ -14,7 +14,7 @@ pub trait Hearer {
     // Everything that was reported to it, oldest first.
     ghost heard: { Self → List Item };
 
-    // Asked whether the connection may be read, it gives an answer that this allows.
+    // Asked whether the connection may be read, it returns an answer that this allows.
     ghost lets: { Self → Bool → Type 0 };
 
     /// Returns the time with which an item is reported, in milliseconds.

@@ -13,8 +13,8 @@ use std::io::Read;
 use std::sync::Wait;
 use std::time::Clock;
 
-/// Reports a connection: that it was opened, then each piece that the device gives, then that it
-/// ended, however it did.
+/// Reports a connection: that it was opened, then each piece that the device returns, then that
+/// it ended, however it did.
 pub fn report_connection<R: Wait + Clock, H: Hearer, D: Read>(
     rt: &R,
     alloc: Global,
@@ -39,7 +39,7 @@ pub fn report_connection<R: Wait + Clock, H: Hearer, D: Read>(
     ending
 }
 
-// Reports each piece that the device gives, until the device ends, if the hearer lets the
+// Reports each piece that the device returns, until the device ends, if the hearer lets the
 // connection be read. The connection was reported as opened at the time `opened`.
 fn report_pieces<R: Wait + Clock, H: Hearer, D: Read>(
     rt: &R,

@@ -36,7 +36,7 @@ WritesPiece writes.Full old new bytes = Keeps old new
 WritesPiece writes.Stopped old new bytes = Keeps old new
 WritesPiece writes.Fault old new bytes = Keeps old new
 
--- the piece is what the device gave, from the first byte that was left; its end is no fault
+-- the piece is what the device returned, from the first byte that was left; its end is no fault
 abbrev pub ReadsPiece : OneRead → Option (List ℕ) → Option (List ℕ) → List ℕ → Type 0
 ReadsPiece (Bytes count) old new buffer =
     (0 < count) × (count ≤ length buffer) × Consumes old new (take count buffer)

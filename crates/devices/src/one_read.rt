@@ -1,4 +1,4 @@
-// What one read gave.
+// What one read returned.
 
 /// What [`Counted::read_piece`](crate::Counted::read_piece) found.
 #[derive(Clone, Copy, Debug, PartialEq, Eq)]

@@ -85,7 +85,7 @@ pub record Took (command : Command) (old new : CoreState)
   pub core : new ≡ record old { replica = replica }
   pub done : StepMessagesOrLost old.replica (added rules old.replica.state command) replica [] given
 
--- the replica took the command, or declined it and gave nothing
+-- the replica took the command, or declined it and returned nothing
 abbrev pub Answered : Bool → Command → CoreState → CoreState → List (Effect Command Output) → Type 0
 Answered true command old new given = Took command old new given
 Answered false command old new given = Declines old (without_effects new) × (given ≡ [])

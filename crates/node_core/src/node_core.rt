@@ -198,8 +198,8 @@ impl NodeCore {
     }
 
     /// Appends the ports of the connections that are open and have nothing to hand over: for each
-    /// other port [`NodeCore::outgoing`] gives bytes, or answers [`Handed::Closed`]. If memory runs
-    /// out some of them may have been appended.
+    /// other port [`NodeCore::outgoing`] hands over bytes, or answers [`Handed::Closed`]. If memory
+    /// runs out some of them may have been appended.
     pub fn idle_ports(&self, ports: &mut Vec<Port>) -> Result<(), Memory>
         ensures ok { OnOk result
             (ports.new.items ≡ ports.old.items ++ idle_ports self.now.core) }

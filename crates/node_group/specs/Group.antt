@@ -15,8 +15,8 @@ use Rattle.packet_world.specs.snapshots.World.{messages, outputs}
 use Rattle.node_moves.specs.node_core.Core.{CoreState, StepOutcome, opening_core}
 
 -- Node n + 1 is at index n. All messages that were ever sent stay, each with its receiver: any may
--- come late, again or never. So do the outputs that replicas gave, with their places in the log.
--- The record has the places below the bases of all logs.
+-- come late, again or never. So do the outputs that replicas returned, with their places in the
+-- log. The record has the places below the bases of all logs.
 pub record Group : Type 0 where
   pub master : MasterState
   pub nodes : List CoreState
@@ -45,7 +45,7 @@ opening_group nodes config =
 
 -- ---- after what happens
 
--- after this outcome of a step of the node at this index, in which its replica gave this
+-- after this outcome of a step of the node at this index, in which its replica returned this
 abbrev pub group_after_outcome : Group → ℕ → StepOutcome → List (Effect Command Output) → Group
 group_after_outcome group node outcome given =
     record group {

@@ -47,7 +47,7 @@ pub data NodeMoveOrLost (core : CoreState) : StepOutcome → Type 0 where
   -- a move without losses
   exactly : {outcome : StepOutcome} → NodeMove core outcome → NodeMoveOrLost core outcome
   -- the replica receives a message or a tick, perhaps with losses; some of the messages that it
-  -- gives may be lost, and connections closed
+  -- returns may be lost, and connections closed
   hears_losing : (input : Input Command) (did : Account) → is_proposal input ≡ false →
       Drives input core did → NodeMoveOrLost core (outcome_in did)
   -- a CONNECT, the first packet of an open connection, is read and taken, perhaps with losses

@@ -36,7 +36,7 @@ broker_rules =
       thawed = thawed;
     }
 
--- the outputs that a node gave, without their places
+-- the outputs that a node returned, without their places
 abbrev pub outputs_alone : List (ℕ × Output) → List Output
 outputs_alone given = map (λ (row : ℕ × Output). row.1) given
 

@@ -21,7 +21,7 @@ abbrev pub cores_of : List CountedCore → List CoreState
 cores_of nodes = map (λ (node : CountedCore). node.core) nodes
 
 -- A group corresponds to nodes: it has their master, what each of them keeps, their messages and
--- their record. Which outputs its replicas gave before is history: no field keeps it.
+-- their record. Which outputs its replicas returned before is history: no field keeps it.
 pub record NodesStandFor (group : Group) (state : NodesState) : Type 0 where
   pub master : group.master ≡ state.master
   pub nodes : group.nodes ≡ cores_of state.nodes
