@@ -1,7 +1,7 @@
 -- StreamStaysWhole.antt: a stream is whole when it begins, and after each write.
 use Rattle.std.proofs.Common.{◌≡◌, ℕ, Option, List, [], ◌++◌, sym, subst}
 use Rattle.std.specs.Io.KnownBytes.{IsAtEnd}
-use Rattle.devices.specs.Counted.{Watched}
+use Rattle.devices.specs.Counted.{CountedView}
 use Rattle.node_core.specs.declared.Handed.{Handed}
 use Rattle.connection.specs.declared.flow.Flow.{Flow}
 use Rattle.connection.specs.Life.{Lives}
@@ -12,11 +12,11 @@ use Rattle.connection.specs.Writing.{Flows}
 -- nothing was handed over, and nothing was written
 pub begins_whole :
     {T W : Type 0} (opens : T → Type 0) (hands : T → List ℕ → Handed → T → Type 0) (contents : W → Option (List ℕ))
-    (tap : T) (device : W) (counted : Watched W) (left : List ℕ)
+    (tap : T) (device : W) (counted : CountedView W) (left : List ℕ)
     → opens tap → IsAtEnd (contents device) → counted ≡ record { device = device; faults = 0 } → left ≡ []
     → IsWhole opens hands tap (contents counted.device) left
 begins_whole {W = W} opens hands contents tap device counted left opened empty is none =
-    subst (λ (c : Watched W). IsWhole opens hands tap (contents c.device) left) (sym is)
+    subst (λ (c : CountedView W). IsWhole opens hands tap (contents c.device) left) (sym is)
     (subst (λ (l : List ℕ). IsWhole opens hands tap (contents device) l) (sym none) (record {
       first = tap;
       opened = opened;

@@ -1,15 +1,15 @@
 -- A connection's stream from its first byte on.
 use Rattle.std.specs.Prelude.{ℕ, List, Option}
 use Rattle.std.specs.Io.KnownBytes.{IsAtEnd}
-use Rattle.devices.specs.Counted.{Watched}
+use Rattle.devices.specs.Counted.{CountedView}
 use Rattle.node_core.specs.declared.Handed.{Handed}
 use Rattle.connection.specs.Life.{Lives}
 
 -- a tap, what was handed over by it and is not yet written, and the device that is written to
-pub record Flowing (T W : Type 0) : Type 0 where
+pub record OutflowView (T W : Type 0) : Type 0 where
   pub tap : T
   pub left : List ℕ
-  pub device : Watched W
+  pub device : CountedView W
 
 -- From its first byte on a stream is whole. Its tap was opened, its device held no byte, as far as
 -- that is known, and then came one write after another. All that was handed over by the tap is what

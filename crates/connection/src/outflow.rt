@@ -26,9 +26,9 @@ pub struct Outflow<T: Tap, W: Write> {
 }
 
 impl<T: Tap, W: Write> Model for Outflow<T, W> {
-    ghost use Rattle.connection.specs.Whole.{Flowing, IsWhole};
+    ghost use Rattle.connection.specs.Whole.{OutflowView, IsWhole};
 
-    ghost Value = { Flowing T W };
+    ghost Value = { OutflowView T W };
 
     ghost view = { λ flow. record { tap = flow.tap; left = flow.left; device = flow.device } };
 

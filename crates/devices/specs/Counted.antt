@@ -2,7 +2,7 @@
 use Rattle.std.specs.Prelude.{ℕ, ◌+◌, ◌-◌, ◌^◌, min}
 
 -- a device, and how many of its calls have failed
-pub record Watched (D : Type 0) : Type 0 where
+pub record CountedView (D : Type 0) : Type 0 where
   pub device : D
   pub faults : ℕ
 

@@ -1,11 +1,12 @@
 -- What one counted call of a device does.
 use Rattle.std.specs.Prelude.{◌≡◌, ℕ, ◌≤◌, Option, List, length, take, None, Some}
 use Rattle.std.specs.Io.KnownBytes.{Appends, Keeps}
-use Rattle.devices.specs.Counted.{Watched, counted_once}
+use Rattle.devices.specs.Counted.{CountedView, counted_once}
 
 -- this many bytes were added to the device's, or the call failed, was counted, and changed nothing
 abbrev pub WritesOnce :
-    {D : Type 0} → (D → Option (List ℕ)) → Watched D → Watched D → Option ℕ → List ℕ → Type 0
+    {D : Type 0} → (D → Option (List ℕ)) → CountedView D → CountedView D → Option ℕ → List ℕ →
+    Type 0
 WritesOnce contents old new None bytes =
     Keeps (contents old.device) (contents new.device) × (new.faults ≡ counted_once old.faults)
 WritesOnce contents old new (Some count) bytes =

@@ -2,7 +2,7 @@
 
 ghost use Rattle.std.specs.Prelude.{◌≡◌, ◌≢◌, ◌<◌, length, if◌then◌else◌};
 ghost use Rattle.std.specs.Io.KnownBytes.{Appends, Keeps};
-ghost use Rattle.devices.specs.Counted.{Watched, counted_once};
+ghost use Rattle.devices.specs.Counted.{CountedView, counted_once};
 ghost use Rattle.devices.specs.Engines.{WritesPrefix, WritesPiece, WritesShort, ReadsPiece, counted_read, counted_write};
 ghost use Rattle.devices.specs.Inside.{WritesOnce};
 
@@ -23,9 +23,9 @@ pub struct Counted<D> {
 }
 
 impl<D> Model for Counted<D> {
-    ghost use Rattle.devices.specs.Counted.{Watched};
+    ghost use Rattle.devices.specs.Counted.{CountedView};
 
-    ghost Value = { Watched D };
+    ghost Value = { CountedView D };
 
     ghost view = { λ counted. record { device = counted.device; faults = counted.faults } };
 }

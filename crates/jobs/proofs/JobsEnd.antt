@@ -6,7 +6,7 @@ use Rattle.command_line.specs.declared.fault.TableFault.TheVariants as tables
 use Rattle.command_line.specs.declared.job.Escape.{Escape}
 use Rattle.command_line.specs.declared.job.Job.{Job}
 use Rattle.command_line.specs.declared.job.Play.{Play}
-use Rattle.user_client.specs.Listening.{Listening, PrintsAccepted, listening_anew, new_listening}
+use Rattle.user_client.specs.Listening.{SubscriberView, PrintsAccepted, listening_anew, new_listening}
 use Rattle.user_client.specs.declared.user_client_error.UserClientError.{UserClientError}
 use Rattle.jobs.specs.Done.{PrintsAll, SaysBye}
 use Rattle.jobs.specs.Failing.{FailsAt, FailsToServe}
@@ -54,11 +54,11 @@ by_table (Err fault) text cause is = λ cannot. no_table cause fault is
 
 -- ---- what was done
 
-pub prints_all : (id : List ℕ) (count : ℕ) (start end : Listening) (old new : Option (List ℕ)) → start ≡ new_listening id count
+pub prints_all : (id : List ℕ) (count : ℕ) (start end : SubscriberView) (old new : Option (List ℕ)) → start ≡ new_listening id count
     → PrintsAccepted (listening_anew start) old end new → end.left ≡ 0 → PrintsAll id count old new
 prints_all id count start end old new is printed all = record {
   end = end;
-  printed = subst (λ (s : Listening). PrintsAccepted (listening_anew s) old end new) is printed;
+  printed = subst (λ (s : SubscriberView). PrintsAccepted (listening_anew s) old end new) is printed;
   all = all;
 }
 

@@ -3,7 +3,7 @@ use Rattle.std.specs.Prelude.{◌≡◌, ◌∷◌, ◌++◌, ℕ, List, [], Opt
 use Rattle.std.specs.Io.KnownBytes.{Appends}
 use Rattle.command_line.specs.declared.job.Job.{Job}
 use Rattle.command_line.specs.declared.job.Job.TheVariants as jobs
-use Rattle.user_client.specs.Listening.{Listening, PrintsAccepted, new_listening}
+use Rattle.user_client.specs.Listening.{SubscriberView, PrintsAccepted, new_listening}
 use Rattle.jobs.specs.Failing.{CanPublish, CanSubscribe}
 use Rattle.jobs.specs.Transcripts.{PlaysScript}
 
@@ -15,7 +15,7 @@ SaysBye {O} contents output =
 -- a new client of this identifier accepted publications, and a line was printed for each of the
 -- first, in order, until there were as many as this count
 pub record PrintsAll (id : List ℕ) (count : ℕ) (old new : Option (List ℕ)) : Type 0 where
-  pub end : Listening
+  pub end : SubscriberView
   pub printed : PrintsAccepted (new_listening id count) old end new
   pub all : end.left ≡ 0
 

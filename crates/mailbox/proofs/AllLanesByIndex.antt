@@ -4,22 +4,22 @@ use Rattle.std.proofs.Common.{sym, ◌∙◌, ap, ⊎_elim, length-append, arith
 use Rattle.std.proofs.lemmas.List.{ext_get_or, length-map}
 use Rattle.std.proofs.Math.ListN.{get_or-append, get_or-map}
 use Rattle.std.proofs.Math.Seq.{get_or-append_seam}
-use Rattle.mailbox.specs.Ends.{Sender, Taker, fresh_lanes, as_made, AreAllLanes}
+use Rattle.mailbox.specs.Ends.{LaneView, ReceiverView, fresh_lanes, as_made, AreAllLanes}
 use Rattle.mailbox.proofs.StepsKeepTheRule.{same_or_other}
 
 -- how many lanes were made
 length-fresh : (T : Type 0) (inbox lanes : ℕ) → length (fresh_lanes {T = T} inbox lanes) ≡ lanes
 length-fresh T inbox zero = refl
 length-fresh T inbox (suc lanes) =
-    let last : Sender T = record { inbox = inbox; lane = lanes; met = 0; sent = [] } in
+    let last : LaneView T = record { inbox = inbox; lane = lanes; met = 0; sent = [] } in
     let rest = length-fresh T inbox lanes in
     omega (arith, length-append (fresh_lanes inbox lanes) (last ∷ []))
 
 module _ {T : Type 0} where
-  abbrev fresh : ℕ → ℕ → Sender T
+  abbrev fresh : ℕ → ℕ → LaneView T
   fresh inbox lane = record { inbox = inbox; lane = lane; met = 0; sent = [] }
 
-  fresh_at : (inbox lanes k : ℕ) (d : Sender T) → k < lanes
+  fresh_at : (inbox lanes k : ℕ) (d : LaneView T) → k < lanes
       → slice_index_or (fresh_lanes inbox lanes) k d ≡ fresh inbox k
   fresh_at inbox zero k d within = absurd (omega arith)
   fresh_at inbox (suc lanes) k d within =
@@ -35,17 +35,17 @@ module _ {T : Type 0} where
       (same_or_other k lanes)
 
   -- each lane has the number of the inbox and its index
-  abbrev pub Placed : Taker T → List (Sender T) → ℕ → Type 0
+  abbrev pub Placed : ReceiverView T → List (LaneView T) → ℕ → Type 0
   Placed r lanes k =
-      (d : Sender T)
+      (d : LaneView T)
       → ((slice_index_or lanes k d).inbox ≡ r.inbox) × ((slice_index_or lanes k d).lane ≡ k)
 
-  pub all_by_index : (r : Taker T) (lanes : List (Sender T))
+  pub all_by_index : (r : ReceiverView T) (lanes : List (LaneView T))
       → length lanes ≡ r.lanes
       → ((k : ℕ) → k < length lanes → Placed r lanes k)
       → AreAllLanes r lanes
   all_by_index r lanes size placed =
-      let d : Sender T = fresh 0 0 in
+      let d : LaneView T = fresh 0 0 in
       ext_get_or d (map as_made lanes) (fresh_lanes r.inbox r.lanes)
       (length-map lanes as_made ∙ size ∙ sym (length-fresh T r.inbox r.lanes))
       (λ k within.
@@ -55,10 +55,10 @@ module _ {T : Type 0} where
       ∙ (λ i. fresh (is.0 i) (is.1 i))
       ∙ sym (fresh_at r.inbox r.lanes k d (omega arith)))
 
-  pub as_many : (r : Taker T) (lanes : List (Sender T)) → AreAllLanes r lanes → length lanes ≡ r.lanes
+  pub as_many : (r : ReceiverView T) (lanes : List (LaneView T)) → AreAllLanes r lanes → length lanes ≡ r.lanes
   as_many r lanes are = sym (length-map lanes as_made) ∙ ap length are ∙ length-fresh T r.inbox r.lanes
 
-  pub placed_of_all : (r : Taker T) (lanes : List (Sender T)) (k : ℕ)
+  pub placed_of_all : (r : ReceiverView T) (lanes : List (LaneView T)) (k : ℕ)
       → AreAllLanes r lanes
       → k < length lanes
       → Placed r lanes k
@@ -68,4 +68,4 @@ module _ {T : Type 0} where
       sym (get_or-map as_made lanes k d)
       ∙ ap (λ l. slice_index_or l k (as_made d)) are
       ∙ fresh_at r.inbox r.lanes k (as_made d) (omega arith) in
-      (ap (λ (s : Sender T). s.inbox) is, ap (λ (s : Sender T). s.lane) is)
+      (ap (λ (s : LaneView T). s.inbox) is, ap (λ (s : LaneView T). s.lane) is)

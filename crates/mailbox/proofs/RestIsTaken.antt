@@ -7,7 +7,7 @@ use Rattle.std.proofs.Math.ListN.{get_or-map}
 use Rattle.std.proofs.Math.Seq.{take-append_seam}
 use Rattle.std.specs.List.{All}
 use Rattle.mailbox.specs.Delivery.{items_of_lane}
-use Rattle.mailbox.specs.Ends.{Sender, Taker, fresh_lanes, as_made, AreAllLanes, ArrivesWhole, unmet}
+use Rattle.mailbox.specs.Ends.{LaneView, ReceiverView, fresh_lanes, as_made, AreAllLanes, ArrivesWhole, unmet}
 use Rattle.mailbox.specs.Kept.{IsDrained}
 use Rattle.mailbox.proofs.ItemsOfALane.{items_of-append}
 
@@ -23,12 +23,12 @@ all_like P f xs ys e all k d within =
     subst P (sym same) (all k d there)
 
 module _ {T : Type 0} where
-  only : (P : Sender T → Type 0) (s : Sender T) → P s → All P (s ∷ [])
+  only : (P : LaneView T → Type 0) (s : LaneView T) → P s → All P (s ∷ [])
   only P s it zero d within = it
   only P s it (suc k) d within = absurd (omega arith)
 
   -- what holds for each lane as it was made
-  fresh_all : (P : Sender T → Type 0) (inbox lanes : ℕ)
+  fresh_all : (P : LaneView T → Type 0) (inbox lanes : ℕ)
       → ((k : ℕ) → k < lanes → P (record { inbox = inbox; lane = k; met = 0; sent = [] }))
       → All P (fresh_lanes inbox lanes)
   fresh_all P inbox zero p = λ k d within. absurd (omega arith)
@@ -40,12 +40,12 @@ module _ {T : Type 0} where
   fresh_map : (inbox lanes : ℕ) → map as_made (fresh_lanes {T = T} inbox lanes) ≡ fresh_lanes inbox lanes
   fresh_map inbox zero = refl
   fresh_map inbox (suc lanes) =
-      let last : Sender T = record { inbox = inbox; lane = lanes; met = 0; sent = [] } in
+      let last : LaneView T = record { inbox = inbox; lane = lanes; met = 0; sent = [] } in
       map-append as_made (fresh_lanes inbox lanes) (last ∷ [])
       ∙ ap (λ l. l ++ last ∷ []) (fresh_map inbox lanes)
 
   -- a fact of a lane's numbers holds for all lanes, if it does of those that were made
-  pub of_all_lanes : (P : Sender T → Type 0) (r : Taker T) (lanes : List (Sender T))
+  pub of_all_lanes : (P : LaneView T → Type 0) (r : ReceiverView T) (lanes : List (LaneView T))
       → AreAllLanes r lanes
       → ((k : ℕ) → k < r.lanes → P (record { inbox = r.inbox; lane = k; met = 0; sent = [] }))
       → All (λ s. P (as_made s)) lanes
@@ -53,12 +53,12 @@ module _ {T : Type 0} where
       all_like P as_made lanes (fresh_lanes r.inbox r.lanes) (are ∙ sym (fresh_map r.inbox r.lanes))
       (fresh_all (λ s. P (as_made s)) r.inbox r.lanes p)
 
-  made_of_unmet : (lanes : List (Sender T)) → map as_made (map unmet lanes) ≡ map as_made lanes
+  made_of_unmet : (lanes : List (LaneView T)) → map as_made (map unmet lanes) ≡ map as_made lanes
   made_of_unmet [] = refl
   made_of_unmet (s ∷ lanes) = ap (λ l. as_made s ∷ l) (made_of_unmet lanes)
 
   -- that lanes are all lanes does not depend on what they know to be taken
-  pub still_all_lanes : (r : Taker T) (lanes before : List (Sender T))
+  pub still_all_lanes : (r : ReceiverView T) (lanes before : List (LaneView T))
       → map unmet lanes ≡ map unmet before
       → AreAllLanes r before
       → AreAllLanes r lanes
@@ -66,7 +66,7 @@ module _ {T : Type 0} where
       sym (made_of_unmet lanes) ∙ ap (map as_made) same ∙ made_of_unmet before ∙ are
 
   -- a lane of which as many items were taken as it sent
-  pub met_all : (taken taken' : List (ℕ × T)) (old new : Sender T) (met count : ℕ)
+  pub met_all : (taken taken' : List (ℕ × T)) (old new : LaneView T) (met count : ℕ)
       → new ≡ record old { met = met }
       → items_of_lane old.lane taken ≡ take met old.sent
       → count ≡ length new.sent
@@ -74,13 +74,13 @@ module _ {T : Type 0} where
       → taken' ≡ taken
       → IsDrained taken' new
   met_all taken taken' old new met count is first counted equal same =
-      let sent : new.sent ≡ old.sent = ap (λ (s : Sender T). s.sent) is in
+      let sent : new.sent ≡ old.sent = ap (λ (s : LaneView T). s.sent) is in
       let size = ap length sent in
       let all : take met old.sent ≡ old.sent = take_all met old.sent (omega arith) in
       (λ i. items_of_lane (is i).lane (same i)) ∙ first ∙ all ∙ sym sent
 
   -- a lane all of whose items were taken, some before and the others now
-  arrives : (counts : List ℕ) (before now left : List (ℕ × T)) (s : Sender T)
+  arrives : (counts : List ℕ) (before now left : List (ℕ × T)) (s : LaneView T)
       → now ≡ before ++ left
       → slice_index counts s.lane ≡ length (items_of_lane s.lane before)
       → IsDrained now s
@@ -91,7 +91,7 @@ module _ {T : Type 0} where
       let sent : s.sent ≡ a ++ b = sym all ∙ ap (items_of_lane s.lane) is ∙ items_of-append s.lane before left in
       (λ i. take (counted i) (sent i) ++ b) ∙ ap (λ l. l ++ b) (take-append_seam a b) ∙ sym sent
 
-  pub all_arrives : (counts : List ℕ) (before now left : List (ℕ × T)) (r : Taker T) (lanes : List (Sender T))
+  pub all_arrives : (counts : List ℕ) (before now left : List (ℕ × T)) (r : ReceiverView T) (lanes : List (LaneView T))
       → now ≡ before ++ left
       → ((k : ℕ) → k < r.lanes → slice_index counts k ≡ length (items_of_lane k before))
       → AreAllLanes r lanes

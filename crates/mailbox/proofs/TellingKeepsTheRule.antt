@@ -12,7 +12,7 @@ use Rattle.mailbox.specs.declared.view.Bounds.{Bounds}
 use Rattle.mailbox.specs.declared.view.View.{View}
 use Rattle.mailbox.specs.Delivery.{items_of_lane, FitsLane, FitsReceiver, FitsBounds, FitsRule, Knew}
 use Rattle.mailbox.specs.declared.inbox.TheConstants.{MAX_ITEMS}
-use Rattle.mailbox.specs.Ends.{HasArrived, IsFullByReceipt, Receipted, Sender, Taker}
+use Rattle.mailbox.specs.Ends.{HasArrived, IsFullByReceipt, ReceiptView, LaneView, ReceiverView}
 use Rattle.mailbox.specs.Inside.{ended, heard, lane_knows, nobody, receiver_knows}
 use Rattle.mailbox.proofs.EachView.{each_set, each_snoc}
 use Rattle.mailbox.proofs.Rights.{rights_has, rights_set, rights_snoc, rights_split}
@@ -134,7 +134,7 @@ module _ {T : Type 0} where
 
   -- the same, for the receiver and the receipt that it got
   pub has_arrived :
-      {A : Type 0} (result : Option A) (v w heard' : View T) (receiver : Taker T) (receipt : Receipted)
+      {A : Type 0} (result : Option A) (v w heard' : View T) (receiver : ReceiverView T) (receipt : ReceiptView)
       → heard' ≡ heard v w
       → v.gets ≡ true
       → v.taken ≡ receiver.taken
@@ -157,7 +157,7 @@ module _ {T : Type 0} where
 
   -- the same, for the lane and the receipt that it got
   pub is_full :
-      (v w heard' : View T) (size : ℕ) (lane : Sender T) (receipt : Receipted)
+      (v w heard' : View T) (size : ℕ) (lane : LaneView T) (receipt : ReceiptView)
       → heard' ≡ heard v w
       → size ≡ MAX_ITEMS
       → v.may_send ≡ 2 ^ 55 - length v.sent

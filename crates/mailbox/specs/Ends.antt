@@ -15,7 +15,7 @@ abbrev pub max_lanes : ℕ
 max_lanes = MAX_LANES
 
 -- a lane: the number of its inbox, its own, and how many of its items it knows to be taken
-pub record Sender (T : Type 0) : Type 0 where
+pub record LaneView (T : Type 0) : Type 0 where
   pub inbox : ℕ
   pub lane : ℕ
   pub met : ℕ
@@ -23,28 +23,28 @@ pub record Sender (T : Type 0) : Type 0 where
   pub sent : List T
 
 -- a receiver: the number of its inbox, and how many lanes that has
-pub record Taker (T : Type 0) : Type 0 where
+pub record ReceiverView (T : Type 0) : Type 0 where
   pub inbox : ℕ
   pub lanes : ℕ
   -- history: no field keeps it
   pub taken : List (ℕ × T)
 
 -- a receipt: the number of its inbox, and what it says about that inbox
-pub record Receipted : Type 0 where
+pub record ReceiptView : Type 0 where
   pub inbox : ℕ
   -- history: no field keeps it
   pub bounds : Bounds
 
 module _ {T : Type 0} where
   -- the lanes 0, 1, .. of a new inbox, in order, on which nothing was sent
-  abbrev pub fresh_lanes : ℕ → ℕ → List (Sender T)
+  abbrev pub fresh_lanes : ℕ → ℕ → List (LaneView T)
   fresh_lanes inbox zero = []
   fresh_lanes inbox (suc lanes) =
       fresh_lanes inbox lanes ++ record { inbox = inbox; lane = lanes; met = 0; sent = [] } ∷ []
 
   -- at one moment, at which everything that the receipt says was true, the inbox held as many items
   -- as it can
-  abbrev pub WasFull : Sender T → Receipted → Type 0
+  abbrev pub WasFull : LaneView T → ReceiptView → Type 0
   WasFull sender receipt =
       Held MAX_ITEMS
       (Knew (lane_view sender.lane sender.sent sender.met (MAX_SENT - length sender.sent)
@@ -52,40 +52,40 @@ module _ {T : Type 0} where
 
   -- as far as the receipt says, there may be no room: what was taken, what the inbox can hold and
   -- what this lane may still send do not exceed what all lanes will ever send
-  abbrev pub IsFullByReceipt : Sender T → Receipted → Type 0
+  abbrev pub IsFullByReceipt : LaneView T → ReceiptView → Type 0
   IsFullByReceipt sender receipt =
       receipt.bounds.taken + MAX_ITEMS + (MAX_SENT - length sender.sent) ≤ receipt.bounds.most
 
   -- the lane has sent as much as it ever may
-  abbrev pub IsSpent : Sender T → Type 0
+  abbrev pub IsSpent : LaneView T → Type 0
   IsSpent sender = MAX_SENT ≤ length sender.sent
 
   -- at one moment, at which everything that the receipt says was true, the inbox held nothing
-  abbrev pub WasEmpty : Taker T → Receipted → Type 0
+  abbrev pub WasEmpty : ReceiverView T → ReceiptView → Type 0
   WasEmpty taker receipt = Held 0 (Knew (taker_view taker.lanes taker.taken receipt.bounds))
 
   -- every item that was sent, as far as the receipt says, is among these items that were taken
-  abbrev pub HasArrived : Receipted → List (ℕ × T) → Type 0
+  abbrev pub HasArrived : ReceiptView → List (ℕ × T) → Type 0
   HasArrived receipt taken = receipt.bounds.sent ≤ length (items_of_lane receipt.bounds.lane taken)
 
   -- a lane as it was made
-  abbrev pub as_made : Sender T → Sender T
+  abbrev pub as_made : LaneView T → LaneView T
   as_made sender = record sender { met = 0; sent = [] }
 
   -- these are all lanes of the receiver's inbox, in order
-  abbrev pub AreAllLanes : Taker T → List (Sender T) → Type 0
+  abbrev pub AreAllLanes : ReceiverView T → List (LaneView T) → Type 0
   AreAllLanes taker lanes = map as_made lanes ≡ fresh_lanes taker.inbox taker.lanes
 
   -- a lane, whatever it knows to be taken
-  abbrev pub unmet : Sender T → Sender T
+  abbrev pub unmet : LaneView T → LaneView T
   unmet sender = record sender { met = 0 }
 
   -- a lane that knows that all that it sent was taken
-  abbrev pub all_met : Sender T → Sender T
+  abbrev pub all_met : LaneView T → LaneView T
   all_met sender = record sender { met = length sender.sent }
 
   -- what was counted for a lane and what is left over from it are, in order, all that it sent
-  abbrev pub ArrivesWhole : List ℕ → List (ℕ × T) → Sender T → Type 0
+  abbrev pub ArrivesWhole : List ℕ → List (ℕ × T) → LaneView T → Type 0
   ArrivesWhole counts left sender =
       take (slice_index counts sender.lane) sender.sent ++ items_of_lane sender.lane left
       ≡ sender.sent

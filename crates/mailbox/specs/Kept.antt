@@ -6,7 +6,7 @@ use Rattle.mailbox.specs.declared.inbox.TheConstants.{MAX_ITEMS}
 use Rattle.mailbox.specs.declared.lane.TheConstants.{MAX_SENT}
 use Rattle.mailbox.specs.declared.view.View.{View}
 use Rattle.mailbox.specs.Delivery.{items_of_lane, lane_view, no_bounds, receiver_view, taker_view}
-use Rattle.mailbox.specs.Ends.{Sender, Taker, max_lanes}
+use Rattle.mailbox.specs.Ends.{LaneView, ReceiverView, max_lanes}
 use Rattle.mailbox.specs.Inside.{nobody}
 
 -- what a lane keeps: its pass, for the inbox that its number names, knows what the lane shows
@@ -69,11 +69,12 @@ pub record InboxKept {T : Type 0}
   pub role : view pass ≡ receiver_view 0 [] (2 ^ 64) (2 ^ 64) no_bounds
 
 -- what the receiver took more is what was appended to the list
-pub record TakesMore {T : Type 0} (old new : Taker T) (list longer : List (ℕ × T)) : Type 0 where
+pub record TakesMore {T : Type 0} (old new : ReceiverView T)
+    (list longer : List (ℕ × T)) : Type 0 where
   pub more : List (ℕ × T)
   pub history : new ≡ record old { taken = old.taken ++ more }
   pub listed : longer ≡ list ++ more
 
 -- all that a lane sent was taken
-abbrev pub IsDrained : {T : Type 0} → List (ℕ × T) → Sender T → Type 0
+abbrev pub IsDrained : {T : Type 0} → List (ℕ × T) → LaneView T → Type 0
 IsDrained taken sender = items_of_lane sender.lane taken ≡ sender.sent

@@ -23,9 +23,9 @@ pub(crate) struct Dealer<T: Drop, J: Naming> {
 }
 
 impl<T: Drop, J: Naming> Model for Dealer<T, J> {
-    ghost use Rattle.mailbox.specs.Ends.{Taker};
+    ghost use Rattle.mailbox.specs.Ends.{ReceiverView};
 
-    ghost Value = { Taker T };
+    ghost Value = { ReceiverView T };
 
     ghost use Rattle.std.specs.Prelude.{[], length};
     ghost use Rattle.std.specs.Arc.{arc_value};

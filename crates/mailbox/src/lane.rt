@@ -1,7 +1,7 @@
 // One sender's end of an inbox.
 
 ghost use Rattle.std.specs.Prelude.{◌≡◌, ◌⊎◌, ◌-◌, ◌++◌, ◌∷◌, [], length, OnOk, OnErr, IfErr};
-ghost use Rattle.mailbox.specs.Ends.{Sender, WasFull, IsFullByReceipt, IsSpent};
+ghost use Rattle.mailbox.specs.Ends.{LaneView, WasFull, IsFullByReceipt, IsSpent};
 ghost use Rattle.mailbox.specs.Delivery.{no_bounds};
 
 use crate::moves::{Ends, Hears, Knowledge, LaneKnows, Queue, Sends};
@@ -26,9 +26,9 @@ pub struct Lane<T: Drop, J: Naming> {
 }
 
 impl<T: Drop, J: Naming> Model for Lane<T, J> {
-    ghost use Rattle.mailbox.specs.Ends.{Sender};
+    ghost use Rattle.mailbox.specs.Ends.{LaneView};
 
-    ghost Value = { Sender T };
+    ghost Value = { LaneView T };
 
     ghost use Rattle.std.specs.Arc.{arc_value};
     ghost use Rattle.crossbeam_queue.specs.Passes.{view as known_by, ruled_capacity};

@@ -15,9 +15,9 @@ pub struct Receipt<T: Drop, J: Naming> {
 }
 
 impl<T: Drop, J: Naming> Model for Receipt<T, J> {
-    ghost use Rattle.mailbox.specs.Ends.{Receipted};
+    ghost use Rattle.mailbox.specs.Ends.{ReceiptView};
 
-    ghost Value = { Receipted };
+    ghost Value = { ReceiptView };
 
     ghost use Rattle.crossbeam_queue.specs.Passes.{view as known_by};
     ghost use Rattle.mailbox.specs.Kept.{ReceiptKept};

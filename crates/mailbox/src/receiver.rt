@@ -2,7 +2,7 @@
 
 ghost use Rattle.std.specs.Prelude.{◌≡◌, ◌++◌, ◌∷◌, [], ◌<◌, ◌≤◌, length, take, ◌*◌, IfSome, IfNone, IfOk, OnOk, All, EachIndex, IsTrue, ◌↔◌, map, slice_index, vec_capacity};
 ghost use Rattle.mailbox.specs.Delivery.{items_of_lane, no_bounds};
-ghost use Rattle.mailbox.specs.Ends.{Taker, Sender, WasEmpty, HasArrived, AreAllLanes, ArrivesWhole, unmet};
+ghost use Rattle.mailbox.specs.Ends.{ReceiverView, LaneView, WasEmpty, HasArrived, AreAllLanes, ArrivesWhole, unmet};
 ghost use Rattle.mailbox.specs.Kept.{TakesMore, IsDrained};
 ghost use Rattle.mailbox.specs.declared.lane.TheConstants.{MAX_SENT};
 
@@ -27,9 +27,9 @@ pub struct Receiver<T: Drop, J: Naming> {
 }
 
 impl<T: Drop, J: Naming> Model for Receiver<T, J> {
-    ghost use Rattle.mailbox.specs.Ends.{Taker};
+    ghost use Rattle.mailbox.specs.Ends.{ReceiverView};
 
-    ghost Value = { Taker T };
+    ghost Value = { ReceiverView T };
 
     ghost use Rattle.std.specs.Prelude.{length};
     ghost use Rattle.std.specs.Arc.{arc_value};

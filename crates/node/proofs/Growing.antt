@@ -1,7 +1,7 @@
 -- Growing.antt: what items brought since the last cut, counted item by item.
 use Rattle.std.proofs.Common.{◌≡◌, ℕ, ◌+◌, List, [], ◌∷◌, ◌++◌, ◌∙◌, ap, sym, refl, arith}
 use Rattle.std.proofs.lemmas.List.Sums.{fold-append}
-use Rattle.mailbox.specs.Ends.{Taker}
+use Rattle.mailbox.specs.Ends.{ReceiverView}
 use Rattle.node_core.specs.declared.item.Item.{Item}
 use Rattle.node_core.specs.declared.item.Item.TheVariants.{Peer, Tick, Opened, Bytes, Ended, Expel, Cut, Crash}
 use Rattle.node.specs.Growth.{bytes_since_cut, bytes_of_item, saturated, grown}
@@ -24,11 +24,11 @@ pub since_more : (taken : List (ℕ × Item)) (one : ℕ × Item)
 since_more taken one = fold-append (λ bytes (x : ℕ × Item). grown bytes x.1) 0 taken (one ∷ [])
 
 -- one item more was taken, and counted
-pub grown_since : (bytes now : ℕ) (old new : Taker Item) (taken : ℕ × Item)
+pub grown_since : (bytes now : ℕ) (old new : ReceiverView Item) (taken : ℕ × Item)
     → new ≡ record old { taken = old.taken ++ taken ∷ [] }
     → bytes ≡ saturated (bytes_since_cut old.taken) → now ≡ saturated (grown bytes taken.1)
     → now ≡ saturated (bytes_since_cut new.taken)
 grown_since bytes now old new taken is before after =
     after ∙ ap (λ n. saturated (grown n taken.1)) before ∙ grown_counted (bytes_since_cut old.taken) taken.1
     ∙ ap saturated (sym (since_more old.taken taken))
-    ∙ ap (λ (taker : Taker Item). saturated (bytes_since_cut taker.taken)) (sym is)
+    ∙ ap (λ (taker : ReceiverView Item). saturated (bytes_since_cut taker.taken)) (sym is)

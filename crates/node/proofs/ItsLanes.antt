@@ -2,17 +2,17 @@
 -- and its index as its number.
 use Rattle.std.proofs.Common.{◌≡◌, ℕ, ◌<◌, List, length}
 use Rattle.std.specs.Prelude.{slice_index_or}
-use Rattle.mailbox.specs.Ends.{Sender}
+use Rattle.mailbox.specs.Ends.{LaneView}
 use Rattle.node_core.specs.declared.item.Item.{Item}
-use Rattle.node.specs.Running.{AreItsLanes, Running}
+use Rattle.node.specs.Running.{AreItsLanes, NodeView}
 
 -- the lane at an index has the number of the inbox, and the index as its number
-abbrev pub Placed : ℕ → List (Sender Item) → ℕ → Type 0
+abbrev pub Placed : ℕ → List (LaneView Item) → ℕ → Type 0
 Placed number lanes index =
-    (other : Sender Item)
+    (other : LaneView Item)
     → ((slice_index_or lanes index other).inbox ≡ number) × ((slice_index_or lanes index other).lane ≡ index)
 
-pub all_placed : (node : Running) (lanes : List (Sender Item)) → length lanes ≡ node.lanes
+pub all_placed : (node : NodeView) (lanes : List (LaneView Item)) → length lanes ≡ node.lanes
     → ((index : ℕ) → index < length lanes → Placed node.number lanes index) → AreItsLanes node lanes
 all_placed node lanes all placed = record {
   all = all;

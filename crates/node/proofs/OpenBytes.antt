@@ -1,13 +1,13 @@
 -- OpenBytes.antt: no byte is left out of the count of those that are not known to be agreed.
 use Rattle.std.proofs.Common.{◌≡◌, ℕ, ◌+◌, ◌≤◌, Bool, true, false, nat_le, nat_lt, min, if◌then◌else◌, List, [], ◌∷◌, Some, refl, arith}
 use Rattle.node_core.specs.declared.Status.{Status}
-use Rattle.node.specs.Crowding.{Taking, is_agreed, took}
+use Rattle.node.specs.Crowding.{IntakeView, is_agreed, took}
 use Rattle.node.specs.Counting.{Counts, Taken, bytes_behind, committed_of, held_of}
 use Rattle.node.specs.Counting.Counts.{admits, begins, shows, takes}
 use Rattle.node.specs.Laws.{OpenBytesAreCounted}
 
 -- what is known about the bytes that were taken and their count
-record Known (all : List Taken) (taking : Taking) : Type 0 where
+record Known (all : List Taken) (taking : IntakeView) : Type 0 where
   none : bytes_behind (held_of taking.status) all ≤ 0
   after_earlier : bytes_behind taking.earlier_end all ≤ taking.later
   counted : bytes_behind (committed_of taking.status) all ≤ taking.earlier + taking.later
@@ -28,7 +28,7 @@ at_most places bytes place = grind arith
 none_behind : (places bytes : ℕ) → (if nat_lt places places then bytes else 0) ≤ 0
 none_behind places bytes = grind arith
 
-known_taken : (bytes : ℕ) (all : List Taken) (taking : Taking) → Known all taking
+known_taken : (bytes : ℕ) (all : List Taken) (taking : IntakeView) → Known all taking
     → Known (record { bytes = min bytes taking.entering; places = held_of taking.status } ∷ all) (took bytes taking)
 known_taken bytes all taking known = record {
   none = let a = none_behind (held_of taking.status) (min bytes taking.entering) in let e = known.none in omega (arith, a, e);
@@ -52,7 +52,7 @@ reaches true earlier_end held committed all later below agreed after_earlier non
 reaches false earlier_end held committed all later above agreed after_earlier none =
     let a = falls held committed all (below_held earlier_end held committed agreed above) in omega (arith, a, none)
 
-known_shown : (b : Bool) (status : Status) (all : List Taken) (taking : Taking) → is_agreed taking.earlier_end status ≡ b
+known_shown : (b : Bool) (status : Status) (all : List Taken) (taking : IntakeView) → is_agreed taking.earlier_end status ≡ b
     → Known all taking → held_of taking.status ≤ status.held → committed_of taking.status ≤ status.committed
     → Known all
     (if b
@@ -72,7 +72,7 @@ known_shown false status all taking unagreed known held committed =
     let g = falls (committed_of taking.status) status.committed all committed in
     record { none = omega (arith, n, f); after_earlier = m; counted = omega (arith, c, g) }
 
-known : (all : List Taken) (taking : Taking) → Counts all taking → Known all taking
+known : (all : List Taken) (taking : IntakeView) → Counts all taking → Known all taking
 known _ _ begins = record { none = omega arith; after_earlier = omega arith; counted = omega arith }
 known all _ (admits {taking = taking} bytes counts) =
     let k = known all taking counts in record { none = k.none; after_earlier = k.after_earlier; counted = k.counted }

@@ -1,7 +1,7 @@
 -- Replaying.antt: a replay continues.
 use Rattle.std.proofs.Common.{◌≡◌, ℕ, List, [], ◌∷◌, ◌++◌, Ok, Err, OnOk, OnErr, sym, subst}
 use Rattle.std.specs.Prelude.{Result}
-use Rattle.mailbox.specs.Ends.{Taker}
+use Rattle.mailbox.specs.Ends.{ReceiverView}
 use Rattle.node_core.specs.broker_spec.declared.command.Command.{Command}
 use Rattle.node_core.specs.broker_spec.declared.command.Output.{Output}
 use Rattle.node_core.specs.ballot_base.declared.message.Effect.{Effect}
@@ -15,24 +15,24 @@ use Rattle.node.specs.State.{Replays}
 use Rattle.node.specs.State.Replays.{opens, steps, hands}
 
 -- nothing was taken yet
-pub opened : (first_of : ℕ → CountedCore) (taker : Taker Item) (core : CountedCore) → taker.taken ≡ []
+pub opened : (first_of : ℕ → CountedCore) (taker : ReceiverView Item) (core : CountedCore) → taker.taken ≡ []
     → core ≡ first_of taker.inbox → Replays (first_of taker.inbox) taker.taken core
 opened first_of taker core none is =
     subst (λ (items : List (ℕ × Item)). Replays (first_of taker.inbox) items core) (sym none)
     (subst (λ (c : CountedCore). Replays (first_of taker.inbox) [] c) (sym is) opens)
 
 -- one item was taken, and its step was done
-pub stepped : (first_of : ℕ → CountedCore) (old new : Taker Item) (taken : ℕ × Item) (core next : CountedCore)
+pub stepped : (first_of : ℕ → CountedCore) (old new : ReceiverView Item) (taken : ℕ × Item) (core next : CountedCore)
     (before after : List (Effect Command Output))
     → new ≡ record old { taken = old.taken ++ taken ∷ [] }
     → Replays (first_of old.inbox) old.taken core → ItemStepOrLost core taken.1 next before after
     → Replays (first_of new.inbox) new.taken next
 stepped first_of old new taken core next before after is replays step =
-    subst (λ (t : Taker Item). Replays (first_of t.inbox) t.taken next) (sym is)
+    subst (λ (t : ReceiverView Item). Replays (first_of t.inbox) t.taken next) (sym is)
     (steps taken next before after replays step)
 
 -- what was queued for a port was handed over, or memory ran out
-pub handed : {E : Type 0} (first_of : ℕ → CountedCore) (taker : Taker Item) (port : Port) (core new : CountedCore)
+pub handed : {E : Type 0} (first_of : ℕ → CountedCore) (taker : ReceiverView Item) (port : Port) (core new : CountedCore)
     (result : Result Handed E)
     → OnOk result (new ≡ record core { core = hands_over port core.core })
     → OnErr result (new ≡ core)

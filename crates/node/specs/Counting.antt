@@ -1,7 +1,7 @@
 -- How a node's count of bytes that are not known to be agreed changes, while its log only grows.
 use Rattle.std.specs.Prelude.{ℕ, ◌+◌, ◌≤◌, nat_lt, min, if◌then◌else◌, List, [], ◌∷◌, Option, Some, None}
 use Rattle.node_core.specs.declared.Status.{Status}
-use Rattle.node.specs.Crowding.{Taking, status_shown, took}
+use Rattle.node.specs.Crowding.{IntakeView, status_shown, took}
 
 -- bytes that a node took, and how many places its log had once it had taken them
 pub record Taken : Type 0 where
@@ -26,19 +26,19 @@ committed_of (Some status) = status.committed
 
 -- A node took these bytes, the newest first, and then its count is this one. Each time it shows its
 -- status its log has no fewer places, and no fewer of them are agreed.
-pub data Counts : List Taken → Taking → Type 0 where
+pub data Counts : List Taken → IntakeView → Type 0 where
   -- nothing was taken yet
   begins : Counts []
       (record { status = None; entering = 0; earlier_end = 0; earlier = 0; later = 0 })
   -- bytes enter
-  admits : {all : List Taken} {taking : Taking} (bytes : ℕ) → Counts all taking
+  admits : {all : List Taken} {taking : IntakeView} (bytes : ℕ) → Counts all taking
       → Counts all (record taking { entering = taking.entering + bytes })
   -- bytes are taken
-  takes : {all : List Taken} {taking : Taking} (bytes : ℕ) → Counts all taking
+  takes : {all : List Taken} {taking : IntakeView} (bytes : ℕ) → Counts all taking
       → Counts
       (record { bytes = min bytes taking.entering; places = held_of taking.status } ∷ all)
       (took bytes taking)
   -- the status is shown
-  shows : {all : List Taken} {taking : Taking} (status : Status) → Counts all taking
+  shows : {all : List Taken} {taking : IntakeView} (status : Status) → Counts all taking
       → held_of taking.status ≤ status.held → committed_of taking.status ≤ status.committed
       → Counts all (status_shown status taking)

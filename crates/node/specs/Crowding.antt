@@ -6,7 +6,7 @@ use Rattle.node_core.specs.ballot_base.Replica.{is_active}
 -- What a node takes from its clients. `entering` bytes are in transit to it. Of those that it took,
 -- `earlier` are in the first `earlier_end` places of its log, and `later` in places after these.
 -- What every member holds is no longer counted.
-pub record Taking : Type 0 where
+pub record IntakeView : Type 0 where
   pub status : Option Status
   pub entering : ℕ
   pub earlier_end : ℕ
@@ -32,7 +32,7 @@ abbrev pub max_entering : ℕ
 max_entering = 262144
 
 -- whether a node takes more bytes from its clients
-abbrev pub admits : Taking → Bool
+abbrev pub admits : IntakeView → Bool
 admits taking = nat_le (open_places taking.status) max_open
     && (nat_le (taking.earlier + taking.later) max_open_bytes
     && nat_le taking.entering max_entering)
@@ -42,11 +42,11 @@ abbrev pub max_taken : ℕ
 max_taken = 67436544
 
 -- the bound of all that a node took and is not known to be agreed, together with what is in transit
-abbrev pub IsBounded : Taking → Type 0
+abbrev pub IsBounded : IntakeView → Type 0
 IsBounded taking = taking.entering + (taking.earlier + taking.later) ≤ max_taken
 
 -- some bytes that were in transit were taken
-abbrev pub took : ℕ → Taking → Taking
+abbrev pub took : ℕ → IntakeView → IntakeView
 took bytes taking = record taking {
   entering = taking.entering - min bytes taking.entering;
   later = taking.later + min bytes taking.entering;
@@ -58,7 +58,7 @@ is_agreed earlier_end status = nat_le (min earlier_end status.held) status.commi
 
 -- The node shows its status. Once the first `earlier_end` places are agreed the later bytes become
 -- the earlier ones.
-abbrev pub status_shown : Status → Taking → Taking
+abbrev pub status_shown : Status → IntakeView → IntakeView
 status_shown status taking =
     if is_agreed taking.earlier_end status
     then record taking {

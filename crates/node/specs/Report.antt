@@ -1,7 +1,7 @@
 -- The capacity that a node's report needs, and what it says about a lane.
 use Rattle.std.specs.Prelude.{◌≡◌, ℕ, ◌≤◌, List, [], ◌++◌, length, vec_capacity}
 use Rattle.mailbox.specs.Delivery.{items_of_lane}
-use Rattle.mailbox.specs.Ends.{Sender, max_items}
+use Rattle.mailbox.specs.Ends.{LaneView, max_items}
 use Rattle.node_core.specs.declared.item.Item.{Item}
 use Rattle.node.specs.declared.report.Report.{Report}
 
@@ -13,6 +13,6 @@ HasCapacity lanes report =
     × (max_items ≤ vec_capacity report.left)
 
 -- what was taken from a lane followed by what is left over of it is, in order, all that it sent
-abbrev pub ReportsAll : List (ℕ × Item) → List (ℕ × Item) → Sender Item → Type 0
+abbrev pub ReportsAll : List (ℕ × Item) → List (ℕ × Item) → LaneView Item → Type 0
 ReportsAll taken left lane = items_of_lane lane.lane taken ++ items_of_lane lane.lane left
     ≡ lane.sent

@@ -1,16 +1,16 @@
 -- A node that runs under a lock, its turns, and its end.
 use Rattle.std.specs.Prelude.{◌≡◌, ℕ, ◌<◌, List, Option, Bool, length, slice_index, slice_index_or, All, EachIndex, IfSome}
 use Rattle.mailbox.specs.Delivery.{items_of_lane}
-use Rattle.mailbox.specs.Ends.{Sender}
+use Rattle.mailbox.specs.Ends.{LaneView}
 use Rattle.node_core.specs.Core.{CountedCore}
 use Rattle.node_core.specs.declared.item.Item.{Item}
 use Rattle.node.specs.Report.{ReportsAll}
-use Rattle.node.specs.State.{Replays, Seen, next_taking}
+use Rattle.node.specs.State.{Replays, NodeStateView, next_taking}
 use Rattle.node.specs.declared.report.Report.{Report}
 
 -- what a node shows outside its lock: its number, how many lanes its inbox has, and whether a gate
 -- is asked before each taking
-pub record Running : Type 0 where
+pub record NodeView : Type 0 where
   pub number : ℕ
   pub lanes : ℕ
   pub is_gated : Bool
@@ -23,7 +23,7 @@ pub record Permit : Type 0 where
   pub is_open : Bool
 
 -- the taking that a gate was asked for is the next of a node
-abbrev pub IsNext : Permit → Seen → Type 0
+abbrev pub IsNext : Permit → NodeStateView → Type 0
 IsNext permit seen = IfSome permit.taking (λ taking. taking ≡ next_taking seen.takings)
 
 -- a gate was asked for the taking of this number of the node of this number, and answered this
@@ -39,17 +39,17 @@ pub record WasInformed {G : Type 0} (hears : G → ℕ → ℕ → Type 0) (node
   pub heard : hears gate node taking
 
 -- these are all lanes of a node's inbox, in the order of their numbers
-pub record AreItsLanes (node : Running) (lanes : List (Sender Item)) : Type 0 where
+pub record AreItsLanes (node : NodeView) (lanes : List (LaneView Item)) : Type 0 where
   pub all : length lanes ≡ node.lanes
-  pub named : (index : ℕ) (other : Sender Item) → index < length lanes →
+  pub named : (index : ℕ) (other : LaneView Item) → index < length lanes →
       (slice_index_or lanes index other).inbox ≡ node.number
-  pub placed : (index : ℕ) (other : Sender Item) → index < length lanes →
+  pub placed : (index : ℕ) (other : LaneView Item) → index < length lanes →
       (slice_index_or lanes index other).lane ≡ index
 
 -- The report is of a node that was the replay of what it took, from this first state on. What it
 -- took from each lane followed by what is left over is, in order, all that the lane sent. The
 -- report says how many items of each lane it took, and where the node's log begins.
-pub record ReportsOn (first : CountedCore) (lanes : List (Sender Item)) (report : Report)
+pub record ReportsOn (first : CountedCore) (lanes : List (LaneView Item)) (report : Report)
     : Type 0 where
   pub taken : List (ℕ × Item)
   pub node : CountedCore

@@ -1,6 +1,6 @@
 -- A node and the items that it took.
 use Rattle.std.specs.Prelude.{◌≡◌, ℕ, ◌+◌, ◌-◌, ◌^◌, [], List, ◌∷◌, ◌++◌, min}
-use Rattle.mailbox.specs.Ends.{Taker}
+use Rattle.mailbox.specs.Ends.{ReceiverView}
 use Rattle.node_core.specs.broker_spec.declared.command.Command.{Command}
 use Rattle.node_core.specs.broker_spec.declared.command.Output.{Output}
 use Rattle.node_core.specs.ballot_base.declared.message.Effect.{Effect}
@@ -27,8 +27,8 @@ pub data Replays (first : CountedCore) : List (ℕ × Item) → CountedCore → 
 
 -- the model of a node: its inbox with all that was taken from it, the node itself, and how often an
 -- item was asked for
-pub record Seen : Type 0 where
-  pub taker : Taker Item
+pub record NodeStateView : Type 0 where
+  pub taker : ReceiverView Item
   pub node : CountedCore
   pub takings : ℕ
 
@@ -37,7 +37,8 @@ abbrev pub next_taking : ℕ → ℕ
 next_taking takings = min (takings + 1) (2 ^ 64 - 1)
 
 -- one item was taken, and the node's step with it was done
-pub record TakesOne (old new : Seen) (before after : List (Effect Command Output)) : Type 0 where
+pub record TakesOne (old new : NodeStateView)
+    (before after : List (Effect Command Output)) : Type 0 where
   pub lane : ℕ
   pub item : Item
   pub taken : new.taker ≡ record old.taker { taken = old.taker.taken ++ (lane, item) ∷ [] }

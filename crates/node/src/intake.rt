@@ -34,9 +34,9 @@ pub struct Intake {
 }
 
 impl Model for Intake {
-    ghost use Rattle.node.specs.Crowding.{IsBounded, Taking};
+    ghost use Rattle.node.specs.Crowding.{IsBounded, IntakeView};
 
-    ghost Value = { Taking };
+    ghost Value = { IntakeView };
 
     ghost view = { λ intake. record {
       status = intake.status;

@@ -35,9 +35,9 @@ pub struct NodeState<J: NodeNaming> {
 impl<J: NodeNaming> Model for NodeState<J> {
     ghost use Rattle.std.specs.Prelude.{◌≡◌};
     ghost use Rattle.node.specs.Growth.{bytes_since_cut, saturated};
-    ghost use Rattle.node.specs.State.{Replays, Seen};
+    ghost use Rattle.node.specs.State.{Replays, NodeStateView};
 
-    ghost Value = { Seen };
+    ghost Value = { NodeStateView };
 
     ghost view = { λ state. record {
       taker = state.receiver;

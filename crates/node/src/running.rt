@@ -56,9 +56,9 @@ pub struct Node<'g, J: NodeNaming, S: Stated<J>, G: Gate> {
 impl<'g, J: NodeNaming, S: Stated<J>, G: Gate> Model for Node<'g, J, S, G> {
     ghost use Rattle.std.specs.Prelude.{is_some, length};
     ghost use Rattle.node.specs.Report.{HasCapacity};
-    ghost use Rattle.node.specs.Running.{Running};
+    ghost use Rattle.node.specs.Running.{NodeView};
 
-    ghost Value = { Running };
+    ghost Value = { NodeView };
 
     ghost view = { λ node. record {
       number = node.number;

@@ -7,7 +7,7 @@ use Rattle.post.specs.node_core.Core.{CountedCore}
 use Rattle.node.specs.declared.Config.{Config}
 use Rattle.post.specs.lists.Lists.{Each, In}
 use Rattle.post.specs.lists.Lists.In.{here, there}
-use Rattle.node.specs.State.{Replays, Seen, TakesOne}
+use Rattle.node.specs.State.{Replays, NodeStateView, TakesOne}
 use Rattle.post.proofs.of_lists.OfEach.{each_append}
 use Rattle.post.specs.outbox.Queued.{EachOpens, EachOpensAs, WasGiven}
 
@@ -20,7 +20,7 @@ each_in P (x ∷ xs) f = (f x here, each_in P xs (λ y i. f y (there i)))
 pub each_opens : (config : Config) (first_of : ℕ → CountedCore) → EachOpensAs config first_of → EachOpens first_of
 each_opens config first_of opens = λ inbox. ∣ record { number = inbox; config = config; is = opens inbox } ∣₁
 
-pub given_more : (first_of : ℕ → CountedCore) (old new : Seen) (before after : List (Effect Command Output))
+pub given_more : (first_of : ℕ → CountedCore) (old new : NodeStateView) (before after : List (Effect Command Output))
     → EachOpens first_of → Replays (first_of old.taker.inbox) old.taker.taken old.node
     → TakesOne old new before after → Each WasGiven before → Each WasGiven after
 given_more first_of old new before after opens replays takes given =

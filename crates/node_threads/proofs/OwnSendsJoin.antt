@@ -1,10 +1,10 @@
 -- OwnSendsJoin.antt: what a node's own thread sends at first and then is what it sends.
 use Rattle.std.proofs.Common.{◌≡◌, ℕ, List, [], ◌∷◌, ◌++◌, ◌∙◌, ap, sym, subst}
-use Rattle.mailbox.specs.Ends.{Sender}
+use Rattle.mailbox.specs.Ends.{LaneView}
 use Rattle.node.specs.declared.Item.{Item}
 use Rattle.node.specs.declared.Item.TheVariants.{Tick, Cut}
 use Rattle.post.specs.outbox.Queued.{IsQueued}
-use Rattle.node_threads.specs.Serving.{OwnSender, SendsOwn}
+use Rattle.node_threads.specs.Serving.{OwnLaneView, SendsOwn}
 use Rattle.node_threads.specs.Serving.SendsOwn.{starts, ticks, cuts, hands}
 
 pub own_join : (node : ℕ) (before sent after : List Item)
@@ -31,9 +31,9 @@ own_queued node item before after queued sent =
     subst (λ (items : List Item). SendsOwn node before items) (sym sent) (hands item starts queued)
 
 -- what a node's own lane sent in addition, if the lane is that node's
-pub own_more : (own : OwnSender) (number node : ℕ) (before : Sender Item) (after : List Item)
+pub own_more : (own : OwnLaneView) (number node : ℕ) (before : LaneView Item) (after : List Item)
     → record { number = number; lane = before } ≡ own → own.number ≡ node
     → SendsOwn number [] before.sent → SendsOwn node before.sent after → SendsOwn number [] after
 own_more own number node before after view is first next =
     own_join number [] before.sent after first
-    (subst (λ (n : ℕ). SendsOwn n before.sent after) (sym (ap (λ (seen : OwnSender). seen.number) view ∙ is)) next)
+    (subst (λ (n : ℕ). SendsOwn n before.sent after) (sym (ap (λ (seen : OwnLaneView). seen.number) view ∙ is)) next)

@@ -4,19 +4,19 @@ use Rattle.post.specs.broker_spec.declared.command.Command.{Command}
 use Rattle.post.specs.broker_spec.declared.command.Output.{Output}
 use Rattle.post.specs.ballot_base.declared.message.Effect.{Effect}
 use Rattle.post.specs.lists.Lists.{Each}
-use Rattle.node.specs.State.{Seen, next_taking}
+use Rattle.node.specs.State.{NodeStateView, next_taking}
 use Rattle.post.specs.outbox.Queued.{WasGiven}
 use Rattle.node_threads.specs.Turns.{Turns}
 use Rattle.node_threads.specs.Turns.Turns.{begins, finds_none}
 
 -- nothing was given yet
-pub given_none : (node : Seen) (given : List (Effect Command Output)) → given ≡ [] → Each WasGiven given × Turns node node given
+pub given_none : (node : NodeStateView) (given : List (Effect Command Output)) → given ≡ [] → Each WasGiven given × Turns node node given
 given_none node given none = subst (λ (l : List (Effect Command Output)). Each WasGiven l × Turns node node l) (sym none) (tt, begins)
 
 -- no item waited
-pub found_none : (old seen new : Seen) (given after : List (Effect Command Output))
+pub found_none : (old seen new : NodeStateView) (given after : List (Effect Command Output))
     → Turns old seen given → new ≡ record seen { takings = next_taking seen.takings } → after ≡ given → Turns old new after
 found_none old seen new given after turns is same =
-    subst (λ (s : Seen). Turns old s after) (sym is)
+    subst (λ (s : NodeStateView). Turns old s after) (sym is)
     (subst (λ (l : List (Effect Command Output)). Turns old (record seen { takings = next_taking seen.takings }) l) (sym same)
     (finds_none turns))

@@ -3,7 +3,7 @@ use Rattle.std.specs.Prelude.{◌≡◌, ℕ, ◌+◌, ◌^◌, List, [], ◌∷
 use Rattle.node.specs.declared.Item.{Item}
 use Rattle.node.specs.declared.Item.TheVariants.{Bytes, Tick, Cut}
 use Rattle.node.specs.declared.Port.{Port}
-use Rattle.mailbox.specs.Ends.{Sender}
+use Rattle.mailbox.specs.Ends.{LaneView}
 use Rattle.connection.specs.declared.ending.Ending.{Ending}
 use Rattle.connection.specs.Hearing.{Hears}
 use Rattle.streams.specs.Ports.{port_of}
@@ -51,9 +51,9 @@ EndsBy node lane None before after = ReportsEach lane before (2 ^ 56) after
 
 -- a node's own lane, by which everything is sent to it that does not come from its clients, and the
 -- node's number
-pub record OwnSender : Type 0 where
+pub record OwnLaneView : Type 0 where
   pub number : ℕ
-  pub lane : Sender Item
+  pub lane : LaneView Item
 
 -- The own lane of a node of this number, which had sent these items, sent the time, cuts of the
 -- log, and what was queued for the node.

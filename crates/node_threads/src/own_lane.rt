@@ -19,9 +19,9 @@ pub(crate) struct OwnLane<J: NodeNaming> {
 
 impl<J: NodeNaming> Model for OwnLane<J> {
     ghost use Rattle.std.specs.Prelude.{[]};
-    ghost use Rattle.node_threads.specs.Serving.{OwnSender, SendsOwn};
+    ghost use Rattle.node_threads.specs.Serving.{OwnLaneView, SendsOwn};
 
-    ghost Value = { OwnSender };
+    ghost Value = { OwnLaneView };
 
     ghost view = { λ own. record { number = own.number; lane = own.lane } };
 

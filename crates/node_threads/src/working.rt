@@ -31,9 +31,9 @@ pub(crate) struct LaneSlot<J: NodeNaming> {
 }
 
 impl<J: NodeNaming> Model for LaneSlot<J> {
-    ghost use Rattle.node_threads.specs.Working.{Slot};
+    ghost use Rattle.node_threads.specs.Working.{LaneSlotView};
 
-    ghost Value = { Slot };
+    ghost Value = { LaneSlotView };
 
     ghost view = { λ slot. record { lane = slot.lane; closed = slot.closed } };
 }

@@ -11,7 +11,7 @@ use Rattle.master.proofs.of_lists.OfEach.{each_append}
 use Rattle.outbox.specs.Given.{Addressed}
 use Rattle.outbox.specs.Queued.{IsQueued, WasAnswered}
 use Rattle.outbox.specs.Queued.MayQueue.{of_master}
-use Rattle.outbox.specs.Waiting.{Waiting, Waits, may_be_queued, is_of_node, of_nodes}
+use Rattle.outbox.specs.Waiting.{OutboxView, Waits, may_be_queued, is_of_node, of_nodes}
 
 one : Item → ℕ
 one item = if is_of_node item then 1 else 0
@@ -60,13 +60,13 @@ waits_more number item items queued room waits = record {
       (roomy (is_of_node item) (of_nodes items) (length items) room (of_nodes_least items) waits.bounded);
 }
 
-pub queued_more : (outbox : Waiting) (number : ℕ) (item : Item) (kept : Bool) (old new : List Item)
+pub queued_more : (outbox : OutboxView) (number : ℕ) (item : Item) (kept : Bool) (old new : List Item)
     → record { number = number; items = old } ≡ outbox
     → IsQueued outbox.number item → may_be_queued item old ≡ true → Waits number old
     → new ≡ (if kept then old ++ item ∷ [] else old) → Waits number new
 queued_more outbox number item true old new view queued room waits is =
     subst (λ (items : List Item). Waits number items) (sym is)
-    (waits_more number item old (subst (λ (seen : Waiting). IsQueued seen.number item) (sym view) queued) room waits)
+    (waits_more number item old (subst (λ (seen : OutboxView). IsQueued seen.number item) (sym view) queued) room waits)
 queued_more outbox number item false old new view queued room waits is =
     subst (λ (items : List Item). Waits number items) (sym is) waits
 
@@ -78,7 +78,7 @@ room_always : (b : Bool) (size : ℕ) → b ≡ false → (not b || nat_lt size 
 room_always b size is = ap (λ (c : Bool). not c || nat_lt size 524288) is
 
 -- the same for an answer of the master, for which room was made before
-pub queued_answer : (outbox : Waiting) (number receiver primary : ℕ) (message : Message Command) (kept : Bool) (before old new : List Item)
+pub queued_answer : (outbox : OutboxView) (number receiver primary : ℕ) (message : Message Command) (kept : Bool) (before old new : List Item)
     → record { number = number; items = before } ≡ outbox
     → WasAnswered receiver message → receiver ≡ primary → primary ≡ outbox.number
     → Waits number before → old ≡ before

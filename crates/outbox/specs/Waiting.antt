@@ -7,12 +7,12 @@ use Rattle.node.specs.declared.Item.TheVariants.{Peer}
 use Rattle.outbox.specs.Queued.{IsQueued}
 
 -- the number of the node, and the items that were queued for it and not yet taken, the oldest first
-pub record Waiting : Type 0 where
+pub record OutboxView : Type 0 where
   pub number : ℕ
   pub items : List Item
 
 -- an order was not done: what waits for the node and the state of the master are as before
-pub record AreUnchanged (old new : Waiting) (before after : MasterState) : Type 0 where
+pub record AreUnchanged (old new : OutboxView) (before after : MasterState) : Type 0 where
   pub outbox : new ≡ old
   pub master : after ≡ before
 

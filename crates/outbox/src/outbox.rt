@@ -43,9 +43,9 @@ pub struct Outbox {
 }
 
 impl Model for Outbox {
-    ghost use Rattle.outbox.specs.Waiting.{Waiting, Waits};
+    ghost use Rattle.outbox.specs.Waiting.{OutboxView, Waits};
 
-    ghost Value = { Waiting };
+    ghost Value = { OutboxView };
 
     ghost view = { λ outbox. record { number = outbox.number; items = outbox.items.items } };
 

@@ -6,13 +6,13 @@ use Rattle.node.specs.declared.Port.{Port}
 use Rattle.node.specs.node_core.Core.{CountedCore}
 use Rattle.node.specs.Growth.{saturated}
 use Rattle.node.specs.node_core.Handing.{handed_after, pending_bytes, listed_at}
-use Rattle.node.specs.State.{Replays, Seen}
+use Rattle.node.specs.State.{Replays, NodeStateView}
 use Rattle.connection.specs.Writing.{HandsOver}
 use Rattle.streams.specs.Tapping.{NodesBegan, HandsOut}
 use Rattle.streams.specs.declared.port_tap.PortTap.{PortTap}
 
 pub handed_by_tap :
-    (first_of : ℕ → CountedCore) (before after : PortTap) (seen : Seen) (answer : Handed) (old new : List ℕ)
+    (first_of : ℕ → CountedCore) (before after : PortTap) (seen : NodeStateView) (answer : Handed) (old new : List ℕ)
     (was is count : ℕ)
     → NodesBegan first_of
     → Replays (first_of seen.taker.inbox) seen.taker.taken seen.node

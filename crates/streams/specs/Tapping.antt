@@ -6,7 +6,7 @@ use Rattle.node.specs.declared.Port.{Port}
 use Rattle.node.specs.node_core.Core.{CountedCore, opening_core}
 use Rattle.node.specs.Growth.{saturated}
 use Rattle.node.specs.node_core.Handing.{handed_after, pending_bytes, listed_at}
-use Rattle.node.specs.State.{Replays, Seen}
+use Rattle.node.specs.State.{Replays, NodeStateView}
 use Rattle.streams.specs.declared.port_tap.PortTap.{PortTap}
 
 -- the node of each inbox's number began as the one of that number in this configuration of ballot
@@ -20,7 +20,7 @@ pub record NodesBegan (first_of : ℕ → CountedCore) : Type 0 where
 pub record IsHandedOver
     (first_of : ℕ → CountedCore) (port : Port) (bytes : List ℕ) (answer : Handed)
     : Type 0 where
-  pub seen : Seen
+  pub seen : NodeStateView
   pub replays : Replays (first_of seen.taker.inbox) seen.taker.taken seen.node
   pub bytes_are : bytes ≡ pending_bytes (listed_at port seen.node.core)
   pub answer_is : answer ≡ handed_after (listed_at port seen.node.core)

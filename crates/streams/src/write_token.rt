@@ -22,11 +22,11 @@ pub struct WriteToken {
 }
 
 impl Model for WriteToken {
-    ghost use Rattle.connection.specs.Whole.{Flowing};
+    ghost use Rattle.connection.specs.Whole.{OutflowView};
     ghost use Rattle.streams.specs.declared.port_tap.PortTap.{PortTap};
     ghost use Rattle.streams.specs.declared.socket.Socket.{Socket};
 
-    ghost Value = { Flowing PortTap Socket };
+    ghost Value = { OutflowView PortTap Socket };
 
     ghost view = { λ token. token.stream };
 }

@@ -11,36 +11,36 @@ use Rattle.client.specs.client_base.Steps.{Call, keeper_step, disconnected}
 use Rattle.client.specs.session_base.declared.publication.Publication.{Publication}
 use Rattle.client.specs.Core.{Core, AnswersCall, LeavesServer, without_accepted}
 use Rattle.client.specs.Reading.{OnBytes}
-use Rattle.user_client.specs.Tracing.{Called, IsAsked, Step, Trace, IsFirst}
+use Rattle.user_client.specs.Tracing.{CallerView, IsAsked, Step, Trace, IsFirst}
 use Rattle.user_client.proofs.TracesJoin.{one_step, steps_to, stays, taken_as}
 
 -- a client of these parts
-abbrev pub parts : Core → Bool → Called
+abbrev pub parts : Core → Bool → CallerView
 parts core was = record { core = core; was_accepted = was }
 
 -- the step of a client that is seen as this one
-pub step_of : (core : Core) (was : Bool) {seen : Called} (new : Called) → parts core was ≡ seen → Step (parts core was) new
+pub step_of : (core : Core) (was : Bool) {seen : CallerView} (new : CallerView) → parts core was ≡ seen → Step (parts core was) new
     → Trace seen [] new
-step_of core was new is step = subst (λ (s : Called). Trace s [] new) is (one_step new step)
+step_of core was new is step = subst (λ (s : CallerView). Trace s [] new) is (one_step new step)
 
 -- a step to a core that is this one
-pub step_to : (core : Core) (was : Bool) {seen : Called} (new next : Core) → parts core was ≡ seen → new ≡ next
+pub step_to : (core : Core) (was : Bool) {seen : CallerView} (new next : Core) → parts core was ≡ seen → new ≡ next
     → Step (parts core was) (parts next was) → Trace seen [] (parts new was)
 step_to core was new next is same step =
-    subst (λ (s : Called). Trace s [] (parts new was)) is (steps_to (parts core was) new next same step)
+    subst (λ (s : CallerView). Trace s [] (parts new was)) is (steps_to (parts core was) new next same step)
 
 -- nothing changed
-pub no_step : (core : Core) (was : Bool) {seen : Called} (new : Core) → parts core was ≡ seen → new ≡ core
+pub no_step : (core : Core) (was : Bool) {seen : CallerView} (new : Core) → parts core was ≡ seen → new ≡ core
     → Trace seen [] (parts new was)
-no_step core was new is same = subst (λ (s : Called). Trace s [] (parts new was)) is (stays (parts core was) new same)
+no_step core was new is same = subst (λ (s : CallerView). Trace s [] (parts new was)) is (stays (parts core was) new same)
 
 -- it took a publication
-pub asked : (p : Publication) (core : Core) (was : Bool) {seen : Called} (new : Core) → parts core was ≡ seen
+pub asked : (p : Publication) (core : Core) (was : Bool) {seen : CallerView} (new : Core) → parts core was ≡ seen
     → AnswersCall (keeper_step (Call.Publishes p) core.state) core (Ok tt) new → IsAsked p seen (parts new was)
-asked p core was new is does = subst (λ (s : Called). IsAsked p s (parts new was)) is (does, refl)
+asked p core was new is does = subst (λ (s : CallerView). IsAsked p s (parts new was)) is (does, refl)
 
 -- the client disconnected, or did not because memory ran out, or had no connection
-pub left : (core : Core) (was : Bool) {seen : Called} (new : Core) (result : Result (Unit {0}) ClientError)
+pub left : (core : Core) (was : Bool) {seen : CallerView} (new : Core) (result : Result (Unit {0}) ClientError)
     → parts core was ≡ seen → LeavesServer (keeper_step Call.Disconnects core.state) core result new
     → Trace seen [] (parts new was)
 left core was new (Ok tt) is leaves = step_of core was (parts new was) is (Step.leaves new leaves)
@@ -53,7 +53,7 @@ left core was new (Err errors.WindowFull) is refused = no_step core was new is r
 left core was new (Err errors.SessionLost) is refused = no_step core was new is refused.1
 
 -- bytes came
-pub heard : (core : Core) (was now : Bool) {seen : Called} (piece : List ℕ) (result : Result (Unit {0}) ClientError) (new : Core)
+pub heard : (core : Core) (was now : Bool) {seen : CallerView} (piece : List ℕ) (result : Result (Unit {0}) ClientError) (new : Core)
     → parts core was ≡ seen → OnBytes piece core.state.stage core result new → result ≢ Err errors.SessionLost
     → IsFirst (parts core was) new → now ≡ (was || is_online new.state.stage)
     → Trace seen [] (parts new now)
@@ -80,9 +80,9 @@ left_keeps core new (Err errors.WindowFull) refused = ap (λ (c : Core). kept_co
 left_keeps core new (Err errors.SessionLost) refused = ap (λ (c : Core). kept_count c.state) refused.1
 
 -- what was accepted is taken out
-pub taken_out : (core : Core) (was : Bool) {seen : Called} (new : Core) (taken : List Accepted) → parts core was ≡ seen
+pub taken_out : (core : Core) (was : Bool) {seen : CallerView} (new : Core) (taken : List Accepted) → parts core was ≡ seen
     → taken ≡ core.state.accepted → new ≡ without_accepted core → Trace seen taken (parts new was)
 taken_out core was new taken is all same =
-    subst (λ (s : Called). Trace s taken (parts new was)) is
+    subst (λ (s : CallerView). Trace s taken (parts new was)) is
     (subst (λ (c : Core). Trace (parts core was) taken (parts c was)) (sym same)
     (taken_as (sym all) (Trace.takes Trace.starts)))

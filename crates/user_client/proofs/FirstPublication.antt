@@ -11,7 +11,7 @@ use Rattle.client.specs.client_base.State.{ClientState, new_client_state}
 use Rattle.client.specs.client_base.Publishing.{published, publish_refusal}
 use Rattle.client.specs.client_base.Steps.{unless_refused}
 use Rattle.client.specs.Core.{publication_with}
-use Rattle.user_client.specs.Tracing.{Called, IsAsked, new_called}
+use Rattle.user_client.specs.Tracing.{CallerView, IsAsked, new_called}
 use Rattle.user_client.specs.Publishing.{HasPublication, client_keeping, unkept}
 use Rattle.user_client.proofs.Acknowledged.{made_of}
 
@@ -22,26 +22,26 @@ kept_unless : (id : List ℕ) (p : Publication) (refusal : Option ClientError) (
 kept_unless id p (Some cause) new taken same = absurd (both_ways true (ap is_some taken) refl)
 kept_unless id p None new taken same = same
 
-kept_first : (id : List ℕ) (p : Publication) (new : Called) → IsAsked p (new_called id) new → new.core.state ≡ client_keeping id p
+kept_first : (id : List ℕ) (p : Publication) (new : CallerView) → IsAsked p (new_called id) new → new.core.state ≡ client_keeping id p
 kept_first id p new (does, was) = kept_unless id p (publish_refusal p (new_client_state id 0)) new.core.state does.0 does.1.0
 
 -- a publisher whose client, a new one, was asked for it
-pub has_kept : (id : List ℕ) (retain : Bool) (qos : QoS) (topic payload : List ℕ) (caller new : Called) → is_answered qos ≡ true
+pub has_kept : (id : List ℕ) (retain : Bool) (qos : QoS) (topic payload : List ℕ) (caller new : CallerView) → is_answered qos ≡ true
     → caller ≡ new_called id → IsAsked (publication_with retain qos topic payload) caller new
     → HasPublication qos id (publication_with retain qos topic payload) (made_of new None)
 has_kept id retain qualities.AtMostOnce topic payload caller new answered is asked = absurd cc
 has_kept id retain qualities.AtLeastOnce topic payload caller new answered is asked =
     let p = publication_with retain qualities.AtLeastOnce topic payload in
-    (kept_first id p new (subst (λ (c : Called). IsAsked p c new) is asked), refl)
+    (kept_first id p new (subst (λ (c : CallerView). IsAsked p c new) is asked), refl)
 has_kept id retain qualities.ExactlyOnce topic payload caller new answered is asked =
     let p = publication_with retain qualities.ExactlyOnce topic payload in
-    (kept_first id p new (subst (λ (c : Called). IsAsked p c new) is asked), refl)
+    (kept_first id p new (subst (λ (c : CallerView). IsAsked p c new) is asked), refl)
 
 -- a publisher that has it itself
-pub has_unkept : (id : List ℕ) (retain : Bool) (qos : QoS) (topic payload : List ℕ) (caller : Called) (publish : Publish)
+pub has_unkept : (id : List ℕ) (retain : Bool) (qos : QoS) (topic payload : List ℕ) (caller : CallerView) (publish : Publish)
     → qos ≡ qualities.AtMostOnce → caller ≡ new_called id → publish ≡ unkept (publication_with retain qos topic payload)
     → HasPublication qos id (publication_with retain qos topic payload) (made_of caller (Some publish))
 has_unkept id retain qualities.AtMostOnce topic payload caller publish is new same =
-    ap₂ (λ (c : Called) (p : Publish). made_of c (Some p)) new same
+    ap₂ (λ (c : CallerView) (p : Publish). made_of c (Some p)) new same
 has_unkept id retain qualities.AtLeastOnce topic payload caller publish is new same = absurd cc
 has_unkept id retain qualities.ExactlyOnce topic payload caller publish is new same = absurd cc

@@ -11,16 +11,16 @@ use Rattle.user_client.specs.declared.user_client_error.UserClientError.{UserCli
 use Rattle.user_client.specs.declared.user_client_error.UserClientError.TheVariants as faults
 use Rattle.user_client.specs.Losing.{IsGivenUp, IsLostBy, LosesSession}
 use Rattle.user_client.specs.Refusals.{IsRefusedFor, fault_of_call}
-use Rattle.user_client.specs.Tracing.{Called, Trace}
+use Rattle.user_client.specs.Tracing.{CallerView, Trace}
 use Rattle.user_client.proofs.CallsAreSteps.{parts}
 use Rattle.user_client.proofs.TracesJoin.{traces_join}
 
 -- the server lost it just now
-pub lost_here : (core : Core) (was : Bool) {seen : Called} (piece : List ℕ) (result : Result (Unit {0}) ClientError) (new : Core)
+pub lost_here : (core : Core) (was : Bool) {seen : CallerView} (piece : List ℕ) (result : Result (Unit {0}) ClientError) (new : Core)
     → parts core was ≡ seen → OnBytes piece core.state.stage core result new → result ≡ Err errors.SessionLost
     → LosesSession seen (parts new was)
 lost_here core was piece result new is reads lost =
-    subst (λ (s : Called). LosesSession s (parts new was)) is
+    subst (λ (s : CallerView). LosesSession s (parts new was)) is
     (record {
       taken = [];
       before = parts core was;
@@ -30,7 +30,7 @@ lost_here core was piece result new is reads lost =
     })
 
 -- steps before it
-pub loses_later : {start middle end : Called} {taken : List Accepted}
+pub loses_later : {start middle end : CallerView} {taken : List Accepted}
     → Trace start taken middle → LosesSession middle end → LosesSession start end
 loses_later {taken = taken} trace loses =
     record {
@@ -42,28 +42,28 @@ loses_later {taken = taken} trace loses =
     }
 
 -- the same of a result
-pub lost_later : {T : Type 0} {start middle : Called} {taken : List Accepted} (end : Called) (r : Result T UserClientError)
+pub lost_later : {T : Type 0} {start middle : CallerView} {taken : List Accepted} (end : CallerView) (r : Result T UserClientError)
     → Trace start taken middle → IfErr r (IsLostBy middle end) → IfErr r (IsLostBy start end)
 lost_later end (Ok x) trace loses = tt
 lost_later end (Err e) trace loses = λ lost. loses_later trace (loses lost)
 
 -- the same of an error that is passed on
-pub passed_later : {T : Type 0} {start middle : Called} {taken : List Accepted} (end : Called) (r : Result T UserClientError)
+pub passed_later : {T : Type 0} {start middle : CallerView} {taken : List Accepted} (end : CallerView) (r : Result T UserClientError)
     (fault : UserClientError) → IsErrAnd r (λ (it : UserClientError). it ≡ fault)
     → Trace start taken middle → IsLostBy middle end fault → IfErr r (IsLostBy start end)
 passed_later end (Ok x) fault is trace loses = tt
 passed_later end (Err e) fault is trace loses = λ lost. loses_later trace (loses (sym is ∙ lost))
 
 -- the same of the end of all connections
-pub gives_up_later : {S T : Type 0} (opens pauses : S → S → Type 0) (tries : ℕ) (first last : S) {start middle : Called}
-    {taken : List Accepted} (end : Called) (r : Result T UserClientError) (fault : UserClientError)
+pub gives_up_later : {S T : Type 0} (opens pauses : S → S → Type 0) (tries : ℕ) (first last : S) {start middle : CallerView}
+    {taken : List Accepted} (end : CallerView) (r : Result T UserClientError) (fault : UserClientError)
     → IsErrAnd r (λ (it : UserClientError). it ≡ fault) → Trace start taken middle → IsLostBy middle end fault
     → IfErr r (IsGivenUp opens pauses tries first last start end)
 gives_up_later opens pauses tries first last end (Ok x) fault is trace loses = tt
 gives_up_later opens pauses tries first last end (Err e) fault is trace loses = λ lost. inr (loses_later trace (loses (sym is ∙ lost)))
 
 -- an error that is another one
-pub never_lost : {T : Type 0} (start end : Called) (r : Result T UserClientError)
+pub never_lost : {T : Type 0} (start end : CallerView) (r : Result T UserClientError)
     → IfErr r (λ (it : UserClientError). it ≢ faults.Lost) → IfErr r (IsLostBy start end)
 never_lost start end (Ok x) other = tt
 never_lost start end (Err e) other = λ lost. absurd (other lost)

@@ -6,8 +6,8 @@ use Rattle.std.specs.Io.KnownBytes.{Appends}
 use Rattle.std.proofs.KnownBytes.{Appends-trans, Appends-nil}
 use Rattle.client.specs.client_base.declared.accepted.Accepted.{Accepted}
 use Rattle.printing.specs.Printing.{printed_line}
-use Rattle.user_client.specs.Tracing.{Called, Trace}
-use Rattle.user_client.specs.Listening.{Listening, PrintsNothing, PrintsAccepted, Shows, printed_lines}
+use Rattle.user_client.specs.Tracing.{CallerView, Trace}
+use Rattle.user_client.specs.Listening.{SubscriberView, PrintsNothing, PrintsAccepted, Shows, printed_lines}
 use Rattle.user_client.proofs.TracesJoin.{traces_join, traces_follow, traces_end}
 
 pub less_more : (a b c : ℕ) → (a - b) - c ≡ a - (b + c)
@@ -53,11 +53,11 @@ pub shows_none : (left : ℕ) (a : Option (List ℕ)) → Shows [] left left a a
 shows_none left a = (omega arith, subst (Appends a a) (sym (lines_none left)) (Appends-nil a))
 
 -- nothing was received
-pub hears_none : (old : Listening) (a : Option (List ℕ)) → PrintsAccepted old a old a
+pub hears_none : (old : SubscriberView) (a : Option (List ℕ)) → PrintsAccepted old a old a
 hears_none old a = ([], Trace.starts, refl, shows_none old.left a)
 
 -- what was received, and what was received after it
-pub hears_join : (a b c : Option (List ℕ)) (old middle new : Listening)
+pub hears_join : (a b c : Option (List ℕ)) (old middle new : SubscriberView)
     → PrintsAccepted old a middle b → PrintsAccepted middle b new c → PrintsAccepted old a new c
 hears_join a b c old middle new one two = (
   one.0 ++ two.0,
@@ -67,7 +67,7 @@ hears_join a b c old middle new one two = (
 )
 
 -- after what printed nothing
-pub asks_hears : (a b : Option (List ℕ)) (old middle new : Listening)
+pub asks_hears : (a b : Option (List ℕ)) (old middle new : SubscriberView)
     → PrintsNothing old middle → PrintsAccepted middle a new b → PrintsAccepted old a new b
 asks_hears a b old middle new one two = (
   two.0,
@@ -77,7 +77,7 @@ asks_hears a b old middle new one two = (
 )
 
 -- before what printed nothing
-pub hears_asks : (a b : Option (List ℕ)) (old middle new : Listening)
+pub hears_asks : (a b : Option (List ℕ)) (old middle new : SubscriberView)
     → PrintsAccepted old a middle b → PrintsNothing middle new → PrintsAccepted old a new b
 hears_asks a b old middle new one two = (
   one.0,
@@ -87,17 +87,17 @@ hears_asks a b old middle new one two = (
 )
 
 -- a subscriber of these parts
-abbrev pub made_of : Called → ℕ → ℕ → Listening
+abbrev pub made_of : CallerView → ℕ → ℕ → SubscriberView
 made_of caller count left = record { caller = caller; count = count; left = left }
 
 -- its client did something
-pub asks_made : (caller new : Called) (count left : ℕ) {seen : Listening} → made_of caller count left ≡ seen
+pub asks_made : (caller new : CallerView) (count left : ℕ) {seen : SubscriberView} → made_of caller count left ≡ seen
     → Trace caller [] new → PrintsNothing seen (made_of new count left)
 asks_made caller new count left is trace =
-    subst (λ (s : Listening). PrintsNothing s (made_of new count left)) is (trace, refl, refl)
+    subst (λ (s : SubscriberView). PrintsNothing s (made_of new count left)) is (trace, refl, refl)
 
 -- if the call that followed was done
-pub asks_hears_ok : {T E : Type 0} (a b : Option (List ℕ)) (old middle new : Listening) (result : Result T E)
+pub asks_hears_ok : {T E : Type 0} (a b : Option (List ℕ)) (old middle new : SubscriberView) (result : Result T E)
     → PrintsNothing old middle → OnOk result (PrintsAccepted middle a new b) → OnOk result (PrintsAccepted old a new b)
 asks_hears_ok a b old middle new (Ok value) one two = asks_hears a b old middle new one two
 asks_hears_ok a b old middle new (Err error) one two = tt

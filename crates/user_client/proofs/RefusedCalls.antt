@@ -8,7 +8,7 @@ use Rattle.client.specs.client_base.Steps.{Call, keeper_step}
 use Rattle.client.specs.Core.{Core, AnswersCall}
 use Rattle.user_client.specs.declared.user_client_error.UserClientError.{UserClientError}
 use Rattle.user_client.specs.Refusals.{IsRefusedFor, fault_of_call}
-use Rattle.user_client.specs.Tracing.{Called}
+use Rattle.user_client.specs.Tracing.{CallerView}
 use Rattle.user_client.proofs.CallsAreSteps.{parts}
 
 -- the fault of the step's own cause
@@ -38,14 +38,14 @@ unchanged outcome old new errors.WindowFull refused = refused.1
 unchanged outcome old new errors.SessionLost refused = refused.1
 
 -- the same of a client that is seen as this one
-pub refused_seen : (call : Call) (core : Core) (was : Bool) {seen : Called} (new : Core) (cause : ClientError) (it : UserClientError)
+pub refused_seen : (call : Call) (core : Core) (was : Bool) {seen : CallerView} (new : Core) (cause : ClientError) (it : UserClientError)
     → parts core was ≡ seen → it ≡ fault_of_call cause → AnswersCall (keeper_step call core.state) core (Err cause) new
     → IsRefusedFor (keeper_step call seen.core.state).refusal it
 refused_seen call core was new cause it seen_so is does =
-    subst (λ (s : Called). IsRefusedFor (keeper_step call s.core.state).refusal it) seen_so
+    subst (λ (s : CallerView). IsRefusedFor (keeper_step call s.core.state).refusal it) seen_so
     (refused_for (keeper_step call core.state) core new cause it is does)
 
-pub unchanged_seen : (call : Call) (core : Core) (was : Bool) {seen : Called} (new : Core) (cause : ClientError)
+pub unchanged_seen : (call : Call) (core : Core) (was : Bool) {seen : CallerView} (new : Core) (cause : ClientError)
     → parts core was ≡ seen → AnswersCall (keeper_step call core.state) core (Err cause) new → parts new was ≡ seen
 unchanged_seen call core was new cause seen_so does =
     ap (λ (c : Core). parts c was) (unchanged (keeper_step call core.state) core new cause does) ∙ seen_so

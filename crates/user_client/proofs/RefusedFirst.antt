@@ -22,7 +22,7 @@ use Rattle.user_client.specs.declared.user_client_error.UserClientError.{UserCli
 use Rattle.user_client.specs.declared.user_client_error.UserClientError.TheVariants as faults
 use Rattle.user_client.specs.Refusals.{IsRefusedFor, RefusesPacket, fault_of_call, first_publish}
 use Rattle.user_client.specs.Publishing.{TakesPublish, unkept}
-use Rattle.user_client.specs.Tracing.{Called, IsAsked, new_called}
+use Rattle.user_client.specs.Tracing.{CallerView, IsAsked, new_called}
 
 -- the refusal of a publication at QoS 1 or 2 by a new client
 abbrev size_refusal : Bool → Option ClientError
@@ -43,7 +43,7 @@ not_large true outcome state taken = absurd (both_ways true (ap is_some taken) r
 not_large false outcome state taken = refl
 
 -- a new client refuses a publication at QoS 1 or 2 only for its size
-pub refuses_first : (id : List ℕ) (retain : Bool) (qos : QoS) (topic payload : List ℕ) (caller : Called) (it : UserClientError)
+pub refuses_first : (id : List ℕ) (retain : Bool) (qos : QoS) (topic payload : List ℕ) (caller : CallerView) (it : UserClientError)
     → is_answered qos ≡ true → caller ≡ new_called id
     → IsRefusedFor (keeper_step (Call.Publishes (publication_with retain qos topic payload)) caller.core.state).refusal it
     → RefusesPacket (first_publish id (publication_with retain qos topic payload)) it
@@ -51,25 +51,25 @@ refuses_first id retain qualities.AtMostOnce topic payload caller it answered is
 refuses_first id retain qualities.AtLeastOnce topic payload caller it answered is refused =
     let p = publication_with retain qualities.AtLeastOnce topic payload in
     large_only (is_over_limit (first_publish id p)) (published p (new_client_state id 0)) (new_client_state id 0) it refl
-    (subst (λ (c : Called). IsRefusedFor (keeper_step (Call.Publishes p) c.core.state).refusal it) is refused)
+    (subst (λ (c : CallerView). IsRefusedFor (keeper_step (Call.Publishes p) c.core.state).refusal it) is refused)
 refuses_first id retain qualities.ExactlyOnce topic payload caller it answered is refused =
     let p = publication_with retain qualities.ExactlyOnce topic payload in
     large_only (is_over_limit (first_publish id p)) (published p (new_client_state id 0)) (new_client_state id 0) it refl
-    (subst (λ (c : Called). IsRefusedFor (keeper_step (Call.Publishes p) c.core.state).refusal it) is refused)
+    (subst (λ (c : CallerView). IsRefusedFor (keeper_step (Call.Publishes p) c.core.state).refusal it) is refused)
 
 -- what a new client took is not over the limit
-pub fits_first : (id : List ℕ) (retain : Bool) (qos : QoS) (topic payload : List ℕ) (caller new : Called)
+pub fits_first : (id : List ℕ) (retain : Bool) (qos : QoS) (topic payload : List ℕ) (caller new : CallerView)
     → is_answered qos ≡ true → caller ≡ new_called id → IsAsked (publication_with retain qos topic payload) caller new
     → is_over_limit (first_publish id (publication_with retain qos topic payload)) ≡ false
 fits_first id retain qualities.AtMostOnce topic payload caller new answered is asked = absurd cc
 fits_first id retain qualities.AtLeastOnce topic payload caller new answered is asked =
     let p = publication_with retain qualities.AtLeastOnce topic payload in
     not_large (is_over_limit (first_publish id p)) (published p (new_client_state id 0)) (new_client_state id 0)
-    (subst (λ (c : Called). IsAsked p c new) is asked).0.0
+    (subst (λ (c : CallerView). IsAsked p c new) is asked).0.0
 fits_first id retain qualities.ExactlyOnce topic payload caller new answered is asked =
     let p = publication_with retain qualities.ExactlyOnce topic payload in
     not_large (is_over_limit (first_publish id p)) (published p (new_client_state id 0)) (new_client_state id 0)
-    (subst (λ (c : Called). IsAsked p c new) is asked).0.0
+    (subst (λ (c : CallerView). IsAsked p c new) is asked).0.0
 
 -- the PUBLISH at QoS 0 has no identifier
 pub first_unkept : (id : List ℕ) (retain : Bool) (qos : QoS) (topic payload : List ℕ) → qos ≡ qualities.AtMostOnce
@@ -98,7 +98,7 @@ once_written true true state other packet out new taken writes = absurd (both_wa
 once_written false large state other packet out new taken writes = absurd (both_ways true (ap is_some taken) refl)
 
 -- a client that took a publication at QoS 0 wrote its PUBLISH
-pub wrote_once : (retain : Bool) (topic payload : List ℕ) (old new : Called)
+pub wrote_once : (retain : Bool) (topic payload : List ℕ) (old new : CallerView)
     → IsAsked (publication_with retain qualities.AtMostOnce topic payload) old new
     → AppendsSpelling old.core.out new.core.out
     (packets.Publish (unkept (publication_with retain qualities.AtMostOnce topic payload)))
@@ -110,7 +110,7 @@ wrote_once retain topic payload old new (does, was) =
     old.core.out new.core.out does.0 does.1.1
 
 -- what a client wrote of a publication at QoS 0 was taken as a whole
-pub taken_once : {D : Type 0} (contents : D → Option (List ℕ)) (before after : D) (publish : Publish) (old new : Called)
+pub taken_once : {D : Type 0} (contents : D → Option (List ℕ)) (before after : D) (publish : Publish) (old new : CallerView)
     (topic payload : List ℕ) → topic ≡ publish.topic → payload ≡ publish.payload
     → IsAsked (publication_with publish.retain qualities.AtMostOnce topic payload) old new
     → Appends (contents before) (contents after) new.core.out → TakesPublish contents publish before after

@@ -3,7 +3,7 @@ use Rattle.std.specs.Prelude.{◌≡◌, ◌⊎◌, Bool, true, false}
 use Rattle.client.specs.client_base.State.{is_online}
 use Rattle.user_client.specs.declared.caller.News.{News}
 use Rattle.user_client.specs.declared.caller.News.TheVariants as news
-use Rattle.user_client.specs.Tracing.{Called}
+use Rattle.user_client.specs.Tracing.{CallerView}
 
 -- by whether the connection goes on, and whether the server had accepted it before, and has now
 abbrev pub news_of : Bool → Bool → Bool → News
@@ -18,5 +18,5 @@ IsNewsOn was_connected true it = it ≡ news_of true was_connected true
 IsNewsOn was_connected false it = (it ≡ news.Waits) ⊎ (it ≡ news.Lost)
 
 -- by what the server had accepted before the bytes, and after them
-abbrev pub IsNews : Called → Called → News → Type 0
+abbrev pub IsNews : CallerView → CallerView → News → Type 0
 IsNews old new = IsNewsOn (is_online old.core.state.stage) (is_online new.core.state.stage)

@@ -4,20 +4,20 @@ use Rattle.std.specs.List.{flat_map}
 use Rattle.std.specs.Io.KnownBytes.{Appends}
 use Rattle.client.specs.client_base.declared.accepted.Accepted.{Accepted}
 use Rattle.printing.specs.Printing.{printed_line}
-use Rattle.user_client.specs.Tracing.{Called, Trace, new_called}
+use Rattle.user_client.specs.Tracing.{CallerView, Trace, new_called}
 
 -- a client, how many publications it was asked for, and how many of them are still to be printed
-pub record Listening : Type 0 where
-  pub caller : Called
+pub record SubscriberView : Type 0 where
+  pub caller : CallerView
   pub count : ℕ
   pub left : ℕ
 
 -- a client that was never connected
-abbrev pub new_listening : List ℕ → ℕ → Listening
+abbrev pub new_listening : List ℕ → ℕ → SubscriberView
 new_listening id count = record { caller = new_called id; count = count; left = count }
 
 -- a client listens from the start: all its publications are still to be printed
-abbrev pub listening_anew : Listening → Listening
+abbrev pub listening_anew : SubscriberView → SubscriberView
 listening_anew listening = record listening { left = listening.count }
 
 -- what is printed for these, in order, when this many are still to be printed
@@ -30,7 +30,8 @@ Shows accepted left rest before after =
     (rest ≡ left - length accepted) × Appends before after (printed_lines left accepted)
 
 -- what was accepted between the two was printed
-abbrev pub PrintsAccepted : Listening → Option (List ℕ) → Listening → Option (List ℕ) → Type 0
+abbrev pub PrintsAccepted :
+    SubscriberView → Option (List ℕ) → SubscriberView → Option (List ℕ) → Type 0
 PrintsAccepted old before new after =
     (accepted : List Accepted)
     × Trace old.caller accepted new.caller
@@ -38,6 +39,6 @@ PrintsAccepted old before new after =
     × Shows accepted old.left new.left before after
 
 -- nothing was printed between the two
-abbrev pub PrintsNothing : Listening → Listening → Type 0
+abbrev pub PrintsNothing : SubscriberView → SubscriberView → Type 0
 PrintsNothing old new =
     Trace old.caller [] new.caller × (new.count ≡ old.count) × (new.left ≡ old.left)

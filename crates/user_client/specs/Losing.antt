@@ -5,7 +5,7 @@ use Rattle.client.specs.client_base.declared.error.ClientError.TheVariants as er
 use Rattle.client.specs.Reading.{OnBytes}
 use Rattle.user_client.specs.declared.user_client_error.UserClientError.{UserClientError}
 use Rattle.user_client.specs.declared.user_client_error.UserClientError.TheVariants as faults
-use Rattle.user_client.specs.Tracing.{Called, Trace}
+use Rattle.user_client.specs.Tracing.{CallerView, Trace}
 
 -- one more connection is asked for, after a pause if this is not the first
 abbrev pub AsksNext : {S : Type 0} → (S → S → Type 0) → (S → S → Type 0) → ℕ → S → S → Type 0
@@ -20,20 +20,20 @@ pub data AsksForConnections {S : Type 0} (opens pauses : S → S → Type 0) (st
       → AsksNext opens pauses asked old new → AsksForConnections opens pauses start (asked + 1) new
 
 -- after some steps the server answered a CONNECT with a CONNACK that shows that it lost the session
-pub record LosesSession (start end : Called) : Type 0 where
+pub record LosesSession (start end : CallerView) : Type 0 where
   pub taken : List Accepted
-  pub before : Called
+  pub before : CallerView
   pub trace : Trace start taken before
   pub piece : List ℕ
   pub lost : OnBytes piece before.core.state.stage before.core (Err errors.SessionLost) end.core
 
 -- on one connection a client ends as lost only if the server lost the session
-abbrev pub IsLostBy : Called → Called → UserClientError → Type 0
+abbrev pub IsLostBy : CallerView → CallerView → UserClientError → Type 0
 IsLostBy start end fault = fault ≡ faults.Lost → LosesSession start end
 
 -- over all connections a client ends as lost also once it has asked for each of them
 abbrev pub IsGivenUp :
     {S : Type 0} → (S → S → Type 0) → (S → S → Type 0)
-    → ℕ → S → S → Called → Called → UserClientError → Type 0
+    → ℕ → S → S → CallerView → CallerView → UserClientError → Type 0
 IsGivenUp opens pauses tries first last start end fault =
     fault ≡ faults.Lost → AsksForConnections opens pauses first tries last ⊎ LosesSession start end

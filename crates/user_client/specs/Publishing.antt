@@ -9,11 +9,11 @@ use Rattle.client.specs.packet.packet_base.declared.qos.QoS.{QoS}
 use Rattle.client.specs.packet.packet_base.declared.qos.QoS.TheVariants as qualities
 use Rattle.client.specs.session_base.declared.publication.Publication.{Publication}
 use Rattle.client.specs.client_base.State.{ClientState, kept_count, new_client_state}
-use Rattle.user_client.specs.Tracing.{Called, new_called}
+use Rattle.user_client.specs.Tracing.{CallerView, new_called}
 
 -- a client, and its publication if that has QoS 0: otherwise the client keeps it
-pub record Publishing : Type 0 where
-  pub caller : Called
+pub record PublisherView : Type 0 where
+  pub caller : CallerView
   pub once : Option Publish
 
 -- a client that was never connected, and keeps just this publication, with identifier 1
@@ -34,7 +34,7 @@ unkept publication =
     }
 
 -- A publisher as it is made has its publication and no other: at QoS 1 and 2 its client keeps it.
-abbrev pub HasPublication : QoS → List ℕ → Publication → Publishing → Type 0
+abbrev pub HasPublication : QoS → List ℕ → Publication → PublisherView → Type 0
 HasPublication qualities.AtMostOnce id publication it =
     it ≡ record { caller = new_called id; once = Some (unkept publication) }
 HasPublication qualities.AtLeastOnce id publication it =
@@ -62,16 +62,16 @@ WasTaken {D} contents publish = (stream : D) × WasTakenBy contents stream publi
 
 -- what is answered is acknowledged as a whole: the client keeps no publication; one at QoS 0 was
 -- taken
-abbrev pub IsAcknowledgedAs : (Publish → Type 0) → Option Publish → Called → Type 0
+abbrev pub IsAcknowledgedAs : (Publish → Type 0) → Option Publish → CallerView → Type 0
 IsAcknowledgedAs taken None caller = kept_count caller.core.state ≡ 0
 IsAcknowledgedAs taken (Some publish) caller = taken publish
 
--- what a `Publishing` was to publish is acknowledged
-abbrev pub IsAcknowledged : {D : Type 0} → (D → Option (List ℕ)) → Publishing → Type 0
+-- what a `PublisherView` was to publish is acknowledged
+abbrev pub IsAcknowledged : {D : Type 0} → (D → Option (List ℕ)) → PublisherView → Type 0
 IsAcknowledged contents publishing =
     IsAcknowledgedAs (WasTaken contents) publishing.once publishing.caller
 
 -- the same, where a publication at QoS 0 is the last that this stream took
-abbrev pub IsAcknowledgedBy : {D : Type 0} → (D → Option (List ℕ)) → D → Publishing → Type 0
+abbrev pub IsAcknowledgedBy : {D : Type 0} → (D → Option (List ℕ)) → D → PublisherView → Type 0
 IsAcknowledgedBy contents stream publishing =
     IsAcknowledgedAs (WasTakenBy contents stream) publishing.once publishing.caller

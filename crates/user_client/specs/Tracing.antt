@@ -12,35 +12,35 @@ use Rattle.client.specs.Core.{Core, AnswersCall, OpensConnection, LeavesServer, 
 use Rattle.client.specs.Reading.{OnBytes}
 
 -- a client, and whether a server has accepted one of its connections
-pub record Called : Type 0 where
+pub record CallerView : Type 0 where
   pub core : Core
   pub was_accepted : Bool
 
 -- a new client: it has keep alive 0, and was never connected
-abbrev pub new_called : List ℕ → Called
+abbrev pub new_called : List ℕ → CallerView
 new_called id = record { core = new_core id 0; was_accepted = false }
 
 -- the client does this, and nothing changes except its keeper
-abbrev pub with_core : Core → Called → Called
+abbrev pub with_core : Core → CallerView → CallerView
 with_core core called = record called { core = core }
 
 -- the server sent bytes: whether it has now accepted a connection
-abbrev pub after_bytes : Core → Called → Called
+abbrev pub after_bytes : Core → CallerView → CallerView
 after_bytes core called =
     record { core = core; was_accepted = called.was_accepted || is_online core.state.stage }
 
 -- before the first accepted connection the server had no session of the client
-abbrev pub IsFirst : Called → Core → Type 0
+abbrev pub IsFirst : CallerView → Core → Type 0
 IsFirst called core = called.was_accepted ≡ false → core.state.present ≡ false
 
 -- the client was asked for this publication and took it, and nothing changed except its keeper
-abbrev pub IsAsked : Publication → Called → Called → Type 0
+abbrev pub IsAsked : Publication → CallerView → CallerView → Type 0
 IsAsked publication old new =
     AnswersCall (keeper_step (Call.Publishes publication) old.core.state) old.core (Ok tt) new.core
     × (new.was_accepted ≡ old.was_accepted)
 
 -- One step. There is no step for bytes of a server that lost the session.
-pub data Step (old : Called) : Called → Type 0 where
+pub data Step (old : CallerView) : CallerView → Type 0 where
   -- it opens a connection and writes CONNECT
   opens : (core : Core) →
       OpensConnection (keeper_step Call.Opens old.core.state) old.core (Ok tt) core
@@ -68,12 +68,12 @@ pub data Step (old : Called) : Called → Type 0 where
       → Step old (with_core core old)
 
 -- Steps one after another, and what was accepted and taken out in them, in order.
-pub data Trace (start : Called) : List Accepted → Called → Type 0 where
+pub data Trace (start : CallerView) : List Accepted → CallerView → Type 0 where
   -- no step
   starts : Trace start [] start
   -- one more step
-  goes : {taken : List Accepted} {old : Called} (new : Called)
+  goes : {taken : List Accepted} {old : CallerView} (new : CallerView)
       → Trace start taken old → Step old new → Trace start taken new
   -- what it accepted is taken out
-  takes : {taken : List Accepted} {old : Called} → Trace start taken old
+  takes : {taken : List Accepted} {old : CallerView} → Trace start taken old
       → Trace start (taken ++ old.core.state.accepted) (with_core (without_accepted old.core) old)

@@ -39,9 +39,9 @@ pub(crate) struct Caller {
 }
 
 impl Model for Caller {
-    ghost use Rattle.user_client.specs.Tracing.{Called};
+    ghost use Rattle.user_client.specs.Tracing.{CallerView};
 
-    ghost Value = { Called };
+    ghost Value = { CallerView };
 
     ghost view = { λ caller. record { core = caller.core; was_accepted = caller.was_accepted } };
 }

@@ -36,9 +36,9 @@ pub struct Publisher {
 }
 
 impl Model for Publisher {
-    ghost use Rattle.user_client.specs.Publishing.{Publishing};
+    ghost use Rattle.user_client.specs.Publishing.{PublisherView};
 
-    ghost Value = { Publishing };
+    ghost Value = { PublisherView };
 
     ghost view = { λ publisher. record { caller = publisher.caller; once = publisher.once } };
 }

@@ -37,9 +37,9 @@ pub struct Subscriber {
 }
 
 impl Model for Subscriber {
-    ghost use Rattle.user_client.specs.Listening.{Listening};
+    ghost use Rattle.user_client.specs.Listening.{SubscriberView};
 
-    ghost Value = { Listening };
+    ghost Value = { SubscriberView };
 
     ghost view = { λ subscriber.
         record { caller = subscriber.caller; count = subscriber.count; left = subscriber.left } };

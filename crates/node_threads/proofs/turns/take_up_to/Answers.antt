@@ -1,5 +1,5 @@
 use Rattle.std.proofs.Common.{refl, ◌∙◌, ap, sym}
-use Rattle.mailbox.specs.Ends.{Sender, Taker}
+use Rattle.mailbox.specs.Ends.{LaneView, ReceiverView}
 use Rattle.node.specs.declared.Item.{Item}
 use Rattle.node_threads.specs.Turns.Turns.{takes}
 use Rattle.node_threads.proofs.GivenBySteps.{given_more}
@@ -22,8 +22,8 @@ loop-preserved g c = record {
   turns = takes _ _ c.loop.invariant.turns (c.if-not-take_one.ensures.took refl);
   lane = c.receipt-receipt.ensures.same ∙ c.loop.invariant.lane;
   inbox =
-      ap (λ (lane : Sender Item). lane.inbox) c.receipt-receipt.ensures.same ∙ c.loop.invariant.inbox
-      ∙ sym (ap (λ (taker : Taker Item). taker.inbox) (c.if-not-take_one.ensures.took refl).taken);
+      ap (λ (lane : LaneView Item). lane.inbox) c.receipt-receipt.ensures.same ∙ c.loop.invariant.inbox
+      ∙ sym (ap (λ (taker : ReceiverView Item). taker.inbox) (c.if-not-take_one.ensures.took refl).taken);
 }
 
 pub returns-then-not-take_one-clause-given : goal.returns-then-not-take_one-clause-given

@@ -1,11 +1,11 @@
 use Rattle.std.proofs.Common.{All, EachIndex, ℕ, length, slice_index, ◌≡◌, ◌∙◌, ap, subst, sym, arith}
 use Rattle.std.specs.Prelude.{slice_index_or}
 use Rattle.mailbox.specs.Delivery.{items_of_lane}
-use Rattle.mailbox.specs.Ends.{ArrivesWhole, Taker}
+use Rattle.mailbox.specs.Ends.{ArrivesWhole, ReceiverView}
 use Rattle.mailbox.proofs.ItemsOfALane.{items_of-append}
 use Rattle.node_core.specs.declared.item.Item.{Item}
 use Rattle.node.specs.Report.{ReportsAll}
-use Rattle.node.specs.State.{Seen}
+use Rattle.node.specs.State.{NodeStateView}
 use Rattle.node.proofs.WrittenBack.{written_back}
 use Rattle.node.proofs.node_state.NodeState.close.Goals as goal
 
@@ -19,15 +19,15 @@ pub returns-clause-counted : goal.returns-clause-counted
 returns-clause-counted g c =
     subst (λ counts. EachIndex counts (λ lane. slice_index counts lane ≡ length (items_of_lane lane c.args.self.taker.taken)))
     (sym (written_back c.args.report.taken.len c.take_rest.new.counts c.args.report.taken.items (omega (arith, c.as_mut_slice.ensures.len))))
-    (subst (λ (s : Seen). EachIndex c.take_rest.new.counts (λ lane. slice_index c.take_rest.new.counts lane ≡ length (items_of_lane lane s.taker.taken)))
+    (subst (λ (s : NodeStateView). EachIndex c.take_rest.new.counts (λ lane. slice_index c.take_rest.new.counts lane ≡ length (items_of_lane lane s.taker.taken)))
     c.self.view_is c.take_rest.ensures.counted)
 
 pub returns-clause-all : goal.returns-clause-all
 returns-clause-all g c =
-    subst (λ (s : Seen). All (ReportsAll s.taker.taken c.take_rest.new.left.items) c.take_rest.new.lanes)
+    subst (λ (s : NodeStateView). All (ReportsAll s.taker.taken c.take_rest.new.left.items) c.take_rest.new.lanes)
     c.self.view_is
     (λ place other within.
     let lane : ℕ = (slice_index_or c.take_rest.new.lanes place other).lane in
     sym (items_of-append lane _ c.take_rest.new.left.items)
-    ∙ sym (ap (λ (r : Taker Item). items_of_lane lane r.taken) c.take_rest.ensures.taken)
+    ∙ sym (ap (λ (r : ReceiverView Item). items_of_lane lane r.taken) c.take_rest.ensures.taken)
     ∙ c.take_rest.ensures.arrived place other within)

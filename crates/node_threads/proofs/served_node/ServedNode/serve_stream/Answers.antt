@@ -1,5 +1,5 @@
 use Rattle.std.proofs.Common.{sym, subst}
-use Rattle.mailbox.specs.Ends.{Sender}
+use Rattle.mailbox.specs.Ends.{LaneView}
 use Rattle.node.specs.declared.Item.{Item}
 use Rattle.node.specs.declared.Port.{Port}
 use Rattle.node_threads.specs.Serving.{ReportsOne, SendsWhole}
@@ -13,8 +13,8 @@ returns-in_default g c = closed_at_once
 pub returns : goal.returns
 returns g c = elim c.match-link.branch [
   | in-Some-link w ↦
-      subst (λ (lane : Sender Item). ReportsOne c.args.port c.args.lane.sent lane.sent) (sym w.lane-is)
+      subst (λ (lane : LaneView Item). ReportsOne c.args.port c.args.lane.sent lane.sent) (sym w.lane-is)
       (served
       (subst (λ (port : Port). SendsWhole port c.args.lane.sent w.serve_link-lane.result.sent) w.in-Some-link.ensures w.serve_link-lane.ensures))
-  | in-None w ↦ subst (λ (lane : Sender Item). ReportsOne c.args.port c.args.lane.sent lane.sent) (sym w.lane-is) closed_at_once
+  | in-None w ↦ subst (λ (lane : LaneView Item). ReportsOne c.args.port c.args.lane.sent lane.sent) (sym w.lane-is) closed_at_once
 ]

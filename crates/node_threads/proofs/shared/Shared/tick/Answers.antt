@@ -1,5 +1,5 @@
 use Rattle.std.proofs.Common.{ap}
-use Rattle.mailbox.specs.Ends.{Sender}
+use Rattle.mailbox.specs.Ends.{LaneView}
 use Rattle.node.specs.declared.Item.{Item}
 use Rattle.node_threads.specs.Serving.SendsOwn.{starts}
 use Rattle.node_threads.proofs.OwnSendsJoin.{own_join, own_tick}
@@ -11,5 +11,5 @@ returns-then-saturating_sub-lt-TICK_MILLIS g c = starts
 pub returns : goal.returns
 returns g c =
     own_join _ _ _ _
-    (own_tick _ c.now-now.result _ _ (ap (λ (lane : Sender Item). lane.sent) c.send_and_take.ensures))
+    (own_tick _ c.now-now.result _ _ (ap (λ (lane : LaneView Item). lane.sent) c.send_and_take.ensures))
     c.cut_in_time.ensures

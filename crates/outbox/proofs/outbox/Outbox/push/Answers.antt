@@ -1,7 +1,7 @@
 use Rattle.std.specs.Prelude.{is_ok}
 use Rattle.std.proofs.Common.{rules, sym, subst}
 use Rattle.outbox.specs.Queued.{IsQueued}
-use Rattle.outbox.specs.Waiting.{Waiting}
+use Rattle.outbox.specs.Waiting.{OutboxView}
 use Rattle.outbox.proofs.OutboxKept.{queued_more}
 use Rattle.outbox.proofs.outbox.Outbox.push.Goals as goal
 
@@ -9,6 +9,6 @@ pub invariant_of-self : goal.invariant_of-self
 invariant_of-self c =
     queued_more c.drop_superseded.new.self c.self.inside.number c.args.item (is_ok c.push.result) c.self.inside.items.items _
     c.self.view_is
-    (subst (λ (outbox : Waiting). IsQueued outbox.number c.args.item) (sym c.drop_superseded.ensures) c.requires)
+    (subst (λ (outbox : OutboxView). IsQueued outbox.number c.args.item) (sym c.drop_superseded.ensures) c.requires)
     (search rules)
     c.self.invariant c.push.ensures.items

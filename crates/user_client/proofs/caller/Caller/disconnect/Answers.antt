@@ -1,6 +1,6 @@
 use Rattle.std.proofs.Common.{ap, ◌∙◌}
 use Rattle.client.specs.client_base.State.{kept_count}
-use Rattle.user_client.specs.Tracing.{Called}
+use Rattle.user_client.specs.Tracing.{CallerView}
 use Rattle.user_client.proofs.CallsAreSteps.{left, left_keeps}
 use Rattle.user_client.proofs.caller.Caller.disconnect.Goals as goal
 
@@ -12,4 +12,4 @@ returns-clause-trace c =
 pub returns-clause-kept : goal.returns-clause-kept
 returns-clause-kept c =
     left_keeps c.self.inside.core c.disconnect.new.self c.disconnect.result c.disconnect.ensures
-    ∙ ap (λ (s : Called). kept_count s.core.state) c.self.view_is
+    ∙ ap (λ (s : CallerView). kept_count s.core.state) c.self.view_is

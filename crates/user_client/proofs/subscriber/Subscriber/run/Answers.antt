@@ -1,5 +1,5 @@
 use Rattle.std.proofs.Common.{◌≡◌, ℕ, arith, inl, subst}
-use Rattle.user_client.specs.Listening.{Listening, PrintsAccepted, listening_anew}
+use Rattle.user_client.specs.Listening.{SubscriberView, PrintsAccepted, listening_anew}
 use Rattle.user_client.specs.Losing.{AsksForConnections}
 use Rattle.user_client.proofs.LossFollows.{gives_up_later}
 use Rattle.user_client.proofs.PrintsJoin.{made_of, hears_join, hears_none}
@@ -10,7 +10,7 @@ loop-opened-init g c =
     let first = made_of c.self.inside.caller c.self.inside.count c.self.inside.count in
     let out = g.W.Write.contents c.args.output.now in
     record {
-      hears = subst (λ (s : Listening). PrintsAccepted (listening_anew s) out first out) c.self.view_is (hears_none first out);
+      hears = subst (λ (s : SubscriberView). PrintsAccepted (listening_anew s) out first out) c.self.view_is (hears_none first out);
       asks = AsksForConnections.none;
     }
 
