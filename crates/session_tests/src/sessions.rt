@@ -115,8 +115,8 @@ const FROZEN: [u8; 29] = [
     0x78, 0xAA, 0xBB,
 ];
 
-// Returns the first of these rows that a new session does not do as it says.
-fn first_fault_of_fresh(alloc: Global, rows: &[Row<'_>]) -> Option<Fault> {
+// Returns the first of these rows that a new session does not do as it says, and what came.
+fn first_fault_of_fresh<'a>(alloc: Global, rows: &[Row<'a>]) -> Option<Fault<'a>> {
     let mut session = Session::new(alloc);
     first_fault(alloc, &mut session, rows)
 }

@@ -10,7 +10,7 @@ use topics::{Filter, TopicName};
 const WINDOW: usize = 16;
 
 /// A packet that goes to the client.
-#[derive(Clone, Copy)]
+#[derive(Clone, Copy, Debug, PartialEq, Eq)]
 pub(crate) enum Sent {
     /// A PUBLISH with this identifier.
     New(u16),
@@ -18,10 +18,12 @@ pub(crate) enum Sent {
     Again(u16),
     /// A PUBREL.
     Pubrel(u16),
+    /// Another packet, which no row has.
+    Other,
 }
 
 /// What is done to a session.
-#[derive(Clone, Copy)]
+#[derive(Clone, Copy, Debug, PartialEq, Eq)]
 pub(crate) enum Row<'a> {
     /// This many publications at a QoS are to wait.
     Enqueue(u32, QoS),
@@ -50,21 +52,44 @@ pub(crate) enum Row<'a> {
     Granted(Option<QoS>),
 }
 
-/// A row that a session does not do as it says, by its index, and what is so after it: how many
-/// more publications may wait, and how many subscriptions there are.
+/// What came of a row, besides what a `Fault` shows of each session.
 #[derive(Clone, Copy, Debug, PartialEq, Eq)]
-pub(crate) struct Fault {
-    row: usize,
+pub(crate) enum Came {
+    /// Nothing more, or memory ran out.
+    Nothing,
+    /// Some of the wanted packets are missing: how many were sent.
+    TooFew(usize),
+    /// At this index this packet was sent instead.
+    Sent(usize, Sent),
+    /// The PUBLISH came so.
+    Arrived(Arrival),
+    /// `t/1` is granted at this QoS.
+    Granted(Option<QoS>),
+}
+
+/// A row that a session does not do as it says, with its index, and what came instead. Then how
+/// many more publications may wait, and how many subscriptions there are.
+#[derive(Clone, Copy, Debug, PartialEq, Eq)]
+pub(crate) struct Fault<'a> {
+    at: usize,
+    row: Row<'a>,
+    came: Came,
     room: usize,
     subscriptions: usize,
 }
 
-/// Returns the first row that a session does not do as it says.
-pub(crate) fn first_fault(alloc: Global, session: &mut Session, rows: &[Row<'_>]) -> Option<Fault> {
-    for (row, wanted) in rows.iter().enumerate() {
-        if !is_right(alloc, session, *wanted) {
+/// Returns the first row that a session does not do as it says, and what came.
+pub(crate) fn first_fault<'a>(
+    alloc: Global,
+    session: &mut Session,
+    rows: &[Row<'a>],
+) -> Option<Fault<'a>> {
+    for (at, row) in rows.iter().enumerate() {
+        if let Some(came) = came_instead(alloc, session, *row) {
             return Some(Fault {
-                row,
+                at,
+                row: *row,
+                came,
                 room: session.room(),
                 subscriptions: session.subscription_count(),
             });
@@ -73,23 +98,29 @@ pub(crate) fn first_fault(alloc: Global, session: &mut Session, rows: &[Row<'_>]
     None
 }
 
-fn is_right(alloc: Global, session: &mut Session, row: Row<'_>) -> bool {
+// Does a row. Returns what came, if it is not what the row says.
+fn came_instead(alloc: Global, session: &mut Session, row: Row<'_>) -> Option<Came> {
     match row {
-        Row::Enqueue(count, qos) => enqueue(alloc, session, count, qos),
-        Row::IsFull => is_full(alloc, session),
-        Row::Room(room) => session.room() == room,
         Row::Fill(wanted) => fill(alloc, session, wanted),
         Row::Resend(wanted) => resend(alloc, session, wanted),
-        Row::Puback(number) => id_of(number).map(|id| session.on_puback(id)).is_some(),
         Row::Pubrec(number, wanted) => pubrec(alloc, session, number, wanted),
-        Row::Pubcomp(number) => id_of(number).map(|id| session.on_pubcomp(id)).is_some(),
-        Row::Publish(number, arrival) => receives(session, number, arrival),
-        Row::Pubrel(number) => id_of(number).map(|id| session.on_pubrel(id)).is_some(),
-        Row::Received(number, is) => is_received(session, number) == is,
-        Row::Subscribe(text, qos, count) => subscribe(alloc, session, text, qos, count),
-        Row::Unsubscribe(text, count) => unsubscribe(alloc, session, text, count),
-        Row::Granted(qos) => granted(alloc, session) == Some(qos),
+        Row::Publish(number, arrival) => receive(session, number, arrival),
+        Row::Granted(qos) => grant(alloc, session, qos),
+        Row::Enqueue(count, qos) => unless(enqueue(alloc, session, count, qos)),
+        Row::IsFull => unless(is_full(alloc, session)),
+        Row::Room(room) => unless(session.room() == room),
+        Row::Puback(number) => unless(id_of(number).map(|id| session.on_puback(id)).is_some()),
+        Row::Pubcomp(number) => unless(id_of(number).map(|id| session.on_pubcomp(id)).is_some()),
+        Row::Pubrel(number) => unless(id_of(number).map(|id| session.on_pubrel(id)).is_some()),
+        Row::Received(number, is) => unless(is_received(session, number) == is),
+        Row::Subscribe(text, qos, count) => unless(subscribe(alloc, session, text, qos, count)),
+        Row::Unsubscribe(text, count) => unless(unsubscribe(alloc, session, text, count)),
     }
+}
+
+// Returns that nothing more came, unless a row was done as it says.
+fn unless(is_done: bool) -> Option<Came> {
+    if is_done { None } else { Some(Came::Nothing) }
 }
 
 fn id_of(number: u16) -> Option<PacketId> {
@@ -128,55 +159,92 @@ fn is_full(alloc: Global, session: &mut Session) -> bool {
     }
 }
 
-fn fill(alloc: Global, session: &mut Session, wanted: &[Sent]) -> bool {
+fn fill(alloc: Global, session: &mut Session, wanted: &[Sent]) -> Option<Came> {
     let mut out = Vec::new(alloc);
-    session.fill(WINDOW, &mut out).is_ok() && are_sent(out.as_slice(), wanted)
+    if session.fill(WINDOW, &mut out).is_err() {
+        return Some(Came::Nothing);
+    }
+    sent_instead(out.as_slice(), wanted)
 }
 
-fn resend(alloc: Global, session: &Session, wanted: &[Sent]) -> bool {
+fn resend(alloc: Global, session: &Session, wanted: &[Sent]) -> Option<Came> {
     let mut out = Vec::new(alloc);
-    session.resend(&mut out).is_ok() && are_sent(out.as_slice(), wanted)
+    if session.resend(&mut out).is_err() {
+        return Some(Came::Nothing);
+    }
+    sent_instead(out.as_slice(), wanted)
 }
 
-fn pubrec(alloc: Global, session: &mut Session, number: u16, wanted: &[Sent]) -> bool {
+fn pubrec(alloc: Global, session: &mut Session, number: u16, wanted: &[Sent]) -> Option<Came> {
     let mut out = Vec::new(alloc);
     let Some(id) = id_of(number) else {
-        return false;
+        return Some(Came::Nothing);
     };
-    session.on_pubrec(id, &mut out).is_ok() && are_sent(out.as_slice(), wanted)
+    if session.on_pubrec(id, &mut out).is_err() {
+        return Some(Came::Nothing);
+    }
+    sent_instead(out.as_slice(), wanted)
+}
+
+// Returns the first of these packets that is not what is to be sent; how many there are if there
+// are too few.
+fn sent_instead(packets: &[Packet], wanted: &[Sent]) -> Option<Came> {
+    for (index, packet) in packets.iter().enumerate() {
+        if !is_wanted_at(packet, wanted, index) {
+            return Some(Came::Sent(index, sent_of(packet)));
+        }
+    }
+    if packets.len() == wanted.len() {
+        None
+    } else {
+        Some(Came::TooFew(packets.len()))
+    }
 }
 
 /// Says whether these packets are what is to be sent.
 pub(crate) fn are_sent(packets: &[Packet], wanted: &[Sent]) -> bool {
-    packets.len() == wanted.len()
-        && packets
-            .iter()
-            .zip(wanted)
-            .all(|(packet, sent)| is_sent(packet, *sent))
+    sent_instead(packets, wanted).is_none()
 }
 
-fn is_sent(packet: &Packet, sent: Sent) -> bool {
-    match (packet, sent) {
-        (Packet::Publish(publish), Sent::New(id)) => is_delivered(publish.delivery, false, id),
-        (Packet::Publish(publish), Sent::Again(id)) => is_delivered(publish.delivery, true, id),
-        (Packet::Pubrel(id), Sent::Pubrel(wanted)) => id.number() == wanted,
-        _ => false,
+// Says whether a packet is the one that is to be sent at an index.
+fn is_wanted_at(packet: &Packet, wanted: &[Sent], index: usize) -> bool {
+    match wanted.get(index) {
+        Some(sent) => sent_of(packet) == *sent,
+        None => false,
     }
 }
 
-fn is_delivered(delivery: Delivery, dup: bool, number: u16) -> bool {
+// Returns a packet as it is shown.
+fn sent_of(packet: &Packet) -> Sent {
+    match packet {
+        Packet::Publish(publish) => delivered(publish.delivery),
+        Packet::Pubrel(id) => Sent::Pubrel(id.number()),
+        _ => Sent::Other,
+    }
+}
+
+// Returns a PUBLISH as it is shown; one at QoS 0 is another packet.
+fn delivered(delivery: Delivery) -> Sent {
     match delivery {
-        Delivery::AtMostOnce => false,
-        Delivery::AtLeastOnce(is, id) | Delivery::ExactlyOnce(is, id) => {
-            is == dup && id.number() == number
+        Delivery::AtMostOnce => Sent::Other,
+        Delivery::AtLeastOnce(is_again, id) | Delivery::ExactlyOnce(is_again, id) => {
+            if is_again {
+                Sent::Again(id.number())
+            } else {
+                Sent::New(id.number())
+            }
         }
     }
 }
 
-fn receives(session: &mut Session, number: u16, arrival: Arrival) -> bool {
-    match id_of(number) {
-        Some(id) => session.receive(id) == Ok(arrival),
-        None => false,
+fn receive(session: &mut Session, number: u16, wanted: Arrival) -> Option<Came> {
+    let Some(id) = id_of(number) else {
+        return Some(Came::Nothing);
+    };
+    match session.receive(id) {
+        Ok(arrival) if arrival == wanted => None,
+        Ok(arrival) => Some(Came::Arrived(arrival)),
+        Err(_) => Some(Came::Nothing),
     }
 }
 
@@ -206,4 +274,13 @@ fn unsubscribe(alloc: Global, session: &mut Session, text: &str, count: usize) -
 pub(crate) fn granted(alloc: Global, session: &Session) -> Option<Option<QoS>> {
     let topic = TopicName::new(alloc, "t/1").ok()?;
     Some(session.granted(&topic))
+}
+
+// Returns at which QoS `t/1` is granted, if it is not this one.
+fn grant(alloc: Global, session: &Session, wanted: Option<QoS>) -> Option<Came> {
+    match granted(alloc, session) {
+        Some(qos) if qos == wanted => None,
+        Some(qos) => Some(Came::Granted(qos)),
+        None => Some(Came::Nothing),
+    }
 }
