@@ -5,36 +5,67 @@ use machine::{Machine, Tally, TallyCommand, ThawFault};
 use std::alloc::Global;
 use std::test::*;
 
-const ROWS: &[(TallyCommand, &[u64])] = &[
+// A command, and the numbers that the machine gives for it.
+type Row = (TallyCommand, &'static [u64]);
+
+const ROWS: &[Row] = &[
     (TallyCommand::Add(2), &[2]),
     (TallyCommand::Start(2), &[]),
     (TallyCommand::Add(3), &[5]),
 ];
 
-// Says whether a copy of a command gives these numbers.
-fn gives(alloc: Global, tally: &mut Tally, command: &TallyCommand, wanted: &[u64]) -> bool {
-    let mut out = Vec::new(alloc);
-    match Tally::copy(alloc, command) {
-        Ok(copied) => tally.apply(&copied, &mut out).is_ok() && out.as_slice() == wanted,
-        Err(_) => false,
-    }
+// What came of a row: whether there was memory for it, how many numbers the machine gave, and the
+// first of them.
+#[derive(Clone, Copy, Debug, PartialEq, Eq)]
+struct Came {
+    is_done: bool,
+    count: usize,
+    first: Option<u64>,
 }
 
-// Returns the first row whose output differs from the wanted one.
-fn first_fault(alloc: Global, tally: &mut Tally) -> Option<usize> {
-    for (row, (command, wanted)) in ROWS.iter().enumerate() {
-        if !gives(alloc, tally, command, wanted) {
-            return Some(row);
+// Why rows fail.
+#[derive(Clone, Copy, Debug, PartialEq, Eq)]
+enum Fault {
+    // There was no memory for a machine.
+    NoMemory,
+    // At this index this row did not hold, and this came instead.
+    Row(usize, Row, Came),
+}
+
+// Gives the machine a copy of a row's command. Returns what came, if it is not what the row says.
+fn came_instead(alloc: Global, tally: &mut Tally, row: &Row) -> Option<Came> {
+    let (command, wanted) = *row;
+    let mut out = Vec::new(alloc);
+    let is_done = match Tally::copy(alloc, &command) {
+        Ok(copied) => tally.apply(&copied, &mut out).is_ok(),
+        Err(_) => false,
+    };
+    if is_done && out.as_slice() == wanted {
+        return None;
+    }
+    Some(Came {
+        is_done,
+        count: out.len(),
+        first: out.first().copied(),
+    })
+}
+
+// Returns the first row whose output differs from the wanted one, and what came.
+fn first_fault(alloc: Global, tally: &mut Tally) -> Option<Fault> {
+    for (at, row) in ROWS.iter().enumerate() {
+        if let Some(came) = came_instead(alloc, tally, row) {
+            return Some(Fault::Row(at, *row, came));
         }
     }
     None
 }
 
-// Returns the first row whose output of a fresh counting machine differs from the wanted one.
-fn first_fault_of_fresh(alloc: Global) -> Option<usize> {
+// Returns the first row whose output of a fresh counting machine differs from the wanted one, and
+// what came.
+fn first_fault_of_fresh(alloc: Global) -> Option<Fault> {
     match Tally::fresh(alloc) {
         Ok(mut tally) => first_fault(alloc, &mut tally),
-        Err(_) => Some(0),
+        Err(_) => Some(Fault::NoMemory),
     }
 }
 
