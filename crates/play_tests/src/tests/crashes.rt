@@ -6,7 +6,30 @@ use play::{PlayError, play};
 use std::alloc::Global;
 
 // A crash of each node. That of a node which a script does not have is idle.
-const CRASHES: [&[u8]; 3] = [b"crash 1\n", b"crash 2\n", b"crash 3\n"];
+const CRASHES: [&str; 3] = ["crash 1\n", "crash 2\n", "crash 3\n"];
+
+// What came of a script with a crash.
+#[derive(Clone, Copy, Debug, PartialEq, Eq)]
+enum Came {
+    // The script is not played to its end.
+    NoEnd(PlayError),
+    // No line of the transcript says how long the agreed list is.
+    NoLength,
+    // The line at this index says that the list is shorter than before: how long it was, and how
+    // long it is then.
+    Shorter(usize, Option<u64>, Option<u64>),
+    // The publication of the line at this index is accepted too often: how often, and how
+    // often in the script's own run.
+    Accepted(usize, usize, usize),
+}
+
+// A crash that takes something back: after how many lines of a script, which crash, and what came.
+#[derive(Clone, Copy, Debug, PartialEq, Eq)]
+struct Fault {
+    lines: usize,
+    crash: &'static str,
+    came: Came,
+}
 
 // Returns how long the agreed list is by a line of a transcript; none if the line does not say.
 fn agreed_in(line: &str) -> Option<u64> {
@@ -17,19 +40,26 @@ fn agreed_in(line: &str) -> Option<u64> {
     }
 }
 
-// Says whether the transcript gives the length of the agreed list, and it never becomes shorter.
-fn only_grows(written: &str) -> bool {
+// Returns what came, if a transcript does not give the length of the agreed list, or the list
+// becomes shorter.
+fn shorter_list(written: &str) -> Option<Came> {
     let mut agreed = None;
+    let mut index: usize = 0;
     for line in written.lines() {
         let next = agreed_in(line);
         if next.is_some() {
             if next < agreed {
-                return false;
+                return Some(Came::Shorter(index, agreed, next));
             }
             agreed = next;
         }
+        index = index.saturating_add(1);
     }
-    agreed.is_some()
+    if agreed.is_some() {
+        None
+    } else {
+        Some(Came::NoLength)
+    }
 }
 
 // Returns how often a line is in a text.
@@ -37,15 +67,21 @@ fn count_in(text: &str, line: &str) -> usize {
     text.lines().filter(|other| *other == line).count()
 }
 
-// Says whether each publication of a transcript is in the script's own transcript, at least as
-// often.
-fn tells_no_more(written: &str, own: &str) -> bool {
+// Returns the first publication of a transcript that is there more often than in the script's own
+// transcript.
+fn surplus_publication(written: &str, own: &str) -> Option<Came> {
+    let mut index: usize = 0;
     for line in written.lines() {
-        if line.starts_with("accepted") && count_in(written, line) > count_in(own, line) {
-            return false;
+        if line.starts_with("accepted") {
+            let count = count_in(written, line);
+            let most = count_in(own, line);
+            if count > most {
+                return Some(Came::Accepted(index, count, most));
+            }
         }
+        index = index.saturating_add(1);
     }
-    true
+    None
 }
 
 // Returns a script with a line put in at this byte.
@@ -71,24 +107,40 @@ pub fn transcript_with(
     Ok(transcript)
 }
 
-// Says whether a script with a line put in at this byte is played to its end with no loss, and its
-// transcript has no publication that its own one has not.
-fn survives(alloc: Global, row: &[&str; 2], at: usize, line: &[u8]) -> bool {
-    let played = transcript_with(alloc, row[0], at, line);
-    let written = text_of(&played);
-    played.is_ok() && only_grows(written) && tells_no_more(written, row[1])
+// Returns what came, if a script with a line put in at this byte is not played to its end, the
+// agreed list becomes shorter, or its transcript has a publication that its own one has not.
+fn came_instead(alloc: Global, row: &[&str; 2], at: usize, line: &str) -> Option<Came> {
+    let played = transcript_with(alloc, row[0], at, line.as_bytes());
+    match &played {
+        Ok(_) => {
+            let written = text_of(&played);
+            shorter_list(written).or(surplus_publication(written, row[1]))
+        }
+        Err(error) => Some(Came::NoEnd(*error)),
+    }
 }
 
-// Says whether a script goes no further with a crash of each node put in at this byte.
-fn survives_each(alloc: Global, row: &[&str; 2], at: usize) -> bool {
-    CRASHES.iter().all(|line| survives(alloc, row, at, line))
+// Returns the first crash that takes something back when it is put in at this byte, after this many
+// lines.
+fn first_fault_at(alloc: Global, row: &[&str; 2], at: usize, lines: usize) -> Option<Fault> {
+    for crash in CRASHES {
+        if let Some(came) = came_instead(alloc, row, at, crash) {
+            return Some(Fault { lines, crash, came });
+        }
+    }
+    None
 }
 
-// Returns the byte at which a line of a script ends after which a crash leads further.
-fn further_after(alloc: Global, row: &[&str; 2]) -> Option<usize> {
+// Returns the first crash that takes something back, after any line of a script.
+fn first_fault(alloc: Global, row: &[&str; 2]) -> Option<Fault> {
+    let mut lines: usize = 0;
     for (at, byte) in row[0].as_bytes().iter().enumerate() {
-        if *byte == b'\n' && !survives_each(alloc, row, at.saturating_add(1)) {
-            return Some(at);
+        if *byte == b'\n' {
+            lines = lines.saturating_add(1);
+            let fault = first_fault_at(alloc, row, at.saturating_add(1), lines);
+            if fault.is_some() {
+                return fault;
+            }
         }
     }
     None
@@ -99,6 +151,6 @@ fn further_after(alloc: Global, row: &[&str; 2]) -> Option<usize> {
 #[test]
 fn a_crash_anywhere_takes_nothing_back(rt: HostRuntime) {
     for row in &SCRIPTS {
-        assert_eq!(rt; further_after(rt.alloc(), row), None, "{}", row[0]);
+        assert_eq!(rt; first_fault(rt.alloc(), row), None, "{}", row[0]);
     }
 }
