@@ -2,7 +2,8 @@
 // sent again, it enters.
 
 use super::row::{
-    ACCEPTED, CONNECT_A, CONNECT_B, Coming, NOTHING, PRESENT, comes, hands_over, primary, take,
+    ACCEPTED, Act, CONNECT_A, CONNECT_B, Coming, Fault, NOTHING, PRESENT, Row, comes, fault_with,
+    primary, take,
 };
 use node_core::{Item, NodeCore, Port};
 use std::alloc::Global;
@@ -41,6 +42,29 @@ const ALL: &[u8] = &[
 // PUBACK of identifiers 1 and 2.
 const TWO: &[u8] = &[0x40, 0x02, 0x00, 0x01, 0x40, 0x02, 0x00, 0x02];
 
+// The subscriber goes away, and the publisher is there.
+const AWAY: &[Row<'static>] = &[
+    (0, 1, Act::Open, NOTHING, true),
+    (0, 1, Act::Bytes(CONNECT_B), ACCEPTED, true),
+    (0, 1, Act::Bytes(SUBSCRIBE), SUBACK, true),
+    (0, 1, Act::End, NOTHING, false),
+    (0, 2, Act::Open, NOTHING, true),
+    (0, 2, Act::Bytes(CONNECT_A), ACCEPTED, true),
+];
+
+// One more entry is in the subscriber's queue.
+const FILLS: &[Row<'static>] = &[(0, 2, Act::Bytes(FILLING), FILLED, true)];
+
+// The first of three is answered, and the publisher is closed.
+const FULL: &[Row<'static>] = &[(0, 2, Act::Bytes(THREE), FIRST, false)];
+
+// The publisher comes back. It sends the three again, and they are answered.
+const SENT_AGAIN: &[Row<'static>] = &[
+    (0, 4, Act::Open, NOTHING, true),
+    (0, 4, Act::Bytes(CONNECT_A), PRESENT, true),
+    (0, 4, Act::Bytes(AGAIN), ALL, true),
+];
+
 // How pieces come.
 #[derive(Clone, Copy)]
 struct Cutting {
@@ -48,44 +72,49 @@ struct Cutting {
     coming: Coming,
 }
 
+// What is seen then: how many payloads the subscriber got, the first three of them after those that
+// filled the queue (zeros after the last), how many bytes of answers it has to what came last, and
+// how many losses the node counted.
+#[derive(Clone, Copy, Debug, PartialEq, Eq)]
+struct Shown {
+    payloads: usize,
+    three: [u8; 3],
+    answers: usize,
+    losses: u64,
+}
+
+// Why a queue fails.
+#[derive(Clone, Copy, Debug, PartialEq, Eq)]
+enum QueueFault {
+    // There was no memory for a node, or a row did not hold.
+    Row(Fault<'static>),
+    // This step, in words, with pieces that come so. This was seen after it.
+    Step(&'static str, Coming, Shown),
+}
+
 // Lets bytes come on a port: whether no message follows.
 fn brings(cutting: Cutting, node: &mut NodeCore, port: u64, bytes: &[u8]) -> bool {
     comes(cutting.alloc, node, port, bytes, 0, cutting.coming)
 }
 
-// Says whether bytes that come on a port are answered so.
-fn answers(
-    cutting: Cutting,
-    node: &mut NodeCore,
-    port: u64,
-    bytes: &[u8],
-    wanted: &[u8],
-    open: bool,
-) -> bool {
-    brings(cutting, node, port, bytes) && hands_over(cutting.alloc, node, port, wanted, open)
+// Goes through the rows once. Returns the first row whose result differs, and what came.
+fn fault_in(cutting: Cutting, node: &mut NodeCore, rows: &[Row<'static>]) -> Option<QueueFault> {
+    match fault_with(cutting.alloc, node, rows, cutting.coming) {
+        Some(fault) => Some(QueueFault::Row(fault)),
+        None => None,
+    }
 }
 
-// Says whether a client connects on a port, and is answered so.
-fn connects(
-    cutting: Cutting,
-    node: &mut NodeCore,
-    port: u64,
-    connect: &[u8],
-    wanted: &[u8],
-) -> bool {
-    take(cutting.alloc, node, Item::Opened(Port(port), 0));
-    answers(cutting, node, port, connect, wanted, true)
-}
-
-// The subscriber's queue is filled while it is away.
-fn fills(cutting: Cutting, node: &mut NodeCore) -> bool {
-    let subscribed = connects(cutting, node, 1, CONNECT_B, ACCEPTED)
-        && answers(cutting, node, 1, SUBSCRIBE, SUBACK, true);
-    take(cutting.alloc, node, Item::Ended(Port(1)));
-    let away = hands_over(cutting.alloc, node, 1, NOTHING, false);
-    let filled = connects(cutting, node, 2, CONNECT_A, ACCEPTED)
-        && (0..ALL_BUT_ONE).all(|_| answers(cutting, node, 2, FILLING, FILLED, true));
-    subscribed && away && filled
+// Fills the queue of the subscriber up to its last place. Returns the first row whose result
+// differs, and what came.
+fn fault_in_filling(cutting: Cutting, node: &mut NodeCore) -> Option<QueueFault> {
+    for _ in 0..ALL_BUT_ONE {
+        let fault = fault_in(cutting, node, FILLS);
+        if fault.is_some() {
+            return fault;
+        }
+    }
+    None
 }
 
 // What a subscriber got: the payloads in order, and its answers to what came last.
@@ -187,15 +216,15 @@ fn comes_back(cutting: Cutting, node: &mut NodeCore, got: &mut Got) -> bool {
     brings(cutting, node, 3, CONNECT_B) && got.look(cutting.alloc, node, 3) == Some(true)
 }
 
-// Says whether the subscriber answers the first two, the publisher sends its three again, and the
-// subscriber answers the others then.
-fn goes_on(cutting: Cutting, node: &mut NodeCore, got: &mut Got, rest: &[u8]) -> bool {
-    brings(cutting, node, 3, TWO)
-        && connects(cutting, node, 4, CONNECT_A, PRESENT)
-        && answers(cutting, node, 4, AGAIN, ALL, true)
-        && got.look(cutting.alloc, node, 3).is_some()
-        && brings(cutting, node, 3, rest)
-        && got.finish(cutting, node, 3).is_some()
+// Has the subscriber come back and answer the first two. Returns the first step that fails.
+fn first_step(cutting: Cutting, node: &mut NodeCore, got: &mut Got) -> Option<&'static str> {
+    if !comes_back(cutting, node, got) {
+        Some("the subscriber comes back, and is handed what waited")
+    } else if !brings(cutting, node, 3, TWO) {
+        Some("no message follows its answers to the first two")
+    } else {
+        None
+    }
 }
 
 // Its answers to what came but the first two.
@@ -204,24 +233,26 @@ fn rest_of(alloc: Global, got: &Got) -> Option<Vec<u8>> {
     Vec::from_slice(alloc, rest).ok()
 }
 
-// Says whether the subscriber continues so with its answers but the first two.
-fn goes_on_with_the_rest(cutting: Cutting, node: &mut NodeCore, got: &mut Got) -> bool {
+// Says whether the subscriber takes what is handed over then, gives these answers, and answers all
+// that comes after them.
+fn answers_all(cutting: Cutting, node: &mut NodeCore, got: &mut Got, rest: &[u8]) -> bool {
+    got.look(cutting.alloc, node, 3).is_some()
+        && brings(cutting, node, 3, rest)
+        && got.finish(cutting, node, 3).is_some()
+}
+
+// Says whether the subscriber answers all but the first two.
+fn answers_the_rest(cutting: Cutting, node: &mut NodeCore, got: &mut Got) -> bool {
     match rest_of(cutting.alloc, got) {
-        Some(rest) => goes_on(cutting, node, got, rest.as_slice()),
+        Some(rest) => answers_all(cutting, node, got, rest.as_slice()),
         None => false,
     }
 }
 
-// Fills the queue of this node, and empties it to its client. Returns the first step that fails.
-fn first_fault(cutting: Cutting, node: &mut NodeCore, got: &mut Got) -> Option<&'static str> {
-    if !fills(cutting, node) {
-        Some("all slots but one are taken while the subscriber is away")
-    } else if !answers(cutting, node, 2, THREE, FIRST, false) {
-        Some("the first of three is answered, and the publisher is closed")
-    } else if !comes_back(cutting, node, got) {
-        Some("the subscriber comes back, and is handed what waited")
-    } else if !goes_on_with_the_rest(cutting, node, got) {
-        Some("the three come again and are answered, and the subscriber answers the rest")
+// Empties the queue to the subscriber. Returns the first step that fails.
+fn last_step(cutting: Cutting, node: &mut NodeCore, got: &mut Got) -> Option<&'static str> {
+    if !answers_the_rest(cutting, node, got) {
+        Some("the subscriber answers the rest")
     } else if !ends_with_three(got.payloads.as_slice()) {
         Some("each of the three comes once, after all others")
     } else if node.losses() != 0 {
@@ -231,25 +262,90 @@ fn first_fault(cutting: Cutting, node: &mut NodeCore, got: &mut Got) -> Option<&
     }
 }
 
-// Returns the first step that fails with a fresh node, to which pieces come so.
-fn first_fault_of_fresh(alloc: Global, coming: Coming) -> Option<&'static str> {
+// Returns the first three payloads after those that filled the queue, and zeros after the last.
+fn three_of(payloads: &[u8]) -> [u8; 3] {
+    let mut three = [0; 3];
+    let rest = payloads.get(ALL_BUT_ONE..).unwrap_or(NOTHING);
+    for (to, byte) in three.iter_mut().zip(rest) {
+        *to = *byte;
+    }
+    three
+}
+
+// Returns what is seen of the subscriber and the node.
+fn shown_by(node: &NodeCore, got: &Got) -> Shown {
+    Shown {
+        payloads: got.payloads.len(),
+        three: three_of(got.payloads.as_slice()),
+        answers: got.answers.len(),
+        losses: node.losses(),
+    }
+}
+
+// Returns this step as a fault, with what is seen after it.
+fn fault_of(
+    step: Option<&'static str>,
+    coming: Coming,
+    node: &NodeCore,
+    got: &Got,
+) -> Option<QueueFault> {
+    match step {
+        Some(step) => Some(QueueFault::Step(step, coming, shown_by(node, got))),
+        None => None,
+    }
+}
+
+// Fills the queue of this node, and has the publisher send three more. Returns the first row whose
+// result differs, and what came.
+fn fault_until_full(cutting: Cutting, node: &mut NodeCore) -> Option<QueueFault> {
+    let away = fault_in(cutting, node, AWAY);
+    if away.is_some() {
+        return away;
+    }
+    let filling = fault_in_filling(cutting, node);
+    if filling.is_some() {
+        return filling;
+    }
+    fault_in(cutting, node, FULL)
+}
+
+// Fills the queue of this node, and empties it to its client. Returns the first row or step that
+// fails, and what came.
+fn first_fault(cutting: Cutting, node: &mut NodeCore, got: &mut Got) -> Option<QueueFault> {
+    let full = fault_until_full(cutting, node);
+    if full.is_some() {
+        return full;
+    }
+    let back = first_step(cutting, node, got);
+    if back.is_some() {
+        return fault_of(back, cutting.coming, node, got);
+    }
+    let sent = fault_in(cutting, node, SENT_AGAIN);
+    if sent.is_some() {
+        return sent;
+    }
+    let rest = last_step(cutting, node, got);
+    fault_of(rest, cutting.coming, node, got)
+}
+
+// Returns the first row or step that fails with a fresh node, to which pieces come so.
+fn first_fault_of_fresh(alloc: Global, coming: Coming) -> Option<QueueFault> {
     match primary(alloc, &[1]) {
         Some(mut node) => first_fault(Cutting { alloc, coming }, &mut node, &mut Got::new(alloc)),
-        None => Some("there is memory for a node"),
+        None => Some(QueueFault::Row(Fault::NoMemory)),
     }
 }
 
 // The longest piece of a publisher: three publications.
 const LONGEST: usize = 30;
 
-// A cut, and the first step that fails with it.
-type Fault = (usize, &'static str);
-
-// Returns the first cut with which a step fails, as far as a publisher's pieces are long.
-fn first_fault_of_cuts(alloc: Global) -> Option<Fault> {
+// Returns the first row or step that fails, with the first cut, as far as a publisher's pieces are
+// long, and what came.
+fn first_fault_of_cuts(alloc: Global) -> Option<QueueFault> {
     for cut in 0..=LONGEST {
-        if let Some(step) = first_fault_of_fresh(alloc, Coming::Cut(cut)) {
-            return Some((cut, step));
+        let fault = first_fault_of_fresh(alloc, Coming::Cut(cut));
+        if fault.is_some() {
+            return fault;
         }
     }
     None

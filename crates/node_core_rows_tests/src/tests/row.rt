@@ -231,9 +231,9 @@ fn came_instead(alloc: Global, node: &mut NodeCore, row: &Row<'_>, coming: Comin
     }
 }
 
-// Goes through the rows with a node, to which pieces come so. Returns the first row whose result
-// differs, and what came.
-fn fault_with<'a>(
+/// Goes through the rows with a node, to which pieces come so. Returns the first row whose result
+/// differs, and what came.
+pub fn fault_with<'a>(
     alloc: Global,
     node: &mut NodeCore,
     rows: &[Row<'a>],
