@@ -1,5 +1,5 @@
 //! Tests of crate `master` through its public calls: that events do what they name while there is
-//! memory, that running out of memory is counted, and what a master alone answers.
+//! memory, that what is lost is counted, and what a master alone answers.
 #![tactic(auto)]
 
 mod rows;

@@ -1,5 +1,5 @@
-// What no clause says: what comes of events while there is memory, and that a step that runs out of
-// memory is counted.
+// What no clause says: what comes of events while there is memory, and that a step counts a
+// loss if it runs out of memory.
 
 mod answers;
 mod ballots;

@@ -57,7 +57,7 @@ pub fn begins(pair: &mut Pair, alloc: Global) -> Option<&'static str> {
     } else if !shows(&pair.two, 2, Role::Active, 1, 1) {
         Some("node 2 has committed the start")
     } else if pair.two.losses() != 0 {
-        Some("node 2 never ran out of memory")
+        Some("node 2 counted no loss")
     } else {
         None
     }

@@ -43,7 +43,7 @@ pub fn answers_at_once(
     } else if !logs(replica, THREE) {
         Some("the log has the three commands")
     } else if replica.losses() != 0 {
-        Some("no step ran out of memory")
+        Some("no step counted a loss")
     } else {
         None
     }
@@ -123,7 +123,7 @@ fn hears_nothing_new(
     } else if !commits(out, 0, (1, 2), 1) {
         Some("it tells node 2 that one place is committed")
     } else if primary.losses() != 0 {
-        Some("no step ran out of memory")
+        Some("no step counted a loss")
     } else {
         None
     }
@@ -225,7 +225,7 @@ pub fn is_silent(
     } else if !is_not_active(backup, out) {
         Some("it takes no proposal")
     } else if backup.losses() != 0 {
-        Some("no step ran out of memory")
+        Some("no step counted a loss")
     } else {
         None
     }

@@ -58,7 +58,7 @@ fn goes_on(
     } else if !logs(replica, &[TallyCommand::Add(4)]) {
         Some("the log keeps that command")
     } else if replica.losses() != 0 {
-        Some("no step ran out of memory")
+        Some("no step counted a loss")
     } else {
         None
     }

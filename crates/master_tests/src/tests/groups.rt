@@ -121,7 +121,7 @@ pub fn gave(group: &Group<Tally>, at: usize, place: u64, total: u64) -> bool {
     }
 }
 
-/// Says whether a ballot is active and no step ran out of memory.
+/// Says whether a ballot is active and no step counted a loss.
 pub fn is_active(group: &Group<Tally>, ballot: u64) -> bool {
     group.active().0 == ballot && group.losses() == 0
 }

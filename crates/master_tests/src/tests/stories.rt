@@ -25,7 +25,7 @@ pub enum Run {
 }
 
 /// What a group shows: how many messages were sent, how many outputs left and how many places are
-/// agreed, which ballot is active, and how many steps ran out of memory.
+/// agreed, which ballot is active, and how many losses were counted.
 #[derive(Clone, Copy, Debug, PartialEq, Eq)]
 pub struct Shown {
     counts: Counts,

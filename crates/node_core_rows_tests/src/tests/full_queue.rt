@@ -256,7 +256,7 @@ fn last_step(cutting: Cutting, node: &mut NodeCore, got: &mut Got) -> Option<&'s
     } else if !ends_with_three(got.payloads.as_slice()) {
         Some("each of the three comes once, after all others")
     } else if node.losses() != 0 {
-        Some("no step ran out of memory")
+        Some("no step counted a loss")
     } else {
         None
     }

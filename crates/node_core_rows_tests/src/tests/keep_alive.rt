@@ -93,7 +93,7 @@ fn first_fault_of_two(alloc: Global, node: &mut NodeCore) -> Option<&'static str
     } else if !hands_over(alloc, node, 7, NOTHING, false) {
         Some("port 7 is closed")
     } else if node.losses() != 0 {
-        Some("no step ran out of memory")
+        Some("no step counted a loss")
     } else {
         None
     }

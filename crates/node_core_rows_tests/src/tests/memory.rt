@@ -1,5 +1,5 @@
 // Memory that is refused, in the conversations of `clients`. Run with each allocation failing in
-// turn: all results are as usual, or one step that ran out of memory is counted.
+// turn: all results are as usual, or one loss is counted.
 
 use super::clients::TABLES;
 use super::row::{Act, Row, SHOWN, bring, front_of, primary, shown, take};
@@ -33,7 +33,7 @@ type Came = (Option<Handed>, usize, [u8; SHOWN]);
 enum Fault {
     // At this index this row did not hold, and this came instead, although nothing was lost.
     Row(usize, Row<'static>, Came),
-    // So many steps ran out of memory.
+    // So many losses were counted.
     Losses(u64),
 }
 
@@ -54,7 +54,7 @@ fn came_instead(alloc: Global, node: &mut NodeCore, row: &Row<'_>) -> Option<Cam
     Some((None, 0, [0; SHOWN]))
 }
 
-// Returns the first row whose result differs although nothing was lost, or how many steps are
+// Returns the first row whose result differs although nothing was lost, or how many losses are
 // counted if there are more than one.
 fn first_fault(alloc: Global, node: &mut NodeCore, rows: &[Row<'static>]) -> Option<Fault> {
     let mut fault: Option<Fault> = None;

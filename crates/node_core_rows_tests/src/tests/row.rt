@@ -38,7 +38,7 @@ pub const SHOWN: usize = 24;
 
 /// What came at a row: whether no message to another node followed, what the node answered for the
 /// port (none if memory ran out), how many bytes it handed over and the first of them (zeros after
-/// the last), and how many steps ran out of memory.
+/// the last), and how many losses it counted.
 #[derive(Clone, Copy, Debug, PartialEq, Eq)]
 pub struct Came {
     is_silent: bool,

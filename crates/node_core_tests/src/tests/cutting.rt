@@ -138,9 +138,9 @@ fn first_fault(alloc: Global, one: &mut NodeCore, two: &mut NodeCore) -> Option<
     } else if !comes_back(alloc, one, two) {
         Some("client a finds its session at node 2")
     } else if one.losses() != 0 {
-        Some("no step of node 1 ran out of memory")
+        Some("no step of node 1 counted a loss")
     } else if two.losses() != 0 {
-        Some("no step of node 2 ran out of memory")
+        Some("no step of node 2 counted a loss")
     } else {
         None
     }
@@ -296,7 +296,7 @@ fn handed(alloc: Global, node: &mut NodeCore) -> Vec<u8> {
     out
 }
 
-// How many steps of both nodes ran out of memory, and how many bytes were handed over.
+// How many losses both nodes counted, and how many bytes were handed over.
 type Came = (u64, usize);
 
 // Returns what came, if client `a` does not find its session at node 2; or, if a loss was counted,

@@ -1,6 +1,6 @@
 // Memory that is refused. Each test runs with each of its allocations failing in turn: a step that
-// ran out of memory is counted; if none did, all results are as usual; and what is still open then
-// has all that it is to be sent.
+// runs out of memory counts a loss; if none is counted, all results are as usual; and what is still
+// open then has all that it is to be sent.
 
 use super::handling::{ACCEPTED, CONNECT_A, CONNECT_B, bring, primary, take};
 use node_core::{Handed, Item, NodeCore, Port};
@@ -115,7 +115,7 @@ fn has_no_gap(subscriber: &Seen, publisher: &Seen) -> bool {
     subscriber_is_well && publisher_is_well
 }
 
-// How many steps ran out of memory, and how many bytes came to the subscriber and the publisher.
+// How many losses were counted, and how many bytes came to the subscriber and the publisher.
 type Came = (u64, usize, usize);
 
 // Returns what came, if it has a gap, or something is closed although nothing was lost.

@@ -96,7 +96,7 @@ fn first_fault(
     if !is_silent(alloc, backup, committed) {
         Some("the backup has nothing to say to the Commit")
     } else if primary.losses() != 0 || backup.losses() != 0 {
-        Some("no step ran out of memory")
+        Some("no step counted a loss")
     } else {
         None
     }

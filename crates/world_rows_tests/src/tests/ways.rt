@@ -127,7 +127,7 @@ fn first_fault_at_end(
         }
     }
     if world.losses() > 0 {
-        Some("there is memory for each step of the way")
+        Some("no step of the way counted a loss")
     } else if world.active().0 != ballot {
         Some("the next ballot is active at the end")
     } else if !begins(before, world) {

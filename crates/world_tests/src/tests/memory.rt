@@ -1,6 +1,6 @@
 // Memory that is refused, in the events of the script `answer_waits_for_the_backup` of the folder
 // `examples`, and in a cut of the primary's log after them. Run with each allocation failing in
-// turn: a step that runs out of memory is counted, and otherwise all comes as usual.
+// turn: a step that runs out of memory counts a loss, and otherwise all comes as usual.
 
 use crate::tests::opening::{named, opened};
 use std::alloc::Global;
@@ -74,7 +74,7 @@ fn is_well(alloc: Global, world: &mut World) -> bool {
     }
 }
 
-// What a world shows: how many steps ran out of memory, how many messages were sent, and how many
+// What a world shows: how many losses were counted, how many messages were sent, and how many
 // commands are agreed.
 type Shown = (u64, u64, u64);
 
