@@ -5,5 +5,5 @@
 mod pairs;
 mod replicas;
 
-pub use pairs::{Pair, hand_on, hands_on, is_assigned, master_says, open};
-pub use replicas::{Way, appends, commits, gives, hears, holds, logs, made, shows, takes};
+pub use pairs::{Pair, deliver_from_master, give_ballot_two, hand_on, hand_on_all, open};
+pub use replicas::{Way, appends, commits, deliver, gives, holds, logs, made, propose, shows};

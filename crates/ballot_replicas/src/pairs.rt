@@ -1,6 +1,6 @@
 // Two nodes, and what came out of them.
 
-use crate::replicas::{hears, made};
+use crate::replicas::{deliver, made};
 use ballot::{Body, Effect, Members, Message, OpeningError, Replica};
 use machine::{Memory, Tally, TallyCommand};
 use std::alloc::Global;
@@ -30,17 +30,18 @@ fn ballot_two(alloc: Global, previous: &[u8]) -> Result<Body<TallyCommand>, Memo
     Ok(Body::NewBallot(2, members, 1, previous))
 }
 
-/// Gives node 2 a message of the master, with nothing else in transit.
-pub fn master_says(pair: &mut Pair, body: Body<TallyCommand>) -> bool {
+/// Delivers a message of the master to node 2, with nothing else in transit, and returns whether it
+/// continues.
+pub fn deliver_from_master(pair: &mut Pair, body: Body<TallyCommand>) -> bool {
     pair.out.clear();
-    hears(&mut pair.two, 0, body, &mut pair.out)
+    deliver(&mut pair.two, 0, body, &mut pair.out)
 }
 
-/// Says whether node 2 is given ballot 2 with both nodes for its members, after these members of
-/// ballot 1.
-pub fn is_assigned(pair: &mut Pair, alloc: Global, previous: &[u8]) -> bool {
+/// Gives node 2 ballot 2 with both nodes for its members, after these members of ballot 1, and
+/// returns whether it continues.
+pub fn give_ballot_two(pair: &mut Pair, alloc: Global, previous: &[u8]) -> bool {
     match ballot_two(alloc, previous) {
-        Ok(body) => master_says(pair, body),
+        Ok(body) => deliver_from_master(pair, body),
         Err(_) => false,
     }
 }
@@ -62,11 +63,11 @@ fn kind_of(body: &Body<TallyCommand>) -> &'static str {
     }
 }
 
-// Says whether a node, if it is one of the two, continues with a message.
-fn is_heard(pair: &mut Pair, receiver: u8, message: Message<TallyCommand>) -> bool {
+// Delivers a message to a node, if it is one of the two, and returns whether it continues.
+fn deliver_to(pair: &mut Pair, receiver: u8, message: Message<TallyCommand>) -> bool {
     match receiver {
-        1 => hears(&mut pair.one, message.from, message.body, &mut pair.out),
-        2 => hears(&mut pair.two, message.from, message.body, &mut pair.out),
+        1 => deliver(&mut pair.one, message.from, message.body, &mut pair.out),
+        2 => deliver(&mut pair.two, message.from, message.body, &mut pair.out),
         _ => true,
     }
 }
@@ -77,15 +78,15 @@ pub fn hand_on(pair: &mut Pair) -> &'static str {
         return "nothing";
     };
     let kind = kind_of(&message.body);
-    if is_heard(pair, receiver, message) {
+    if deliver_to(pair, receiver, message) {
         kind
     } else {
         "halted"
     }
 }
 
-/// Says whether the messages that are delivered in turn are of these kinds.
-pub fn hands_on(pair: &mut Pair, kinds: &[&str]) -> bool {
+/// Delivers messages in turn, and returns whether they are of these kinds.
+pub fn hand_on_all(pair: &mut Pair, kinds: &[&str]) -> bool {
     for kind in kinds {
         if hand_on(pair) != *kind {
             return false;

@@ -26,8 +26,8 @@ pub fn made(
     Replica::new(alloc, node, &config)
 }
 
-/// Says whether a replica takes a command.
-pub fn takes(
+/// Proposes a command to a replica, and returns whether it is taken.
+pub fn propose(
     replica: &mut Replica<Tally>,
     command: TallyCommand,
     out: &mut Vec<Effect<TallyCommand, u64>>,
@@ -35,8 +35,8 @@ pub fn takes(
     replica.propose(command, out).is_ok()
 }
 
-/// Says whether a replica continues after a message of a node.
-pub fn hears(
+/// Delivers a message of a node to a replica, and returns whether it continues.
+pub fn deliver(
     replica: &mut Replica<Tally>,
     from: u8,
     body: Body<TallyCommand>,

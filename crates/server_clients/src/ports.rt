@@ -20,7 +20,7 @@ where
     R: AllocGlobal + Net<Listener = TcpListener, Stream = TcpStream>,
 {
     for number in numbers {
-        if !listens(rt, *number, listeners) {
+        if !listen(rt, *number, listeners) {
             return false;
         }
     }
@@ -28,7 +28,7 @@ where
 }
 
 // Adds a listener for this node, on a free port. False if there is none.
-fn listens<R>(rt: &R, number: u8, listeners: &mut Vec<Listener>) -> bool
+fn listen<R>(rt: &R, number: u8, listeners: &mut Vec<Listener>) -> bool
 where
     R: AllocGlobal + Net<Listener = TcpListener, Stream = TcpStream>,
 {

@@ -8,6 +8,7 @@ mod row;
 pub use fault::{Came, Fault, UNOPENED, fault_after, fault_at, fault_in};
 pub use row::{
     ABSENT, Action, Agreed, CONNECT_A, CONNECT_B, NOTHING, PRESENT, PRESENT_AND_PUBLISH, PUBLISH,
-    PUBLISH_AGAIN, PUBREC, PUBREL, Row, Said, Sent, Session, Table, does, is_right, named, opened,
+    PUBLISH_AGAIN, PUBREC, PUBREL, Row, Said, Sent, Session, Table, is_right, let_happen, named,
+    opened,
 };
 pub use world::{Command, EscapeError, Event, World};

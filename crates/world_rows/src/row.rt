@@ -149,11 +149,11 @@ fn config_of(alloc: Global, members: &[u8], primary: u8) -> Option<Config> {
 pub fn is_right(alloc: Global, world: &mut World, row: &Row) -> bool {
     match row {
         Row::Does(action, sent, agreed) => {
-            does(alloc, world, action)
+            let_happen(alloc, world, action)
                 && world.messages() == sent.0
                 && world.agreed_len() == agreed.0
         }
-        Row::Idle(action) => !does(alloc, world, action),
+        Row::Idle(action) => !let_happen(alloc, world, action),
         Row::HasUp(connection, bytes) => are_same(world.up(*connection), bytes),
         Row::HasDown(connection, bytes) => are_same(world.down(*connection), bytes),
         Row::Took(client, count, session) => match accepted(alloc, world, client) {
@@ -200,13 +200,13 @@ pub(crate) fn is_said(command: &Command, said: &Said) -> bool {
     }
 }
 
-/// Says whether the event can happen.
-pub fn does(alloc: Global, world: &mut World, action: &Action) -> bool {
+/// Lets the event of an action happen, and returns whether it could.
+pub fn let_happen(alloc: Global, world: &mut World, action: &Action) -> bool {
     match event_of(alloc, world, action) {
         Some(event) => {
-            let happens = world.step(&event).is_ok();
+            let happened = world.step(&event).is_ok();
             drop(event);
-            happens
+            happened
         }
         None => false,
     }

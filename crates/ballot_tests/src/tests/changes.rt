@@ -2,22 +2,24 @@
 
 use super::stories::{Change, first_fault_of_two};
 use ballot::{Body, Role};
-use ballot_replicas::{Pair, hand_on, hands_on, is_assigned, master_says, shows, takes};
+use ballot_replicas::{
+    Pair, deliver_from_master, give_ballot_two, hand_on, hand_on_all, propose, shows,
+};
 use machine::TallyCommand;
 use std::alloc::Global;
 
 /// Checks that node 2, given ballot 2, fetches and installs the log. Returns the first step that
 /// fails.
 pub fn goes_over(pair: &mut Pair, alloc: Global) -> Option<&'static str> {
-    if !is_assigned(pair, alloc, &[1]) {
+    if !give_ballot_two(pair, alloc, &[1]) {
         Some("node 2 is given ballot 2")
     } else if !shows(&pair.two, 2, Role::Fetching, 0, 0) {
         Some("node 2 fetches the log")
-    } else if !hands_on(pair, &["Join", "State"]) {
+    } else if !hand_on_all(pair, &["Join", "State"]) {
         Some("Join and State are delivered")
     } else if !shows(&pair.two, 2, Role::Installing, 0, 0) {
         Some("node 2 installs the log")
-    } else if !hands_on(pair, &["Install", "Installed", "Activate"]) {
+    } else if !hand_on_all(pair, &["Install", "Installed", "Activate"]) {
         Some("Install, Installed and Activate are delivered")
     } else {
         None
@@ -35,22 +37,22 @@ fn the_log_goes_over(rt: HostRuntime) {
 
 // Says whether ballot 2 is given. Five messages are handed on.
 fn went_over(pair: &mut Pair, alloc: Global) -> bool {
-    let is_assigned = is_assigned(pair, alloc, &[1]);
+    let is_given = give_ballot_two(pair, alloc, &[1]);
     for _step in 0..5 {
         let _ = hand_on(pair);
     }
-    is_assigned
+    is_given
 }
 
 /// Checks that the start of ballot 2 is added and committed. Returns the first step that fails.
 pub fn begins(pair: &mut Pair, alloc: Global) -> Option<&'static str> {
     if !went_over(pair, alloc) {
         Some("node 2 is given ballot 2")
-    } else if !master_says(pair, Body::Activated(2)) {
+    } else if !deliver_from_master(pair, Body::Activated(2)) {
         Some("node 2 goes on after Activated")
     } else if !shows(&pair.two, 2, Role::Active, 1, 0) {
         Some("node 2 is active, and holds the start")
-    } else if !hands_on(pair, &["Append", "Held", "Commit"]) {
+    } else if !hand_on_all(pair, &["Append", "Held", "Commit"]) {
         Some("Append, Held and Commit are delivered")
     } else if !shows(&pair.one, 2, Role::Backup, 1, 1) {
         Some("node 1 has committed the start")
@@ -74,11 +76,11 @@ fn a_new_ballot_begins_with_its_start(rt: HostRuntime) {
 pub fn is_superseded(pair: &mut Pair, alloc: Global) -> Option<&'static str> {
     if !went_over(pair, alloc) {
         Some("node 2 is given ballot 2")
-    } else if !master_says(pair, Body::Superseded(2)) {
+    } else if !deliver_from_master(pair, Body::Superseded(2)) {
         Some("node 2 goes on after Superseded")
-    } else if !master_says(pair, Body::Activated(2)) {
+    } else if !deliver_from_master(pair, Body::Activated(2)) {
         Some("node 2 goes on after Activated")
-    } else if !hands_on(pair, &["nothing"]) {
+    } else if !hand_on_all(pair, &["nothing"]) {
         Some("nothing is sent then")
     } else if !shows(&pair.two, 2, Role::Backup, 0, 0) {
         Some("node 2 is a backup, and holds no place")
@@ -99,13 +101,13 @@ fn a_superseded_ballot_does_not_begin(rt: HostRuntime) {
 /// Checks that the log of ballot 2 replaces that of node 1, which appended a command that never
 /// came to node 2. Returns the first step that fails.
 pub fn is_replaced(pair: &mut Pair, alloc: Global) -> Option<&'static str> {
-    if !takes(&mut pair.one, TallyCommand::Add(2), &mut pair.out) {
+    if !propose(&mut pair.one, TallyCommand::Add(2), &mut pair.out) {
         Some("node 1 takes a command")
     } else if !shows(&pair.one, 1, Role::Active, 1, 0) {
         Some("node 1 holds it, and it is not committed")
-    } else if !is_assigned(pair, alloc, &[1, 2]) {
+    } else if !give_ballot_two(pair, alloc, &[1, 2]) {
         Some("node 2 is given ballot 2")
-    } else if !hands_on(pair, &["Join", "State", "Install"]) {
+    } else if !hand_on_all(pair, &["Join", "State", "Install"]) {
         Some("Join, State and Install are delivered")
     } else if !shows(&pair.one, 2, Role::Backup, 0, 0) {
         Some("node 1 is a backup, and holds no place")
@@ -123,21 +125,21 @@ fn a_longer_log_of_a_stale_primary_is_replaced(rt: HostRuntime) {
     );
 }
 
-// Says whether a tick of node 2 says again what it waits for, which is handed on as these kinds.
-fn asks_again(pair: &mut Pair, kinds: &[&str]) -> bool {
+// Has a tick of node 2 say again what it waits for, and returns whether that is of these kinds.
+fn ask_again(pair: &mut Pair, kinds: &[&str]) -> bool {
     pair.out.clear();
     pair.two.tick(&mut pair.out);
-    hands_on(pair, kinds)
+    hand_on_all(pair, kinds)
 }
 
 /// Checks that node 2 asks again while it fetches the log, and while it installs it. Returns the
 /// first step that fails.
 pub fn asks_twice(pair: &mut Pair, alloc: Global) -> Option<&'static str> {
-    if !is_assigned(pair, alloc, &[1]) {
+    if !give_ballot_two(pair, alloc, &[1]) {
         Some("node 2 is given ballot 2")
-    } else if !asks_again(pair, &["Join", "State"]) {
+    } else if !ask_again(pair, &["Join", "State"]) {
         Some("a tick sends Join again, which is answered")
-    } else if !asks_again(pair, &["Install"]) {
+    } else if !ask_again(pair, &["Install"]) {
         Some("a tick sends Install again")
     } else {
         None

@@ -2,7 +2,7 @@
 
 use super::stories::{Run, first_fault};
 use ballot::{Body, Effect, ProposeError, Replica, Role};
-use ballot_replicas::{appends, commits, gives, hears, holds, logs, shows, takes};
+use ballot_replicas::{appends, commits, deliver, gives, holds, logs, propose, shows};
 use machine::{Tally, TallyCommand};
 
 // Says whether a replica takes these commands.
@@ -12,7 +12,7 @@ fn take(
     out: &mut Vec<Effect<TallyCommand, u64>>,
 ) -> bool {
     for command in commands {
-        if !takes(replica, *command, out) {
+        if !propose(replica, *command, out) {
             return false;
         }
     }
@@ -65,7 +65,7 @@ fn leaves(
     out: &mut Vec<Effect<TallyCommand, u64>>,
 ) -> Option<&'static str> {
     out.clear();
-    if !hears(primary, 2, Body::Held(1, 1), out) {
+    if !deliver(primary, 2, Body::Held(1, 1), out) {
         Some("it goes on after Held")
     } else if out.len() != 2 {
         Some("Held has two effects")
@@ -84,7 +84,7 @@ pub fn leaves_once_held(
     primary: &mut Replica<Tally>,
     out: &mut Vec<Effect<TallyCommand, u64>>,
 ) -> Option<&'static str> {
-    if !takes(primary, TallyCommand::Add(2), out) {
+    if !propose(primary, TallyCommand::Add(2), out) {
         Some("the command is taken")
     } else if out.len() != 1 {
         Some("one message is sent")
@@ -111,7 +111,7 @@ fn hears_nothing_new(
     out: &mut Vec<Effect<TallyCommand, u64>>,
 ) -> Option<&'static str> {
     out.clear();
-    if !hears(primary, 2, Body::Held(1, 1), out) {
+    if !deliver(primary, 2, Body::Held(1, 1), out) {
         return Some("it goes on after Held again");
     }
     if !out.is_empty() {
@@ -135,9 +135,9 @@ pub fn hears_it_again(
     primary: &mut Replica<Tally>,
     out: &mut Vec<Effect<TallyCommand, u64>>,
 ) -> Option<&'static str> {
-    if !takes(primary, TallyCommand::Add(2), out) {
+    if !propose(primary, TallyCommand::Add(2), out) {
         Some("the command is taken")
-    } else if !hears(primary, 2, Body::Held(1, 1), out) {
+    } else if !deliver(primary, 2, Body::Held(1, 1), out) {
         Some("it goes on after Held")
     } else {
         hears_nothing_new(primary, out)
@@ -153,15 +153,15 @@ fn a_held_that_comes_twice_changes_nothing(rt: HostRuntime) {
     );
 }
 
-// Says whether node 1 appends a number at a place, and the backup continues.
-fn is_appended(
+// Delivers the Append of a number at a place, of node 1, and returns whether the backup continues.
+fn deliver_append(
     backup: &mut Replica<Tally>,
     place: u64,
     number: u64,
     out: &mut Vec<Effect<TallyCommand, u64>>,
 ) -> bool {
     let body = Body::Append(1, place, TallyCommand::Add(number));
-    hears(backup, 1, body, out)
+    deliver(backup, 1, body, out)
 }
 
 /// Checks that place 1 waits for place 0. Returns the first step that fails.
@@ -171,13 +171,13 @@ pub fn waits_for_the_first(
 ) -> Option<&'static str> {
     if !shows(backup, 1, Role::Backup, 0, 0) {
         Some("it begins as a backup")
-    } else if !is_appended(backup, 1, 3, out) {
+    } else if !deliver_append(backup, 1, 3, out) {
         Some("it goes on after place 1")
     } else if !out.is_empty() {
         Some("it says nothing to place 1")
     } else if !shows(backup, 1, Role::Backup, 0, 0) {
         Some("it holds no place")
-    } else if !is_appended(backup, 0, 2, out) {
+    } else if !deliver_append(backup, 0, 2, out) {
         Some("it goes on after place 0")
     } else if out.len() != 1 {
         Some("it sends one message then")
@@ -207,7 +207,7 @@ fn is_not_active(replica: &mut Replica<Tally>, out: &mut Vec<Effect<TallyCommand
 // Says whether a backup that holds a place says nothing to its Commit, nor at a tick.
 fn says_nothing(backup: &mut Replica<Tally>, out: &mut Vec<Effect<TallyCommand, u64>>) -> bool {
     out.clear();
-    let goes_on = hears(backup, 1, Body::Commit(1, 1), out);
+    let goes_on = deliver(backup, 1, Body::Commit(1, 1), out);
     backup.tick(out);
     goes_on && out.is_empty() && shows(backup, 1, Role::Backup, 1, 1)
 }
@@ -218,7 +218,7 @@ pub fn is_silent(
     backup: &mut Replica<Tally>,
     out: &mut Vec<Effect<TallyCommand, u64>>,
 ) -> Option<&'static str> {
-    if !is_appended(backup, 0, 2, out) {
+    if !deliver_append(backup, 0, 2, out) {
         Some("it goes on after place 0")
     } else if !says_nothing(backup, out) {
         Some("it commits the place, and sends nothing")
@@ -269,7 +269,7 @@ pub fn says_what_is_lacking(
 ) -> Option<&'static str> {
     if !take(primary, TWO_NUMBERS, out) {
         Some("the two commands are taken")
-    } else if !hears(primary, 1, Body::Held(1, 1), out) {
+    } else if !deliver(primary, 1, Body::Held(1, 1), out) {
         Some("it goes on after the Held of node 1")
     } else if out.len() != 4 {
         Some("it has sent each command to both others")

@@ -2,7 +2,9 @@
 
 use super::stories::{Change, Run, first_fault, first_fault_of_two};
 use ballot::{Body, Effect, Log, Replica, Role};
-use ballot_replicas::{Pair, gives, hands_on, hears, is_assigned, logs, master_says, shows, takes};
+use ballot_replicas::{
+    Pair, deliver, deliver_from_master, give_ballot_two, gives, hand_on_all, logs, propose, shows,
+};
 use machine::{Tally, TallyCommand};
 use std::alloc::Global;
 
@@ -25,9 +27,9 @@ pub fn is_cut_once(
         Some("there is nothing to cut at first")
     } else if !is_cut_at(replica, 0, &[]) {
         Some("the log begins at place 0")
-    } else if !takes(replica, TallyCommand::Add(2), out) {
+    } else if !propose(replica, TallyCommand::Add(2), out) {
         Some("it takes a command")
-    } else if !takes(replica, TallyCommand::Add(3), out) {
+    } else if !propose(replica, TallyCommand::Add(3), out) {
         Some("it takes another one")
     } else if !replica.cut() {
         Some("there is something to cut then")
@@ -49,7 +51,7 @@ fn goes_on(
         Some("the log begins at place 2 with the total 5")
     } else if !logs(replica, &[]) {
         Some("the log keeps no command")
-    } else if !takes(replica, TallyCommand::Add(4), out) {
+    } else if !propose(replica, TallyCommand::Add(4), out) {
         Some("it takes a command after the cut")
     } else if !gives(out, 0, 2, 9) {
         Some("output 9 of place 2 leaves")
@@ -76,7 +78,7 @@ pub fn reads_snapshots(
     out: &mut Vec<Effect<TallyCommand, u64>>,
     alloc: Global,
 ) -> Option<&'static str> {
-    if !installs(replica, out, alloc, &FIVE[..3]) {
+    if !install(replica, out, alloc, &FIVE[..3]) {
         Some("it goes on after Install with three bytes")
     } else if !shows(replica, 0, Role::Backup, 0, 0) {
         Some("it is as it was")
@@ -84,7 +86,7 @@ pub fn reads_snapshots(
         Some("the message counts as lost")
     } else if !out.is_empty() {
         Some("nothing is sent for it")
-    } else if !installs(replica, out, alloc, FIVE) {
+    } else if !install(replica, out, alloc, FIVE) {
         Some("it goes on after Install with a total")
     } else if !shows(replica, 2, Role::Backup, 3, 2) {
         Some("it holds three places, two of them committed")
@@ -99,7 +101,7 @@ pub fn reads_snapshots(
 
 // Gives a replica the Install of ballot 2 with a log that has this snapshot, base 2 and one
 // command. Says whether the replica continues.
-fn installs(
+fn install(
     replica: &mut Replica<Tally>,
     out: &mut Vec<Effect<TallyCommand, u64>>,
     alloc: Global,
@@ -113,7 +115,7 @@ fn installs(
         return false;
     }
     let log = Log::from_parts(2, snapshot, rest);
-    hears(replica, 1, Body::Install(2, log), out)
+    deliver(replica, 1, Body::Install(2, log), out)
 }
 
 #[test]
@@ -127,15 +129,15 @@ fn a_snapshot_is_read_or_lost(rt: HostRuntime) {
 /// Checks that the snapshot of node 1, which has added 2 and 3 and cut its log, goes over to node
 /// 2. That begins ballot 2. Returns the first step that fails.
 pub fn snapshot_goes_over(pair: &mut Pair, alloc: Global) -> Option<&'static str> {
-    if !takes(&mut pair.one, TallyCommand::Add(2), &mut pair.out) {
+    if !propose(&mut pair.one, TallyCommand::Add(2), &mut pair.out) {
         Some("node 1 takes a command")
-    } else if !takes(&mut pair.one, TallyCommand::Add(3), &mut pair.out) {
+    } else if !propose(&mut pair.one, TallyCommand::Add(3), &mut pair.out) {
         Some("node 1 takes another one")
     } else if !pair.one.cut() {
         Some("node 1 has something to cut")
-    } else if !is_assigned(pair, alloc, &[1]) {
+    } else if !give_ballot_two(pair, alloc, &[1]) {
         Some("node 2 is given ballot 2")
-    } else if !hands_on(pair, &["Join", "State"]) {
+    } else if !hand_on_all(pair, &["Join", "State"]) {
         Some("Join and State are delivered")
     } else if !shows(&pair.two, 2, Role::Installing, 2, 2) {
         Some("node 2 installs a log of two places")
@@ -149,11 +151,11 @@ pub fn snapshot_goes_over(pair: &mut Pair, alloc: Global) -> Option<&'static str
 // Checks that both nodes commit the start of ballot 2 after two places. Returns the first step that
 // fails.
 fn begins_after(pair: &mut Pair) -> Option<&'static str> {
-    if !hands_on(pair, &["Install", "Installed", "Activate"]) {
+    if !hand_on_all(pair, &["Install", "Installed", "Activate"]) {
         Some("Install, Installed and Activate are delivered")
-    } else if !master_says(pair, Body::Activated(2)) {
+    } else if !deliver_from_master(pair, Body::Activated(2)) {
         Some("node 2 goes on after Activated")
-    } else if !hands_on(pair, &["Append", "Held", "Commit"]) {
+    } else if !hand_on_all(pair, &["Append", "Held", "Commit"]) {
         Some("Append, Held and Commit are delivered")
     } else if !shows(&pair.one, 2, Role::Backup, 3, 3) {
         Some("node 1 has committed three places")

@@ -37,27 +37,32 @@ fn client_at_last(alloc: Global) -> Option<ClientCore> {
 }
 
 // Opens a lost connection again, and drops what is written then: whether memory was found.
-fn is_back(client: &mut ClientCore, alloc: Global, was_accepted: bool) -> bool {
+fn reopen(client: &mut ClientCore, alloc: Global, was_accepted: bool) -> bool {
     let opened = open(client).is_none();
     let accepted = !was_accepted || give(client, PRESENT).is_none();
     opened && accepted && take_written(client, alloc).is_some()
 }
 
 // Says whether a client shows itself as after `lose_connection`, and comes back.
-fn is_lost(client: &mut ClientCore, alloc: Global, before: Shown) -> bool {
+fn is_as_after_loss(client: &mut ClientCore, alloc: Global, before: Shown) -> bool {
     shown_by(client) == offline(before)
         && give(client, NOTHING) == Some(ClientError::NotActive)
-        && is_back(client, alloc, before.2)
+        && reopen(client, alloc, before.2)
 }
 
 // After running out of memory in this act: nothing is written, and nothing has changed, or the
 // client is as after `lose_connection` if bytes were read.
-fn is_left(client: &mut ClientCore, alloc: Global, done: Act<'_>, before: Shown) -> bool {
+fn is_unchanged_or_lost(
+    client: &mut ClientCore,
+    alloc: Global,
+    done: Act<'_>,
+    before: Shown,
+) -> bool {
     if !wrote(client, alloc, NOTHING) {
         return false;
     }
     match done {
-        Act::Bytes(_) => is_lost(client, alloc, before),
+        Act::Bytes(_) => is_as_after_loss(client, alloc, before),
         _ => shown_by(client) == before,
     }
 }
@@ -70,7 +75,7 @@ fn act_again(client: &mut ClientCore, alloc: Global, done: Act<'_>) -> Option<Cl
     if refusal != Some(ClientError::Memory) {
         return refusal;
     }
-    if is_left(client, alloc, done, before) {
+    if is_unchanged_or_lost(client, alloc, done, before) {
         attempt(client, alloc, done, None)
     } else {
         Some(ClientError::TooLarge)
@@ -162,7 +167,7 @@ const PUBLISHES: &[u8] = &[
 const PUBRECS: &[u8] = &[0x50, 0x02, 0x00, 0x01, 0x50, 0x02, 0x00, 0x02];
 
 // Says whether the client wrote PUBRECs for this many publications.
-fn answers(client: &mut ClientCore, alloc: Global, count: usize) -> bool {
+fn wrote_pubrecs(client: &mut ClientCore, alloc: Global, count: usize) -> bool {
     match take_written(client, alloc) {
         Some(out) => PUBRECS.starts_with(&out) && out.len() / 4 == count,
         None => false,
@@ -170,9 +175,9 @@ fn answers(client: &mut ClientCore, alloc: Global, count: usize) -> bool {
 }
 
 // Says whether a client that found no memory is lost, and answers both when they come again.
-fn answers_again(client: &mut ClientCore, alloc: Global) -> bool {
+fn answer_again(client: &mut ClientCore, alloc: Global) -> bool {
     !client.is_connected()
-        && is_back(client, alloc, true)
+        && reopen(client, alloc, true)
         && give(client, PUBLISHES).is_none()
         && wrote(client, alloc, PUBRECS)
 }
@@ -182,14 +187,14 @@ fn answers_again(client: &mut ClientCore, alloc: Global) -> bool {
 fn first_fault_of_piece(client: &mut ClientCore, alloc: Global) -> Option<&'static str> {
     let refusal = give(client, PUBLISHES);
     let count = client.accepted().len();
-    if !answers(client, alloc, count) {
+    if !wrote_pubrecs(client, alloc, count) {
         return Some("what was accepted is answered at once");
     }
     match refusal {
         None if count == 2 => None,
         None => Some("both are accepted"),
         Some(ClientError::Memory) => {
-            if count < 2 && answers_again(client, alloc) {
+            if count < 2 && answer_again(client, alloc) {
                 None
             } else {
                 Some("a client without memory is lost, and answers both when they come again")

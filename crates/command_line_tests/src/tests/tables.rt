@@ -73,14 +73,14 @@ fn head(alloc: Global, members: &str) -> Result<String, AllocError> {
 // Adds nodes 1 to `last`, and node 1 once more after node `twice`. False if it ran out of memory.
 fn add_nodes(alloc: Global, text: &mut String, last: u32, twice: u32) -> bool {
     for id in 1..=last {
-        if !adds_node(alloc, text, id) || id == twice && text.push_str(NODE_1).is_err() {
+        if !add_node(alloc, text, id) || id == twice && text.push_str(NODE_1).is_err() {
             return false;
         }
     }
     true
 }
 
-fn adds_node(alloc: Global, text: &mut String, id: u32) -> bool {
+fn add_node(alloc: Global, text: &mut String, id: u32) -> bool {
     match node(alloc, id) {
         Ok(node) => text.push_str(node.as_str()).is_ok(),
         Err(_) => false,

@@ -265,7 +265,7 @@ fn sole(alloc: Global) -> Option<Spring> {
 }
 
 // Says whether the node has an answer to a CONNECT for the port.
-fn connects(alloc: Global, spring: &mut Spring) -> bool {
+fn connect(alloc: Global, spring: &mut Spring) -> bool {
     let mut effects = Vec::new(alloc);
     spring.node.step(Item::Opened(PORT, 0), &mut effects);
     match Piece::from_slice(alloc, CONNECT) {
@@ -314,7 +314,7 @@ fn came_instead<R: Wait>(
 ) -> Option<Came> {
     let (bad_call, kind, blocked, flow, written) = *row;
     let mut sink = Counted::new(Sink::new(alloc, 3, bad_call.0, kind));
-    let ended = if connects(alloc, spring) {
+    let ended = if connect(alloc, spring) {
         write_all(rt, alloc, spring, &mut sink)
     } else {
         None
@@ -371,7 +371,7 @@ fn what_was_left_is_written_first(rt: HostRuntime) {
 // How three writes of a stream end, whose device is full at its second call.
 fn stream_ends<R: Wait>(rt: &R, alloc: Global) -> Option<(Flow, Flow, Flow)> {
     let mut spring = sole(alloc)?;
-    if !connects(alloc, &mut spring) {
+    if !connect(alloc, &mut spring) {
         return None;
     }
     let sink = Sink::new(alloc, 3, 2, WouldBlock);

@@ -74,7 +74,7 @@ fn a_device_that_takes_nothing_stops_the_write(rt: HostRuntime) {
 
 // Reads a piece and appends it to those that came: whether it is what the call of this number may
 // give.
-fn reads(
+fn read_once(
     device: &mut Counted<Source<'_>>,
     buffer: &mut [u8],
     arrived: &mut Vec<u8>,
@@ -102,7 +102,7 @@ type Arrived = (bool, usize, u64);
 fn came_instead(alloc: Global, buffer: &mut [u8], bad_call: u64) -> Option<Arrived> {
     let mut device = Counted::new(Source::new(TEXT, 4, bad_call));
     let mut arrived = Vec::new(alloc);
-    let read = (1..7u64).all(|call| reads(&mut device, buffer, &mut arrived, call, bad_call));
+    let read = (1..7u64).all(|call| read_once(&mut device, buffer, &mut arrived, call, bad_call));
     let faults = device.faults();
     if read && arrived.as_slice() == TEXT && faults == u64::from(bad_call > 0) {
         None

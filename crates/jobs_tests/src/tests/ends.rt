@@ -1,6 +1,6 @@
 // How each job ends: its exit status, and what it writes.
 
-use crate::tests::hand::{does, serves, text_of};
+use crate::tests::hand::{serve, status_of_words, text_of};
 use command_line::LineFault;
 use jobs::{JobError, print_fault, refuse};
 use std::net::{Net, TcpListener, TcpStream};
@@ -41,7 +41,7 @@ const ENDS: &[(&str, u8, &str)] = &[
 
 // Does what the words, separated by blanks, say, over no input. Returns the exit status; none if
 // there was no memory for the words.
-fn does_line<R>(rt: &R, words: &str, output: &mut Vec<u8>, faults: &mut Vec<u8>) -> Option<u8>
+fn status_of_line<R>(rt: &R, words: &str, output: &mut Vec<u8>, faults: &mut Vec<u8>) -> Option<u8>
 where
     R: Files + Threads + Wait + Clock + Sync + AllocGlobal,
     R: Net<Listener = TcpListener, Stream = TcpStream>,
@@ -49,7 +49,7 @@ where
     let parted: Result<Vec<&str>, _> = words.split(' ').collect(rt.alloc());
     let mut input = b"".as_slice();
     match parted {
-        Ok(parted) => Some(does(rt, parted.as_slice(), &mut input, output, faults)),
+        Ok(parted) => Some(status_of_words(rt, parted.as_slice(), &mut input, output, faults)),
         Err(_) => None,
     }
 }
@@ -59,7 +59,7 @@ fn jobs_end_with_their_status_and_text(rt: HostRuntime) {
     for (words, status, told) in ENDS {
         let mut output = Vec::new(rt.alloc());
         let mut faults = Vec::new(rt.alloc());
-        let ended = does_line(&rt, words, &mut output, &mut faults);
+        let ended = status_of_line(&rt, words, &mut output, &mut faults);
         let came = (
             ended,
             text_of(output.as_slice()),
@@ -101,7 +101,7 @@ fn lines_are_refused_with_a_status(rt: HostRuntime) {
     for (words, status, is_fault) in REFUSED_LINES {
         let mut output = Vec::new(rt.alloc());
         let mut faults = Vec::new(rt.alloc());
-        let ended = does_line(&rt, words, &mut output, &mut faults);
+        let ended = status_of_line(&rt, words, &mut output, &mut faults);
         let came = (ended, output.is_empty(), faults.is_empty());
         assert_eq!(rt; came, (Some(*status), *is_fault, !*is_fault), "{words}");
     }
@@ -154,7 +154,7 @@ fn tables_are_refused_with_their_text(rt: HostRuntime) {
         let mut output = Vec::new(rt.alloc());
         let mut faults = Vec::new(rt.alloc());
         let mut input = b"quit\n".as_slice();
-        let ended = serves(&rt, text, &mut input, &mut output, &mut faults);
+        let ended = serve(&rt, text, &mut input, &mut output, &mut faults);
         let came = (
             ended,
             text_of(output.as_slice()),

@@ -1,7 +1,7 @@
 // The order to end the session of a client.
 
-use super::hand::gives;
-use super::orders::{Given, KEPT, Written, first_fault, hears, keeps};
+use super::hand::write_orders;
+use super::orders::{Given, KEPT, Written, first_fault, hear, keep_or_print};
 use super::shown::Shown;
 use std::io::{PipeWriter, Read, Write};
 use std::net::{Net, TcpListener, TcpStream};
@@ -76,7 +76,7 @@ fn is_closed(stream: &mut TcpStream) -> bool {
 fn crash_by(stream: &mut TcpStream, orders: &mut PipeWriter) -> Option<&'static str> {
     if !is_accepted(stream) {
         Some("client p is accepted")
-    } else if !gives(orders, THEN) {
+    } else if !write_orders(orders, THEN) {
         Some("the order to crash is given")
     } else if !is_closed(stream) {
         Some("the node ends the stream of client p")
@@ -112,20 +112,20 @@ fn give_all<R>(
 where
     R: Wait + Clock + Net<Listener = TcpListener, Stream = TcpStream>,
 {
-    if !heard.comes_to(rt, KEPT) {
+    if !heard.await_line(rt, KEPT) {
         return Some("`sub` prints what was kept");
     }
-    if !gives(orders, FIRST) {
+    if !write_orders(orders, FIRST) {
         return Some("the first orders are given");
     }
-    if !heard.comes_to(rt, LOST) {
+    if !heard.await_line(rt, LOST) {
         return Some("`sub` prints that it is lost");
     }
     let fault = crash(rt, orders, address);
     if fault.is_some() {
         return fault;
     }
-    if gives(orders, LAST) {
+    if write_orders(orders, LAST) {
         None
     } else {
         Some("the last orders are given")
@@ -155,14 +155,14 @@ where
     R: Threads + Wait + Clock + Sync + AllocGlobal,
     R: Net<Listener = TcpListener, Stream = TcpStream>,
 {
-    if !keeps(rt, address, &written.told) {
+    if !keep_or_print(rt, address, &written.told) {
         return Some("`pub` has something kept");
     }
     let heard = &written.heard;
     let (fault, ()) = thread::join(
         rt,
         || order_all(rt, orders, address, heard),
-        || hears(rt, address, 2, heard),
+        || hear(rt, address, 2, heard),
     );
     fault
 }

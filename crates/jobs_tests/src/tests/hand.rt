@@ -19,12 +19,12 @@ pub fn text_of(written: &[u8]) -> &str {
 }
 
 /// Gives these orders. Says whether that succeeds.
-pub fn gives(orders: &mut PipeWriter, lines: &str) -> bool {
+pub fn write_orders(orders: &mut PipeWriter, lines: &str) -> bool {
     orders.write_all(lines.as_bytes()).is_ok()
 }
 
 /// Does what a command line of these words says, and returns the exit status.
-pub fn does<R, I, O>(
+pub fn status_of_words<R, I, O>(
     rt: &R,
     words: &[&str],
     input: &mut I,
@@ -44,7 +44,7 @@ where
 }
 
 /// Serves the nodes of a table with this input, and returns the exit status. A fault is printed.
-pub fn serves<R, I>(
+pub fn serve<R, I>(
     rt: &R,
     table: &str,
     input: &mut I,

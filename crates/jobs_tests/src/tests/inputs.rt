@@ -1,6 +1,6 @@
 // Inputs of a server that end, that fail, and that give no order.
 
-use crate::tests::hand::{serves, text_of};
+use crate::tests::hand::{serve, text_of};
 use std::io;
 use std::io::{BufReader, ErrorKind, Read};
 use std::net::{Net, TcpListener, TcpStream};
@@ -41,7 +41,7 @@ fn lines_are_answered_until_quit_or_the_end(rt: HostRuntime) {
         let mut input = text.as_bytes();
         let mut output = Vec::new(rt.alloc());
         let mut faults = Vec::new(rt.alloc());
-        let status = serves(&rt, ONE, &mut input, &mut output, &mut faults);
+        let status = serve(&rt, ONE, &mut input, &mut output, &mut faults);
         let told = text_of(faults.as_slice());
         let came = (status, text_of(output.as_slice()), told.contains(LISTENS));
         assert_eq!(rt; came, (0, *printed, true), "{text}: {told}");
@@ -55,7 +55,7 @@ fn an_open_address_is_printed(rt: HostRuntime) {
     let mut input = b"".as_slice();
     let mut output = Vec::new(rt.alloc());
     let mut faults = Vec::new(rt.alloc());
-    let status = serves(&rt, OPEN, &mut input, &mut output, &mut faults);
+    let status = serve(&rt, OPEN, &mut input, &mut output, &mut faults);
     let told = text_of(faults.as_slice());
     let came = (status, text_of(output.as_slice()), told.contains(reported));
     assert_eq!(rt; came, (0, "bye\n", true), "{told}");
@@ -84,7 +84,7 @@ impl Read for Failing {
 
 // Serves the node with an input whose first read fails in this way, and which then continues with
 // this. Returns the exit status; none if there was no memory for the input.
-fn serves_failing<R>(
+fn serve_failing<R>(
     rt: &R,
     kind: ErrorKind,
     rest: &'static [u8],
@@ -101,7 +101,7 @@ where
         rest,
     };
     match BufReader::new(rt.alloc(), failing) {
-        Ok(mut input) => Some(serves(rt, ONE, &mut input, output, faults)),
+        Ok(mut input) => Some(serve(rt, ONE, &mut input, output, faults)),
         Err(_) => None,
     }
 }
@@ -112,7 +112,7 @@ fn an_input_that_cannot_be_read_ends_the_server(rt: HostRuntime) {
     let rest = b"status\n".as_slice();
     let mut output = Vec::new(rt.alloc());
     let mut faults = Vec::new(rt.alloc());
-    let status = serves_failing(&rt, ErrorKind::Other, rest, &mut output, &mut faults);
+    let status = serve_failing(&rt, ErrorKind::Other, rest, &mut output, &mut faults);
     let told = text_of(faults.as_slice());
     let came = (status, text_of(output.as_slice()), told.contains(reported));
     assert_eq!(rt; came, (Some(1), "", true), "{told}");
@@ -124,7 +124,7 @@ fn a_line_without_memory_is_refused(rt: HostRuntime) {
     let rest = b"status\nquit\n".as_slice();
     let mut output = Vec::new(rt.alloc());
     let mut faults = Vec::new(rt.alloc());
-    let status = serves_failing(&rt, ErrorKind::OutOfMemory, rest, &mut output, &mut faults);
+    let status = serve_failing(&rt, ErrorKind::OutOfMemory, rest, &mut output, &mut faults);
     let told = text_of(faults.as_slice());
     let came = (status, text_of(output.as_slice()), told.contains(LISTENS));
     assert_eq!(rt; came, (Some(0), "refused 12\nbye\n", true), "{told}");

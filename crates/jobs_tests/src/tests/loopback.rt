@@ -1,7 +1,7 @@
 // Two nodes over the loopback, a subscriber and a publisher, each by its command line, and orders
 // between them.
 
-use super::hand::{does, gives};
+use super::hand::{status_of_words, write_orders};
 use super::orders::{KEPT, Served, free_port, keep};
 use super::shown::Shown;
 use std::io::{BufReader, PipeReader, PipeWriter, Write};
@@ -84,10 +84,10 @@ where
     R: Net<Listener = TcpListener, Stream = TcpStream>,
 {
     let is_well = match mem::replace(part, Part::Ended(false)) {
-        Part::Nodes(orders) => serves(rt, table, orders),
-        Part::Meter => keeps_and_hears(rt, table, printed),
+        Part::Nodes(orders) => serve(rt, table, orders),
+        Part::Meter => keep_and_hear(rt, table, printed),
         Part::Switch(mut giver) => {
-            let is_done = publishes_and_gives(rt, table, printed, &mut giver);
+            let is_done = publish_and_give(rt, table, printed, &mut giver);
             drop(giver);
             is_done
         }
@@ -97,7 +97,7 @@ where
 }
 
 // Says whether `serve` gives the wanted answers to the orders, and ends with status 0.
-fn serves<R>(rt: &R, table: &Table, orders: PipeReader) -> bool
+fn serve<R>(rt: &R, table: &Table, orders: PipeReader) -> bool
 where
     R: Files + Threads + Wait + Clock + Sync + AllocGlobal,
     R: Net<Listener = TcpListener, Stream = TcpStream>,
@@ -118,22 +118,22 @@ where
     let mut output = Vec::new(rt.alloc());
     let mut faults = Vec::new(rt.alloc());
     let words = ["vbroker", "serve", "--config", table.file.as_str()];
-    let status = does(rt, words.as_slice(), input, &mut output, &mut faults);
+    let status = status_of_words(rt, words.as_slice(), input, &mut output, &mut faults);
     status == 0 && output.as_slice() == ANSWERS.as_bytes()
 }
 
 // Says whether something is kept, and `sub`, which comes after it, reports nothing and ends with
 // status 0.
-fn keeps_and_hears<R>(rt: &R, table: &Table, printed: &Shown) -> bool
+fn keep_and_hear<R>(rt: &R, table: &Table, printed: &Shown) -> bool
 where
     R: Files + Threads + Wait + Clock + Sync + AllocGlobal,
     R: Net<Listener = TcpListener, Stream = TcpStream>,
 {
-    keep(rt, table.served.address.as_str()).is_ok() && hears(rt, table, printed)
+    keep(rt, table.served.address.as_str()).is_ok() && hear(rt, table, printed)
 }
 
 // Says whether `sub` reports nothing, and ends with status 0.
-fn hears<R>(rt: &R, table: &Table, printed: &Shown) -> bool
+fn hear<R>(rt: &R, table: &Table, printed: &Shown) -> bool
 where
     R: Files + Threads + Wait + Clock + Sync + AllocGlobal,
     R: Net<Listener = TcpListener, Stream = TcpStream>,
@@ -153,24 +153,24 @@ where
         "50",
         table.served.address.as_str(),
     ];
-    ends_well(rt, words.as_slice(), &mut printed.output(rt))
+    end_without_fault(rt, words.as_slice(), &mut printed.output(rt))
 }
 
 // Says whether `pub` publishes once the subscriber has its subscription, and the orders are given
 // once that is printed.
-fn publishes_and_gives<R>(rt: &R, table: &Table, printed: &Shown, orders: &mut PipeWriter) -> bool
+fn publish_and_give<R>(rt: &R, table: &Table, printed: &Shown, orders: &mut PipeWriter) -> bool
 where
     R: Files + Threads + Wait + Clock + Sync + AllocGlobal,
     R: Net<Listener = TcpListener, Stream = TcpStream>,
 {
-    printed.comes_to(rt, KEPT)
-        && publishes(rt, table)
-        && printed.comes_to(rt, SENT)
-        && gives(orders, ORDERS)
+    printed.await_line(rt, KEPT)
+        && publish(rt, table)
+        && printed.await_line(rt, SENT)
+        && write_orders(orders, ORDERS)
 }
 
 // Says whether `pub` ends with status 0, prints nothing, and reports nothing.
-fn publishes<R>(rt: &R, table: &Table) -> bool
+fn publish<R>(rt: &R, table: &Table) -> bool
 where
     R: Files + Threads + Wait + Clock + Sync + AllocGlobal,
     R: Net<Listener = TcpListener, Stream = TcpStream>,
@@ -189,11 +189,11 @@ where
         table.served.address.as_str(),
     ];
     let mut output = Vec::new(rt.alloc());
-    ends_well(rt, words.as_slice(), &mut output) && output.is_empty()
+    end_without_fault(rt, words.as_slice(), &mut output) && output.is_empty()
 }
 
 // Says whether a command line ends with status 0, and reports no fault.
-fn ends_well<R, O>(rt: &R, words: &[&str], output: &mut O) -> bool
+fn end_without_fault<R, O>(rt: &R, words: &[&str], output: &mut O) -> bool
 where
     R: Files + Threads + Wait + Clock + Sync + AllocGlobal,
     R: Net<Listener = TcpListener, Stream = TcpStream>,
@@ -201,7 +201,7 @@ where
 {
     let mut faults = Vec::new(rt.alloc());
     let mut nothing = b"".as_slice();
-    let status = does(rt, words, &mut nothing, output, &mut faults);
+    let status = status_of_words(rt, words, &mut nothing, output, &mut faults);
     status == 0 && faults.is_empty()
 }
 

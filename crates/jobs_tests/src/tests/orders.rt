@@ -1,7 +1,7 @@
 // Orders to the nodes of a server, before and after its two clients run.
 
 use super::expels::talk_and_expel;
-use super::hand::gives;
+use super::hand::write_orders;
 use super::shown::{Shown, ShownOutput};
 use command_line::{Publish, Subscribe};
 use jobs::{JobError, print_fault, publish, serve_table, subscribe};
@@ -75,12 +75,12 @@ where
     R: Net<Listener = TcpListener, Stream = TcpStream>,
 {
     match BufReader::new(rt.alloc(), orders) {
-        Ok(mut input) => is_served(rt, table, &mut input, &mut answers.output(rt)),
+        Ok(mut input) => serve_without_fault(rt, table, &mut input, &mut answers.output(rt)),
         Err(_) => false,
     }
 }
 
-fn is_served<R>(
+fn serve_without_fault<R>(
     rt: &R,
     table: &str,
     input: &mut BufReader<PipeReader>,
@@ -128,7 +128,7 @@ impl Written {
 }
 
 /// Has `sub` wait for this many publications, and takes down what it prints and its fault.
-pub(super) fn hears<R>(rt: &R, address: &str, count: u32, heard: &Shown)
+pub(super) fn hear<R>(rt: &R, address: &str, count: u32, heard: &Shown)
 where
     R: Wait + Clock + AllocGlobal + Net<Stream = TcpStream>,
 {
@@ -153,7 +153,7 @@ where
 
 /// Has `pub` publish what the server is to keep, and takes down its fault. Says whether there is
 /// none.
-pub(super) fn keeps<R>(rt: &R, address: &str, told: &Shown) -> bool
+pub(super) fn keep_or_print<R>(rt: &R, address: &str, told: &Shown) -> bool
 where
     R: Wait + Clock + AllocGlobal + Net<Stream = TcpStream>,
 {
@@ -190,8 +190,8 @@ fn talk<R>(rt: &R, address: &str, written: &Written)
 where
     R: Wait + Clock + AllocGlobal + Net<Stream = TcpStream>,
 {
-    if keeps(rt, address, &written.told) {
-        hears(rt, address, 1, &written.heard);
+    if keep_or_print(rt, address, &written.told) {
+        hear(rt, address, 1, &written.heard);
     }
 }
 
@@ -206,14 +206,14 @@ fn order_around<R>(
 where
     R: Wait + Clock + AllocGlobal + Net<Stream = TcpStream>,
 {
-    if !gives(orders, FIRST) {
+    if !write_orders(orders, FIRST) {
         return Some("the first orders are given");
     }
-    if !written.answers.comes_to(rt, STATUS) {
+    if !written.answers.await_line(rt, STATUS) {
         return Some("the first orders are answered");
     }
     talk(rt, address, written);
-    if gives(orders, THEN) {
+    if write_orders(orders, THEN) {
         None
     } else {
         Some("the last orders are given")
@@ -296,12 +296,12 @@ where
         return Some("there is a pipe");
     };
     let answers = &written.answers;
-    let (is_served, fault) = thread::join(
+    let (is_without_fault, fault) = thread::join(
         rt,
         || serve(rt, served.table.as_str(), input, answers),
         || given.order(rt, orders, served.address.as_str(), written),
     );
-    if is_served {
+    if is_without_fault {
         fault
     } else {
         Some("the nodes are served")

@@ -1,6 +1,6 @@
 // Scripts, from the input and from a file.
 
-use crate::tests::hand::{End, does, text_of};
+use crate::tests::hand::{End, status_of_words, text_of};
 use std::fs;
 use std::net::{Net, TcpListener, TcpStream};
 use std::rt::Files;
@@ -33,7 +33,7 @@ fn scripts_of_the_input_are_played(rt: HostRuntime) {
         let mut output = Vec::new(rt.alloc());
         let mut faults = Vec::new(rt.alloc());
         let words = ["vbroker", "play"];
-        let status = does(&rt, words.as_slice(), &mut input, &mut output, &mut faults);
+        let status = status_of_words(&rt, words.as_slice(), &mut input, &mut output, &mut faults);
         let came = (
             status,
             text_of(output.as_slice()),
@@ -74,7 +74,7 @@ fn ways_out_are_printed(rt: HostRuntime) {
         let mut output = Vec::new(rt.alloc());
         let mut faults = Vec::new(rt.alloc());
         let words = ["vbroker", "play", "--escape", *node, "--client", *client];
-        let status = does(&rt, words.as_slice(), &mut input, &mut output, &mut faults);
+        let status = status_of_words(&rt, words.as_slice(), &mut input, &mut output, &mut faults);
         let came = (
             status,
             text_of(output.as_slice()),
@@ -100,7 +100,7 @@ where
 {
     fs::write(rt, name, SCRIPT).ok()?;
     let mut input = b"nonsense".as_slice();
-    let status = does(rt, &["vbroker", "play", name], &mut input, output, faults);
+    let status = status_of_words(rt, &["vbroker", "play", name], &mut input, output, faults);
     fs::remove_file(rt, name).ok()?;
     Some(status)
 }

@@ -39,7 +39,7 @@ impl Shown {
 
     /// Waits until this line is the last that was written, for ten seconds at most. Says whether
     /// it is.
-    pub fn comes_to<R: Wait + Clock>(&self, rt: &R, line: &str) -> bool {
+    pub fn await_line<R: Wait + Clock>(&self, rt: &R, line: &str) -> bool {
         for _ in 0..LOOKS {
             if self.ends_with(rt, line) {
                 return true;

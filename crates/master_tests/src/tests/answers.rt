@@ -46,11 +46,11 @@ fn sent_all(group: &Group<Tally>) -> bool {
 
 /// Checks that a command is answered once both members hold it. Returns the first step that fails.
 pub fn waits_for_all(group: &mut Group<Tally>) -> Option<&'static str> {
-    if !adds(group, 1, 2) {
+    if !propose(group, 1, 2) {
         Some("node 1 takes the command")
     } else if counts(group) != (Sent(1), Left(0), Agreed(0)) {
         Some("one message is sent, and nothing is agreed")
-    } else if !come(group, ANSWERED) {
+    } else if !let_all_come(group, ANSWERED) {
         Some("the messages come as the rows say")
     } else if !sent_all(group) {
         Some("they are Append, Held, Held and Commit")

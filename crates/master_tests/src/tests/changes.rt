@@ -24,11 +24,11 @@ const CHANGED: &[Row] = &[
 /// Checks that the master gives the ballot to members 1 and 2 and primary 2, and its messages come
 /// as these rows say. Returns the first step that fails.
 pub fn is_changed(group: &mut Group<Tally>, alloc: Global) -> Option<&'static str> {
-    if !gives_to(group, alloc, &[1, 2], 2) {
+    if !assign_to(group, alloc, &[1, 2], 2) {
         Some("the master gives ballot 2")
     } else if counts(group) != (Sent(1), Left(0), Agreed(0)) {
         Some("one message is sent")
-    } else if !come(group, CHANGED) {
+    } else if !let_all_come(group, CHANGED) {
         Some("the messages come as the rows say")
     } else if !is_active(group, 2) {
         Some("ballot 2 is active, and nothing is lost")
@@ -81,13 +81,13 @@ fn is_refused(group: &Group<Tally>) -> bool {
 /// Checks that the ballot of members 1 and 2 is superseded by that of member 3, and messages come
 /// as these rows say. Returns the first step that fails.
 pub fn is_superseded(group: &mut Group<Tally>, alloc: Global) -> Option<&'static str> {
-    if !gives_to(group, alloc, &[1, 2], 2) {
+    if !assign_to(group, alloc, &[1, 2], 2) {
         Some("the master gives ballot 2")
-    } else if !come(group, WAITING) {
+    } else if !let_all_come(group, WAITING) {
         Some("the messages up to Installed come as the rows say")
-    } else if !gives_to(group, alloc, &[3], 3) {
+    } else if !assign_to(group, alloc, &[3], 3) {
         Some("the master gives ballot 3")
-    } else if !come(group, SUPERSEDED) {
+    } else if !let_all_come(group, SUPERSEDED) {
         Some("the others come as the rows say")
     } else if !is_refused(group) {
         Some("message 5 is Activate(2), and 7 Superseded(2)")
@@ -107,16 +107,16 @@ fn a_ballot_is_superseded(rt: HostRuntime) {
     assert_eq!(rt; first_fault(rt.alloc(), 3, &[1], Run::IsSuperseded), None);
 }
 
-// Says whether a node takes a number to add. All messages come.
-fn adds_and_settles(group: &mut Group<Tally>, node: u8, number: u64) -> bool {
-    let takes = adds(group, node, number);
+// Proposes a number to add to a node, and lets all messages come. Returns whether it was taken.
+fn propose_and_settle(group: &mut Group<Tally>, node: u8, number: u64) -> bool {
+    let is_taken = propose(group, node, number);
     settle(group);
-    takes
+    is_taken
 }
 
-// Says whether node 1 stops, and ballot 2 is given to members 2 and 3 and becomes active.
-fn goes_over(group: &mut Group<Tally>, alloc: Global) -> bool {
-    let goes = happens(group, &Event::Crash(1)) && gives_to(group, alloc, &[2, 3], 2);
+// Stops node 1, and gives ballot 2 to members 2 and 3. Returns whether it becomes active.
+fn stop_and_activate_2(group: &mut Group<Tally>, alloc: Global) -> bool {
+    let goes = let_happen(group, &Event::Crash(1)) && assign_to(group, alloc, &[2, 3], 2);
     settle(group);
     goes && is_active(group, 2)
 }
@@ -130,11 +130,11 @@ const TAKEN_OVER: &[TallyCommand] = &[
 /// Checks that node 1 answers a command and stops, and node 2 answers the next one. Returns the
 /// first step that fails.
 pub fn takes_over(group: &mut Group<Tally>, alloc: Global) -> Option<&'static str> {
-    if !adds_and_settles(group, 1, 2) {
+    if !propose_and_settle(group, 1, 2) {
         Some("node 1 takes a command")
-    } else if !goes_over(group, alloc) {
+    } else if !stop_and_activate_2(group, alloc) {
         Some("node 1 stops, and ballot 2 is active")
-    } else if !adds_and_settles(group, 2, 3) {
+    } else if !propose_and_settle(group, 2, 3) {
         Some("node 2 takes a command")
     } else if !gave(group, 0, 0, 2) {
         Some("the first output is 2, of place 0")
@@ -173,13 +173,13 @@ const LEFT_BEHIND: &[Row] = &[
 /// Checks that the longer log of node 1 is replaced after the change to primary 2. Returns the
 /// first step that fails.
 pub fn is_replaced(group: &mut Group<Tally>, alloc: Global) -> Option<&'static str> {
-    if !adds(group, 1, 2) {
+    if !propose(group, 1, 2) {
         Some("node 1 takes a command")
-    } else if !adds(group, 1, 3) {
+    } else if !propose(group, 1, 3) {
         Some("node 1 takes another one")
-    } else if !gives_to(group, alloc, &[1, 2], 2) {
+    } else if !assign_to(group, alloc, &[1, 2], 2) {
         Some("the master gives ballot 2")
-    } else if !come(group, LEFT_BEHIND) {
+    } else if !let_all_come(group, LEFT_BEHIND) {
         Some("the messages come as the rows say")
     } else if !is_active(group, 2) {
         Some("ballot 2 is active, and nothing is lost")

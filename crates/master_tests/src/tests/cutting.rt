@@ -7,10 +7,10 @@ use master::{Event, Group};
 use std::alloc::Global;
 
 // Says whether a node cuts its log, and has nothing more to cut then.
-fn cuts(group: &mut Group<Tally>, node: u8) -> bool {
+fn cut(group: &mut Group<Tally>, node: u8) -> bool {
     let before = counts(group);
-    happens(group, &Event::Cut(node))
-        && !happens(group, &Event::Cut(node))
+    let_happen(group, &Event::Cut(node))
+        && !let_happen(group, &Event::Cut(node))
         && counts(group) == before
 }
 
@@ -24,19 +24,19 @@ const COMMITTED: &[Row] = &[(Arrives(2), Sent(3), Left(1), Agreed(1))];
 /// Checks that two members cut what they applied, and no more; node 2 applies it only with the
 /// Commit. Returns the first step that fails.
 pub fn cuts_what_is_applied(group: &mut Group<Tally>) -> Option<&'static str> {
-    if !adds(group, 1, 2) {
+    if !propose(group, 1, 2) {
         Some("node 1 takes a command")
-    } else if happens(group, &Event::Cut(1)) {
+    } else if let_happen(group, &Event::Cut(1)) {
         Some("node 1 has nothing to cut before Held")
-    } else if !come(group, HELD) {
+    } else if !let_all_come(group, HELD) {
         Some("Append and Held come")
-    } else if !cuts(group, 1) {
+    } else if !cut(group, 1) {
         Some("node 1 cuts its log once")
-    } else if happens(group, &Event::Cut(2)) {
+    } else if let_happen(group, &Event::Cut(2)) {
         Some("node 2 has nothing to cut before Commit")
-    } else if !come(group, COMMITTED) {
+    } else if !let_all_come(group, COMMITTED) {
         Some("Commit comes")
-    } else if !cuts(group, 2) {
+    } else if !cut(group, 2) {
         Some("node 2 cuts its log once")
     } else if !agrees(group, &[TallyCommand::Add(2)]) {
         Some("the command is agreed")
@@ -68,13 +68,13 @@ const CHANGE: &[Row] = &[
 /// Checks that node 1 cuts its log, and node 2 takes over from its snapshot and counts on from 2.
 /// Returns the first step that fails.
 pub fn takes_over_from_a_snapshot(group: &mut Group<Tally>, alloc: Global) -> Option<&'static str> {
-    if !adds(group, 1, 2) {
+    if !propose(group, 1, 2) {
         Some("node 1 takes a command")
-    } else if !cuts(group, 1) {
+    } else if !cut(group, 1) {
         Some("node 1 cuts its log once")
-    } else if !gives_to(group, alloc, &[1, 2], 2) {
+    } else if !assign_to(group, alloc, &[1, 2], 2) {
         Some("the master gives ballot 2")
-    } else if !come(group, CHANGE) {
+    } else if !let_all_come(group, CHANGE) {
         Some("the messages of the change come as the rows say")
     } else {
         counts_on(group)
@@ -94,9 +94,9 @@ const HELD_BY_BOTH: &[Row] = &[
 
 // Checks that node 2 adds 3 to the total of the snapshot. Returns the first step that fails.
 fn counts_on(group: &mut Group<Tally>) -> Option<&'static str> {
-    if !adds(group, 2, 3) {
+    if !propose(group, 2, 3) {
         Some("node 2 takes a command")
-    } else if !come(group, HELD_BY_BOTH) {
+    } else if !let_all_come(group, HELD_BY_BOTH) {
         Some("its Append and the Held come")
     } else if !gave(group, 1, 2, 5) {
         Some("the second output is 5, of place 2")

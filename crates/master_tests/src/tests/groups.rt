@@ -19,30 +19,30 @@ pub fn group(alloc: Global, nodes: u8, members: &[u8]) -> Result<Group<Tally>, O
     Group::opening(alloc, nodes, config)
 }
 
-/// Says whether an event is not idle.
-pub fn happens(group: &mut Group<Tally>, event: &Event<TallyCommand>) -> bool {
+/// Lets an event happen, and returns whether it is not idle.
+pub fn let_happen(group: &mut Group<Tally>, event: &Event<TallyCommand>) -> bool {
     group.step(event).is_ok()
 }
 
-/// Says whether a node takes a number to add.
-pub fn adds(group: &mut Group<Tally>, node: u8, number: u64) -> bool {
-    happens(group, &Event::Propose(node, TallyCommand::Add(number)))
+/// Proposes a number to add to a node, and returns whether it is taken.
+pub fn propose(group: &mut Group<Tally>, node: u8, number: u64) -> bool {
+    let_happen(group, &Event::Propose(node, TallyCommand::Add(number)))
 }
 
-/// Says whether the message of a number comes.
-pub fn comes(group: &mut Group<Tally>, number: u64) -> bool {
-    happens(group, &Event::Deliver(number))
+/// Lets the message of a number come, and returns whether it does.
+pub fn let_come(group: &mut Group<Tally>, number: u64) -> bool {
+    let_happen(group, &Event::Deliver(number))
 }
 
-/// Says whether the master gives a ballot to a configuration.
-pub fn gives(group: &mut Group<Tally>, config: Config) -> bool {
-    happens(group, &Event::Assign(config))
+/// Has the master give a ballot to a configuration, and returns whether it does.
+pub fn assign(group: &mut Group<Tally>, config: Config) -> bool {
+    let_happen(group, &Event::Assign(config))
 }
 
-/// Says whether the master gives a ballot to these members and this primary.
-pub fn gives_to(group: &mut Group<Tally>, alloc: Global, members: &[u8], primary: u8) -> bool {
+/// Has the master give a ballot to these members and this primary, and returns whether it does.
+pub fn assign_to(group: &mut Group<Tally>, alloc: Global, members: &[u8], primary: u8) -> bool {
     match config(alloc, members, primary) {
-        Ok(config) => gives(group, config),
+        Ok(config) => assign(group, config),
         Err(_) => false,
     }
 }
@@ -78,10 +78,10 @@ pub struct Arrives(pub u64);
 /// A message that comes, and what is counted after it.
 pub type Row = (Arrives, Sent, Left, Agreed);
 
-/// Says whether messages come one after another, with these counts after each.
-pub fn come(group: &mut Group<Tally>, rows: &[Row]) -> bool {
+/// Lets messages come one after another, and returns whether these counts follow each.
+pub fn let_all_come(group: &mut Group<Tally>, rows: &[Row]) -> bool {
     for (message, sent, left, agreed) in rows {
-        if !comes(group, message.0) || counts(group) != (*sent, *left, *agreed) {
+        if !let_come(group, message.0) || counts(group) != (*sent, *left, *agreed) {
             return false;
         }
     }
@@ -98,7 +98,7 @@ pub fn settle(group: &mut Group<Tally>) {
 pub fn go_on(group: &mut Group<Tally>, first: usize) {
     let until = first.saturating_add(40);
     for number in first..until {
-        let _ = comes(group, number as u64);
+        let _ = let_come(group, number as u64);
     }
 }
 

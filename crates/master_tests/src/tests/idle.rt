@@ -11,19 +11,19 @@ use std::test::Fail;
 // Checks that there is no node 0 or 3, no message, and no backup that takes a proposal. Returns the
 // first step that fails.
 fn idles_at_first(group: &mut Group<Tally>) -> Option<&'static str> {
-    if happens(group, &Event::Propose(0, TallyCommand::Add(1))) {
+    if let_happen(group, &Event::Propose(0, TallyCommand::Add(1))) {
         Some("node 0 takes no command")
-    } else if happens(group, &Event::Propose(2, TallyCommand::Add(1))) {
+    } else if let_happen(group, &Event::Propose(2, TallyCommand::Add(1))) {
         Some("node 2, a backup, takes no command")
-    } else if happens(group, &Event::Propose(3, TallyCommand::Add(1))) {
+    } else if let_happen(group, &Event::Propose(3, TallyCommand::Add(1))) {
         Some("node 3 takes no command")
-    } else if happens(group, &Event::Deliver(0)) {
+    } else if let_happen(group, &Event::Deliver(0)) {
         Some("there is no message")
-    } else if happens(group, &Event::Tick(0)) {
+    } else if let_happen(group, &Event::Tick(0)) {
         Some("node 0 has no tick")
-    } else if happens(group, &Event::Tick(3)) {
+    } else if let_happen(group, &Event::Tick(3)) {
         Some("node 3 has no tick")
-    } else if happens(group, &Event::Crash(3)) {
+    } else if let_happen(group, &Event::Crash(3)) {
         Some("node 3 does not stop")
     } else {
         None
@@ -31,7 +31,7 @@ fn idles_at_first(group: &mut Group<Tally>) -> Option<&'static str> {
 }
 
 // Says whether a run continues after what is idle in it.
-fn runs_on(group: &mut Group<Tally>) -> bool {
+fn run_on(group: &mut Group<Tally>) -> bool {
     group.run(&[Event::Tick(2), Event::Tick(1)]);
     counts(group) == (Sent(3), Left(0), Agreed(0)) && is_active(group, 1)
 }
@@ -39,13 +39,13 @@ fn runs_on(group: &mut Group<Tally>) -> bool {
 // Checks that node 2, which has stopped, does nothing, and a run continues after that. Returns the
 // first step that fails.
 fn idles_stopped(group: &mut Group<Tally>) -> Option<&'static str> {
-    if happens(group, &Event::Crash(2)) {
+    if let_happen(group, &Event::Crash(2)) {
         Some("node 2 stops once")
-    } else if happens(group, &Event::Tick(2)) {
+    } else if let_happen(group, &Event::Tick(2)) {
         Some("node 2 has no tick any more")
-    } else if happens(group, &Event::Deliver(0)) {
+    } else if let_happen(group, &Event::Deliver(0)) {
         Some("no message comes to node 2 any more")
-    } else if !runs_on(group) {
+    } else if !run_on(group) {
         Some("a run continues after what is idle in it")
     } else {
         None
@@ -58,9 +58,9 @@ pub fn is_idle_where_nothing_can_happen(group: &mut Group<Tally>) -> Option<&'st
     if let Some(step) = idles_at_first(group) {
         return Some(step);
     }
-    if !adds(group, 1, 2) {
+    if !propose(group, 1, 2) {
         Some("node 1 takes a command")
-    } else if !happens(group, &Event::Crash(2)) {
+    } else if !let_happen(group, &Event::Crash(2)) {
         Some("node 2 stops")
     } else {
         idles_stopped(group)

@@ -9,9 +9,9 @@ use master::{Event, Group};
 use std::alloc::Global;
 
 // A command is added, and all messages come.
-fn answers(group: &mut Group<Tally>, node: u8, number: u64) {
+fn answer(group: &mut Group<Tally>, node: u8, number: u64) {
     let first = group.sent().len();
-    let _ = adds(group, node, number);
+    let _ = propose(group, node, number);
     go_on(group, first);
 }
 
@@ -24,9 +24,9 @@ fn is_whole_or_counted(group: &Group<Tally>) -> bool {
 
 // Two of three nodes, of which one at most has stopped: at that one a tick cannot happen.
 fn two_that_run(group: &mut Group<Tally>) -> [u8; 2] {
-    if !happens(group, &Event::Tick(2)) {
+    if !let_happen(group, &Event::Tick(2)) {
         [1, 3]
-    } else if !happens(group, &Event::Tick(3)) {
+    } else if !let_happen(group, &Event::Tick(3)) {
         [1, 2]
     } else {
         [2, 3]
@@ -34,26 +34,26 @@ fn two_that_run(group: &mut Group<Tally>) -> [u8; 2] {
 }
 
 // Two nodes that run are given the next ballot, and answer a command. Whether its output left.
-fn is_taken_over(group: &mut Group<Tally>, alloc: Global) -> bool {
+fn let_two_take_over(group: &mut Group<Tally>, alloc: Global) -> bool {
     let [primary, backup] = two_that_run(group);
     let Ok(change) = config(alloc, &[primary, backup], primary) else {
         return false;
     };
     let first = group.sent().len();
-    let _ = gives(group, change);
+    let _ = assign(group, change);
     go_on(group, first);
     let left = group.left().len();
-    answers(group, primary, 3);
+    answer(group, primary, 3);
     group.left().len() == left.saturating_add(1)
 }
 
 /// Checks that a command is answered or counted, and two nodes take over; at the second try if
 /// memory ran out at the first. Returns the first step that fails.
 pub fn serves_on(group: &mut Group<Tally>, alloc: Global) -> Option<&'static str> {
-    answers(group, 1, 2);
+    answer(group, 1, 2);
     if !is_whole_or_counted(group) {
         Some("the command is answered, or one loss is counted")
-    } else if !is_taken_over(group, alloc) && !is_taken_over(group, alloc) {
+    } else if !let_two_take_over(group, alloc) && !let_two_take_over(group, alloc) {
         Some("two nodes take over and answer a command")
     } else if group.losses() > 1 {
         Some("at most one loss is counted")
@@ -105,22 +105,22 @@ fn are_answers(group: &Group<Tally>) -> bool {
 }
 
 // Node 1 adds a command, and then cuts its log; a second time if memory ran out for that.
-fn adds_and_cuts(group: &mut Group<Tally>) {
-    answers(group, 1, 2);
+fn propose_and_cut(group: &mut Group<Tally>) {
+    answer(group, 1, 2);
     for _ in 0..2 {
-        let _ = happens(group, &Event::Cut(1));
+        let _ = let_happen(group, &Event::Cut(1));
     }
 }
 
 // Node 2 becomes the primary of both nodes. What found no memory is said again when time passes.
-fn takes_over(group: &mut Group<Tally>, alloc: Global) -> bool {
+fn take_over(group: &mut Group<Tally>, alloc: Global) -> bool {
     let Ok(change) = config(alloc, &[1, 2], 2) else {
         return false;
     };
-    let _ = gives(group, change);
+    let _ = assign(group, change);
     for _ in 0..4 {
         go_on(group, 0);
-        let _ = happens(group, &Event::Tick(2));
+        let _ = let_happen(group, &Event::Tick(2));
     }
     true
 }
@@ -128,9 +128,9 @@ fn takes_over(group: &mut Group<Tally>, alloc: Global) -> bool {
 /// Checks that a log is cut and its snapshot goes over, or one loss is counted; what left is right
 /// in any case. Returns the first step that fails.
 pub fn cuts_on(group: &mut Group<Tally>, alloc: Global) -> Option<&'static str> {
-    adds_and_cuts(group);
-    let is_given = takes_over(group, alloc) || takes_over(group, alloc);
-    answers(group, 2, 3);
+    propose_and_cut(group);
+    let is_given = take_over(group, alloc) || take_over(group, alloc);
+    answer(group, 2, 3);
     let list = [
         TallyCommand::Add(2),
         TallyCommand::Start(2),

@@ -17,8 +17,8 @@ struct Course {
 }
 
 // Lets an event happen or be idle, and asks what is agreed after it.
-fn goes_by(group: &mut Group<Tally>, course: &mut Course, event: &Event<TallyCommand>) {
-    let _ = happens(group, event);
+fn step_and_compare(group: &mut Group<Tally>, course: &mut Course, event: &Event<TallyCommand>) {
+    let _ = let_happen(group, event);
     let agreed = group.agreed_len();
     course.only_grows = course.only_grows && course.agreed <= agreed;
     course.agreed = agreed;
@@ -26,7 +26,7 @@ fn goes_by(group: &mut Group<Tally>, course: &mut Course, event: &Event<TallyCom
 
 // Stops a node if that is asked, and gives the next ballot to three members; false if there was no
 // memory for their configuration.
-fn is_taken_over(
+fn stop_and_assign(
     group: &mut Group<Tally>,
     course: &mut Course,
     alloc: Global,
@@ -34,11 +34,11 @@ fn is_taken_over(
     members: [u8; 3],
 ) -> bool {
     if let Some(node) = stops {
-        goes_by(group, course, &Event::Crash(node));
+        step_and_compare(group, course, &Event::Crash(node));
     }
     match config(alloc, &members, members[0]) {
         Ok(config) => {
-            goes_by(group, course, &Event::Assign(config));
+            step_and_compare(group, course, &Event::Assign(config));
             true
         }
         Err(_) => false,
@@ -49,7 +49,7 @@ fn is_taken_over(
 fn come_on(group: &mut Group<Tally>, course: &mut Course) {
     let until = course.next.saturating_add(10);
     for number in course.next..until {
-        goes_by(group, course, &Event::Deliver(number as u64));
+        step_and_compare(group, course, &Event::Deliver(number as u64));
     }
     course.next = until.min(group.sent().len());
 }
@@ -57,18 +57,18 @@ fn come_on(group: &mut Group<Tally>, course: &mut Course) {
 // A primary and the one before it take a command each, a message comes again, and time passes now
 // and then.
 fn take_some(group: &mut Group<Tally>, course: &mut Course, leader: u8, stale: u8, number: u64) {
-    goes_by(
+    step_and_compare(
         group,
         course,
         &Event::Propose(leader, TallyCommand::Add(number)),
     );
-    goes_by(group, course, &Event::Propose(stale, TallyCommand::Add(7)));
+    step_and_compare(group, course, &Event::Propose(stale, TallyCommand::Add(7)));
     let event = match number % 16 {
         0 => Event::Tick(leader),
         8 => Event::Tick(stale),
         _ => Event::Deliver(number.saturating_mul(5)),
     };
-    goes_by(group, course, &event);
+    step_and_compare(group, course, &event);
 }
 
 // 1,677 events under one primary.
@@ -81,7 +81,7 @@ fn serve(group: &mut Group<Tally>, course: &mut Course, leader: u8, stale: u8) {
 
 // Has another configuration take over and agree on commands with its members. Each second time its
 // former primary has stopped. Returns the first step that fails.
-fn serves_next(
+fn serve_next(
     group: &mut Group<Tally>,
     course: &mut Course,
     alloc: Global,
@@ -91,7 +91,7 @@ fn serves_next(
     let stale = leader.saturating_sub(1);
     let stops = if leader % 2 == 0 { Some(stale) } else { None };
     let members = [leader, leader.saturating_add(1), leader.saturating_add(2)];
-    let is_taken = is_taken_over(group, course, alloc, stops, members);
+    let is_taken = stop_and_assign(group, course, alloc, stops, members);
     serve(group, course, leader, stale);
     if !is_taken {
         Some("there is memory for another configuration")
@@ -116,7 +116,7 @@ pub fn serves_in_turn(group: &mut Group<Tally>, alloc: Global) -> Option<&'stati
     };
     serve(group, &mut course, 1, 1);
     for leader in 2..14 {
-        if let Some(step) = serves_next(group, &mut course, alloc, leader) {
+        if let Some(step) = serve_next(group, &mut course, alloc, leader) {
             return Some(step);
         }
     }
@@ -145,7 +145,7 @@ fn left_at(group: &Group<Tally>, at: usize) -> Option<u64> {
 // Lets messages come, and counts those that were sent.
 fn all_come(group: &mut Group<Tally>, numbers: &[u64]) -> bool {
     for number in numbers {
-        if !comes(group, *number) {
+        if !let_come(group, *number) {
             return false;
         }
     }
@@ -156,10 +156,10 @@ const CHANGE: &[u64] = &[2, 4, 5, 6, 7, 8, 9, 10, 11];
 
 // Says whether node 1 adds a command, which node 2 holds, and ballot 2 of members 2 and 3 becomes
 // active.
-fn goes_over(group: &mut Group<Tally>, alloc: Global) -> bool {
-    adds(group, 1, 2)
-        && comes(group, 0)
-        && gives_to(group, alloc, &[2, 3], 2)
+fn activate_ballot_2(group: &mut Group<Tally>, alloc: Global) -> bool {
+    propose(group, 1, 2)
+        && let_come(group, 0)
+        && assign_to(group, alloc, &[2, 3], 2)
         && all_come(group, CHANGE)
         && is_active(group, 2)
 }
@@ -167,15 +167,15 @@ fn goes_over(group: &mut Group<Tally>, alloc: Global) -> bool {
 /// Checks that once ballot 2 is active the output of place 2 leaves, and then that of place 0.
 /// Returns the first step that fails.
 pub fn leaves_late(group: &mut Group<Tally>, alloc: Global) -> Option<&'static str> {
-    if !goes_over(group, alloc) {
+    if !activate_ballot_2(group, alloc) {
         Some("node 1 takes a command, and ballot 2 is active")
-    } else if !adds(group, 2, 3) {
+    } else if !propose(group, 2, 3) {
         Some("node 2 takes a command")
     } else if !all_come(group, &[13, 14]) {
         Some("its Append and the Held come")
     } else if left_at(group, 0) != Some(2) {
         Some("the output of place 2 leaves first")
-    } else if !comes(group, 1) {
+    } else if !let_come(group, 1) {
         Some("the late Held comes")
     } else if left_at(group, 1) != Some(0) {
         Some("the output of place 0 leaves then")

@@ -122,14 +122,14 @@ impl Twins {
     }
 
     // Says whether an event has the same result in both, and both count alike then.
-    fn happens(&mut self, event: &Event<TallyCommand>) -> bool {
+    fn let_happen(&mut self, event: &Event<TallyCommand>) -> bool {
         let one = self.cutting.step(event).is_ok();
         let other = self.keeping.step(event).is_ok();
         one == other && self.count_alike()
     }
 
     // A node cuts its log now and then. Whether nothing is seen of it.
-    fn cuts_now_and_then(&mut self) -> bool {
+    fn cut_now_and_then(&mut self) -> bool {
         if self.draw(5) == 0 {
             let node = self.draw_node();
             if self.cutting.step(&Event::Cut(node)).is_ok() {
@@ -145,7 +145,7 @@ impl Twins {
             let Some(event) = self.draw_event(alloc, at) else {
                 return Some(Fault::Event(at));
             };
-            if !self.happens(&event) || !self.cuts_now_and_then() {
+            if !self.let_happen(&event) || !self.cut_now_and_then() {
                 return Some(Fault::Event(at));
             }
         }

@@ -2,8 +2,8 @@
 // sent again, it enters.
 
 use super::row::{
-    ACCEPTED, Act, CONNECT_A, CONNECT_B, Coming, Fault, NOTHING, PRESENT, Row, comes, fault_with,
-    primary, take,
+    ACCEPTED, Act, CONNECT_A, CONNECT_B, Coming, Fault, NOTHING, PRESENT, Row, fault_with,
+    let_come, primary, take,
 };
 use node_core::{Item, NodeCore, Port};
 use std::alloc::Global;
@@ -93,8 +93,8 @@ enum QueueFault {
 }
 
 // Lets bytes come on a port: whether no message follows.
-fn brings(cutting: Cutting, node: &mut NodeCore, port: u64, bytes: &[u8]) -> bool {
-    comes(cutting.alloc, node, port, bytes, 0, cutting.coming)
+fn let_bytes_come(cutting: Cutting, node: &mut NodeCore, port: u64, bytes: &[u8]) -> bool {
+    let_come(cutting.alloc, node, port, bytes, 0, cutting.coming)
 }
 
 // Goes through the rows once. Returns the first row whose result differs, and what came.
@@ -190,7 +190,7 @@ impl Got {
     // Answers all that came, until nothing comes any more.
     fn finish(&mut self, cutting: Cutting, node: &mut NodeCore, port: u64) -> Option<()> {
         for _round in 0..ALL_BUT_ONE {
-            if !brings(cutting, node, port, self.answers.as_slice()) {
+            if !let_bytes_come(cutting, node, port, self.answers.as_slice()) {
                 return None;
             }
             if !self.look(cutting.alloc, node, port)? {
@@ -211,16 +211,16 @@ fn ends_with_three(payloads: &[u8]) -> bool {
 }
 
 // Says whether the subscriber comes back, and is handed what waited for it.
-fn comes_back(cutting: Cutting, node: &mut NodeCore, got: &mut Got) -> bool {
+fn come_back(cutting: Cutting, node: &mut NodeCore, got: &mut Got) -> bool {
     take(cutting.alloc, node, Item::Opened(Port(3), 0));
-    brings(cutting, node, 3, CONNECT_B) && got.look(cutting.alloc, node, 3) == Some(true)
+    let_bytes_come(cutting, node, 3, CONNECT_B) && got.look(cutting.alloc, node, 3) == Some(true)
 }
 
 // Has the subscriber come back and answer the first two. Returns the first step that fails.
 fn first_step(cutting: Cutting, node: &mut NodeCore, got: &mut Got) -> Option<&'static str> {
-    if !comes_back(cutting, node, got) {
+    if !come_back(cutting, node, got) {
         Some("the subscriber comes back, and is handed what waited")
-    } else if !brings(cutting, node, 3, TWO) {
+    } else if !let_bytes_come(cutting, node, 3, TWO) {
         Some("no message follows its answers to the first two")
     } else {
         None
@@ -235,23 +235,23 @@ fn rest_of(alloc: Global, got: &Got) -> Option<Vec<u8>> {
 
 // Says whether the subscriber takes what is handed over then, gives these answers, and answers all
 // that comes after them.
-fn answers_all(cutting: Cutting, node: &mut NodeCore, got: &mut Got, rest: &[u8]) -> bool {
+fn answer_all(cutting: Cutting, node: &mut NodeCore, got: &mut Got, rest: &[u8]) -> bool {
     got.look(cutting.alloc, node, 3).is_some()
-        && brings(cutting, node, 3, rest)
+        && let_bytes_come(cutting, node, 3, rest)
         && got.finish(cutting, node, 3).is_some()
 }
 
 // Says whether the subscriber answers all but the first two.
-fn answers_the_rest(cutting: Cutting, node: &mut NodeCore, got: &mut Got) -> bool {
+fn answer_the_rest(cutting: Cutting, node: &mut NodeCore, got: &mut Got) -> bool {
     match rest_of(cutting.alloc, got) {
-        Some(rest) => answers_all(cutting, node, got, rest.as_slice()),
+        Some(rest) => answer_all(cutting, node, got, rest.as_slice()),
         None => false,
     }
 }
 
 // Empties the queue to the subscriber. Returns the first step that fails.
 fn last_step(cutting: Cutting, node: &mut NodeCore, got: &mut Got) -> Option<&'static str> {
-    if !answers_the_rest(cutting, node, got) {
+    if !answer_the_rest(cutting, node, got) {
         Some("the subscriber answers the rest")
     } else if !ends_with_three(got.payloads.as_slice()) {
         Some("each of the three comes once, after all others")

@@ -55,7 +55,7 @@ fn keep_alive_0_does_not_end(rt: HostRuntime) {
 }
 
 // Says whether a client connects on a port; another node is to hold that first.
-fn connects(alloc: Global, node: &mut NodeCore, port: u64, connect: &[u8]) -> bool {
+fn connect_on(alloc: Global, node: &mut NodeCore, port: u64, connect: &[u8]) -> bool {
     take(alloc, node, Item::Opened(Port(port), 0));
     bring(alloc, node, port, connect, 0).is_some()
 }
@@ -72,7 +72,7 @@ fn lost_in(alloc: Global, effects: &Effects) -> Option<Vec<u64>> {
 }
 
 // Says whether at this time the losses of these connections are sent, in this order.
-fn loses(alloc: Global, node: &mut NodeCore, time: u64, wanted: &[u64]) -> bool {
+fn lose(alloc: Global, node: &mut NodeCore, time: u64, wanted: &[u64]) -> bool {
     match lost_in(alloc, &take(alloc, node, Item::Tick(time))) {
         Some(counts) => counts.as_slice() == wanted,
         None => false,
@@ -82,11 +82,11 @@ fn loses(alloc: Global, node: &mut NodeCore, time: u64, wanted: &[u64]) -> bool 
 // Checks that of two that fall silent the one of the lower port is lost first. Returns the first
 // step that fails.
 fn first_fault_of_two(alloc: Global, node: &mut NodeCore) -> Option<&'static str> {
-    if !connects(alloc, node, 7, CONNECT_A) {
+    if !connect_on(alloc, node, 7, CONNECT_A) {
         Some("the client of port 7 connects")
-    } else if !connects(alloc, node, 3, CONNECT_B) {
+    } else if !connect_on(alloc, node, 3, CONNECT_B) {
         Some("the client of port 3 connects")
-    } else if !loses(alloc, node, 90_001, &[2, 1]) {
+    } else if !lose(alloc, node, 90_001, &[2, 1]) {
         Some("both are lost, that of port 3 first")
     } else if !hands_over(alloc, node, 3, NOTHING, false) {
         Some("port 3 is closed")

@@ -7,7 +7,7 @@ use node_core::{Handed, Item, NodeCore, Port};
 use std::alloc::Global;
 
 // Lets a row's act come. A piece that found no memory comes again: one allocation fails.
-fn comes_at_last(alloc: Global, node: &mut NodeCore, row: &Row<'_>) {
+fn let_come_at_last(alloc: Global, node: &mut NodeCore, row: &Row<'_>) {
     let (time, port, act, _, _) = *row;
     let item = match act {
         Act::Bytes(bytes) => {
@@ -59,7 +59,7 @@ fn came_instead(alloc: Global, node: &mut NodeCore, row: &Row<'_>) -> Option<Cam
 fn first_fault(alloc: Global, node: &mut NodeCore, rows: &[Row<'static>]) -> Option<Fault> {
     let mut fault: Option<Fault> = None;
     for (at, row) in rows.iter().enumerate() {
-        comes_at_last(alloc, node, row);
+        let_come_at_last(alloc, node, row);
         if let Some(came) = came_instead(alloc, node, row) {
             if fault.is_none() {
                 fault = Some(Fault::Row(at, shown(row), came));

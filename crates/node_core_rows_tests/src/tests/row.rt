@@ -127,20 +127,26 @@ pub fn hands_over(alloc: Global, node: &mut NodeCore, port: u64, bytes: &[u8], o
 }
 
 // Takes a piece: whether no message follows.
-fn comes_whole(alloc: Global, node: &mut NodeCore, port: u64, bytes: &[u8], time: u64) -> bool {
+fn let_come_whole(alloc: Global, node: &mut NodeCore, port: u64, bytes: &[u8], time: u64) -> bool {
     bring(alloc, node, port, bytes, time).is_some_and(|effects| effects.is_empty())
 }
 
 // Takes bytes one by one: whether no message follows.
-fn comes_by_bytes(alloc: Global, node: &mut NodeCore, port: u64, bytes: &[u8], time: u64) -> bool {
+fn let_come_by_bytes(
+    alloc: Global,
+    node: &mut NodeCore,
+    port: u64,
+    bytes: &[u8],
+    time: u64,
+) -> bool {
     bytes
         .iter()
-        .all(|byte| comes_whole(alloc, node, port, &[*byte], time))
+        .all(|byte| let_come_whole(alloc, node, port, &[*byte], time))
 }
 
 // Gives bytes in two pieces, of which the first has `cut` bytes, or all. Says whether no message
 // follows.
-fn comes_cut(
+fn let_come_cut(
     alloc: Global,
     node: &mut NodeCore,
     port: u64,
@@ -150,15 +156,15 @@ fn comes_cut(
 ) -> bool {
     match bytes.split_at_checked(cut.min(bytes.len())) {
         Some((front, rest)) => {
-            comes_whole(alloc, node, port, front, time)
-                && comes_whole(alloc, node, port, rest, time)
+            let_come_whole(alloc, node, port, front, time)
+                && let_come_whole(alloc, node, port, rest, time)
         }
         None => false,
     }
 }
 
 /// Takes bytes that come on a port of a sole member: whether no message follows.
-pub fn comes(
+pub fn let_come(
     alloc: Global,
     node: &mut NodeCore,
     port: u64,
@@ -167,9 +173,9 @@ pub fn comes(
     coming: Coming,
 ) -> bool {
     match coming {
-        Coming::Whole => comes_whole(alloc, node, port, bytes, time),
-        Coming::Cut(cut) => comes_cut(alloc, node, port, bytes, time, cut),
-        Coming::Bytes => comes_by_bytes(alloc, node, port, bytes, time),
+        Coming::Whole => let_come_whole(alloc, node, port, bytes, time),
+        Coming::Cut(cut) => let_come_cut(alloc, node, port, bytes, time, cut),
+        Coming::Bytes => let_come_by_bytes(alloc, node, port, bytes, time),
     }
 }
 
@@ -177,7 +183,7 @@ pub fn comes(
 fn bring_row(alloc: Global, node: &mut NodeCore, row: &Row<'_>, coming: Coming) -> bool {
     let (time, port, act, _, _) = *row;
     let item = match act {
-        Act::Bytes(bytes) => return comes(alloc, node, port, bytes, time, coming),
+        Act::Bytes(bytes) => return let_come(alloc, node, port, bytes, time, coming),
         Act::Look => return true,
         Act::Open => Item::Opened(Port(port), time),
         Act::End => Item::Ended(Port(port)),

@@ -52,7 +52,7 @@ fn stands_at(node: &NodeCore, base: u64, bytes: &[u8]) -> bool {
 
 // Says whether a node has something to cut, cuts it and keeps no command; once more it does
 // nothing.
-fn cuts(alloc: Global, node: &mut NodeCore, base: u64, bytes: &[u8]) -> bool {
+fn cut(alloc: Global, node: &mut NodeCore, base: u64, bytes: &[u8]) -> bool {
     let can = node.can_cut();
     let first = take(alloc, node, Item::Cut);
     let cannot = !node.can_cut() && node.rest().is_empty() && stands_at(node, base, bytes);
@@ -90,16 +90,16 @@ fn asks_for_2(effects: &Effects) -> bool {
 }
 
 // Says whether node 1, the sole member, takes client `a` and cuts its log.
-fn serves_and_cuts(alloc: Global, one: &mut NodeCore) -> bool {
+fn serve_and_cut(alloc: Global, one: &mut NodeCore) -> bool {
     take(alloc, one, Item::Opened(Port(1), 0));
     bring(alloc, one, 1, CONNECT, 0).is_some()
         && hands_over(alloc, one, 1, ACCEPTED, true)
-        && cuts(alloc, one, 1, CONNECTED)
+        && cut(alloc, one, 1, CONNECTED)
 }
 
 // Says whether node 2 takes over with node 1 as its backup: State brings the snapshot, and each
 // message goes to its receiver.
-fn takes_over(alloc: Global, one: &mut NodeCore, two: &mut NodeCore) -> Option<bool> {
+fn take_over(alloc: Global, one: &mut NodeCore, two: &mut NodeCore) -> Option<bool> {
     let joins = tell(alloc, two, 0, ballot_2(alloc, &[1, 2])?);
     let state = give(alloc, one, 1, joins);
     let is_sent = sends_snapshot(&state);
@@ -107,22 +107,22 @@ fn takes_over(alloc: Global, one: &mut NodeCore, two: &mut NodeCore) -> Option<b
     let installed = give(alloc, one, 1, installs);
     let asked = give(alloc, two, 2, installed);
     let appended = tell(alloc, two, 0, Body::Activated(2));
-    commits(alloc, one, two, appended);
+    commit(alloc, one, two, appended);
     Some(is_sent && asks_for_2(&asked) && stands_at(two, 1, CONNECTED))
 }
 
 // Node 1 holds what node 2 appends, and node 2 commits it.
-fn commits(alloc: Global, one: &mut NodeCore, two: &mut NodeCore, appended: Effects) {
+fn commit(alloc: Global, one: &mut NodeCore, two: &mut NodeCore, appended: Effects) {
     let held = give(alloc, one, 1, appended);
     let committed = give(alloc, two, 2, held);
     give(alloc, one, 1, committed);
 }
 
 // Says whether client `a` comes back at node 2, and finds its session.
-fn comes_back(alloc: Global, one: &mut NodeCore, two: &mut NodeCore) -> bool {
+fn come_back(alloc: Global, one: &mut NodeCore, two: &mut NodeCore) -> bool {
     take(alloc, two, Item::Opened(Port(1), 0));
     match bring(alloc, two, 1, CONNECT, 0) {
-        Some(appended) => commits(alloc, one, two, appended),
+        Some(appended) => commit(alloc, one, two, appended),
         None => return false,
     }
     hands_over(alloc, two, 1, PRESENT, true)
@@ -131,11 +131,11 @@ fn comes_back(alloc: Global, one: &mut NodeCore, two: &mut NodeCore) -> bool {
 // Checks that a session goes over by a snapshot, and both nodes lose nothing. Returns the first
 // step that fails.
 fn first_fault(alloc: Global, one: &mut NodeCore, two: &mut NodeCore) -> Option<&'static str> {
-    if !serves_and_cuts(alloc, one) {
+    if !serve_and_cut(alloc, one) {
         Some("node 1 accepts client a, and cuts its log once")
-    } else if takes_over(alloc, one, two) != Some(true) {
+    } else if take_over(alloc, one, two) != Some(true) {
         Some("State brings the snapshot, and node 2 asks for ballot 2")
-    } else if !comes_back(alloc, one, two) {
+    } else if !come_back(alloc, one, two) {
         Some("client a finds its session at node 2")
     } else if one.losses() != 0 {
         Some("no step of node 1 counted a loss")
@@ -169,7 +169,7 @@ fn a_session_goes_over_by_a_snapshot(rt: HostRuntime) {
 }
 
 // Node 1 sends node 2 a log of one place with this snapshot in ballot 2: what node 2 hands out.
-fn sends(alloc: Global, two: &mut NodeCore, bytes: &[u8]) -> Option<Effects> {
+fn send_log(alloc: Global, two: &mut NodeCore, bytes: &[u8]) -> Option<Effects> {
     let snapshot = Vec::from_slice(alloc, bytes).ok()?;
     let log = Log::from_parts(1, snapshot, Vec::new(alloc));
     Some(tell(alloc, two, 1, Body::State(2, log)))
@@ -177,17 +177,17 @@ fn sends(alloc: Global, two: &mut NodeCore, bytes: &[u8]) -> Option<Effects> {
 
 // Says whether node 2, the sole member of ballot 2, continues from the snapshot of form 1, and its
 // own snapshot is of form 2.
-fn goes_on(alloc: Global, two: &mut NodeCore) -> Option<bool> {
-    let asked = sends(alloc, two, CONNECTED_BEFORE)?;
+fn go_on(alloc: Global, two: &mut NodeCore) -> Option<bool> {
+    let asked = send_log(alloc, two, CONNECTED_BEFORE)?;
     let is_asked = asks_for_2(&asked) && stands_at(two, 1, CONNECTED_BEFORE);
     tell(alloc, two, 0, Body::Activated(2));
-    Some(is_asked && cuts(alloc, two, 2, BEGUN))
+    Some(is_asked && cut(alloc, two, 2, BEGUN))
 }
 
 // Says whether a snapshot of form 1 is read, and frozen to form 2.
 fn form_1_is_read(alloc: Global, two: &mut NodeCore) -> Option<bool> {
     tell(alloc, two, 0, ballot_2(alloc, &[2])?);
-    Some(goes_on(alloc, two)? && two.losses() == 0)
+    Some(go_on(alloc, two)? && two.losses() == 0)
 }
 
 // Says it of a fresh node; none if there is no memory for it.
@@ -207,7 +207,7 @@ fn a_snapshot_of_form_1_is_frozen_to_form_2(rt: HostRuntime) {
 // effect.
 fn is_lost(alloc: Global, two: &mut NodeCore, bytes: &[u8]) -> bool {
     let (before, losses) = (two.status(), two.losses());
-    let Some(effects) = sends(alloc, two, bytes) else {
+    let Some(effects) = send_log(alloc, two, bytes) else {
         return false;
     };
     let status = two.status();
@@ -225,7 +225,7 @@ fn first_fault_of_bytes(alloc: Global, two: &mut NodeCore) -> Option<&'static st
             return Some(*words);
         }
     }
-    if goes_on(alloc, two) != Some(true) {
+    if go_on(alloc, two) != Some(true) {
         Some("the node continues from bytes that it can read")
     } else if two.losses() != 4 {
         Some("four messages are lost")
@@ -260,7 +260,7 @@ fn bytes_that_are_no_snapshot_count_as_lost(rt: HostRuntime) {
 
 // Ballot 2 of nodes 1 and 2 continues until nothing is said any more. What found no memory is said
 // again when time passes.
-fn settles(alloc: Global, one: &mut NodeCore, two: &mut NodeCore) {
+fn settle(alloc: Global, one: &mut NodeCore, two: &mut NodeCore) {
     for round in 0..16 {
         let said = take(alloc, two, Item::Tick(round));
         let asked = asks_for_2(&said);
@@ -275,7 +275,7 @@ fn settles(alloc: Global, one: &mut NodeCore, two: &mut NodeCore) {
 }
 
 // Client `a` connects by port 1. What finds no memory before it comes is done again.
-fn connects(alloc: Global, node: &mut NodeCore) -> Effects {
+fn connect(alloc: Global, node: &mut NodeCore) -> Effects {
     take(alloc, node, Item::Opened(Port(1), 0));
     for _ in 0..2 {
         if let Some(appended) = bring(alloc, node, 1, CONNECT, 0) {
@@ -302,9 +302,9 @@ type Came = (u64, usize);
 // Returns what came, if client `a` does not find its session at node 2; or, if a loss was counted,
 // finds another than a session, no session, or no node that serves.
 fn came_instead_of_session(alloc: Global, one: &mut NodeCore, two: &mut NodeCore) -> Option<Came> {
-    let appended = connects(alloc, two);
-    commits(alloc, one, two, appended);
-    settles(alloc, one, two);
+    let appended = connect(alloc, two);
+    commit(alloc, one, two, appended);
+    settle(alloc, one, two);
     let out = handed(alloc, two);
     let losses = one.losses().saturating_add(two.losses());
     let is_well = match losses {
@@ -322,7 +322,7 @@ fn came_instead_of_session(alloc: Global, one: &mut NodeCore, two: &mut NodeCore
 // Returns what came, if a session does not move by a snapshot although no allocation is refused, or
 // more than one step is counted.
 fn came_instead_of_move(alloc: Global, one: &mut NodeCore, two: &mut NodeCore) -> Option<Came> {
-    connects(alloc, one);
+    connect(alloc, one);
     for _ in 0..2 {
         take(alloc, one, Item::Cut);
     }
@@ -330,7 +330,7 @@ fn came_instead_of_move(alloc: Global, one: &mut NodeCore, two: &mut NodeCore) -
         return None;
     };
     tell(alloc, two, 0, ballot);
-    settles(alloc, one, two);
+    settle(alloc, one, two);
     came_instead_of_session(alloc, one, two)
 }
 

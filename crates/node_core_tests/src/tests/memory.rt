@@ -73,7 +73,7 @@ fn rows_seen(alloc: Global, node: &mut NodeCore) -> (Seen, Seen) {
 }
 
 // Says whether these are the bytes of this many of the packets.
-fn are(bytes: &[u8], packets: &[&[u8]]) -> bool {
+fn are_packets(bytes: &[u8], packets: &[&[u8]]) -> bool {
     let mut rest = bytes;
     for packet in packets {
         match rest.strip_prefix(*packet) {
@@ -85,7 +85,7 @@ fn are(bytes: &[u8], packets: &[&[u8]]) -> bool {
 }
 
 // Says whether these bytes begin those of the packets.
-fn begin(bytes: &[u8], packets: &[&[u8]]) -> bool {
+fn are_prefix_of(bytes: &[u8], packets: &[&[u8]]) -> bool {
     let mut rest = bytes;
     for packet in packets {
         match rest.strip_prefix(*packet) {
@@ -100,17 +100,17 @@ fn begin(bytes: &[u8], packets: &[&[u8]]) -> bool {
 // The packets of a publisher that was closed may not have been read.
 fn has_no_gap(subscriber: &Seen, publisher: &Seen) -> bool {
     let told = subscriber.bytes.as_slice();
-    let unheard = !publisher.open && are(told, &TO_SUBSCRIBER[..2]);
+    let unheard = !publisher.open && are_packets(told, &TO_SUBSCRIBER[..2]);
     let subscriber_is_well = if subscriber.open {
-        are(told, TO_SUBSCRIBER) || unheard
+        are_packets(told, TO_SUBSCRIBER) || unheard
     } else {
-        begin(told, TO_SUBSCRIBER)
+        are_prefix_of(told, TO_SUBSCRIBER)
     };
     let answered = publisher.bytes.as_slice();
     let publisher_is_well = if publisher.open {
-        are(answered, TO_PUBLISHER)
+        are_packets(answered, TO_PUBLISHER)
     } else {
-        begin(answered, TO_PUBLISHER)
+        are_prefix_of(answered, TO_PUBLISHER)
     };
     subscriber_is_well && publisher_is_well
 }

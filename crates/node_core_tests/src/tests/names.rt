@@ -7,7 +7,7 @@ use node_core::{Body, Command, Item, Members, NodeCore, Port};
 use std::alloc::Global;
 
 // Says whether a connection is accepted by the node, the sole member of ballot 1.
-fn serves(alloc: Global, node: &mut NodeCore) -> bool {
+fn serve(alloc: Global, node: &mut NodeCore) -> bool {
     take(alloc, node, Item::Opened(Port(1), 0));
     bring(alloc, node, 1, CONNECT_A, 0).is_some()
 }
@@ -29,7 +29,7 @@ fn change(alloc: Global, node: &mut NodeCore, ballot: Body<Command>) {
 }
 
 // Says whether the node becomes the primary of ballot 2.
-fn changes(alloc: Global, node: &mut NodeCore) -> bool {
+fn change_to_2(alloc: Global, node: &mut NodeCore) -> bool {
     match ballot_2(alloc) {
         Some(ballot) => {
             change(alloc, node, ballot);
@@ -63,9 +63,9 @@ fn is_named(
 // Checks how a connection of ballot 1 and two of ballot 2 are numbered. Returns the first step that
 // fails.
 fn first_fault(alloc: Global, node: &mut NodeCore) -> Option<&'static str> {
-    if !serves(alloc, node) {
+    if !serve(alloc, node) {
         Some("a CONNECT comes in ballot 1")
-    } else if !changes(alloc, node) {
+    } else if !change_to_2(alloc, node) {
         Some("there is memory for ballot 2")
     } else if !is_named(alloc, node, 2, CONNECT_A, (2, 1)) {
         Some("the CONNECT of port 2 is sent as connection 1 of ballot 2")

@@ -9,7 +9,7 @@ use std::marker::Brand;
 use std::sync::Wait;
 
 // Says whether a lane sends an item.
-fn sends<J: Naming, R: Wait>(rt: &R, lanes: &mut [Lane<u64, J>], index: usize, item: u64) -> bool {
+fn send<J: Naming, R: Wait>(rt: &R, lanes: &mut [Lane<u64, J>], index: usize, item: u64) -> bool {
     match lanes.get_mut(index) {
         Some(lane) => {
             let receipt = lane.receipt();
@@ -20,7 +20,7 @@ fn sends<J: Naming, R: Wait>(rt: &R, lanes: &mut [Lane<u64, J>], index: usize, i
 }
 
 // Says whether this is taken.
-fn takes<J: Naming, R: Wait>(
+fn take<J: Naming, R: Wait>(
     rt: &R,
     receiver: &mut Receiver<u64, J>,
     wanted: Option<(u8, u64)>,
@@ -31,7 +31,7 @@ fn takes<J: Naming, R: Wait>(
 
 // Says whether one item of each lane was taken, and one of the second is left over; none if memory
 // was refused for the question.
-fn settles<J: Naming, R: Wait>(
+fn settle<J: Naming, R: Wait>(
     rt: &R,
     alloc: Global,
     receiver: &mut Receiver<u64, J>,
@@ -57,9 +57,9 @@ fn is_settled<J: Naming, R: Wait>(
     receiver: &mut Receiver<u64, J>,
     lanes: &mut [Lane<u64, J>],
 ) -> bool {
-    match settles(rt, alloc, receiver, lanes) {
+    match settle(rt, alloc, receiver, lanes) {
         Some(is_right) => is_right,
-        None => settles(rt, alloc, receiver, lanes) == Some(true),
+        None => settle(rt, alloc, receiver, lanes) == Some(true),
     }
 }
 
@@ -71,17 +71,17 @@ fn first_fault<J: Naming, R: Wait>(
     receiver: &mut Receiver<u64, J>,
     lanes: &mut [Lane<u64, J>],
 ) -> Option<&'static str> {
-    if !sends(rt, lanes, 1, 20) {
+    if !send(rt, lanes, 1, 20) {
         Some("the second lane sends 20")
-    } else if !sends(rt, lanes, 0, 10) {
+    } else if !send(rt, lanes, 0, 10) {
         Some("the first lane sends 10")
-    } else if !takes(rt, receiver, Some((1, 20))) {
+    } else if !take(rt, receiver, Some((1, 20))) {
         Some("20 of the second lane is taken first")
-    } else if !takes(rt, receiver, Some((0, 10))) {
+    } else if !take(rt, receiver, Some((0, 10))) {
         Some("10 of the first lane is taken then")
-    } else if !takes(rt, receiver, None) {
+    } else if !take(rt, receiver, None) {
         Some("nothing else is taken")
-    } else if !sends(rt, lanes, 1, 21) {
+    } else if !send(rt, lanes, 1, 21) {
         Some("the second lane sends 21")
     } else if !is_settled(rt, alloc, receiver, lanes) {
         Some("one item of each lane was taken, and 21 is left over")

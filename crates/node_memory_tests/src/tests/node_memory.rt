@@ -37,7 +37,7 @@ fn piece(alloc: Global) -> Option<Piece> {
 }
 
 // Says whether the lane sends an item.
-fn sends<J: NodeNaming, R: Wait>(rt: &R, lanes: &mut [Lane<Item, J>], item: Item) -> bool {
+fn send<J: NodeNaming, R: Wait>(rt: &R, lanes: &mut [Lane<Item, J>], item: Item) -> bool {
     match lanes.first_mut() {
         Some(lane) => {
             let receipt = lane.receipt();
@@ -48,19 +48,19 @@ fn sends<J: NodeNaming, R: Wait>(rt: &R, lanes: &mut [Lane<Item, J>], item: Item
 }
 
 // Says whether the lane sends that a connection is opened, the CONNECT, and a tick.
-fn sends_all<J: NodeNaming, R: Wait>(rt: &R, alloc: Global, lanes: &mut [Lane<Item, J>]) -> bool {
+fn send_all<J: NodeNaming, R: Wait>(rt: &R, alloc: Global, lanes: &mut [Lane<Item, J>]) -> bool {
     match piece(alloc) {
         Some(piece) => {
-            sends(rt, lanes, Item::Opened(PORT, 0))
-                && sends(rt, lanes, Item::Bytes(PORT, piece, 0))
-                && sends(rt, lanes, Item::Tick(1))
+            send(rt, lanes, Item::Opened(PORT, 0))
+                && send(rt, lanes, Item::Bytes(PORT, piece, 0))
+                && send(rt, lanes, Item::Tick(1))
         }
         None => false,
     }
 }
 
 // Says whether an item is taken, or is not, with no effect on other nodes.
-fn takes<J: NodeNaming, R: Wait>(
+fn take<J: NodeNaming, R: Wait>(
     rt: &R,
     alloc: Global,
     state: &mut NodeState<J>,
@@ -101,15 +101,15 @@ fn first_fault<J: NodeNaming, R: Wait>(
     state: &mut NodeState<J>,
     lanes: &mut [Lane<Item, J>],
 ) -> Option<&'static str> {
-    if !sends_all(rt, alloc, lanes) {
+    if !send_all(rt, alloc, lanes) {
         Some("the lane sends three items")
-    } else if !(0..3).all(|_| takes(rt, alloc, state, true)) {
+    } else if !(0..3).all(|_| take(rt, alloc, state, true)) {
         Some("each of them is taken, with no effect")
-    } else if !takes(rt, alloc, state, false) {
+    } else if !take(rt, alloc, state, false) {
         Some("no other item is taken")
     } else if !is_answered(alloc, state) {
         Some("the CONNECT is answered, or one loss is counted")
-    } else if !sends(rt, lanes, Item::Tick(2)) {
+    } else if !send(rt, lanes, Item::Tick(2)) {
         Some("the lane sends another tick")
     } else {
         None
@@ -117,21 +117,21 @@ fn first_fault<J: NodeNaming, R: Wait>(
 }
 
 // Says whether three items were taken, and the last tick is left over.
-fn tells(report: &Report) -> bool {
+fn has_three_taken(report: &Report) -> bool {
     report.taken.as_slice() == [3].as_slice()
         && report.left.len() == 1
         && matches!(report.left.first(), Some((0, Item::Tick(2))))
 }
 
 // Says whether the node's report says this, if there is memory for it.
-fn closes<J: NodeNaming, R: Wait>(
+fn close<J: NodeNaming, R: Wait>(
     rt: &R,
     alloc: Global,
     state: NodeState<J>,
     lanes: &mut [Lane<Item, J>],
 ) -> bool {
     match Report::with_capacity(alloc, state.lanes()) {
-        Ok(report) => state.has_all(lanes) && tells(&state.close(rt, lanes, report, 0)),
+        Ok(report) => state.has_all(lanes) && has_three_taken(&state.close(rt, lanes, report, 0)),
         Err(_) => true,
     }
 }
@@ -160,7 +160,7 @@ fn first_fault_in<J: NodeNaming, R: Wait>(
         Ok((receiver, mut lanes)) => {
             let mut state = NodeState::new(receiver, core);
             let fault = first_fault(rt, alloc, &mut state, lanes.as_mut_slice());
-            let is_told = closes(rt, alloc, state, lanes.as_mut_slice());
+            let is_told = close(rt, alloc, state, lanes.as_mut_slice());
             fault_or_report(fault, is_told)
         }
         Err(_) => None,

@@ -2,7 +2,7 @@
 
 ghost use Rattle.std.specs.Prelude.{◌≡◌};
 
-use super::nodes::{Start, fresh_two, sends};
+use super::nodes::{Start, fresh_two, send};
 use mailbox::Lane;
 use node::{Gate, Item, Node, NodeNaming, NodeState, Report, Stated};
 use std::alloc::Global;
@@ -98,7 +98,7 @@ impl Gate for Meeting {
 }
 
 // Says whether a node takes an item, as its gate lets it.
-fn takes<J, S, R>(rt: &R, alloc: Global, node: &Node<'_, J, S, Meeting>) -> bool
+fn take_one<J, S, R>(rt: &R, alloc: Global, node: &Node<'_, J, S, Meeting>) -> bool
 where
     J: NodeNaming,
     S: Stated<J>,
@@ -117,13 +117,13 @@ where
 }
 
 // Says whether a node takes this many items, one after another.
-fn takes_all<J, S, R>(rt: &R, alloc: Global, node: &Node<'_, J, S, Meeting>, count: u64) -> bool
+fn take_all<J, S, R>(rt: &R, alloc: Global, node: &Node<'_, J, S, Meeting>, count: u64) -> bool
 where
     J: NodeNaming,
     S: Stated<J>,
     R: Wait + Clock,
 {
-    (0..count).all(|_| takes(rt, alloc, node))
+    (0..count).all(|_| take_one(rt, alloc, node))
 }
 
 // Says whether both nodes take this many items, each in a thread of its own.
@@ -141,8 +141,8 @@ where
 {
     let (one, other) = thread::join(
         rt,
-        || takes_all(rt, alloc, first, count),
-        || takes_all(rt, alloc, second, count),
+        || take_all(rt, alloc, first, count),
+        || take_all(rt, alloc, second, count),
     );
     one && other
 }
@@ -163,15 +163,15 @@ where
 }
 
 // Says whether three ticks are sent by the only lane of a node.
-fn sends_three<J: NodeNaming, R: Wait>(rt: &R, lanes: &mut [Lane<Item, J>]) -> bool {
-    sends(rt, lanes, 0, Item::Tick(1))
-        && sends(rt, lanes, 0, Item::Tick(2))
-        && sends(rt, lanes, 0, Item::Tick(3))
+fn send_three<J: NodeNaming, R: Wait>(rt: &R, lanes: &mut [Lane<Item, J>]) -> bool {
+    send(rt, lanes, 0, Item::Tick(1))
+        && send(rt, lanes, 0, Item::Tick(2))
+        && send(rt, lanes, 0, Item::Tick(3))
 }
 
 // Says whether a report says that this many of three ticks were taken and the others are left over,
 // and that the gate was missed this many times.
-fn tells(report: &Report, taken: u64, missed: u64) -> bool {
+fn has_taken_and_missed(report: &Report, taken: u64, missed: u64) -> bool {
     report.taken.as_slice() == [taken].as_slice()
         && report.left.len() as u64 == 3u64.saturating_sub(taken)
         && report.left.iter().zip(taken.saturating_add(1)..=3).all(|((lane, item), time)| {
@@ -181,7 +181,7 @@ fn tells(report: &Report, taken: u64, missed: u64) -> bool {
 }
 
 // Says whether a node reports so at its end.
-fn closes<J: NodeNaming, R: Wait>(
+fn close<J: NodeNaming, R: Wait>(
     rt: &R,
     node: Node<'_, J, NodeState<J>, Meeting>,
     lanes: &mut [Lane<Item, J>],
@@ -190,7 +190,7 @@ fn closes<J: NodeNaming, R: Wait>(
 ) -> bool {
     if node.has_all(lanes) {
         let report = node.close(rt, lanes);
-        let is_told = tells(&report, taken, missed);
+        let is_told = has_taken_and_missed(&report, taken, missed);
         drop(report);
         is_told
     } else {
@@ -257,7 +257,7 @@ where
     match Node::start(alloc, state, Some(gate)) {
         Ok(node) => {
             let fault = meet_with(rt, alloc, &node, lanes, second, gate);
-            let closed = closes(rt, node, lanes, 2, gate.missed());
+            let closed = close(rt, node, lanes, 2, gate.missed());
             fault.or(unless(closed, "each node reports so")).or(unless(
                 gate.heard_all(rt, 2),
                 "the gate is asked for and informed of each taking",
@@ -318,9 +318,9 @@ where
 {
     match Node::start(alloc, state, Some(gate)) {
         Ok(other) => {
-            let sent = sends_three(rt, lanes) && sends_three(rt, other_lanes);
+            let sent = send_three(rt, lanes) && send_three(rt, other_lanes);
             let took = take_both_states(rt, alloc, node, &other, 2);
-            let closed = closes(rt, other, other_lanes, 2, gate.missed());
+            let closed = close(rt, other, other_lanes, 2, gate.missed());
             unless(sent, "each lane sends three ticks")
                 .or(unless(took, "each node takes two"))
                 .or(unless(closed, "each node reports so"))

@@ -52,7 +52,7 @@ fn take<J: Naming, R: Wait>(rt: &R, receiver: &mut Receiver<u64, J>) -> Option<(
 }
 
 // Says whether an item is sent, or comes back.
-fn sends<J: Naming, R: Wait>(
+fn send_and_compare<J: Naming, R: Wait>(
     rt: &R,
     lanes: &mut [Lane<u64, J>],
     index: usize,
@@ -71,7 +71,7 @@ fn lacks_one<J: Naming>(receiver: &Receiver<u64, J>, lanes: &[Lane<u64, J>]) -> 
 }
 
 // Says whether the inbox is settled so.
-fn settles<J: Naming, R: Wait>(
+fn settle<J: Naming, R: Wait>(
     rt: &R,
     alloc: Global,
     receiver: &mut Receiver<u64, J>,
@@ -101,16 +101,16 @@ fn is_right<J: Naming, R: Wait>(
     act: Act<'_>,
 ) -> bool {
     match act {
-        Act::Send(index, item) => sends(rt, lanes, index, item, Ok(())),
+        Act::Send(index, item) => send_and_compare(rt, lanes, index, item, Ok(())),
         Act::SendMany(index, count) => {
-            (0..count).all(|item| sends(rt, lanes, index, item, Ok(())))
+            (0..count).all(|item| send_and_compare(rt, lanes, index, item, Ok(())))
         }
-        Act::HandBack(index, item) => sends(rt, lanes, index, item, Err(item)),
+        Act::HandBack(index, item) => send_and_compare(rt, lanes, index, item, Err(item)),
         Act::Count(index, count) => lanes.get(index).map(Lane::count) == Some(count),
         Act::Take(wanted) => take(rt, receiver) == wanted,
         Act::Lanes(count) => receiver.lanes() == count && lanes.len() == count,
         Act::HasAll => receiver.has_all(lanes) && lacks_one(receiver, lanes),
-        Act::Settle(counts, left) => settles(rt, alloc, receiver, lanes, counts, left),
+        Act::Settle(counts, left) => settle(rt, alloc, receiver, lanes, counts, left),
     }
 }
 
@@ -202,7 +202,7 @@ impl<J: Naming> Two<J> {
     // Says whether the lane of the inbox at this index sends an item.
     fn send<R: Wait>(&self, rt: &R, at: usize, item: u64) -> bool {
         match self.lanes.get(at) {
-            Some(lanes) => sends(rt, lanes.lock(rt).as_mut_slice(), 0, item, Ok(())),
+            Some(lanes) => send_and_compare(rt, lanes.lock(rt).as_mut_slice(), 0, item, Ok(())),
             None => false,
         }
     }

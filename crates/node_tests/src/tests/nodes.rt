@@ -105,8 +105,8 @@ fn sole(alloc: Global, number: u8) -> Result<NodeCore, Fail>
     Ok(NodeCore::new(alloc, number, &config)?)
 }
 
-/// Says whether a lane sends an item.
-pub(super) fn sends<J: NodeNaming, R: Wait>(
+/// Sends an item by a lane, and returns whether it was sent.
+pub(super) fn send<J: NodeNaming, R: Wait>(
     rt: &R,
     lanes: &mut [Lane<Item, J>],
     index: usize,
@@ -131,7 +131,7 @@ pub(super) fn sends<J: NodeNaming, R: Wait>(
 }
 
 // Says whether a lane sends bytes of the connection.
-fn sends_bytes<J: NodeNaming, R: Wait>(
+fn send_bytes<J: NodeNaming, R: Wait>(
     rt: &R,
     alloc: Global,
     lanes: &mut [Lane<Item, J>],
@@ -139,13 +139,13 @@ fn sends_bytes<J: NodeNaming, R: Wait>(
     bytes: &[u8],
 ) -> bool {
     match Piece::from_slice(alloc, bytes) {
-        Ok(piece) => sends(rt, lanes, index, Item::Bytes(PORT, piece, 0)),
+        Ok(piece) => send(rt, lanes, index, Item::Bytes(PORT, piece, 0)),
         Err(_) => false,
     }
 }
 
-/// Says whether an item is taken, or is not, with no effect on other nodes.
-pub(super) fn takes<J: NodeNaming, R: Wait>(
+/// Takes an item, and returns whether there was one as wanted, with no effect on other nodes.
+pub(super) fn take_one<J: NodeNaming, R: Wait>(
     rt: &R,
     alloc: Global,
     state: &mut NodeState<J>,
@@ -186,10 +186,10 @@ fn is_right<J: NodeNaming, R: Wait>(
     act: Act<'_>,
 ) -> bool {
     match act {
-        Act::Open(index) => sends(rt, lanes, index, Item::Opened(PORT, 0)),
-        Act::Bytes(index, bytes) => sends_bytes(rt, alloc, lanes, index, bytes),
-        Act::Tick(index, now) => sends(rt, lanes, index, Item::Tick(now)),
-        Act::Take(wanted) => takes(rt, alloc, state, wanted),
+        Act::Open(index) => send(rt, lanes, index, Item::Opened(PORT, 0)),
+        Act::Bytes(index, bytes) => send_bytes(rt, alloc, lanes, index, bytes),
+        Act::Tick(index, now) => send(rt, lanes, index, Item::Tick(now)),
+        Act::Take(wanted) => take_one(rt, alloc, state, wanted),
         Act::Meet(index, wanted) => met(state, lanes, index) == Some(wanted),
         Act::Held(wanted) => state.status().held == wanted,
         Act::HandOver(bytes) => hands_over(alloc, state, bytes),
@@ -212,7 +212,7 @@ fn first_fault_of_acts<J: NodeNaming, R: Wait>(
 }
 
 // Says whether a report is that of a run.
-fn tells(report: &Report, run: &Run<'_>) -> bool {
+fn is_report_of(report: &Report, run: &Run<'_>) -> bool {
     report.taken.as_slice() == run.taken
         && report.left.len() == run.left.len()
         && report.left.iter().zip(run.left).all(|((lane, item), (wanted, time))| {
@@ -221,7 +221,7 @@ fn tells(report: &Report, run: &Run<'_>) -> bool {
 }
 
 // Says whether the node's report is that of the run, once its lanes send no more.
-fn closes<J: NodeNaming, R: Wait>(
+fn close<J: NodeNaming, R: Wait>(
     rt: &R,
     node: Node<'_, J, NodeState<J>, NoGate>,
     lanes: &mut [Lane<Item, J>],
@@ -229,7 +229,7 @@ fn closes<J: NodeNaming, R: Wait>(
 ) -> bool {
     if node.has_all(lanes) {
         let report = node.close(rt, lanes);
-        let is_told = tells(&report, run);
+        let is_told = is_report_of(&report, run);
         drop(report);
         is_told
     } else {
@@ -258,7 +258,7 @@ fn first_fault_with<J: NodeNaming, R: Wait>(
     match Node::start(alloc, state, None::<&NoGate>) {
         Ok(node) => {
             let act = first_fault_of_acts(rt, alloc, &node, lanes, run.acts);
-            fault_of(act, closes(rt, node, lanes, run))
+            fault_of(act, close(rt, node, lanes, run))
         }
         Err(_) => Some(Fault::Start),
     }

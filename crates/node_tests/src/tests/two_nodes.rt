@@ -2,7 +2,7 @@
 
 ghost use Rattle.std.specs.Prelude.{◌≡◌};
 
-use super::nodes::{Start, fresh_two, met, sends, takes};
+use super::nodes::{Start, fresh_two, met, send, take_one};
 use mailbox::Lane;
 use node::{Item, NodeNaming, NodeState};
 use std::alloc::Global;
@@ -33,7 +33,7 @@ impl<J: NodeNaming> Two<J> {
     // Says whether the lane of the node at this index sends a tick.
     fn send<R: Wait>(&self, rt: &R, at: usize, now: u64) -> bool {
         match self.lanes.get(at) {
-            Some(lanes) => sends(rt, lanes.lock(rt).as_mut_slice(), 0, Item::Tick(now)),
+            Some(lanes) => send(rt, lanes.lock(rt).as_mut_slice(), 0, Item::Tick(now)),
             None => false,
         }
     }
@@ -41,7 +41,7 @@ impl<J: NodeNaming> Two<J> {
     // Says whether the node at this index takes an item, or finds none.
     fn take<R: Wait>(&self, rt: &R, alloc: Global, at: usize, wanted: bool) -> bool {
         match self.nodes.get(at) {
-            Some(node) => takes(rt, alloc, &mut node.lock(rt), wanted),
+            Some(node) => take_one(rt, alloc, &mut node.lock(rt), wanted),
             None => false,
         }
     }

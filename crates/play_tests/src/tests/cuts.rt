@@ -19,7 +19,7 @@ fn without_number(line: &str) -> &str {
 
 // Says whether a transcript is another one with one more line after this many events, and that line
 // has no new message and no new agreed command.
-fn is_own_with(written: &str, own: &str, events: usize) -> bool {
+fn has_one_line_more(written: &str, own: &str, events: usize) -> bool {
     let mut rest = own.lines();
     let mut seen = 0;
     for line in written.lines() {
@@ -37,15 +37,15 @@ fn is_own_with(written: &str, own: &str, events: usize) -> bool {
 
 // Says whether a script with a cut inserted at this byte, after this many events, continues as
 // without the cut.
-fn goes_as_ever(alloc: Global, row: &[&str; 2], at: usize, events: usize, line: &[u8]) -> bool {
+fn is_unchanged_by(alloc: Global, row: &[&str; 2], at: usize, events: usize, line: &[u8]) -> bool {
     let played = transcript_with(alloc, row[0], at, line);
-    is_own_with(text_of(&played), row[1], events)
+    has_one_line_more(text_of(&played), row[1], events)
 }
 
 // Says whether a script continues as without it with a cut of each node inserted there.
-fn goes_with_each(alloc: Global, row: &[&str; 2], at: usize, events: usize) -> bool {
+fn is_unchanged_by_each(alloc: Global, row: &[&str; 2], at: usize, events: usize) -> bool {
     CUTS.iter()
-        .all(|line| goes_as_ever(alloc, row, at, events, line))
+        .all(|line| is_unchanged_by(alloc, row, at, events, line))
 }
 
 // Returns after how many events of a script a cut of a node changes it. The first line is no event.
@@ -53,7 +53,7 @@ fn first_fault(alloc: Global, row: &[&str; 2]) -> Option<usize> {
     let mut events = 0;
     for (at, byte) in row[0].as_bytes().iter().enumerate() {
         if *byte == b'\n' {
-            if !goes_with_each(alloc, row, at.saturating_add(1), events) {
+            if !is_unchanged_by_each(alloc, row, at.saturating_add(1), events) {
                 return Some(events);
             }
             events = events.saturating_add(1);

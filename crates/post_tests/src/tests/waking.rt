@@ -63,32 +63,32 @@ fn two_nodes(alloc: Global) -> Result<Cluster, Fail> {
     Ok(Cluster::new(alloc, &[1, 2], &config)?)
 }
 
-// Says whether a message is queued for this node: that of the ballot of which it is the primary.
-fn assigns<R: Wait>(rt: &R, alloc: Global, cluster: &Cluster, node: u8) -> bool {
+// Assigns a ballot of which this node is the primary, and returns whether its message is queued.
+fn assign<R: Wait>(rt: &R, alloc: Global, cluster: &Cluster, node: u8) -> bool {
     match config_by(alloc, node) {
         Ok(config) => cluster.assign(rt, config).is_ok(),
         Err(_) => false,
     }
 }
 
-// Says whether it is done, with the result of the row.
-fn does<R: Wait>(rt: &R, alloc: Global, cluster: &Cluster, act: Act) -> bool {
+// Does what a row asks, and returns whether that has the result of the row.
+fn do_act<R: Wait>(rt: &R, alloc: Global, cluster: &Cluster, act: Act) -> bool {
     match act {
         Act::Look => true,
-        Act::Assign(node) => assigns(rt, alloc, cluster, node),
+        Act::Assign(node) => assign(rt, alloc, cluster, node),
         Act::WakeUrgent => {
             cluster.wake_urgent(rt);
             true
         }
         Act::Doze(node, _) | Act::Wake(node) | Act::Take(node) => match cluster.node(node) {
-            Some(peer) => does_at(rt, alloc, peer, act),
+            Some(peer) => do_act_at(rt, alloc, peer, act),
             None => false,
         },
     }
 }
 
-// Says whether it is done to this node.
-fn does_at<R: Wait>(rt: &R, alloc: Global, peer: &Peer, act: Act) -> bool {
+// Does it to this node, and returns the same.
+fn do_act_at<R: Wait>(rt: &R, alloc: Global, peer: &Peer, act: Act) -> bool {
     match act {
         Act::Doze(_, finds) => peer.doze(rt) == finds,
         Act::Wake(_) => {
@@ -114,7 +114,7 @@ fn first_fault<R: Wait>(rt: &R, alloc: Global, cluster: &Cluster) -> Option<Faul
     for (words, act, (first, second)) in ROWS {
         let came = (
             *words,
-            does(rt, alloc, cluster, *act),
+            do_act(rt, alloc, cluster, *act),
             shown(rt, cluster, 1),
             shown(rt, cluster, 2),
         );
@@ -147,7 +147,7 @@ fn is_woken<R: Wait + Clock>(rt: &R, peer: &Peer) -> Option<bool> {
 fn helped<R: Wait + Clock>(rt: &R, alloc: Global, cluster: &Cluster) -> Option<(bool, bool)> {
     let peer = cluster.node(1)?;
     for _ in 0..17u8 {
-        if !assigns(rt, alloc, cluster, 1) {
+        if !assign(rt, alloc, cluster, 1) {
             return None;
         }
     }

@@ -99,7 +99,7 @@ impl Meeting {
     }
 
     // A node asks for a taking, or has done it.
-    fn notes<R: Wait>(&self, rt: &R, node: u8, taking: u64, is_done: bool) {
+    fn note<R: Wait>(&self, rt: &R, node: u8, taking: u64, is_done: bool) {
         let mut done = self.done.lock(rt);
         let Some(done) = done.get_mut(usize::from(node).wrapping_sub(1)) else {
             return;
@@ -113,7 +113,7 @@ impl Meeting {
     }
 
     // Notes that a node comes or goes; says whether all are there.
-    fn sees<R: Wait>(&self, rt: &R, node: u8, comes: bool) -> bool {
+    fn see<R: Wait>(&self, rt: &R, node: u8, comes: bool) -> bool {
         let mut there = self.there.lock(rt);
         if let Some(entry) = there.get_mut(usize::from(node).wrapping_sub(1)) {
             *entry = comes;
@@ -134,16 +134,16 @@ impl Gate for Meeting {
     ghost hears = { λ _ _ _. Unit {0} };
 
     fn open<R: Wait>(&self, rt: &R, node: u8, taking: u64) -> bool {
-        self.notes(rt, node, taking, false);
-        if self.sees(rt, node, true) {
+        self.note(rt, node, taking, false);
+        if self.see(rt, node, true) {
             *self.met.lock(rt) = true;
         }
         self.has_met(rt)
     }
 
     fn answered<R: Wait>(&self, rt: &R, node: u8, taking: u64) {
-        self.notes(rt, node, taking, true);
-        self.sees(rt, node, false);
+        self.note(rt, node, taking, true);
+        self.see(rt, node, false);
     }
 }
 

@@ -66,11 +66,11 @@ fn silence_on<R: Clock>(rt: &R, start: Instant, stream: &mut TcpStream) -> Resul
         hear_end_within(stream, 10_000),
         "the stream ends, and nothing more is sent",
     )?;
-    unless(has_taken(rt, start), "it ends after 1.5 to 5 seconds")
+    unless(ended_in_time(rt, start), "it ends after 1.5 to 5 seconds")
 }
 
 // Says whether 1.5 to 5 seconds have passed.
-fn has_taken<R: Clock>(rt: &R, start: Instant) -> bool {
+fn ended_in_time<R: Clock>(rt: &R, start: Instant) -> bool {
     match start.elapsed(rt) {
         Ok(took) => took.as_millis() > 1_500 && took.as_millis() < 5_000,
         Err(_) => false,

@@ -94,11 +94,11 @@ where
         listeners,
         &config,
         &NoGate,
-        |_cluster| sends(rt, row, listeners.first()),
+        |_cluster| send_all(rt, row, listeners.first()),
     );
     match served {
         Ok((sent, reports)) => sent.and(unless(
-            are_as_told(reports.as_slice(), row.are_cut),
+            are_cut_where_wanted(reports.as_slice(), row.are_cut),
             "just the logs of these nodes are cut",
         )),
         Err(_) => Err(Fault::new("the nodes serve")),
@@ -107,7 +107,7 @@ where
 
 // Sends the publications, which have to be taken, and then waits. Returns the first step that
 // fails.
-fn sends<R>(rt: &R, row: &Row, listener: Option<&Listener>) -> Result<(), Fault>
+fn send_all<R>(rt: &R, row: &Row, listener: Option<&Listener>) -> Result<(), Fault>
 where
     R: AllocGlobal + Wait + Clock + Net<Stream = TcpStream>,
 {
@@ -115,13 +115,13 @@ where
         return Err(Fault::new("there is memory for a publication"));
     };
     match named(join(rt, listener, b's', false), "a client comes") {
-        Ok(mut stream) => sends_on(rt, row, &mut stream, large.as_slice()),
+        Ok(mut stream) => send_all_on(rt, row, &mut stream, large.as_slice()),
         Err(fault) => Err(fault),
     }
 }
 
 // The same on a stream of the client, with this publication.
-fn sends_on<R>(rt: &R, row: &Row, stream: &mut TcpStream, large: &[u8]) -> Result<(), Fault>
+fn send_all_on<R>(rt: &R, row: &Row, stream: &mut TcpStream, large: &[u8]) -> Result<(), Fault>
 where
     R: Wait + Clock,
 {
@@ -132,7 +132,7 @@ where
 
 // Says whether the logs of these nodes were cut, and of no others: a log that was cut begins at a
 // higher place than the first.
-fn are_as_told(reports: &[NodeReport], are_cut: &[bool]) -> bool {
+fn are_cut_where_wanted(reports: &[NodeReport], are_cut: &[bool]) -> bool {
     reports.len() == are_cut.len()
         && reports
             .iter()

@@ -58,9 +58,9 @@ where
     served.unwrap_or(Err(Fault::new("the nodes serve")))
 }
 
-/// Says whether the next ballot is given to these members, and their primary becomes the active
+/// Gives the next ballot to these members, and returns whether their primary becomes the active
 /// one.
-pub(super) fn moves_to<R>(rt: &R, cluster: &Cluster, members: &[u8], primary: u8) -> bool
+pub(super) fn move_to<R>(rt: &R, cluster: &Cluster, members: &[u8], primary: u8) -> bool
 where
     R: AllocGlobal + Wait + Clock,
 {

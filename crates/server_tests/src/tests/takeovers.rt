@@ -1,6 +1,6 @@
 // Sessions that continue at another node.
 
-use super::nodes::{fault_in, moves_to};
+use super::nodes::{fault_in, move_to};
 use super::row::{Row, Table};
 use server::{Cluster, Listener};
 use server_clients::{
@@ -44,7 +44,7 @@ where
         "all that the client sends node 1 is answered",
     )?;
     unless(
-        moves_to(rt, cluster, &[2], 2),
+        move_to(rt, cluster, &[2], 2),
         "node 2 becomes the active primary",
     )?;
     unless(cluster.crash(rt, 1) == Ok(true), "node 1 crashes")?;
@@ -85,7 +85,7 @@ where
 {
     begin(rt, cluster, listeners.first(), heard)?;
     unless(
-        moves_to(rt, cluster, &[2, 3], 2),
+        move_to(rt, cluster, &[2, 3], 2),
         "node 2 becomes the active primary",
     )?;
     named(

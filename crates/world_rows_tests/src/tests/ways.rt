@@ -6,7 +6,9 @@ use crate::tests::courses::{
 };
 use packet::ClientId;
 use std::alloc::Global;
-use world_rows::{Action, Command, EscapeError, Event, PRESENT, Row, World, does, named, opened};
+use world_rows::{
+    Action, Command, EscapeError, Event, PRESENT, Row, World, let_happen, named, opened,
+};
 
 // Lists of members: the rising ones of nodes 1 to 3, and some that no ballot may have.
 const LISTS: &[&[u8]] = &[
@@ -130,9 +132,9 @@ fn first_fault_at_end(
         Some("no step of the way counted a loss")
     } else if world.active().0 != ballot {
         Some("the next ballot is active at the end")
-    } else if !begins(before, world) {
+    } else if !begins_agreed(before, world) {
         Some("what was agreed before begins what is agreed at the end")
-    } else if !is_served(world, client) {
+    } else if !is_online_with_session(world, client) {
         Some("the client is online with its session at the end")
     } else {
         None
@@ -140,7 +142,7 @@ fn first_fault_at_end(
 }
 
 // Says whether a client is online with its session present.
-fn is_served(world: &World, client: &ClientId) -> bool {
+fn is_online_with_session(world: &World, client: &ClientId) -> bool {
     match world.client(client) {
         Some(core) => core.is_connected() && core.is_session_present(),
         None => false,
@@ -148,7 +150,7 @@ fn is_served(world: &World, client: &ClientId) -> bool {
 }
 
 // Says whether what is agreed in a world begins what is agreed in another.
-fn begins(before: &World, after: &World) -> bool {
+fn begins_agreed(before: &World, after: &World) -> bool {
     let (first, second) = before.agreed();
     let (more, most) = after.agreed();
     before.agreed_len() <= after.agreed_len()
@@ -156,11 +158,11 @@ fn begins(before: &World, after: &World) -> bool {
             .iter()
             .chain(second.iter())
             .zip(more.iter().chain(most.iter()))
-            .all(|(one, other)| is_same(one, other))
+            .all(|(one, other)| is_same_command(one, other))
 }
 
 // Says whether two commands are of one kind, and say the same for a client, of a ballot.
-fn is_same(one: &Command, other: &Command) -> bool {
+fn is_same_command(one: &Command, other: &Command) -> bool {
     match (one, other) {
         (Command::Connect(_, client, clean), Command::Connect(_, name, is_clean)) => {
             client == name && *clean == *is_clean
@@ -243,21 +245,21 @@ fn answer_in(
     client: &str,
     asked: Asked<'_>,
 ) -> Option<bool> {
-    if !all_hold(alloc, world, WAITS) || !all_happen(alloc, world, actions) {
+    if !all_hold(alloc, world, WAITS) || !let_all_happen(alloc, world, actions) {
         return None;
     }
     let name = named(alloc, client)?;
     match asked {
-        Asked::ComesBack => comes_back(world, &name),
-        Asked::IsIdle(members) => Some(is_idle(world, members, &name)),
+        Asked::ComesBack => bring_back(world, &name),
+        Asked::IsIdle(members) => Some(has_no_way_out(world, members, &name)),
         Asked::IsReported => Some(is_reported(world, &name)),
     }
 }
 
 // Says whether these events can happen, one after another.
-fn all_happen(alloc: Global, world: &mut World, actions: &[Action]) -> bool {
+fn let_all_happen(alloc: Global, world: &mut World, actions: &[Action]) -> bool {
     for action in actions {
-        if !does(alloc, world, action) {
+        if !let_happen(alloc, world, action) {
             return false;
         }
     }
@@ -265,26 +267,26 @@ fn all_happen(alloc: Global, world: &mut World, actions: &[Action]) -> bool {
 }
 
 // Says whether a client comes back at node 2 as sole member. None if no way out is returned.
-fn comes_back(world: &mut World, client: &ClientId) -> Option<bool> {
+fn bring_back(world: &mut World, client: &ClientId) -> Option<bool> {
     match world.escape(&[2], client) {
-        Ok(way) => is_back_by(world, way.as_slice(), client),
+        Ok(way) => bring_back_by(world, way.as_slice(), client),
         Err(_) => None,
     }
 }
 
 // Says whether it is back after these events: before the last one its CONNACK waits, and at the end
 // three commands are agreed in ballot 2.
-fn is_back_by(world: &mut World, way: &[Event], client: &ClientId) -> Option<bool> {
+fn bring_back_by(world: &mut World, way: &[Event], client: &ClientId) -> Option<bool> {
     let (last, front) = way.split_last()?;
     world.run(front);
     let waits = world.down(2) == PRESENT;
-    let comes = world.step(last).is_ok() && is_served(world, client);
+    let comes = world.step(last).is_ok() && is_online_with_session(world, client);
     let ends = world.agreed_len() == 3 && world.active().0 == 2 && world.losses() == 0;
     Some(way.len() == 10 && waits && comes && ends)
 }
 
 // Says whether there is no way out for these members and this client.
-fn is_idle(world: &World, members: &[u8], client: &ClientId) -> bool {
+fn has_no_way_out(world: &World, members: &[u8], client: &ClientId) -> bool {
     match world.escape(members, client) {
         Ok(_) => false,
         Err(error) => error == EscapeError::Idle,
@@ -297,7 +299,7 @@ fn is_reported(world: &mut World, client: &ClientId) -> bool {
     match world.escape(&[2], client) {
         Ok(way) => {
             world.run(way.as_slice());
-            world.losses() > 0 || (world.active().0 == 2 && is_served(world, client))
+            world.losses() > 0 || (world.active().0 == 2 && is_online_with_session(world, client))
         }
         Err(error) => error == EscapeError::Memory,
     }

@@ -18,8 +18,8 @@ fn deliver_from(world: &mut World, first: u64) {
     }
 }
 
-// Says whether members 1, 2 and 3 get a new ballot with this primary, and it becomes active.
-fn changes(alloc: Global, world: &mut World, primary: u8, ballot: u64) -> bool {
+// Gives members 1, 2 and 3 a new ballot with this primary, and returns whether it becomes active.
+fn change_primary(alloc: Global, world: &mut World, primary: u8, ballot: u64) -> bool {
     let first = world.messages();
     let Some(config) = config_of(alloc, &[1, 2, 3], primary) else {
         return false;
@@ -36,7 +36,7 @@ fn changes(alloc: Global, world: &mut World, primary: u8, ballot: u64) -> bool {
 fn first_fault(alloc: Global, world: &mut World) -> Option<u64> {
     for change in 0..CHANGES {
         let primary = (change.saturating_add(1) % 3) as u8 + 1;
-        if !changes(alloc, world, primary, change.saturating_add(2)) {
+        if !change_primary(alloc, world, primary, change.saturating_add(2)) {
             return Some(change);
         }
     }

@@ -96,20 +96,20 @@ impl Course {
 
 // Lets an event happen or be idle, and looks at what is agreed after it. It takes the event, so
 // that the drop of one is proved here alone.
-fn happens(world: &mut World, course: &mut Course, event: Event) -> bool {
+fn step(world: &mut World, course: &mut Course, event: Event) -> bool {
     let before = world.agreed_len();
     let happened = world.step(&event).is_ok();
     drop(event);
     course.events = course.events.saturating_add(1);
     if course.events % UNTIL_A_CUT == 0 {
-        cuts(world, course);
+        cut_next(world, course);
     }
     course.only_grows = course.only_grows && before <= world.agreed_len();
     happened
 }
 
 // The next node cuts its log, if it has something to cut.
-fn cuts(world: &mut World, course: &mut Course) {
+fn cut_next(world: &mut World, course: &mut Course) {
     let node = (course.events / UNTIL_A_CUT % 3) as u8 + 1;
     let cut = Event::Cut(node);
     if world.step(&cut).is_ok() {
@@ -119,29 +119,29 @@ fn cuts(world: &mut World, course: &mut Course) {
 }
 
 /// Lets the next event of the rule happen or be idle. False if it ran out of memory.
-pub fn goes_on(alloc: Global, world: &mut World, course: &mut Course) -> bool {
+pub fn step_next(alloc: Global, world: &mut World, course: &mut Course) -> bool {
     let number = course.draw() % 128;
     if number < 32 || course.is_behind(world) {
-        delivers(world, course);
+        deliver(world, course);
         return true;
     }
     match number {
-        32..=53 => carries_up(world, course),
-        54..=79 => carries_down(world, course),
-        80 => notices(world, course),
-        81..=86 => ticks(world, course),
-        87 => return gives(alloc, world, course),
-        _ => return calls(alloc, world, course, number),
+        32..=53 => carry_up(world, course),
+        54..=79 => carry_down(world, course),
+        80 => notice(world, course),
+        81..=86 => tick(world, course),
+        87 => return assign(alloc, world, course),
+        _ => return call(alloc, world, course, number),
     }
     true
 }
 
 // The next message comes; one in 32 is lost, and one in 8 comes again.
-fn delivers(world: &mut World, course: &mut Course) {
+fn deliver(world: &mut World, course: &mut Course) {
     let number = course.draw();
     if number % 8 == 0 {
         let early = number / 8 % world.messages().saturating_add(1);
-        happens(world, course, Event::Deliver(early));
+        step(world, course, Event::Deliver(early));
         return;
     }
     if number % 32 == 1 && course.next < world.messages() {
@@ -151,33 +151,33 @@ fn delivers(world: &mut World, course: &mut Course) {
     if next < world.messages() {
         course.next = next.saturating_add(1);
     }
-    happens(world, course, Event::Deliver(next));
+    step(world, course, Event::Deliver(next));
 }
 
-fn carries_up(world: &mut World, course: &mut Course) {
+fn carry_up(world: &mut World, course: &mut Course) {
     let connection = course.connection();
     let count = course.share(world.up(connection));
-    happens(world, course, Event::CarryUp(connection, count));
+    step(world, course, Event::CarryUp(connection, count));
 }
 
-fn carries_down(world: &mut World, course: &mut Course) {
+fn carry_down(world: &mut World, course: &mut Course) {
     let connection = course.connection();
     let count = course.share(world.down(connection));
-    happens(world, course, Event::CarryDown(connection, count));
+    step(world, course, Event::CarryDown(connection, count));
 }
 
-fn notices(world: &mut World, course: &mut Course) {
+fn notice(world: &mut World, course: &mut Course) {
     let connection = course.connection();
-    happens(world, course, Event::Notice(connection));
+    step(world, course, Event::Notice(connection));
 }
 
-fn ticks(world: &mut World, course: &mut Course) {
+fn tick(world: &mut World, course: &mut Course) {
     let node = (course.draw() % 5) as u8;
-    happens(world, course, Event::Tick(node));
+    step(world, course, Event::Tick(node));
 }
 
 // The next ballot is given to some of the nodes that run, one time of four.
-fn gives(alloc: Global, world: &mut World, course: &mut Course) -> bool {
+fn assign(alloc: Global, world: &mut World, course: &mut Course) -> bool {
     if course.draw() % 4 != 0 {
         return true;
     }
@@ -191,7 +191,7 @@ fn gives(alloc: Global, world: &mut World, course: &mut Course) -> bool {
     let Some(config) = config_of(alloc, members.as_slice(), primary) else {
         return false;
     };
-    if happens(world, course, Event::Assign(config)) {
+    if step(world, course, Event::Assign(config)) {
         course.given = ballot;
     }
     true
@@ -222,14 +222,14 @@ fn active_primary(world: &World) -> u8 {
     primary_of(ballot, members)
 }
 
-/// Says whether the active primary crashes. It may if no ballot waits and another of its members
-/// runs.
-pub fn primary_crashes(world: &mut World, course: &mut Course) -> bool {
+/// Crashes the active primary, if no ballot waits and another of its members runs. Returns whether
+/// it crashed.
+pub fn crash_primary(world: &mut World, course: &mut Course) -> bool {
     let node = active_primary(world);
     if node == 0 || node > 3 || !is_one_left(world, course, node) {
         return false;
     }
-    let crashed = happens(world, course, Event::Crash(node));
+    let crashed = step(world, course, Event::Crash(node));
     course.runs[node as usize - 1] = false;
     crashed
 }
@@ -251,35 +251,35 @@ fn runs(course: &Course, node: u8) -> bool {
     )
 }
 
-// Returns what a client does.
-fn calls(alloc: Global, world: &mut World, course: &mut Course, number: u64) -> bool {
+// Has a client do something, by a number of the rule. False if it ran out of memory.
+fn call(alloc: Global, world: &mut World, course: &mut Course, number: u64) -> bool {
     let client = (course.draw() % 4) as usize;
     let Some(name) = named(alloc, CLIENTS[client]) else {
         return false;
     };
     match number {
-        88..=99 => opens(world, course, client, name, active_primary(world)),
-        100 => opens(world, course, client, name, 2),
-        101 | 102 => passes(world, course, Event::Abandon(name)),
-        103 => passes(world, course, Event::Disconnect(name)),
-        _ => return says(alloc, world, course, client, name),
+        88..=99 => open(world, course, client, name, active_primary(world)),
+        100 => open(world, course, client, name, 2),
+        101 | 102 => let_happen(world, course, Event::Abandon(name)),
+        103 => let_happen(world, course, Event::Disconnect(name)),
+        _ => return say(alloc, world, course, client, name),
     }
     true
 }
 
-fn passes(world: &mut World, course: &mut Course, event: Event) {
-    happens(world, course, event);
+fn let_happen(world: &mut World, course: &mut Course, event: Event) {
+    step(world, course, event);
 }
 
-fn opens(world: &mut World, course: &mut Course, client: usize, name: ClientId, node: u8) {
-    if client < 4 && happens(world, course, Event::Open(name, node)) {
+fn open(world: &mut World, course: &mut Course, client: usize, name: ClientId, node: u8) {
+    if client < 4 && step(world, course, Event::Open(name, node)) {
         course.opened = course.opened.saturating_add(1);
         course.last[client] = course.opened;
     }
 }
 
-// Returns what a client says: mostly a publication.
-fn says(
+// Has a client say something: mostly a publication. False if it ran out of memory.
+fn say(
     alloc: Global,
     world: &mut World,
     course: &mut Course,
@@ -291,7 +291,7 @@ fn says(
         return false;
     };
     course.published = course.published.saturating_add(1);
-    happens(world, course, event);
+    step(world, course, event);
     true
 }
 

@@ -1,6 +1,6 @@
 // Twenty thousand events by a fixed rule, over three nodes and four clients.
 
-use crate::tests::course::{CLIENTS, Course, goes_on, primary_crashes};
+use crate::tests::course::{CLIENTS, Course, crash_primary, step_next};
 use crate::tests::opening::{named, opened_for};
 use packet::QoS;
 use std::alloc::Global;
@@ -14,12 +14,12 @@ const UNTIL_A_CRASH: u32 = 8_000;
 
 // Says whether all events come, two primaries crash, nothing is lost, and the agreed list only
 // grows.
-fn all_come(alloc: Global, world: &mut World, course: &mut Course) -> bool {
+fn let_all_come(alloc: Global, world: &mut World, course: &mut Course) -> bool {
     let mut crashed = 0;
     for count in 0..EVENTS {
-        if crashed < 2 && count / UNTIL_A_CRASH > crashed && primary_crashes(world, course) {
+        if crashed < 2 && count / UNTIL_A_CRASH > crashed && crash_primary(world, course) {
             crashed += 1;
-        } else if !goes_on(alloc, world, course) {
+        } else if !step_next(alloc, world, course) {
             return false;
         }
     }
@@ -76,7 +76,7 @@ fn all_took_each_once(alloc: Global, world: &World) -> bool {
 // fails, in words.
 fn first_fault(alloc: Global, world: &mut World) -> Option<&'static str> {
     let mut course = Course::new();
-    if !all_come(alloc, world, &mut course) {
+    if !let_all_come(alloc, world, &mut course) {
         Some("all events come, two primaries crash, nothing is lost, the list grows")
     } else if !all_took_each_once(alloc, world) {
         Some("each client took over 100 publications, each once")

@@ -29,7 +29,7 @@ fn put_events(alloc: Global, events: &mut Vec<Event>) -> Option<()> {
 
 // Lets an event happen: whether it does and leads here, and whether the agreed list did not become
 // shorter.
-fn goes_by(world: &mut World, event: &Event, wanted: &(u64, u64)) -> (bool, bool) {
+fn step_and_compare(world: &mut World, event: &Event, wanted: &(u64, u64)) -> (bool, bool) {
     let before = world.agreed_len();
     let happened = world.step(event).is_ok();
     let agreed = world.agreed_len();
@@ -42,7 +42,7 @@ fn is_whole_or_counted(world: &mut World, events: &[Event]) -> bool {
     let mut is_whole = true;
     let mut only_grows = true;
     for (event, wanted) in events.iter().zip(WANTED) {
-        let (goes, grows) = goes_by(world, event, wanted);
+        let (goes, grows) = step_and_compare(world, event, wanted);
         is_whole = is_whole && goes;
         only_grows = only_grows && grows;
     }

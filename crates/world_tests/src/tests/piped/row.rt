@@ -67,9 +67,9 @@ fn is_right(alloc: Global, client: &mut PipedClient, row: Row<'_>) -> bool {
         Row::Count(count) => client.len() == count,
         Row::Leads(at, node, port) => at < client.len()
             && client.leads_to(at) == (node, Port(port)),
-        Row::Up(at, bytes) => goes_up(client, at, bytes, bytes.len()),
-        Row::UpSome(at, bytes, count) => goes_up(client, at, bytes, count),
-        Row::Down(bytes, first) => comes_down(alloc, client, bytes, first),
+        Row::Up(at, bytes) => carry_up(client, at, bytes, bytes.len()),
+        Row::UpSome(at, bytes, count) => carry_up(client, at, bytes, count),
+        Row::Down(bytes, first) => send_and_carry_down(alloc, client, bytes, first),
         Row::Sent(bytes) => is_sent(alloc, client, bytes),
         Row::Violates(count) => violates(client, count),
         Row::Publish => publish(alloc, client) == Some(Sending::Sent),
@@ -87,7 +87,7 @@ fn is_right(alloc: Global, client: &mut PipedClient, row: Row<'_>) -> bool {
 }
 
 // Says whether these bytes wait to go up on a connection, and this many of them go.
-fn goes_up(client: &mut PipedClient, at: usize, bytes: &[u8], count: usize) -> bool {
+fn carry_up(client: &mut PipedClient, at: usize, bytes: &[u8], count: usize) -> bool {
     if at >= client.len() || client.up(at) != bytes || count > client.up(at).len() {
         return false;
     }
@@ -112,15 +112,20 @@ fn is_sent(alloc: Global, client: &mut PipedClient, bytes: &[u8]) -> bool {
 }
 
 // Says whether these bytes are sent and come, this many of them first.
-fn comes_down(alloc: Global, client: &mut PipedClient, bytes: &[u8], first: usize) -> bool {
+fn send_and_carry_down(
+    alloc: Global,
+    client: &mut PipedClient,
+    bytes: &[u8],
+    first: usize,
+) -> bool {
     first <= bytes.len()
         && is_sent(alloc, client, bytes)
-        && hears(client, first)
-        && hears(client, bytes.len() - first)
+        && carry_down(client, first)
+        && carry_down(client, bytes.len() - first)
 }
 
 // Says whether this many bytes come on the connection that the client holds.
-fn hears(client: &mut PipedClient, count: usize) -> bool {
+fn carry_down(client: &mut PipedClient, count: usize) -> bool {
     if client.len() == 0 || !client.is_open() || count > client.down(client.len() - 1).len() {
         return false;
     }
