@@ -46,9 +46,9 @@ impl ListReading {
     }
 
     /// Reads the commands that it has not read, of a list in two parts.
-    pub fn reads(&mut self, first: &[Command], second: &[Command]) -> Option<()> {
+    pub fn read_rest(&mut self, first: &[Command], second: &[Command]) -> Option<()> {
         for command in first.iter().chain(second.iter()).skip(self.read) {
-            self.reads_one(command)?;
+            self.read_one(command)?;
             self.read = self.read.saturating_add(1);
         }
         Some(())
@@ -71,7 +71,7 @@ impl ListReading {
     }
 
     /// Says whether another reading found the same sessions with the same entries.
-    pub fn says_what(&self, other: &ListReading) -> bool {
+    pub fn is_like(&self, other: &ListReading) -> bool {
         are_alike(self.ended.as_slice(), other.ended.as_slice())
             && are_alike(self.sessions.as_slice(), other.sessions.as_slice())
     }
@@ -83,20 +83,20 @@ impl ListReading {
 
     // Reads one command: sessions begin, lose their connections and end as it says. A packet counts
     // only on a session's current connection.
-    fn reads_one(&mut self, command: &Command) -> Option<()> {
+    fn read_one(&mut self, command: &Command) -> Option<()> {
         match command {
-            Command::Connect(connection, client, clean) => self.connects(
+            Command::Connect(connection, client, clean) => self.connect(
                 *connection,
                 client,
                 *clean,
             ),
             Command::Packet(connection, packet) => match self.session_index(*connection) {
-                Some(at) => self.takes(at, packet.packet()),
+                Some(at) => self.take_packet(at, packet.packet()),
                 None => Some(()),
             },
-            Command::Lost(connection) => self.ends(Some(*connection)),
-            Command::Start(_) => self.ends(None),
-            Command::Expel(client) => self.expels(client),
+            Command::Lost(connection) => self.end_connection(Some(*connection)),
+            Command::Start(_) => self.end_connection(None),
+            Command::Expel(client) => self.expel(client),
         }
     }
 
@@ -109,7 +109,7 @@ impl ListReading {
 
     // Takes this connection from its session, or, if none is named, from each session its own. The
     // clean sessions that lose one end.
-    fn ends(&mut self, connection: Option<ConnectionName>) -> Option<()> {
+    fn end_connection(&mut self, connection: Option<ConnectionName>) -> Option<()> {
         for session in self.sessions.iter_mut() {
             let is_named = connection.is_none() || session.connection == connection;
             if is_named && session.connection.is_some() {
@@ -117,11 +117,11 @@ impl ListReading {
                 session.is_over = session.clean;
             }
         }
-        self.archives()
+        self.archive()
     }
 
     // Puts the sessions that are over among those that ended.
-    fn archives(&mut self) -> Option<()> {
+    fn archive(&mut self) -> Option<()> {
         for _ in 0..self.sessions.len() {
             let Some(at) = self.sessions.iter().position(|it| it.is_over) else {
                 return Some(());
@@ -133,24 +133,24 @@ impl ListReading {
     }
 
     // Ends a client's session, if it has one.
-    fn expels(&mut self, client: &ClientId) -> Option<()> {
+    fn expel(&mut self, client: &ClientId) -> Option<()> {
         for session in self.sessions.iter_mut() {
             session.is_over = session.client == *client;
         }
-        self.archives()
+        self.archive()
     }
 
     // Makes a connection the current one of a client. Its session continues if neither that nor the
     // CONNECT is clean; otherwise it ends, and a new one begins. A second CONNECT on a connection
     // is a violation, which ends the connection.
-    fn connects(
+    fn connect(
         &mut self,
         connection: ConnectionName,
         client: &ClientId,
         clean: bool,
     ) -> Option<()> {
         if self.session_index(connection).is_some() {
-            return self.ends(Some(connection));
+            return self.end_connection(Some(connection));
         }
         for session in self.sessions.iter_mut() {
             if session.client == *client && !clean && !session.clean {
@@ -158,24 +158,24 @@ impl ListReading {
                 return Some(());
             }
         }
-        self.expels(client)?;
+        self.expel(client)?;
         let session = Session::new(self.alloc, client.clone().ok()?, clean, connection);
         self.sessions.push(session).ok()
     }
 
     // Reads a packet of a session's current connection.
-    fn takes(&mut self, at: usize, packet: &Packet) -> Option<()> {
+    fn take_packet(&mut self, at: usize, packet: &Packet) -> Option<()> {
         let session = self.sessions.get_mut(at)?;
         match packet {
-            Packet::Publish(publish) => self.publishes(at, publish),
+            Packet::Publish(publish) => self.publish(at, publish),
             Packet::Pubrel(id) => {
-                session.forgets(*id);
+                session.forget(*id);
                 Some(())
             }
-            Packet::Subscribe(subscribe) => self.subscribes_to_each(at, subscribe),
+            Packet::Subscribe(subscribe) => self.subscribe_to_each(at, subscribe),
             Packet::Unsubscribe(unsubscribe) => {
                 for filter in unsubscribe.filters.as_slice() {
-                    session.drops(filter);
+                    session.revoke(filter);
                 }
                 Some(())
             }
@@ -184,28 +184,28 @@ impl ListReading {
             ),
             _ => {
                 let connection = session.connection;
-                self.ends(connection)
+                self.end_connection(connection)
             }
         }
     }
 
     // Grants each filter of a packet, in order.
-    fn subscribes_to_each(&mut self, at: usize, subscribe: &Subscribe) -> Option<()> {
+    fn subscribe_to_each(&mut self, at: usize, subscribe: &Subscribe) -> Option<()> {
         for asked in subscribe.filters.as_slice() {
-            self.subscribes(at, &asked.filter, asked.qos)?;
+            self.subscribe(at, &asked.filter, asked.qos)?;
         }
         Some(())
     }
 
     // Grants a filter at this QoS. If that is 2, adds to the session what is retained at QoS 2 and
     // matches.
-    fn subscribes(&mut self, at: usize, filter: &Filter, qos: QoS) -> Option<()> {
+    fn subscribe(&mut self, at: usize, filter: &Filter, qos: QoS) -> Option<()> {
         let session = self.sessions.get_mut(at)?;
-        session.grants(filter, qos)?;
+        session.grant(filter, qos)?;
         for kept in self.retained.iter() {
             let is_two = kept.qos == QoS::ExactlyOnce && qos == QoS::ExactlyOnce;
             if is_two && is_match(filter.as_str(), kept.topic.as_str()) {
-                session.adds(true, &kept.topic, &kept.payload)?;
+                session.add(true, &kept.topic, &kept.payload)?;
             }
         }
         Some(())
@@ -213,30 +213,30 @@ impl ListReading {
 
     // Takes a publication that is no repeat. Adds one at QoS 2 to each session that wants it, notes
     // that one above QoS 0 is taken, and retains one with RETAIN.
-    fn publishes(&mut self, at: usize, publish: &Publish) -> Option<()> {
+    fn publish(&mut self, at: usize, publish: &Publish) -> Option<()> {
         if let Delivery::ExactlyOnce(_, id) = publish.delivery {
-            if self.sessions.get_mut(at)?.repeats(id)? {
+            if self.sessions.get_mut(at)?.is_repeat(id)? {
                 return Some(());
             }
             for session in self.sessions.iter_mut() {
                 if session.wants(&publish.topic) {
-                    session.adds(false, &publish.topic, &publish.payload)?;
+                    session.add(false, &publish.topic, &publish.payload)?;
                 }
             }
         }
         let qos = publish.delivery.qos();
         if qos != QoS::AtMostOnce {
-            self.is_taken_now(&publish.payload)?;
+            self.note_taken(&publish.payload)?;
         }
         if publish.retain {
-            self.retains(qos, publish)
+            self.retain(qos, publish)
         } else {
             Some(())
         }
     }
 
     // Notes that the publication with this payload is taken.
-    fn is_taken_now(&mut self, payload: &Payload) -> Option<()> {
+    fn note_taken(&mut self, payload: &Payload) -> Option<()> {
         let (_, serial) = made_by(payload)?;
         for _ in self.taken.len() as u64..=serial {
             self.taken.push(false).ok()?;
@@ -248,7 +248,7 @@ impl ListReading {
     }
 
     // Replaces what was retained about the publication's topic.
-    fn retains(&mut self, qos: QoS, publish: &Publish) -> Option<()> {
+    fn retain(&mut self, qos: QoS, publish: &Publish) -> Option<()> {
         let topic = &publish.topic;
         self.retained.retain(|it| it.topic != *topic);
         let before = self.retained.iter().filter(|it| it.topic < *topic).count();

@@ -51,7 +51,7 @@ impl Seen {
     }
 
     /// Takes note that it opened a connection.
-    pub fn opens(&mut self) {
+    pub fn note_opened(&mut self) {
         self.is_hasty = self.is_hasty || !self.is_confirmed;
         self.is_confirmed = false;
     }
@@ -63,7 +63,7 @@ impl Seen {
     }
 
     /// Looks at a client, and returns what does not hold. None if it ran out of memory.
-    pub fn looks(
+    pub fn look(
         &mut self,
         client: &ClientId,
         core: &ClientCore,
@@ -76,7 +76,7 @@ impl Seen {
         }
         let accepted = core.accepted();
         for one in accepted.iter().skip(self.looked) {
-            let taken = self.accepts(client, one, accepted, reading, strays)?;
+            let taken = self.look_at_accepted(client, one, accepted, reading, strays)?;
             if taken.is_err() {
                 return Some(taken);
             }
@@ -89,7 +89,7 @@ impl Seen {
     }
 
     // Looks at the next one that a client accepted.
-    fn accepts(
+    fn look_at_accepted(
         &mut self,
         client: &ClientId,
         one: &Accepted,

@@ -62,7 +62,7 @@ impl Session {
     }
 
     /// Says whether a PUBLISH with this identifier is a repeat, and keeps the identifier.
-    pub fn repeats(&mut self, id: PacketId) -> Option<bool> {
+    pub fn is_repeat(&mut self, id: PacketId) -> Option<bool> {
         if self.received.iter().any(|it| *it == id) {
             return Some(true);
         }
@@ -71,18 +71,18 @@ impl Session {
     }
 
     /// Forgets an identifier whose PUBREL came.
-    pub fn forgets(&mut self, id: PacketId) {
+    pub fn forget(&mut self, id: PacketId) {
         self.received.retain(|it| *it != id);
     }
 
     /// Grants a filter in place of the same one.
-    pub fn grants(&mut self, filter: &Filter, qos: QoS) -> Option<()> {
-        self.drops(filter);
+    pub fn grant(&mut self, filter: &Filter, qos: QoS) -> Option<()> {
+        self.revoke(filter);
         self.filters.push((filter.clone().ok()?, qos)).ok()
     }
 
     /// Takes a filter back.
-    pub fn drops(&mut self, filter: &Filter) {
+    pub fn revoke(&mut self, filter: &Filter) {
         self.filters.retain(|(held, _)| held != filter);
     }
 
@@ -95,7 +95,7 @@ impl Session {
     }
 
     /// Adds a publication to those that it has to send at QoS 2.
-    pub fn adds(&mut self, retain: bool, topic: &TopicName, payload: &Payload) -> Option<()> {
+    pub fn add(&mut self, retain: bool, topic: &TopicName, payload: &Payload) -> Option<()> {
         let entry = Entry {
             retain,
             topic: topic.clone().ok()?,

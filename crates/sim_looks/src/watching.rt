@@ -67,19 +67,19 @@ impl Watch {
     }
 
     /// Takes note that the client at an index made the publication of this number, at QoS 1 or 2.
-    pub fn published(&mut self, index: usize, serial: u64) -> Option<()> {
+    pub fn note_published(&mut self, index: usize, serial: u64) -> Option<()> {
         self.seen.get_mut(index)?.published.push(serial).ok()
     }
 
     /// Takes note that the client at an index opened a connection.
-    pub fn opened(&mut self, index: usize) {
+    pub fn note_opened(&mut self, index: usize) {
         if let Some(seen) = self.seen.get_mut(index) {
-            seen.opens();
+            seen.note_opened();
         }
     }
 
     /// Takes note that the session of the client at an index was ended.
-    pub fn expelled(&mut self, index: usize) {
+    pub fn note_expelled(&mut self, index: usize) {
         if let Some(seen) = self.seen.get_mut(index) {
             seen.is_expelled = true;
         }
@@ -87,7 +87,7 @@ impl Watch {
 
     /// Looks at the agreed list, in two parts, and at the count of losses, and returns what does
     /// not hold.
-    pub fn agreed(
+    pub fn look_at_agreed(
         &mut self,
         length: u64,
         first: &[Command],
@@ -98,7 +98,7 @@ impl Watch {
             return Some(Err(Broken::Agreed));
         }
         self.length = length;
-        self.reading.reads(first, second)?;
+        self.reading.read_rest(first, second)?;
         Some(if losses == 0 {
             Ok(())
         } else {
@@ -107,7 +107,7 @@ impl Watch {
     }
 
     /// Looks at the client at an index, and returns what does not hold.
-    pub fn client(
+    pub fn look_at_client(
         &mut self,
         index: usize,
         name: &ClientId,
@@ -115,7 +115,7 @@ impl Watch {
     ) -> Option<Result<(), Broken>> {
         let strays = self.strays()?;
         let seen = self.seen.get_mut(index)?;
-        seen.looks(name, core, &self.reading, strays.as_slice())
+        seen.look(name, core, &self.reading, strays.as_slice())
     }
 
     // Returns which clients may be out of step.
@@ -128,10 +128,10 @@ impl Watch {
     }
 
     /// Reads the whole agreed list once more, and returns whether it says what it said before.
-    pub fn ends(&self, first: &[Command], second: &[Command]) -> Option<Result<(), Broken>> {
+    pub fn read_again(&self, first: &[Command], second: &[Command]) -> Option<Result<(), Broken>> {
         let mut again = ListReading::new(self.alloc);
-        again.reads(first, second)?;
-        let is_same = again.says_what(&self.reading);
+        again.read_rest(first, second)?;
+        let is_same = again.is_like(&self.reading);
         Some(if is_same { Ok(()) } else { Err(Broken::Agreed) })
     }
 }

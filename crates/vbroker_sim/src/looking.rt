@@ -10,14 +10,14 @@ pub fn notes(watch: &mut Watch, event: &Event, clients: &[ClientId]) -> Option<(
     match event {
         Event::Publish(name, sent) if sent.qos != QoS::AtMostOnce => {
             let (_, serial) = made_by(&sent.payload)?;
-            watch.published(index(name)?, serial)
+            watch.note_published(index(name)?, serial)
         }
         Event::Open(name, _) => {
-            watch.opened(index(name)?);
+            watch.note_opened(index(name)?);
             Some(())
         }
         Event::Expel(name, _) => {
-            watch.expelled(index(name)?);
+            watch.note_expelled(index(name)?);
             Some(())
         }
         _ => Some(()),
@@ -27,13 +27,13 @@ pub fn notes(watch: &mut Watch, event: &Event, clients: &[ClientId]) -> Option<(
 /// Looks at a world, and returns what does not hold.
 pub fn looks(watch: &mut Watch, world: &World, clients: &[ClientId]) -> Option<Result<(), Broken>> {
     let (first, second) = world.agreed();
-    let agreed = watch.agreed(world.agreed_len(), first, second, world.losses())?;
+    let agreed = watch.look_at_agreed(world.agreed_len(), first, second, world.losses())?;
     if agreed.is_err() {
         return Some(agreed);
     }
     for (index, name) in clients.iter().enumerate() {
         if let Some(core) = world.client(name) {
-            let looked = watch.client(index, name, core)?;
+            let looked = watch.look_at_client(index, name, core)?;
             if looked.is_err() {
                 return Some(looked);
             }
@@ -45,5 +45,5 @@ pub fn looks(watch: &mut Watch, world: &World, clients: &[ClientId]) -> Option<R
 /// Looks at the agreed list once more from its beginning, and returns what does not hold.
 pub fn ends(watch: &Watch, world: &World) -> Option<Result<(), Broken>> {
     let (first, second) = world.agreed();
-    watch.ends(first, second)
+    watch.read_again(first, second)
 }
