@@ -60,37 +60,37 @@ impl Course {
 
     /// Draws the next event: mostly one that continues what is in transit, now and then one that
     /// disturbs. None if it ran out of memory.
-    pub fn draws(&mut self, world: &World, clients: &[ClientId]) -> Option<Event> {
+    pub fn draw_next(&mut self, world: &World, clients: &[ClientId]) -> Option<Event> {
         let index = (self.draw.below(clients.len() as u64) % 256) as u8;
         let name = clients.get(index as usize)?;
         match self.draw.below(100) {
-            0 => self.changes(world),
+            0 => self.draw_change(world),
             1 => Some(Event::Cut(self.node())),
             2 => Some(Event::Tick(self.node())),
             3 => Some(Event::Notice(self.connection(index))),
-            4..=6 => self.leaves(world, name),
-            7 => self.opens(world, name),
-            8..=19 => self.says(world, name, index),
-            _ => self.goes_on(world, name, index),
+            4..=6 => self.draw_leaving(world, name),
+            7 => self.draw_connecting(world, name),
+            8..=19 => self.draw_saying(world, name, index),
+            _ => self.draw_continuing(world, name, index),
         }
     }
 
     /// Takes note of an event that happened. None if it ran out of memory.
-    pub fn happened(&mut self, event: &Event, clients: &[ClientId]) -> Option<()> {
+    pub fn note_event(&mut self, event: &Event, clients: &[ClientId]) -> Option<()> {
         self.count = self.count.saturating_add(1);
         match event {
             Event::Assign(config) => self.primaries.push(config.primary).ok(),
             Event::Crash(node) => self.crashed.push(*node).ok(),
             Event::Open(client, _) => {
                 let index = clients.iter().position(|name| name == client)?;
-                self.is_opened(index)
+                self.note_opened(index)
             }
             _ => Some(()),
         }
     }
 
     /// Takes note of an event that could not happen.
-    pub fn was_idle(&mut self, event: &Event) {
+    pub fn note_idle(&mut self, event: &Event) {
         match event {
             Event::CarryUp(connection, _) | Event::CarryDown(connection, _) => {
                 self.closed = *connection;
@@ -100,7 +100,7 @@ impl Course {
     }
 
     // Notes a new connection as the last one of a client.
-    fn is_opened(&mut self, index: usize) -> Option<()> {
+    fn note_opened(&mut self, index: usize) -> Option<()> {
         self.opened = self.opened.saturating_add(1);
         for _ in self.last.len()..=index {
             self.last.push((0, 0)).ok()?;
@@ -129,14 +129,14 @@ impl Course {
 
     // Draws an event that continues what is in transit: a message between nodes, or bytes of a
     // connection. If nothing is in transit, something begins.
-    fn goes_on(&mut self, world: &World, name: &ClientId, index: u8) -> Option<Event> {
+    fn draw_continuing(&mut self, world: &World, name: &ClientId, index: u8) -> Option<Event> {
         let connection = self.connection(index);
         let waits = self.next < world.messages();
         if waits && self.draw.one_in(2) {
-            return Some(self.delivers(world));
+            return Some(self.draw_delivery(world));
         }
         if connection == self.closed {
-            return self.comes_back(world, name);
+            return self.draw_return(world, name);
         }
         let (up, down) = (world.up(connection).len(), world.down(connection).len());
         if up > 0 && (down == 0 || self.draw.one_in(2)) {
@@ -146,29 +146,29 @@ impl Course {
             return Some(Event::CarryDown(connection, self.share(down)));
         }
         if waits {
-            return Some(self.delivers(world));
+            return Some(self.draw_delivery(world));
         }
-        self.begins(world, name, index)
+        self.draw_beginning(world, name, index)
     }
 
     // Draws what a client that is served says, or how one that is not comes back. Now and then one
     // that is served comes back, too.
-    fn begins(&mut self, world: &World, name: &ClientId, index: u8) -> Option<Event> {
+    fn draw_beginning(&mut self, world: &World, name: &ClientId, index: u8) -> Option<Event> {
         if !is_served(world, name) || self.draw.one_in(16) {
-            self.comes_back(world, name)
+            self.draw_return(world, name)
         } else {
-            self.says(world, name, index)
+            self.draw_saying(world, name, index)
         }
     }
 
     // Draws how a client comes back: it opens a connection, or first gives up the one that it has.
     // Now and then the active primary gets the time instead, or a change of the nodes is drawn.
-    fn comes_back(&mut self, world: &World, name: &ClientId) -> Option<Event> {
+    fn draw_return(&mut self, world: &World, name: &ClientId) -> Option<Event> {
         match self.draw.below(32) {
-            0 => self.changes(world),
+            0 => self.draw_change(world),
             1..=4 => Some(Event::Tick(self.active_primary(world))),
             5..=14 => Some(Event::Abandon(name.clone().ok()?)),
-            _ => self.opens(world, name),
+            _ => self.draw_connecting(world, name),
         }
     }
 
@@ -185,7 +185,7 @@ impl Course {
 
     // Draws the delivery of the next message. Some messages are skipped, and some come again, or
     // late.
-    fn delivers(&mut self, world: &World) -> Event {
+    fn draw_delivery(&mut self, world: &World) -> Event {
         if self.draw.one_in(10) {
             return Event::Deliver(self.draw.below(world.messages().saturating_add(1)));
         }
@@ -198,7 +198,7 @@ impl Course {
     }
 
     // Draws the crash of a node, or a next ballot of most of the nodes that run.
-    fn changes(&mut self, world: &World) -> Option<Event> {
+    fn draw_change(&mut self, world: &World) -> Option<Event> {
         let node = self.node();
         if self.draw.one_in(3) && self.may_crash(world, node) {
             return Some(Event::Crash(node));
@@ -241,7 +241,7 @@ impl Course {
     }
 
     // Draws how a client leaves: it loses its connection, or ends it, or its session is ended.
-    fn leaves(&mut self, world: &World, name: &ClientId) -> Option<Event> {
+    fn draw_leaving(&mut self, world: &World, name: &ClientId) -> Option<Event> {
         let node = self.active_primary(world);
         let name = name.clone().ok()?;
         Some(match self.draw.below(8) {
@@ -252,7 +252,7 @@ impl Course {
     }
 
     // Draws that a client connects to the active primary; now and then to any node.
-    fn opens(&mut self, world: &World, name: &ClientId) -> Option<Event> {
+    fn draw_connecting(&mut self, world: &World, name: &ClientId) -> Option<Event> {
         let node = if self.draw.one_in(16) {
             self.node()
         } else {
@@ -263,7 +263,7 @@ impl Course {
 
     // Draws what a client says: mostly a publication, now and then that it unsubscribes. One
     // subscription is drawn for four publications.
-    fn says(&mut self, world: &World, name: &ClientId, index: u8) -> Option<Event> {
+    fn draw_saying(&mut self, world: &World, name: &ClientId, index: u8) -> Option<Event> {
         if self.asked.saturating_mul(4) <= self.serial && is_served(world, name) {
             self.asked = self.asked.saturating_add(1);
             return subscribed(self.alloc, &mut self.draw, name);

@@ -5,7 +5,7 @@ use sim_looks::{Broken, Watch, made_by};
 use world::{Event, World};
 
 /// Takes note of an event that happened. None if it ran out of memory, as in each call here.
-pub fn notes(watch: &mut Watch, event: &Event, clients: &[ClientId]) -> Option<()> {
+pub fn note(watch: &mut Watch, event: &Event, clients: &[ClientId]) -> Option<()> {
     let index = |name: &ClientId| clients.iter().position(|it| it == name);
     match event {
         Event::Publish(name, sent) if sent.qos != QoS::AtMostOnce => {
@@ -25,7 +25,7 @@ pub fn notes(watch: &mut Watch, event: &Event, clients: &[ClientId]) -> Option<(
 }
 
 /// Looks at a world, and returns what does not hold.
-pub fn looks(watch: &mut Watch, world: &World, clients: &[ClientId]) -> Option<Result<(), Broken>> {
+pub fn look(watch: &mut Watch, world: &World, clients: &[ClientId]) -> Option<Result<(), Broken>> {
     let (first, second) = world.agreed();
     let agreed = watch.look_at_agreed(world.agreed_len(), first, second, world.losses())?;
     if agreed.is_err() {
@@ -43,7 +43,7 @@ pub fn looks(watch: &mut Watch, world: &World, clients: &[ClientId]) -> Option<R
 }
 
 /// Looks at the agreed list once more from its beginning, and returns what does not hold.
-pub fn ends(watch: &Watch, world: &World) -> Option<Result<(), Broken>> {
+pub fn look_again(watch: &Watch, world: &World) -> Option<Result<(), Broken>> {
     let (first, second) = world.agreed();
     watch.read_again(first, second)
 }

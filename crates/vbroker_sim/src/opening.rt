@@ -35,7 +35,7 @@ impl Opening {
     }
 
     /// Opens the world. None if it ran out of memory.
-    pub fn opens(&self, alloc: Global) -> Option<World> {
+    pub fn open(&self, alloc: Global) -> Option<World> {
         let mut members = Vec::new(alloc);
         for node in 1..=self.members {
             members.push(node).ok()?;

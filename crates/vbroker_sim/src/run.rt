@@ -1,7 +1,7 @@
 // One run: events are drawn, happen, and are looked at.
 
 use crate::course::Course;
-use crate::looking::{ends, looks, notes};
+use crate::looking::{look, look_again, note};
 use crate::opening::Opening;
 use crate::options::Options;
 use packet::ClientId;
@@ -61,7 +61,7 @@ impl Counts {
 pub fn drawn(alloc: Global, options: &Options, seed: u64) -> Option<Run> {
     let opening = Opening::new(alloc, seed, options.nodes, options.clients)?;
     let mut events = Vec::new(alloc);
-    let (broken, counts) = plays(alloc, options, seed, &opening, &mut events)?;
+    let (broken, counts) = play(alloc, options, seed, &opening, &mut events)?;
     Some(Run {
         opening,
         events,
@@ -72,16 +72,16 @@ pub fn drawn(alloc: Global, options: &Options, seed: u64) -> Option<Run> {
 
 // Draws events and lets them happen: what does not hold in the end, and how far it came. What is
 // long to drop, here and below, is lent to what has several ways out, and goes by a call of `drop`.
-fn plays(
+fn play(
     alloc: Global,
     options: &Options,
     seed: u64,
     opening: &Opening,
     events: &mut Vec<Event>,
 ) -> Option<(Option<Broken>, Counts)> {
-    match opening.opens(alloc) {
+    match opening.open(alloc) {
         Some(mut world) => {
-            let played = plays_in(alloc, options, seed, opening, &mut world, events);
+            let played = play_in(alloc, options, seed, opening, &mut world, events);
             drop(world);
             played
         }
@@ -90,7 +90,7 @@ fn plays(
 }
 
 // Draws events and lets them happen in a fresh world.
-fn plays_in(
+fn play_in(
     alloc: Global,
     options: &Options,
     seed: u64,
@@ -101,7 +101,7 @@ fn plays_in(
     let clients = opening.clients.as_slice();
     let mut course = Course::new(alloc, seed, opening.nodes)?;
     let mut watch = Watch::new(alloc, clients.len())?;
-    let broken = plays_all(
+    let broken = play_all(
         options.events,
         clients,
         world,
@@ -117,7 +117,7 @@ fn plays_in(
 
 // Draws this many events, up to the first after which something does not hold, and returns what
 // that is.
-fn plays_all(
+fn play_all(
     count: u64,
     clients: &[ClientId],
     world: &mut World,
@@ -126,18 +126,18 @@ fn plays_all(
     watch: &mut Watch,
 ) -> Option<Option<Broken>> {
     for _ in 0..count {
-        let event = course.draws(world, clients)?;
-        let looked = happens(&event, clients, world, course, watch);
+        let event = course.draw_next(world, clients)?;
+        let looked = let_happen(&event, clients, world, course, watch);
         events.push(event).ok()?;
         if let Err(broken) = looked? {
             return Some(Some(broken));
         }
     }
-    Some(ends(watch, world)?.err())
+    Some(look_again(watch, world)?.err())
 }
 
 // Lets an event happen, if it can, and returns what does not hold then.
-fn happens(
+fn let_happen(
     event: &Event,
     clients: &[ClientId],
     world: &mut World,
@@ -145,12 +145,12 @@ fn happens(
     watch: &mut Watch,
 ) -> Option<Result<(), Broken>> {
     if world.step(event).is_err() {
-        course.was_idle(event);
+        course.note_idle(event);
         return Some(Ok(()));
     }
-    course.happened(event, clients)?;
-    notes(watch, event, clients)?;
-    looks(watch, world, clients)
+    course.note_event(event, clients)?;
+    note(watch, event, clients)?;
+    look(watch, world, clients)
 }
 
 /// Plays the events without those that are left out, and returns what does not hold. None if it ran
@@ -161,7 +161,7 @@ pub fn replayed(
     events: &[Event],
     out: &[bool],
 ) -> Option<Option<Broken>> {
-    match opening.opens(alloc) {
+    match opening.open(alloc) {
         Some(mut world) => {
             let clients = opening.clients.as_slice();
             let broken = replayed_in(alloc, clients, &mut world, events, out);
@@ -182,7 +182,7 @@ fn replayed_in(
 ) -> Option<Option<Broken>> {
     match Watch::new(alloc, clients.len()) {
         Some(mut watch) => {
-            let broken = replays(clients, world, &mut watch, events, out);
+            let broken = replay(clients, world, &mut watch, events, out);
             drop(watch);
             broken
         }
@@ -191,7 +191,7 @@ fn replayed_in(
 }
 
 // Plays them up to the first after which something does not hold.
-fn replays(
+fn replay(
     clients: &[ClientId],
     world: &mut World,
     watch: &mut Watch,
@@ -200,11 +200,11 @@ fn replays(
 ) -> Option<Option<Broken>> {
     for (event, is_out) in events.iter().zip(out) {
         if !*is_out && world.step(event).is_ok() {
-            notes(watch, event, clients)?;
-            if let Err(broken) = looks(watch, world, clients)? {
+            note(watch, event, clients)?;
+            if let Err(broken) = look(watch, world, clients)? {
                 return Some(Some(broken));
             }
         }
     }
-    Some(ends(watch, world)?.err())
+    Some(look_again(watch, world)?.err())
 }

@@ -13,14 +13,14 @@ pub fn shortened(alloc: Global, run: &Run) -> Option<Vec<bool>> {
     for shift in 1..11u32 {
         let size = run.events.len() >> shift;
         if size > 0 {
-            leaves_out(alloc, run, &mut out, size)?;
+            leave_out(alloc, run, &mut out, size)?;
         }
     }
     Some(out)
 }
 
 // Leaves out each part of this size without which it still fails.
-fn leaves_out(alloc: Global, run: &Run, out: &mut Vec<bool>, size: usize) -> Option<()> {
+fn leave_out(alloc: Global, run: &Run, out: &mut Vec<bool>, size: usize) -> Option<()> {
     let size = size.max(1);
     for part in 0..=run.events.len() / size {
         let mut tried = Vec::new(alloc);
