@@ -66,66 +66,61 @@ pub fn named(alloc: Global, client: usize) -> Result<ClientId> {
 }
 
 /// Lets an event happen.
-pub fn happens(world: &mut World, course: &mut Course, event: &Event) -> Result<()> {
+pub fn let_happen(world: &mut World, course: &mut Course, event: &Event) -> Result<()> {
     ensure!(world.step(event).is_ok(), "an event could not happen");
     course.events = course.events.saturating_add(1);
     Ok(())
 }
 
 /// Lets an event happen that is made for it, and is proved to be dropped here alone.
-pub fn does(world: &mut World, course: &mut Course, event: Event) -> Result<()> {
-    let happened = happens(world, course, &event);
+pub fn let_happen_and_drop(world: &mut World, course: &mut Course, event: Event) -> Result<()> {
+    let happened = let_happen(world, course, &event);
     drop(event);
     happened
 }
 
 /// Delivers all messages, in the order of sending, and those to which they lead.
-pub fn all_come(world: &mut World, course: &mut Course) -> Result<()> {
+pub fn deliver_all(world: &mut World, course: &mut Course) -> Result<()> {
     for _message in 0..MAX_MESSAGES {
         if course.next >= world.messages() {
             return Ok(());
         }
-        comes_next(world, course)?;
+        deliver_next(world, course)?;
     }
     bail!("the messages do not end")
 }
 
-fn comes_next(world: &mut World, course: &mut Course) -> Result<()> {
+fn deliver_next(world: &mut World, course: &mut Course) -> Result<()> {
     let next = course.next;
     course.next = next.saturating_add(1);
-    does(world, course, Event::Deliver(next))
+    let_happen_and_drop(world, course, Event::Deliver(next))
 }
 
 /// Carries up what waits on the connection of a client, and lets the nodes agree on it.
-pub fn goes_up(world: &mut World, course: &mut Course, client: usize) -> Result<()> {
+pub fn carry_up(world: &mut World, course: &mut Course, client: usize) -> Result<()> {
     let connection = course.last[client % 4];
     let count = world.up(connection).len() as u64;
-    does(world, course, Event::CarryUp(connection, count))?;
-    all_come(world, course)
+    let_happen_and_drop(world, course, Event::CarryUp(connection, count))?;
+    deliver_all(world, course)
 }
 
 /// Carries down what waits on the connection of a client.
-pub fn comes_down(world: &mut World, course: &mut Course, client: usize) -> Result<()> {
+pub fn carry_down(world: &mut World, course: &mut Course, client: usize) -> Result<()> {
     let connection = course.last[client % 4];
     let count = world.down(connection).len() as u64;
-    does(world, course, Event::CarryDown(connection, count))
+    let_happen_and_drop(world, course, Event::CarryDown(connection, count))
 }
 
 /// Connects a client to the primary, which accepts it.
-pub fn connects(
-    alloc: Global,
-    world: &mut World,
-    course: &mut Course,
-    client: usize,
-) -> Result<()> {
-    opens(alloc, world, course, client)?;
+pub fn connect(alloc: Global, world: &mut World, course: &mut Course, client: usize) -> Result<()> {
+    open(alloc, world, course, client)?;
     course.opened = course.opened.saturating_add(1);
     course.last[client % 4] = course.opened;
-    goes_up(world, course, client)?;
-    comes_down(world, course, client)
+    carry_up(world, course, client)?;
+    carry_down(world, course, client)
 }
 
-fn opens(alloc: Global, world: &mut World, course: &mut Course, client: usize) -> Result<()> {
+fn open(alloc: Global, world: &mut World, course: &mut Course, client: usize) -> Result<()> {
     let event = Event::Open(named(alloc, client)?, course.primary);
-    does(world, course, event)
+    let_happen_and_drop(world, course, event)
 }

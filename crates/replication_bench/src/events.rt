@@ -1,7 +1,7 @@
 // The time of an event, and how it continues as the world grows older.
 
 use crate::course::{Course, opened};
-use crate::publications::{Publications, begin, both_publish};
+use crate::publications::{Publications, begin, publish_both};
 use crate::takeovers::{Ends, take_over};
 use anyhow::{Result, ensure};
 use bench_base::{print_memory, time_since};
@@ -84,7 +84,7 @@ fn time(
         if course.events >= events {
             break;
         }
-        both_publish(world, course, publications)?;
+        publish_both(world, course, publications)?;
         if course.events >= until {
             until = until.saturating_add(UNTIL_A_TAKEOVER);
             next(rt, world, course, ends, &mut times)?;

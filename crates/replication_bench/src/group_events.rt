@@ -57,7 +57,7 @@ fn print(rt: &HostRuntime, events: u64, nanos: u128, agreed: u64, asked: u64) ->
 fn let_happen(group: &mut Group<Tally>, events: u64, asks: bool) -> Result<u64> {
     let mut asked = 0u64;
     for number in 0..events {
-        ensure!(happens(group, number), "a step ran out of memory");
+        ensure!(let_one_happen(group, number), "a step ran out of memory");
         if asks {
             asked = asked.saturating_add(group.agreed_len());
         }
@@ -67,7 +67,7 @@ fn let_happen(group: &mut Group<Tally>, events: u64, asks: bool) -> Result<u64> 
 
 // Lets the event of a number happen: whether it did. The event is dropped once, and not on each way
 // out of a loop.
-fn happens(group: &mut Group<Tally>, number: u64) -> bool {
+fn let_one_happen(group: &mut Group<Tally>, number: u64) -> bool {
     let event = event_at(number);
     let happened = group.step(&event).is_ok();
     drop(event);

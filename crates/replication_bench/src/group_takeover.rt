@@ -46,13 +46,13 @@ fn print(rt: &HostRuntime, whole: u128, longest: u128, agreed: u64) -> Result<()
 // Lets the sole member of a group hold this many places.
 fn serve(group: &mut Group<Tally>, places: u64) -> Result<()> {
     for number in 0..places {
-        ensure!(proposes(group, number), "a step ran out of memory");
+        ensure!(propose(group, number), "a step ran out of memory");
     }
     Ok(())
 }
 
 // Proposes the command of a number: whether it was taken. The event is dropped once.
-fn proposes(group: &mut Group<Tally>, number: u64) -> bool {
+fn propose(group: &mut Group<Tally>, number: u64) -> bool {
     let event = proposal(number);
     let happened = group.step(&event).is_ok();
     drop(event);

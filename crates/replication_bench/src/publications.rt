@@ -1,6 +1,8 @@
 // Publications at QoS 2: `a` publishes to `b`, and `c` to `d`.
 
-use crate::course::{Course, comes_down, connects, does, goes_up, happens, named};
+use crate::course::{
+    Course, carry_down, carry_up, connect, let_happen, let_happen_and_drop, named,
+};
 use anyhow::Result;
 use packet::{Payload, QoS};
 use session_base::Publication;
@@ -48,20 +50,20 @@ fn publication(alloc: Global, pair: usize) -> Result<Event> {
 /// Connects all clients, and subscribes `b` and `d`.
 pub fn begin(alloc: Global, world: &mut World, course: &mut Course) -> Result<()> {
     for client in 0..4 {
-        connects(alloc, world, course, client)?;
+        connect(alloc, world, course, client)?;
     }
-    subscribes(alloc, world, course, 0)?;
-    subscribes(alloc, world, course, 1)
+    subscribe(alloc, world, course, 0)?;
+    subscribe(alloc, world, course, 1)
 }
 
-fn subscribes(alloc: Global, world: &mut World, course: &mut Course, pair: usize) -> Result<()> {
+fn subscribe(alloc: Global, world: &mut World, course: &mut Course, pair: usize) -> Result<()> {
     let subscriber = pair.saturating_mul(2).saturating_add(1);
-    asks(alloc, world, course, pair, subscriber)?;
-    goes_up(world, course, subscriber)?;
-    comes_down(world, course, subscriber)
+    send_subscribe(alloc, world, course, pair, subscriber)?;
+    carry_up(world, course, subscriber)?;
+    carry_down(world, course, subscriber)
 }
 
-fn asks(
+fn send_subscribe(
     alloc: Global,
     world: &mut World,
     course: &mut Course,
@@ -70,18 +72,18 @@ fn asks(
 ) -> Result<()> {
     let filter = Filter::new(alloc, TOPICS[pair % 2])?;
     let event = Event::Subscribe(named(alloc, subscriber)?, filter, QoS::ExactlyOnce);
-    does(world, course, event)
+    let_happen_and_drop(world, course, event)
 }
 
 /// Publishes once for each publisher, with all handshakes.
-pub fn both_publish(
+pub fn publish_both(
     world: &mut World,
     course: &mut Course,
     publications: &Publications,
 ) -> Result<()> {
-    happens(world, course, &publications.first)?;
+    let_happen(world, course, &publications.first)?;
     shake_hands(world, course, 0, 1)?;
-    happens(world, course, &publications.second)?;
+    let_happen(world, course, &publications.second)?;
     shake_hands(world, course, 2, 3)
 }
 
@@ -96,11 +98,11 @@ fn shake_hands(
     for client in &[publisher, subscriber] {
         for _half in 0..2 {
             if *client == subscriber {
-                comes_down(world, course, *client)?;
+                carry_down(world, course, *client)?;
             }
-            goes_up(world, course, *client)?;
+            carry_up(world, course, *client)?;
             if *client == publisher {
-                comes_down(world, course, *client)?;
+                carry_down(world, course, *client)?;
             }
         }
     }

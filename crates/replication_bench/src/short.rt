@@ -1,7 +1,7 @@
 // A short run, of which the gate compares what it prints.
 
 use crate::course::{Course, named, opened};
-use crate::publications::{Publications, begin, both_publish};
+use crate::publications::{Publications, begin, publish_both};
 use crate::takeovers::{Ends, take_over};
 use anyhow::{Result, anyhow, ensure};
 use std::alloc::Global;
@@ -53,7 +53,7 @@ fn go_on(
 
 fn publish(world: &mut World, course: &mut Course, publications: &Publications) -> Result<()> {
     for _round in 0..ROUNDS {
-        both_publish(world, course, publications)?;
+        publish_both(world, course, publications)?;
     }
     Ok(())
 }

@@ -1,6 +1,6 @@
 // Another node becomes the primary, and all clients go to it.
 
-use crate::course::{Course, all_come, config, connects, does, named};
+use crate::course::{Course, config, connect, deliver_all, let_happen_and_drop, named};
 use anyhow::Result;
 use std::alloc::Global;
 use world::{Event, World};
@@ -17,22 +17,22 @@ pub enum Ends {
 /// Lets the next node in turn take over.
 pub fn take_over(alloc: Global, world: &mut World, course: &mut Course, ends: Ends) -> Result<()> {
     let primary = course.primary % 3 + 1;
-    assigns(alloc, world, course, primary)?;
-    all_come(world, course)?;
+    assign(alloc, world, course, primary)?;
+    deliver_all(world, course)?;
     course.primary = primary;
     for client in 0..4 {
-        goes_over(alloc, world, course, client, ends)?;
+        reconnect(alloc, world, course, client, ends)?;
     }
     Ok(())
 }
 
-fn assigns(alloc: Global, world: &mut World, course: &mut Course, primary: u8) -> Result<()> {
+fn assign(alloc: Global, world: &mut World, course: &mut Course, primary: u8) -> Result<()> {
     let event = Event::Assign(config(alloc, primary)?);
-    does(world, course, event)
+    let_happen_and_drop(world, course, event)
 }
 
 // A client loses its connection and connects to the new primary.
-fn goes_over(
+fn reconnect(
     alloc: Global,
     world: &mut World,
     course: &mut Course,
@@ -40,22 +40,22 @@ fn goes_over(
     ends: Ends,
 ) -> Result<()> {
     let before = course.last[client % 4];
-    abandons(alloc, world, course, client)?;
+    abandon(alloc, world, course, client)?;
     if ends == Ends::Seen {
-        notices(world, course, before);
+        notice(world, course, before);
     }
-    connects(alloc, world, course, client)
+    connect(alloc, world, course, client)
 }
 
 // The node sees the end of a connection. It is idle if the node has closed it before.
-fn notices(world: &mut World, course: &mut Course, connection: u64) {
+fn notice(world: &mut World, course: &mut Course, connection: u64) {
     let event = Event::Notice(connection);
     let _ = world.step(&event);
     drop(event);
     course.events = course.events.saturating_add(1);
 }
 
-fn abandons(alloc: Global, world: &mut World, course: &mut Course, client: usize) -> Result<()> {
+fn abandon(alloc: Global, world: &mut World, course: &mut Course, client: usize) -> Result<()> {
     let event = Event::Abandon(named(alloc, client)?);
-    does(world, course, event)
+    let_happen_and_drop(world, course, event)
 }
