@@ -20,6 +20,8 @@ DEFINITION = {
     ),
     ".rt": (r"(?:pub(?:\(\w+\))? )?(?:const|enum|struct|trait) ", r"\b"),
 }
+# What comes before and after the name of a list of rules.
+RULES = (r"(?:pub +)?ruleset +", r" *=")
 # What a file of specs hands up of another one: its path, and words of it or a name for it.
 HANDED_UP = re.compile(r"(?m)^pub use Rattle\.([\w.]+?)(?:\.\{([^}]*)\})?(?: as (\w+))?\s*$")
 
@@ -75,8 +77,8 @@ def defined_in(file, word, most=3):
     end, text = os.path.splitext(file)[1], text_of(file)
     before, after = DEFINITION[end]
     inside = r"[ \t│|]+" + (before if end == ".antt" else "")
-    for begin in (before, inside):
-        found = re.search(rf"(?m)^{begin}{re.escape(word)}{after}", text)
+    for begin, rest in ((before, after), (inside, after), RULES):
+        found = re.search(rf"(?m)^{begin}{re.escape(word)}{rest}", text)
         if found:
             return file, text.count("\n", 0, found.end()) + 1
     for path, words, _ in HANDED_UP.findall(text) if most else []:
