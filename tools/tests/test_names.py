@@ -1,5 +1,5 @@
-"""Tests of tools/unresolved: imports that lead to no definition."""
-from small import HIGH, RIGHT, SENTENCES, WORDS, ToolTest
+"""Tests of tools/unresolved and tools/rename: what imports lead to, and what a rename changes."""
+from small import HIGH, LOW, RIGHT, SENTENCES, WORDS, ToolTest
 
 PROOF, FAULT = "crates/low/proofs/Laws.antt", "docs/planted/high/a_word_is_lost.edit"
 
@@ -27,3 +27,39 @@ class Unresolved(ToolTest):
             "use Rattle.low.proofs.words.Word.+letters.Goals as goal\n",
             "crates/high/specs/Lib.antt": "pub use Rattle.low.specs as low\n"})
         self.shows()
+
+
+class Rename(ToolTest):
+    words, count = ["rename", "names"], ""
+    files = RIGHT | {
+        "names": "low Words Word Term  # shorter\n",
+        HIGH: RIGHT[HIGH] + "fn count(Word: u8)\n    ensures Word { Word ≡ 1 }\n{ Word }\n",
+        SENTENCES: RIGHT[SENTENCES] + "-- one Word\npub Sentence : Type 0\nSentence = List Word\n",
+        FAULT: "file: specs/Sentences.antt\nold: List Word\nnew: Word\n",
+    }
+
+    def has(self, texts):
+        """Sees that these files have these texts."""
+        for file, text in texts.items():
+            self.assertEqual((self.top / file).read_text(encoding="utf-8"), text)
+
+    def test_renames_where_imports_lead_to_the_word_and_leaves_code_and_labels(self):
+        said = [f"  EDIT {FAULT}", f"{WORDS} Word -> Term: 7 in 3 files"]
+        self.assertEqual(self.ended(), (said, 0))
+        of_specs = (WORDS, SENTENCES, FAULT)
+        self.has({it: self.files[it].replace("Word", "Term").replace("Terms", "Words")
+            for it in of_specs})
+        self.has({LOW: RIGHT[LOW], HIGH: "ghost use Rattle.low.specs.Words.{Term};\n"
+            "fn count(Word: u8)\n    ensures Word { Term ≡ 1 }\n{ Word }\n"})
+
+    def test_leaves_what_may_be_a_field_and_names_a_file_that_has_the_new_word(self):
+        kept = RIGHT[SENTENCES] + "Sentence = record { Word = 1 }\n-- Term\n"
+        self.put({SENTENCES: kept, FAULT: "", HIGH: ""})
+        said = [f"  FIELD? {SENTENCES} Sentence = record {{ Word = 1 }}",
+            f"  CLASH Term in {SENTENCES}", f"{WORDS} Word -> Term: 3 in 2 files"]
+        self.assertEqual(self.ended(), (said, 0))
+        self.has({SENTENCES: kept.replace("{Word}", "{Term}")})
+
+    def test_names_a_word_that_its_module_does_not_define(self):
+        self.put({"names": "low Words Letter Sign\n"})
+        self.shows(f"NO DEFINITION {WORDS} Letter")
