@@ -1,4 +1,5 @@
-"""Tests of tools/unresolved and tools/rename: what imports lead to, and what a rename changes."""
+"""Tests of tools/unresolved, tools/rename and tools/fits: what imports lead to, what a rename
+changes, and which planted faults no longer fit."""
 from small import HIGH, LOW, RIGHT, SENTENCES, WORDS, ToolTest
 
 PROOF, FAULT = "crates/low/proofs/Laws.antt", "docs/planted/high/a_word_is_lost.edit"
@@ -63,3 +64,18 @@ class Rename(ToolTest):
     def test_names_a_word_that_its_module_does_not_define(self):
         self.put({"names": "low Words Letter Sign\n"})
         self.shows(f"NO DEFINITION {WORDS} Letter")
+
+
+class Fits(ToolTest):
+    words, count = ["fits"], ""
+    # The second text stands there once, as the pair before it leaves the file.
+    files = RIGHT | {FAULT: "file: specs/Sentences.antt\nold: use Rattle\nnew: use R\n"
+        "old: Rattle\nnew: R\n",
+        SENTENCES: RIGHT[SENTENCES] + "-- of Rattle\n"}
+
+    def test_names_a_text_that_does_not_stand_in_its_file_once(self):
+        self.shows_edits(
+            (SENTENCES, "-- of Rattle\n", "-- none\n", f"{FAULT}: 0 times: Rattle"),
+        )
+        self.put({SENTENCES: "use Rattle\nuse Rattle\n"})
+        self.shows(f"{FAULT}: 2 times: use Rattle", f"{FAULT}: 0 times: Rattle")
