@@ -85,7 +85,7 @@ class Named(ToolTest):
 
     def test_lets_pages_name_areas_of_commits_what_is_built_and_names_that_stand_for_any(self):
         self.put({MANUAL: "`String::new` `docs/manual` `docs/` `crates/low/out/low` "
-            "`examples/NAME.script` `docs/planted/CRATE/NAME.edit`\n"})
+            "`examples/NAME.script` `docs/planted/CRATE/NAME.edit` `XView`\n"})
         self.shows()
 
 
