@@ -42,6 +42,11 @@ class Sizes(ToolTest):
         subject = f"commit {self.commit('a' * 66)}: a subject of 66 characters"
         self.shows(*(found.format(file) for file, _, _, found in LIMITS), subject)
 
+    def test_reads_no_commits_with_files(self):
+        self.commit("a" * 66, "--amend")
+        self.words = ["sizes", "--files"]
+        self.shows()
+
     def test_names_an_excuse_that_is_not_needed(self):
         self.put({MAILBOX: function(clauses=8, name="take_rest")})
         self.shows("mailbox: take_rest: 8 clauses, and 9 are excused")

@@ -55,6 +55,12 @@ class Counts(ToolTest):
         self.words, self.tables = ["look"], {"LOOKS": (["true"], ["false"])}
         self.assertEqual(self.ended(), (["== false", "2 tools, 1 found something"], 1))
 
+    def test_look_leaves_out_what_needs_the_history(self):
+        on_files = {"false": None, "echo": ["ls", "crates"]}
+        self.words = ["look", "--files"]
+        self.tables = {"LOOKS": (["false"], ["true"], ["echo"]), "ON_FILES": on_files}
+        self.assertEqual(self.ended(), (["2 tools, 0 found something"], 0))
+
     def test_planted_judges_by_what_the_check_could_not_prove(self):
         made = {}
         exec(parts("planted")[0], made)

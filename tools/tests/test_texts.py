@@ -83,6 +83,11 @@ class Named(ToolTest):
         self.put({"README.md": "".join(f"`{it}`\n" for it in gone)})
         self.shows(*(f"README.md: there is no {it}" for it in gone))
 
+    def test_names_the_same_in_a_copy_without_a_repository(self):
+        self.ran("rm", "-r", ".git")
+        self.put({"README.md": "`crates/low/src/lib.rt` `docs/MAN`\n"})
+        self.shows("README.md: there is no docs/MAN")
+
     def test_lets_pages_name_areas_of_commits_what_is_built_and_names_that_stand_for_any(self):
         self.put({MANUAL: "`String::new` `docs/manual` `docs/` `crates/low/out/low` "
             "`examples/NAME.script` `docs/planted/CRATE/NAME.edit` `XView`\n"})
