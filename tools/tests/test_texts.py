@@ -1,6 +1,6 @@
 """Tests of tools/twins, tools/scripts, tools/named and tools/numbers. The tables of the first and
 the last name crates of this repository, so the tests put other tables in their place."""
-from small import LOW, MANUAL, RIGHT, ToolTest
+from small import HIGH, LOW, MANUAL, RIGHT, ToolTest
 
 OURS, THEIRS = "crates/low/specs/Twins.antt", "crates/high/specs/Twins.antt"
 OUR_CODE, THEIR_CODE = "crates/low/src/twins.rt", "crates/high/src/twins.rt"
@@ -78,6 +78,12 @@ class Named(ToolTest):
                 f"{CONTRACTS}: no file has pub fn letters(&self) -> usize ensures {{ true }} .."),
         )
 
+    def test_names_a_call_whose_type_or_parameters_are_not_there(self):
+        self.put({"README.md": "`is_long(word)` `letters()` `is_long(a)` `is_short(word)` "
+            "`Word::letters(self)` `Wort::letters`\n", "wip/next/README.md": "`Kind::Verb`\n"})
+        self.shows("README.md: no file has Wort", "README.md: no function is is_long(a)",
+            "README.md: no function is is_short(word)", "wip/next/README.md: Kind has no Verb")
+
     def test_names_each_path_that_is_not_there(self):
         gone = ["docs/MANUEL.md", "docs/MAN", "crates/low/src/words.rt"]
         self.put({"README.md": "".join(f"`{it}`\n" for it in gone)})
@@ -89,8 +95,9 @@ class Named(ToolTest):
         self.shows("README.md: there is no docs/MAN")
 
     def test_lets_pages_name_areas_of_commits_what_is_built_and_names_that_stand_for_any(self):
-        self.put({MANUAL: "`String::new` `docs/manual` `docs/` `crates/low/out/low` "
-            "`examples/NAME.script` `docs/planted/CRATE/NAME.edit` `XView`\n"})
+        self.put({HIGH: RIGHT[HIGH] + "use std::string::String;\n", MANUAL: "`String::new` "
+            "`docs/manual` `docs/` `crates/low/out/low` `examples/NAME.script` "
+            "`docs/planted/CRATE/NAME.edit` `XView`\n"})
         self.shows()
 
 
