@@ -61,5 +61,10 @@ class Picture(ToolTest):
         self.put({CODE: "pub fn run()\n{ }\n"})
         name = self.commit("world: go")
         self.shows(f"{name} world: go: does not say how it was checked", STALE.format(STATUS))
-        self.commit("world: go\n\nChecked: world.", "--amend")
-        self.shows(STALE.format(STATUS))
+        for said in ("read.", "by start.", "read.\n\nrt check was not run."):
+            name = self.commit(f"world: go\n\nChecked: {said}", "--amend")
+            self.shows(f"{name} world: go: does not say how it was checked", STALE.format(STATUS))
+        for said in ("world (`rt check`).", "read, tools/named.", "by the gate of 6556a50a.",
+                "with others, at the\nend of this series"):
+            self.commit(f"world: go\n\nChecked: {said}", "--amend")
+            self.shows(STALE.format(STATUS))
