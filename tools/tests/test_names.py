@@ -1,5 +1,7 @@
-"""Tests of tools/unresolved, tools/rename and tools/fits: what imports lead to, what a rename
-changes, and which planted faults no longer fit."""
+"""Tests of tools/unresolved, tools/rename, tools/fits, tools/statements and tools/carry: what
+imports lead to, what a rename changes, and what it has to leave as it was."""
+import hashlib
+
 from small import HIGH, LOW, RIGHT, SENTENCES, WORDS, ToolTest
 
 PROOF, FAULT = "crates/low/proofs/Laws.antt", "docs/planted/high/a_word_is_lost.edit"
@@ -79,3 +81,40 @@ class Fits(ToolTest):
         )
         self.put({SENTENCES: "use Rattle\nuse Rattle\n"})
         self.shows(f"{FAULT}: 2 times: use Rattle", f"{FAULT}: 0 times: Rattle")
+
+
+class Checkouts(ToolTest):
+    count, table = "", "low Words Word Term\n"
+    files = {f"{top}/{file}": text.replace("ensures {", f"ensures {{ {word} ≡ ")
+        for top, word in (("old", "Word"), ("new", "Term")) for file, text in RIGHT.items()}
+
+    def test_statements_compares_clauses_by_their_old_words(self):
+        self.put({"names": self.table})
+        counts = ["ensures: 1 before, 1 after", "requires: 0 before, 0 after"]
+        clauses = [f"{sign} low/lib.rt:letters ensures  {word}≡result≡self.letters"
+            for sign, word in (("-", "Word"), ("+", "Term"))]
+        self.words = ["statements", "old", "new"]
+        self.assertEqual(self.ended(), ([*counts, *clauses], 1))
+        self.words = ["statements", "old", "new", "names"]
+        self.assertEqual(self.ended(), (counts, 0))
+
+    def test_carry_gives_each_edit_the_verdict_that_it_had(self):
+        edits = {"low/kept": "old: a", "low/renamed": "old: Word", "low/moved": "old: b",
+            "low/changed_before": "old: c"}
+        later = edits | {"low/renamed": "old: Term", "high/moved": "old: b", "high/new": "old: d"}
+        del later["low/moved"]
+        self.put({f"{top}/docs/planted/{edit}.edit": text
+            for top, found in (("old", edits), ("new", later)) for edit, text in found.items()})
+
+        def rows(found, texts):
+            sums = {it: hashlib.sha256(texts[it].encode()).hexdigest()[:12] for it in found}
+            lines = ([*it.split("/"), sums[it], "refused\n"] for it in sorted(found))
+            return "".join("\t".join(it) for it in lines)
+
+        tried = "docs/planted/tried.txt"
+        self.put({f"old/{tried}": rows(edits, edits | {"low/changed_before": "old: e"})})
+        self.words = ["carry", "old", "new"]
+        self.assertEqual(self.ended(), (["high moved: moved from low moved", "high new: new",
+            "3 verdicts, 1 over changed texts"], 0))
+        wanted = rows(["low/kept", "low/renamed", "high/moved"], later)
+        self.assertEqual((self.top / "new" / tried).read_text(encoding="utf-8"), wanted)
