@@ -57,8 +57,8 @@ fn config_by(alloc: Global, primary: u8) -> Result<Config, Memory> {
     })
 }
 
-// Returns nodes 1 and 2.
-fn two_nodes(alloc: Global) -> Result<Cluster, Fail> {
+/// Returns nodes 1 and 2.
+pub(super) fn two_nodes(alloc: Global) -> Result<Cluster, Fail> {
     let config = config_by(alloc, 1)?;
     Ok(Cluster::new(alloc, &[1, 2], &config)?)
 }
@@ -174,6 +174,27 @@ fn a_wake_before_the_sleep_ends_it(rt: HostRuntime) -> Result<(), Fail> {
             peer.wake(&rt);
             is_woken(&rt, peer)
         }
+        None => None,
+    };
+    assert_eq!(rt; woken, Some(true));
+    Ok(())
+}
+
+// Sleeps twenty times for no time, and nobody wakes the node. Says whether that ends in time.
+fn wakes_alone<R: Wait + Clock>(rt: &R, peer: &Peer) -> Option<bool> {
+    let start = Instant::now(rt).ok()?;
+    for _ in 0..20u8 {
+        peer.sleep(rt, Duration::from_millis(0));
+    }
+    Some(start.elapsed(rt).ok()?.as_secs() < SLEEP_SECONDS)
+}
+
+// A sleep takes no longer than it was given.
+#[test]
+fn a_sleep_of_no_time_ends(rt: HostRuntime) -> Result<(), Fail> {
+    let cluster = two_nodes(rt.alloc())?;
+    let woken = match cluster.node(1) {
+        Some(peer) => wakes_alone(&rt, peer),
         None => None,
     };
     assert_eq!(rt; woken, Some(true));
