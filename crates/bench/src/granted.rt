@@ -19,7 +19,8 @@ pub fn run(rt: &HostRuntime) -> Result<()> {
     measure(rt, 4_000)
 }
 
-// Each function below is lent the index, so that no way out of it has to drop it.
+// Measures with an index of its own. Each function below is lent the index, so that no way out of
+// it has to drop it.
 fn measure(rt: &HostRuntime, clients: u32) -> Result<()> {
     let mut index = ListIndex::new(rt.alloc());
     measure_over(rt, &mut index, clients)
@@ -41,7 +42,7 @@ fn fill(rt: &HostRuntime, index: &mut ListIndex, clients: u32) -> Result<u128> {
     nanos_each(rt, start, 1)
 }
 
-// Each client has one filter that matches the topic, and 63 that do not.
+// Sets the filters of the client of a number: one that matches the topic, and 63 that do not.
 fn set_filters(alloc: Global, index: &mut ListIndex, number: u32) -> Result<()> {
     let client = client_of(alloc, number)?;
     set_all(alloc, index, &client)

@@ -63,7 +63,7 @@ fn print<R: Print>(rt: &R, lanes: u8, elapsed: Duration, busy: Duration) -> Resu
     Ok(())
 }
 
-// All lanes send at once, each from a thread of its own: whether all came, in order.
+// Sends on all lanes at once, each from a thread of its own. Says whether all came, in order.
 fn pour_all<J: Naming + Send, R: Threads + Wait + Sync>(
     rt: &R,
     receiver: &mut Receiver<u64, J>,

@@ -46,7 +46,7 @@ fn encode_some(
     encode_time(rt, &packet, count, out)
 }
 
-// The least of the rounds; the first one makes room for the bytes.
+// Returns the time of the fastest round; the first one makes room for the bytes.
 fn encode_time(rt: &HostRuntime, packet: &Packet, count: u32, out: &mut Vec<u8>) -> Result<u128>
     requires { IsListed packet.now }
 {

@@ -128,14 +128,14 @@ fn time_grants<I: SubIndex>(
     Ok((rows.len(), nanos_each(rt, start, rounds)?))
 }
 
-// One filter of some clients is cleared, and set again.
+// Clears a filter of some clients, sets it again, and prints the times of both.
 fn print_changes<I: SubIndex>(rt: &HostRuntime, index: &mut I, clients: u32) -> Result<()> {
     let mut some = Vec::new(rt.alloc());
     put_clients(rt.alloc(), clients, &mut some)?;
     print_changes_of(rt, index, some.as_slice())
 }
 
-// Clients at equal distances.
+// Adds clients at equal distances.
 fn put_clients(alloc: Global, clients: u32, some: &mut Vec<ClientId>) -> Result<()> {
     for number in 0..CHANGES {
         some.push(client_of(alloc, number.saturating_mul(clients / CHANGES))?)?;

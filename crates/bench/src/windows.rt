@@ -38,7 +38,8 @@ fn measure_in(rt: &HostRuntime, session: &mut Session, window: u32) -> Result<()
     Ok(())
 }
 
-// The session and the packets are lent, so that no way out of the loop has to drop them.
+// Returns the time of an entry, over rounds of this many. The session and the packets are lent, so
+// that no way out of the loop has to drop them.
 fn time_rounds(
     rt: &HostRuntime,
     session: &mut Session,
@@ -52,7 +53,7 @@ fn time_rounds(
     nanos_each(rt, start, ENTRIES)
 }
 
-// A window of entries is queued and sent, and then answered.
+// Queues and sends a window of entries, and then answers them.
 fn go_round(
     rt: &HostRuntime,
     session: &mut Session,

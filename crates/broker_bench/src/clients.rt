@@ -116,7 +116,8 @@ impl Clients {
         self.apply_and_answer(command, &mut given)
     }
 
-    // What the broker sends is lent, so that no way out has to drop it.
+    // Does a command, and all that the clients answer is under way then. What the broker sends is
+    // lent, so that no way out has to drop it.
     fn apply_and_answer(&mut self, command: &Command, given: &mut Vec<Output>) -> Result<bool> {
         self.broker.apply(command, given)?;
         self.answer_all(given.as_slice())?;
@@ -141,7 +142,7 @@ impl Clients {
     }
 }
 
-// The list is lent, so that no way out has to drop it.
+// Adds a filter. The list is lent, so that no way out has to drop it.
 fn put_filter(alloc: Global, text: &str, qos: QoS, wanted: &mut Vec<Subscription>) -> Result<()> {
     let filter = Filter::new(alloc, text)?;
     wanted.push(Subscription { filter, qos })?;

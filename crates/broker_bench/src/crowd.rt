@@ -50,7 +50,7 @@ fn visit(clients: &mut Clients, alloc: Global, session: u32, filters: Filters) -
     clients.lose(count)
 }
 
-// The client of a session connects.
+// Connects the client of a session.
 fn enter(clients: &mut Clients, alloc: Global, session: u32, count: u64) -> Result<()> {
     let name = format!(in alloc; "beside-{session}")?;
     clients.connect(count, name.as_str())
@@ -64,7 +64,7 @@ pub fn wanted(alloc: Global, filters: u32, owner: Option<u32>) -> Result<Vec<Sub
     Ok(wanted)
 }
 
-// The list is lent, so that no way out of the loop has to drop it.
+// Adds these filters. The list is lent, so that no way out of the loop has to drop it.
 fn put_all(
     alloc: Global,
     filters: u32,

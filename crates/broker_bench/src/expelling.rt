@@ -30,7 +30,7 @@ fn measure(rt: &HostRuntime, clients: &mut Clients) -> Result<()> {
     expel(rt, clients)
 }
 
-// The session that is expelled gets its filters, and its connection is lost.
+// Sets the filters of the session that is expelled, and loses its connection.
 fn leave(rt: &HostRuntime, clients: &mut Clients) -> Result<()> {
     clients.connect(1, "expelled")?;
     clients.subscribe(1, crowd::wanted(rt.alloc(), crowd::FILTERS - 1, None)?)?;
@@ -54,7 +54,8 @@ fn fill(rt: &HostRuntime, clients: &mut Clients) -> Result<()> {
     put_in(clients, &topic)
 }
 
-// The topic is lent, so that no way out of the loop has to drop it.
+// Publishes what waits for the session. The topic is lent, so that no way out of the loop has to
+// drop it.
 fn put_in(clients: &mut Clients, topic: &TopicName) -> Result<()> {
     for _ in 0..WAITING {
         clients.publish(2, topic, QoS::AtLeastOnce, false)?;

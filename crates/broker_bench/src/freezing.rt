@@ -67,7 +67,7 @@ fn fill(alloc: Global, clients: &mut Clients, waiting: u32) -> Result<()> {
     publish_all(clients, &topic, waiting)
 }
 
-// One filter of each session of the crowd matches.
+// Publishes this many times. One filter of each session of the crowd matches.
 fn publish_all(clients: &mut Clients, topic: &TopicName, waiting: u32) -> Result<()> {
     for _ in 0..waiting {
         clients.publish(1, topic, QoS::AtLeastOnce, false)?;

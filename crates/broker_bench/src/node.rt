@@ -79,7 +79,7 @@ fn fresh(alloc: Global) -> Result<NodeCore> {
     Ok(NodeCore::new(alloc, 1, &config)?)
 }
 
-// The time of a publication with a node that nothing came to yet.
+// Returns the time of a publication with a node that nothing came to yet.
 fn figure(
     rt: &HostRuntime,
     node: &mut NodeCore,
@@ -125,7 +125,7 @@ fn time(
     nanos_each(rt, start, PUBLICATIONS)
 }
 
-// All clients connect, and each second one subscribes to what the one before it publishes.
+// Connects all clients, and has each second one subscribe to what the one before it publishes.
 fn gather(alloc: Global, node: &mut NodeCore, connections: u64, out: &mut Vec<u8>) -> Result<()> {
     for port in 0..connections {
         step(alloc, node, Item::Opened(Port(port), 0));
@@ -137,13 +137,13 @@ fn gather(alloc: Global, node: &mut NodeCore, connections: u64, out: &mut Vec<u8
     Ok(())
 }
 
-// The client by a port connects.
+// Connects the client by a port.
 fn join(alloc: Global, node: &mut NodeCore, port: u64, out: &mut Vec<u8>) -> Result<()> {
     let connect = connect(alloc, port)?;
     take(alloc, node, &connect, true, out)
 }
 
-// It subscribes.
+// Has the client by a port subscribe.
 fn listen(alloc: Global, node: &mut NodeCore, port: u64, out: &mut Vec<u8>) -> Result<()> {
     let subscribe = subscribe(alloc, port)?;
     take(alloc, node, &subscribe, true, out)

@@ -36,7 +36,8 @@ fn measure(rt: &HostRuntime, qos: QoS, subscribers: u64, beside: u32) -> Result<
     measured
 }
 
-// Each function below is lent the broker, so that no way out of it has to drop it.
+// Prints the time of a publication to this many subscribers, with other sessions beside them. Each
+// function below is lent the broker, so that no way out of it has to drop it.
 fn measure_with(
     rt: &HostRuntime,
     clients: &mut Clients,
@@ -73,7 +74,7 @@ fn publish(rt: &HostRuntime, clients: &mut Clients, qos: QoS) -> Result<u128> {
     time(rt, clients, qos, &topic)
 }
 
-// The time of a publication of this topic.
+// Returns the time of a publication of this topic.
 fn time(rt: &HostRuntime, clients: &mut Clients, qos: QoS, topic: &TopicName) -> Result<u128> {
     let start = rt.process_cpu_time()?;
     for _ in 0..ROUNDS {

@@ -45,7 +45,7 @@ fn fill(rt: &HostRuntime, clients: &mut Clients, qos: QoS) -> Result<u128> {
     put_in(rt, clients, &topic, qos)
 }
 
-// The time of a publication of this topic.
+// Publishes what waits for the session. Returns the time of one publication.
 fn put_in(rt: &HostRuntime, clients: &mut Clients, topic: &TopicName, qos: QoS) -> Result<u128> {
     let start = rt.process_cpu_time()?;
     for _ in 0..WAITING {

@@ -49,7 +49,8 @@ impl Traffic {
     }
 }
 
-// The parts are lent, so that no way out of the loop has to drop them.
+// Adds the parts of a round, pair by pair. They are lent, so that no way out of the loop has to
+// drop them.
 fn put_rounds(
     alloc: Global,
     pairs: u64,
@@ -83,7 +84,7 @@ pub fn packets_of(qos: QoS) -> u64 {
     (answers as u64).saturating_add(1)
 }
 
-// What a publisher and its subscriber, whose port follows, send for one piece of publications.
+// Adds what a publisher and its subscriber, whose port follows, send for one piece of publications.
 fn put_round(alloc: Global, port: u64, qos: QoS, packets: u8, parts: &mut Vec<Part>) -> Result<()> {
     let other = port.saturating_add(1);
     let bytes = publishes(alloc, port, qos, packets)?;
@@ -112,8 +113,8 @@ fn put_publishes(
     Ok(())
 }
 
-// Packets with an identifier and no more, in pieces: this many times each of these kinds in turn,
-// with identifiers that begin again at 1 after the greatest.
+// Adds packets with an identifier and no more, in pieces: this many times each of these kinds in
+// turn, with identifiers that begin again at 1 after the greatest.
 fn say(
     alloc: Global,
     ports: (u64, u64),
@@ -127,7 +128,8 @@ fn say(
     put_pieces(alloc, ports, packets, bytes.as_slice(), parts)
 }
 
-// The bytes are lent, so that no way out of the loop has to drop them.
+// Adds a part for each piece of these bytes. They are lent, so that no way out of the loop has to
+// drop them.
 fn put_pieces(
     alloc: Global,
     ports: (u64, u64),
@@ -158,7 +160,7 @@ fn part_of(alloc: Global, ports: (u64, u64), bytes: &[u8]) -> Result<Part> {
     Ok(Part { port, other, bytes })
 }
 
-// A text of fewer than 100 bytes, after its length.
+// Appends a text of fewer than 100 bytes, after its length.
 fn put_text(text: &str, bytes: &mut Vec<u8>) -> Result<()> {
     bytes.push(0)?;
     bytes.push(u8::try_from(text.len())?)?;
@@ -166,13 +168,13 @@ fn put_text(text: &str, bytes: &mut Vec<u8>) -> Result<()> {
     Ok(())
 }
 
-// The topic on which the client by a port publishes.
+// Appends the topic on which the client by a port publishes.
 fn put_topic(alloc: Global, port: u64, bytes: &mut Vec<u8>) -> Result<()> {
     let topic = format!(in alloc; "plant/{port}/pump/speed")?;
     put_text(topic.as_str(), bytes)
 }
 
-// A packet of fewer than 128 bytes.
+// Appends a packet of fewer than 128 bytes.
 fn put_packet(first: u8, body: &[u8], bytes: &mut Vec<u8>) -> Result<()> {
     bytes.push(first)?;
     bytes.push(u8::try_from(body.len())?)?;

@@ -46,7 +46,7 @@ pub fn opened(alloc: Global) -> Result<World> {
     Ok(World::opening(alloc, 3, config(alloc, 1)?, clients.as_slice())?)
 }
 
-// The list is lent, so that no way out of the loop has to drop it.
+// Adds the clients. The list is lent, so that no way out of the loop has to drop it.
 fn put_all(alloc: Global, clients: &mut Vec<ClientId>) -> Result<()> {
     for name in &CLIENTS {
         clients.push(ClientId::new(alloc, name)?)?;

@@ -94,7 +94,7 @@ fn time(
     Ok(times)
 }
 
-// Another node takes over, if that is measured.
+// Has another node take over, if that is measured.
 fn next(
     rt: &HostRuntime,
     world: &mut World,
@@ -128,8 +128,8 @@ fn print(rt: &HostRuntime, course: &Course, times: Times) -> Result<()> {
     Ok(())
 }
 
-// How long the list is and how many messages there are, and the memory of the process, as Linux
-// reports it.
+// Prints how long the list is and how many messages there are, and the memory of the process, as
+// Linux reports it.
 fn print_world(rt: &HostRuntime, world: &World) -> Result<()> {
     let agreed = world.agreed_len();
     let messages = world.messages();

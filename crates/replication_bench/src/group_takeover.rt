@@ -19,7 +19,8 @@ pub fn run(rt: &HostRuntime) -> Result<()> {
     measure(rt, 1_000_000)
 }
 
-// Each function below is lent the group, so that no way out of it has to drop it.
+// Measures with a group of its own. Each function below is lent the group, so that no way out of it
+// has to drop it.
 fn measure(rt: &HostRuntime, places: u64) -> Result<()> {
     let mut group = opened(rt.alloc(), &[1])?;
     let measured = measure_in(rt, &mut group, places);
@@ -59,7 +60,7 @@ fn propose(group: &mut Group<Tally>, number: u64) -> bool {
     happened
 }
 
-// Members 2 and 3 take over. The time of the longest event is the result.
+// Has members 2 and 3 take over. Returns the time of the longest event.
 fn take_over(rt: &HostRuntime, group: &mut Group<Tally>) -> Result<Duration> {
     change(rt, group)?;
     let mut longest = Duration::ZERO;
@@ -75,7 +76,7 @@ fn change(rt: &HostRuntime, group: &mut Group<Tally>) -> Result<()> {
     Ok(())
 }
 
-// The time in which a message comes.
+// Lets a message come. Returns the time in which it does.
 fn deliver(rt: &HostRuntime, group: &mut Group<Tally>, number: u64) -> Result<Duration> {
     let start = rt.process_cpu_time()?;
     group.step(&Event::Deliver(number))?;

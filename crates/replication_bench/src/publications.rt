@@ -87,8 +87,8 @@ pub fn publish_both(
     shake_hands(world, course, 2, 3)
 }
 
-// PUBLISH, PUBREC, PUBREL and PUBCOMP between a publisher and the primary, and between this and a
-// subscriber.
+// Carries PUBLISH, PUBREC, PUBREL and PUBCOMP between a publisher and the primary, and between this
+// and a subscriber.
 fn shake_hands(
     world: &mut World,
     course: &mut Course,

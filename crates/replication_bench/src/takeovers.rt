@@ -31,7 +31,7 @@ fn assign(alloc: Global, world: &mut World, course: &mut Course, primary: u8) ->
     let_happen_and_drop(world, course, event)
 }
 
-// A client loses its connection and connects to the new primary.
+// Has a client lose its connection and connect to the new primary.
 fn reconnect(
     alloc: Global,
     world: &mut World,
@@ -47,7 +47,7 @@ fn reconnect(
     connect(alloc, world, course, client)
 }
 
-// The node sees the end of a connection. It is idle if the node has closed it before.
+// Lets the node see the end of a connection. That is idle if the node has closed it before.
 fn notice(world: &mut World, course: &mut Course, connection: u64) {
     let event = Event::Notice(connection);
     let _ = world.step(&event);

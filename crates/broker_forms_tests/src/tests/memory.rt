@@ -22,7 +22,8 @@ enum Outcome {
     Wrong,
 }
 
-// The client's packet, done after one output; with memory as many are there as expected.
+// Does a PINGREQ of the client, and then this packet, with one list of answers. Returns what
+// happened: with memory there are as many answers as expected, and otherwise the first one alone.
 fn outcome_of(alloc: Global, broker: &mut BrokerMachine, packet: &[u8], wanted: usize) -> Outcome {
     let mut out = Vec::new(alloc);
     if !is_given(alloc, broker, Event::Bytes(1, &[0xC0, 0]), &mut out) {
@@ -40,7 +41,7 @@ fn made_of(is_done: bool, is_right: bool) -> Outcome {
     }
 }
 
-// A broker that does two commands and is frozen.
+// Does two commands with a broker, and freezes it. Returns what happened.
 fn outcome_of_two(alloc: Global, broker: &mut BrokerMachine, bytes: &mut Vec<u8>) -> Outcome {
     for (packet, wanted) in [(SUBSCRIBE, 2), (RETAINED, 3)] {
         let outcome = outcome_of(alloc, broker, packet, wanted);
@@ -51,7 +52,7 @@ fn outcome_of_two(alloc: Global, broker: &mut BrokerMachine, bytes: &mut Vec<u8>
     made_of(is_frozen(broker, bytes), true)
 }
 
-// A broker that is thawed, does two commands, and is frozen.
+// Thaws a broker, does two commands with it, and freezes it. Returns what happened.
 fn outcome_of_all(alloc: Global, bytes: &mut Vec<u8>) -> Outcome {
     match BrokerMachine::thaw(alloc, ONE_SESSION) {
         Ok(mut broker) => outcome_of_two(alloc, &mut broker, bytes),

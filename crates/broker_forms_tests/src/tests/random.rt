@@ -14,7 +14,7 @@ const FROZEN: u64 = 1_000;
 
 const CLIENTS: [&str; 4] = ["a", "b", "c", "d"];
 
-// The bytes of a packet; what comes after them is not read.
+// Draws the bytes of a packet; what comes after them is not read.
 fn packet_of(numbers: &mut Numbers) -> [u8; 10] {
     let id = (numbers.next() % 4) as u8 + 1;
     let qos = (numbers.next() % 3) as u8;

@@ -90,7 +90,7 @@ const OF_SIXTEEN: &[Row<'static>] = &[
     ),
 ];
 
-// `a` publishes `x` at QoS 1 with this identifier; `b` is sent it, or not yet. Returns what came,
+// Has `a` publish `x` at QoS 1 with this identifier; `b` is sent it, or not yet. Returns what came,
 // if it is something else.
 fn came_for(alloc: Global, broker: &mut BrokerMachine, id: u8, sent: bool) -> Option<Came> {
     let packet = [0x32, 8, 0, 3, 0x74, 0x2F, 0x31, 0, id, 0x78];
@@ -103,8 +103,8 @@ fn came_for(alloc: Global, broker: &mut BrokerMachine, id: u8, sent: bool) -> Op
     }
 }
 
-// Of seventeen publications the first `sent` are sent at once, and no others. Returns the first one
-// that fails.
+// Has `a` publish seventeen times: the first `sent` are sent at once, and no others. Returns the
+// first publication that fails.
 fn first_fault_of_seventeen(alloc: Global, broker: &mut BrokerMachine, sent: u8) -> Option<Fault> {
     for id in 1..=17 {
         if let Some(came) = came_for(alloc, broker, id, id <= sent) {

@@ -28,7 +28,7 @@ fn offline(shown: Shown) -> Shown {
     (shown.0, shown.1, false, shown.3)
 }
 
-// Client `a`; memory runs out at most once.
+// Returns client `a`; memory runs out at most once.
 fn client_at_last(alloc: Global) -> Option<ClientCore> {
     match new_client(alloc) {
         Some(client) => Some(client),
@@ -50,7 +50,7 @@ fn is_as_after_loss(client: &mut ClientCore, alloc: Global, before: Shown) -> bo
         && reopen(client, alloc, before.2)
 }
 
-// After running out of memory in this act: nothing is written, and nothing has changed, or the
+// Says whether nothing is written after this act ran out of memory, and nothing has changed, or the
 // client is as after `lose_connection` if bytes were read.
 fn is_unchanged_or_lost(
     client: &mut ClientCore,
@@ -139,7 +139,7 @@ fn a_call_without_memory_is_done_again(rt: HostRuntime) {
     assert_eq!(rt; taken(&mut client), (3, 0));
 }
 
-// Opens, again if memory ran out.
+// Opens a connection, and tries once more if memory ran out. Says whether one is open.
 fn is_open(client: &mut ClientCore) -> bool {
     open(client).is_none() || open(client).is_none()
 }

@@ -368,7 +368,7 @@ fn what_was_left_is_written_first(rt: HostRuntime) {
     assert_eq!(rt; first_fault(&rt, rt.alloc()), None);
 }
 
-// How three writes of a stream end, whose device is full at its second call.
+// Returns how three writes of a stream end, whose device is full at its second call.
 fn stream_ends<R: Wait>(rt: &R, alloc: Global) -> Option<(Flow, Flow, Flow)> {
     let mut spring = sole(alloc)?;
     if !connect(alloc, &mut spring) {

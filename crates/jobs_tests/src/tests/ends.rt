@@ -107,7 +107,7 @@ fn lines_are_refused_with_a_status(rt: HostRuntime) {
     }
 }
 
-// A refusal that no words lead to: its exit status, and what it prints on both outputs.
+// Refuses what no words lead to. Returns the exit status, and what is printed on both outputs.
 fn refused<'a>(
     fault: &LineFault,
     output: &'a mut Vec<u8>,

@@ -31,7 +31,7 @@ struct Table {
 }
 
 impl Table {
-    // On this port of the loopback.
+    // Writes the table of a server on this port of the loopback.
     fn new<R: Files + AllocGlobal>(rt: &R, port: u16) -> io::Result<Table> {
         let alloc = rt.alloc();
         let served = Served::new(alloc, port)?;

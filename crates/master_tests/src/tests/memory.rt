@@ -8,21 +8,22 @@ use machine::{Tally, TallyCommand};
 use master::{Event, Group};
 use std::alloc::Global;
 
-// A command is added, and all messages come.
+// Adds a command, and lets all messages come.
 fn answer(group: &mut Group<Tally>, node: u8, number: u64) {
     let first = group.sent().len();
     let _ = propose(group, node, number);
     go_on(group, first);
 }
 
-// With one growth refused the first command is answered as usual, or one step is counted.
+// Says whether, with one growth refused, the first command is answered as usual, or one step is
+// counted.
 fn is_whole_or_counted(group: &Group<Tally>) -> bool {
     let losses = group.losses();
     (losses == 0 && counts(group) == (Sent(6), Left(1), Agreed(1)) && gave(group, 0, 0, 2))
         || losses == 1
 }
 
-// Two of three nodes, of which one at most has stopped: at that one a tick cannot happen.
+// Returns two of three nodes, of which one at most has stopped: at that one a tick cannot happen.
 fn two_that_run(group: &mut Group<Tally>) -> [u8; 2] {
     if !let_happen(group, &Event::Tick(2)) {
         [1, 3]
@@ -33,7 +34,8 @@ fn two_that_run(group: &mut Group<Tally>) -> [u8; 2] {
     }
 }
 
-// Two nodes that run are given the next ballot, and answer a command. Whether its output left.
+// Gives two nodes that run the next ballot, and has them answer a command. Says whether its output
+// left.
 fn let_two_take_over(group: &mut Group<Tally>, alloc: Global) -> bool {
     let [primary, backup] = two_that_run(group);
     let Ok(change) = config(alloc, &[primary, backup], primary) else {
@@ -104,7 +106,7 @@ fn are_answers(group: &Group<Tally>) -> bool {
     })
 }
 
-// Node 1 adds a command, and then cuts its log; a second time if memory ran out for that.
+// Has node 1 add a command, and then cut its log; a second time if memory ran out for that.
 fn propose_and_cut(group: &mut Group<Tally>) {
     answer(group, 1, 2);
     for _ in 0..2 {
@@ -112,7 +114,8 @@ fn propose_and_cut(group: &mut Group<Tally>) {
     }
 }
 
-// Node 2 becomes the primary of both nodes. What found no memory is said again when time passes.
+// Has node 2 become the primary of both nodes. What found no memory is said again when time passes.
+// False if there was none for the configuration.
 fn take_over(group: &mut Group<Tally>, alloc: Global) -> bool {
     let Ok(change) = config(alloc, &[1, 2], 2) else {
         return false;

@@ -45,7 +45,7 @@ fn stop_and_assign(
     }
 }
 
-// Ten messages come in turn, as far as they were sent.
+// Lets ten messages come in turn, as far as they were sent.
 fn come_on(group: &mut Group<Tally>, course: &mut Course) {
     let until = course.next.saturating_add(10);
     for number in course.next..until {
@@ -54,8 +54,8 @@ fn come_on(group: &mut Group<Tally>, course: &mut Course) {
     course.next = until.min(group.sent().len());
 }
 
-// A primary and the one before it take a command each, a message comes again, and time passes now
-// and then.
+// Has a primary and the one before it take a command each, lets a message come again, and lets time
+// pass now and then.
 fn take_some(group: &mut Group<Tally>, course: &mut Course, leader: u8, stale: u8, number: u64) {
     step_and_compare(
         group,
@@ -71,7 +71,7 @@ fn take_some(group: &mut Group<Tally>, course: &mut Course, leader: u8, stale: u
     step_and_compare(group, course, &event);
 }
 
-// 1,677 events under one primary.
+// Lets 1,677 events happen under one primary.
 fn serve(group: &mut Group<Tally>, course: &mut Course, leader: u8, stale: u8) {
     for number in 0..129 {
         take_some(group, course, leader, stale, number);

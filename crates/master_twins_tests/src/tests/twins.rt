@@ -79,7 +79,7 @@ impl Twins {
         Some(Event::Assign(Config { members, primary }))
     }
 
-    // The message that comes next, an earlier one again, or one that is not sent yet.
+    // Draws the message that comes next, an earlier one again, or one that is not sent yet.
     fn draw_message(&mut self) -> Event<TallyCommand> {
         if self.draw(8) == 0 {
             let sent = (self.keeping.sent().len() as u64).saturating_add(1);
@@ -128,7 +128,7 @@ impl Twins {
         one == other && self.count_alike()
     }
 
-    // A node cuts its log now and then. Whether nothing is seen of it.
+    // Has a node cut its log now and then. Says whether nothing is seen of it.
     fn cut_now_and_then(&mut self) -> bool {
         if self.draw(5) == 0 {
             let node = self.draw_node();

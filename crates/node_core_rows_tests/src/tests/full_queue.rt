@@ -201,7 +201,7 @@ impl Got {
     }
 }
 
-// Of all that came only the last three are no filling, and each of them came once.
+// Says whether of all that came only the last three are no filling, and each of them came once.
 fn ends_with_three(payloads: &[u8]) -> bool {
     match payloads.split_at_checked(ALL_BUT_ONE) {
         Some((filling, three)) => filling.iter().all(|byte| *byte == 0x77)
@@ -227,7 +227,7 @@ fn first_step(cutting: Cutting, node: &mut NodeCore, got: &mut Got) -> Option<&'
     }
 }
 
-// Its answers to what came but the first two.
+// Returns the answers of the subscriber to what came but the first two.
 fn rest_of(alloc: Global, got: &Got) -> Option<Vec<u8>> {
     let rest = got.answers.as_slice().get(TWO.len()..)?;
     Vec::from_slice(alloc, rest).ok()

@@ -73,7 +73,8 @@ fn first_fault(alloc: Global, node: &mut NodeCore, rows: &[Row<'static>]) -> Opt
     }
 }
 
-// If memory runs out for a node nothing is asked of it.
+// Returns the first row that fails with a fresh node. If memory runs out for the node, nothing is
+// asked of it.
 fn first_fault_if_opened(alloc: Global, rows: &[Row<'static>]) -> Option<Fault> {
     match primary(alloc, &[1]) {
         Some(mut node) => first_fault(alloc, &mut node, rows),

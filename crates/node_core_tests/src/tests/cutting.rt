@@ -111,7 +111,7 @@ fn take_over(alloc: Global, one: &mut NodeCore, two: &mut NodeCore) -> Option<bo
     Some(is_sent && asks_for_2(&asked) && stands_at(two, 1, CONNECTED))
 }
 
-// Node 1 holds what node 2 appends, and node 2 commits it.
+// Has node 1 hold what node 2 appends, and node 2 commit it.
 fn commit(alloc: Global, one: &mut NodeCore, two: &mut NodeCore, appended: Effects) {
     let held = give(alloc, one, 1, appended);
     let committed = give(alloc, two, 2, held);
@@ -168,7 +168,8 @@ fn a_session_goes_over_by_a_snapshot(rt: HostRuntime) {
     assert_eq!(rt; first_fault_of_fresh(rt.alloc()), None);
 }
 
-// Node 1 sends node 2 a log of one place with this snapshot in ballot 2: what node 2 hands out.
+// Sends node 2, from node 1, a log of one place with this snapshot in ballot 2. Returns what node 2
+// hands out.
 fn send_log(alloc: Global, two: &mut NodeCore, bytes: &[u8]) -> Option<Effects> {
     let snapshot = Vec::from_slice(alloc, bytes).ok()?;
     let log = Log::from_parts(1, snapshot, Vec::new(alloc));
@@ -258,7 +259,7 @@ fn bytes_that_are_no_snapshot_count_as_lost(rt: HostRuntime) {
     assert_eq!(rt; first_fault_of_bytes_by_fresh(rt.alloc()), None);
 }
 
-// Ballot 2 of nodes 1 and 2 continues until nothing is said any more. What found no memory is said
+// Continues ballot 2 of nodes 1 and 2 until nothing is said any more. What found no memory is said
 // again when time passes.
 fn settle(alloc: Global, one: &mut NodeCore, two: &mut NodeCore) {
     for round in 0..16 {
@@ -274,7 +275,7 @@ fn settle(alloc: Global, one: &mut NodeCore, two: &mut NodeCore) {
     }
 }
 
-// Client `a` connects by port 1. What finds no memory before it comes is done again.
+// Connects client `a` by port 1. What finds no memory before it comes is done again.
 fn connect(alloc: Global, node: &mut NodeCore) -> Effects {
     take(alloc, node, Item::Opened(Port(1), 0));
     for _ in 0..2 {

@@ -134,7 +134,8 @@ fn came_instead(alloc: Global, node: &mut NodeCore) -> Option<Came> {
     }
 }
 
-// If memory runs out for a node nothing is asked of it.
+// Returns what came with a fresh node, if it is not well. If memory runs out for the node, nothing
+// is asked of it.
 fn came_instead_of_fresh(alloc: Global) -> Option<Came> {
     match primary(alloc, &[1]) {
         Some(mut node) => came_instead(alloc, &mut node),

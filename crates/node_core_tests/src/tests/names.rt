@@ -12,7 +12,7 @@ fn serve(alloc: Global, node: &mut NodeCore) -> bool {
     bring(alloc, node, 1, CONNECT_A, 0).is_some()
 }
 
-// Ballot 2 has node 2 as its other member, and node 1 as its primary.
+// Returns the message that gives ballot 2: node 2 is its other member, and node 1 its primary.
 fn ballot_2(alloc: Global) -> Option<Body<Command>> {
     let members = Members::from_slice(alloc, &[1, 2]).ok()?;
     let before = Members::from_slice(alloc, &[1]).ok()?;

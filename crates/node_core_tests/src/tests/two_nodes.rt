@@ -14,7 +14,7 @@ fn only(effects: &Effects) -> Option<(u8, &Message<Command>)> {
     }
 }
 
-// The primary's one message is the first place of its log.
+// Says whether the primary's one message is the first place of its log.
 fn appends(effects: &Effects) -> bool {
     match only(effects) {
         Some((2, message)) => matches!(
@@ -25,7 +25,7 @@ fn appends(effects: &Effects) -> bool {
     }
 }
 
-// The backup's one message says that it holds one place.
+// Says whether the backup's one message says that it holds one place.
 fn holds(effects: &Effects) -> bool {
     match only(effects) {
         Some((1, message)) => matches!(&message.body, Body::Held(1, 1)),
@@ -33,7 +33,7 @@ fn holds(effects: &Effects) -> bool {
     }
 }
 
-// Then one place is committed.
+// Says whether the primary's one message says then that one place is committed.
 fn commits(effects: &Effects) -> bool {
     match only(effects) {
         Some((2, message)) => matches!(&message.body, Body::Commit(1, 1)),

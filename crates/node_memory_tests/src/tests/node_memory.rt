@@ -19,7 +19,7 @@ const ACCEPTED: &[u8] = &[0x20, 0x02, 0x00, 0x00];
 
 const PORT: Port = Port(1);
 
-// Node 1, the sole member of ballot 1.
+// Returns node 1, the sole member of ballot 1.
 fn sole(alloc: Global) -> Option<NodeCore> {
     let config = Config {
         members: Members::from_slice(alloc, &[1]).ok()?,
@@ -167,8 +167,8 @@ fn first_fault_in<J: NodeNaming, R: Wait>(
     }
 }
 
-// A node for which memory runs out does not exist, or counts what it lost. Returns the first step
-// that fails.
+// Returns the first step that fails. A node for which memory runs out does not exist, or counts
+// what it lost.
 fn first_fault_of_fresh<R: Wait>(rt: &R, alloc: Global) -> Option<&'static str> {
     match (Inbox::new(alloc), sole(alloc)) {
         (Ok(inbox), Some(core)) => first_fault_in::<Brand, R>(rt, alloc, inbox, core),

@@ -32,7 +32,7 @@ struct Meeting {
 }
 
 impl Meeting {
-    // It shuts after this many takings of a node.
+    // Returns a gate that shuts after this many takings of a node.
     fn new(shut_after: u64) -> Meeting {
         let heard = Heard {
             done: 0,
@@ -239,7 +239,7 @@ where
     }
 }
 
-// The same once node 1 has its lane.
+// Does the same once node 1 has its lane.
 fn meet_of<J, R>(
     rt: &R,
     alloc: Global,
@@ -302,7 +302,7 @@ where
     }
 }
 
-// The same once node 2 has its lane.
+// Does the same once node 2 has its lane.
 fn meet_both<J, R>(
     rt: &R,
     alloc: Global,

@@ -338,7 +338,8 @@ fn pour_two<J: Naming + Send, R: Threads + Wait + Sync>(
     thread::join(rt, || pour(rt, first), || pour(rt, second));
 }
 
-// Two lanes send, and what four send is taken: the first item that does not come in order.
+// Sends on two lanes while what four send is taken. Returns the first item that does not come in
+// order.
 fn pour_and_take<J: Naming + Send, R: Threads + Wait + Sync>(
     rt: &R,
     receiver: &mut Receiver<u64, J>,

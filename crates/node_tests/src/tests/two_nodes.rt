@@ -96,7 +96,8 @@ fn first_fault_of_two<J: NodeNaming, R: Wait>(
     }
 }
 
-// The same once node 1 has its lane. What is long to drop goes by a call, which is proved once.
+// Does the same once node 1 has its lane. What is long to drop goes by a call, which is proved
+// once.
 fn first_fault_with<J: NodeNaming, R: Wait>(
     rt: &R,
     alloc: Global,

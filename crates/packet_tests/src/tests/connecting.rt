@@ -33,7 +33,7 @@ fn connect_is_read_and_written(rt: HostRuntime) {
     assert_eq!(rt; first_fault_of_fronts(rt.alloc(), &CONNECT), None);
 }
 
-// That CONNECT with another byte at an index.
+// Returns that CONNECT with another byte at an index.
 fn changed(at: usize, byte: u8) -> [u8; 15] {
     let mut bytes = CONNECT;
     if let Some(changed) = bytes.get_mut(at) {

@@ -66,7 +66,7 @@ fn delivery(qos: QoS, dup: bool) -> Delivery {
     }
 }
 
-// MQTT 3.4 to 3.7, 3.11.
+// Returns the packet of an identifier alone that has this first byte (MQTT 3.4 to 3.7, 3.11).
 fn id_alone(first: u8, id: PacketId) -> Packet {
     match first {
         0x40 => Packet::Puback(id),

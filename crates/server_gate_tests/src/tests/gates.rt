@@ -87,7 +87,7 @@ struct Meeting {
 }
 
 impl Meeting {
-    // For this many nodes, at most three.
+    // Returns a meeting of this many nodes, at most three.
     fn new(nodes: usize) -> Meeting {
         Meeting {
             nodes,
@@ -98,7 +98,7 @@ impl Meeting {
         }
     }
 
-    // A node asks for a taking, or has done it.
+    // Notes that a node asks for a taking, or has done it.
     fn note<R: Wait>(&self, rt: &R, node: u8, taking: u64, is_done: bool) {
         let mut done = self.done.lock(rt);
         let Some(done) = done.get_mut(usize::from(node).wrapping_sub(1)) else {
@@ -148,8 +148,8 @@ impl Gate for Meeting {
 }
 
 impl Watched for Meeting {
-    // The nodes meet within ten seconds, client `a` is answered then, and each taking was asked for
-    // by its number.
+    // Waits until the nodes have met, at most ten seconds, and has client `a` be answered then.
+    // Each taking was asked for by its number. Returns the first step that fails.
     fn attend<R>(
         &self,
         rt: &R,

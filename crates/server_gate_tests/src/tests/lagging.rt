@@ -83,9 +83,9 @@ fn open_places<R: Wait + Clock>(rt: &R, cluster: &Cluster) -> Option<u64> {
     Some(status.held.saturating_sub(status.committed))
 }
 
-/// A client sends 150 MB while a member is held: no more than 72 MB become places, 64 MiB and what
-/// was in transit. The rest is not read. Once the member continues, another client is answered.
-/// Returns the first step that fails.
+/// Has a client send 150 MB while a member is held: no more than 72 MB become places, 64 MiB and
+/// what was in transit. The rest is not read. Once the member continues, another client is
+/// answered. Returns the first step that fails.
 pub(super) fn first_fault_of_bytes<R>(
     rt: &R,
     bar: &Bar,

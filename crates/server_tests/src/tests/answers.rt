@@ -41,7 +41,7 @@ fn a_flood_is_answered_whole(rt: HostRuntime) {
     assert_eq!(rt; fault_in(&rt, FLOODS), None);
 }
 
-/// A client with keep alive 1 that falls silent is closed after one and a half seconds (MQTT
+/// Has a client with keep alive 1 fall silent: it is closed after one and a half seconds (MQTT
 /// 3.1.2.10). Nothing more is sent to it. Returns the first step that fails.
 pub(super) fn silence<R>(rt: &R, listener: Option<&Listener>) -> Result<(), Fault>
 where
@@ -77,8 +77,8 @@ fn ended_in_time<R: Clock>(rt: &R, start: Instant) -> bool {
     }
 }
 
-/// 32,768 PINGREQ in one write are answered by as many PINGRESP and nothing else. Returns the first
-/// step that fails.
+/// Sends 32,768 PINGREQ in one write, which are answered by as many PINGRESP and nothing else.
+/// Returns the first step that fails.
 pub(super) fn flooding<R>(rt: &R, listener: Option<&Listener>) -> Result<(), Fault>
 where
     R: AllocGlobal + Net<Stream = TcpStream>,

@@ -44,7 +44,7 @@ fn a_client_that_never_reads_keeps_nobody_waiting(rt: HostRuntime) {
     assert_eq!(rt; first_fault_with(&rt, &[1], Row::NeverReads), Ok(()));
 }
 
-/// Sixty clients are answered by PINGRESP while they are connected and one more has come. Returns
+/// Has sixty clients answered by PINGRESP while they are connected and one more has come. Returns
 /// the first step that fails.
 pub(super) fn sixty<R>(rt: &R, listener: Option<&Listener>) -> Result<(), Fault>
 where
@@ -71,7 +71,7 @@ where
     named(ping_all(streams.as_mut_slice()), "the sixty are answered")
 }
 
-// The clients of all these streams are answered by PINGRESP.
+// Checks that the clients of all these streams are answered by PINGRESP.
 fn ping_all(streams: &mut [TcpStream]) -> Result<(), Came> {
     for stream in streams.iter_mut() {
         ping(stream)?;
@@ -79,7 +79,7 @@ fn ping_all(streams: &mut [TcpStream]) -> Result<(), Came> {
     Ok(())
 }
 
-// The clients of these letters are accepted, and have these streams.
+// Has the clients of these letters accepted, and adds their streams.
 fn join_all<R>(
     rt: &R,
     listener: Option<&Listener>,
@@ -103,7 +103,7 @@ fn keep(stream: TcpStream, streams: &mut Vec<TcpStream>) -> Result<(), Came> {
     }
 }
 
-// The next connection is closed within five seconds.
+// Checks that the next connection is closed within five seconds.
 fn turn_away<R>(rt: &R, listener: Option<&Listener>) -> Result<(), Came>
 where
     R: Net<Stream = TcpStream>,
@@ -112,8 +112,8 @@ where
     hear_end(&mut stream)
 }
 
-/// Sixty clients that say nothing keep their connections for four seconds, and lose them within ten
-/// more. Then another is accepted. Returns the first step that fails.
+/// Has sixty clients say nothing: they keep their connections for four seconds, and lose them
+/// within ten more. Then another is accepted. Returns the first step that fails.
 pub(super) fn silent_ones<R>(rt: &R, listener: Option<&Listener>) -> Result<(), Fault>
 where
     R: AllocGlobal + Net<Stream = TcpStream>,
@@ -150,7 +150,7 @@ where
     )
 }
 
-// Nothing comes on this stream for four seconds, and it stays open.
+// Checks that nothing comes on this stream for four seconds, and it stays open.
 fn stay_open(stream: Option<&mut TcpStream>) -> Result<(), Came> {
     match stream {
         Some(stream) => hear_nothing_for(stream, 4_000),
@@ -158,7 +158,7 @@ fn stay_open(stream: Option<&mut TcpStream>) -> Result<(), Came> {
     }
 }
 
-// Each of these streams is ended within ten seconds.
+// Checks that each of these streams is ended within ten seconds.
 fn end_all(streams: &mut [TcpStream]) -> Result<(), Came> {
     for stream in streams.iter_mut() {
         hear_end_within(stream, 10_000)?;
@@ -166,7 +166,7 @@ fn end_all(streams: &mut [TcpStream]) -> Result<(), Came> {
     Ok(())
 }
 
-// Sixty streams are opened, and join these.
+// Opens sixty streams, and adds them to these.
 fn open_sixty<R>(
     rt: &R,
     listener: Option<&Listener>,
@@ -181,7 +181,7 @@ where
     Ok(())
 }
 
-/// 200 clients that come one after another, each once the one before has left, are all accepted.
+/// Has 200 clients come one after another, each once the one before has left. All are accepted.
 /// Returns the first step that fails.
 pub(super) fn coming_and_going<R>(rt: &R, listener: Option<&Listener>) -> Result<(), Fault>
 where
@@ -193,7 +193,7 @@ where
     )
 }
 
-// 200 clients are accepted, one after another.
+// Has 200 clients accepted, one after another.
 fn come_and_go_by_turns<R>(rt: &R, listener: Option<&Listener>) -> Result<(), Came>
 where
     R: Net<Stream = TcpStream>,
@@ -204,7 +204,7 @@ where
     Ok(())
 }
 
-// The client of this letter, which wants no session, is accepted. Then it leaves.
+// Has the client of this letter, which wants no session, accepted. Then it leaves.
 fn come_and_go<R>(rt: &R, listener: Option<&Listener>, letter: u8) -> Result<(), Came>
 where
     R: Net<Stream = TcpStream>,
@@ -213,8 +213,8 @@ where
     exchange(&mut stream, &connect(letter, true), &[0x20, 2, 0, 0])
 }
 
-/// A subscriber gets 50 MB while another one has the same subscription and never reads. Returns the
-/// first step that fails.
+/// Sends a subscriber 50 MB while another one has the same subscription and never reads. Returns
+/// the first step that fails.
 pub(super) fn never_reading<R>(rt: &R, listener: Option<&Listener>) -> Result<(), Fault>
 where
     R: AllocGlobal + Net<Stream = TcpStream>,
@@ -254,7 +254,7 @@ fn hearing_by(alloc: Global, pair: &mut Pair) -> Result<(), Fault> {
     }
 }
 
-// Each of fifty comes to the subscriber as it was sent.
+// Sends fifty publications, each of which comes to the subscriber as it was sent.
 fn pass_fifty(large: &mut Large, pair: &mut Pair) -> Result<(), Came> {
     for count in 0..50u8 {
         large.pass(pair, count)?;
@@ -262,7 +262,7 @@ fn pass_fifty(large: &mut Large, pair: &mut Pair) -> Result<(), Came> {
     Ok(())
 }
 
-/// A subscriber with keep alive 10 that never reads, and says nothing more, keeps its connection
+/// Has a subscriber with keep alive 10 never read, and say nothing more: it keeps its connection
 /// for a while. Then it loses it to another client. Returns the first step that fails.
 pub(super) fn deaf_one<R>(rt: &R, listener: Option<&Listener>) -> Result<(), Fault>
 where
@@ -327,7 +327,7 @@ where
     Ok(stream)
 }
 
-// A client publishes 20 MB, and is answered after that.
+// Has a client publish 20 MB, and be answered after that.
 fn publish_twenty(alloc: Global, stream: Option<&mut TcpStream>) -> Result<(), Came> {
     match (large_publish(alloc), stream) {
         (Ok(large), Some(stream)) => publish_times(stream, large.as_slice(), 20),
@@ -335,7 +335,7 @@ fn publish_twenty(alloc: Global, stream: Option<&mut TcpStream>) -> Result<(), C
     }
 }
 
-// Client `a` is accepted within thirty seconds.
+// Has client `a` accepted within thirty seconds.
 fn come_and_go_in_time<R>(rt: &R, listener: Option<&Listener>) -> Result<(), Came>
 where
     R: Wait + Clock + Net<Stream = TcpStream>,

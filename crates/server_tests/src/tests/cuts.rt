@@ -120,7 +120,7 @@ where
     }
 }
 
-// The same on a stream of the client, with this publication.
+// Does the same on a stream of the client, with this publication.
 fn send_all_on<R>(rt: &R, row: &Row, stream: &mut TcpStream, large: &[u8]) -> Result<(), Fault>
 where
     R: Wait + Clock,

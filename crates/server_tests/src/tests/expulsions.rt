@@ -30,9 +30,9 @@ fn sessions_are_expelled(rt: HostRuntime) {
     assert_eq!(rt; fault_in(&rt, TABLES), None);
 }
 
-/// Client `h` finds no session and nothing of before each time that its session is ended, while it
-/// is connected and while it is away. Another client that is away gets all that was published.
-/// Returns the first step that fails.
+/// Ends the session of client `h` while it is connected and while it is away: each time it finds no
+/// session and nothing of before. Another client that is away gets all that was published. Returns
+/// the first step that fails.
 pub(super) fn expelling<R>(
     rt: &R,
     cluster: &Cluster,
@@ -70,7 +70,7 @@ where
     )
 }
 
-// Client `q` subscribes, and then is away.
+// Has client `q` subscribe, and then be away.
 fn leave_a_queue<R>(rt: &R, listener: Option<&Listener>) -> Result<(), Came>
 where
     R: Net<Stream = TcpStream>,
@@ -97,13 +97,13 @@ where
     )
 }
 
-// The subscriber is sent `x`, and does not acknowledge it.
+// Has the subscriber be sent `x`, which it does not acknowledge.
 fn begin<R: AllocGlobal>(rt: &R, pair: &mut Pair) -> Result<(), Came> {
     let mut heard = Heard::new(rt);
     begin_by(pair, &mut heard)
 }
 
-// The same of a subscriber that has not accepted anything.
+// Does the same with a subscriber that has not accepted anything.
 fn begin_by(pair: &mut Pair, heard: &mut Heard) -> Result<(), Came> {
     pair.subscribe()?;
     deliver(&mut pair.speaker, publish(0x34, 1, b'x'))?;
@@ -138,7 +138,7 @@ where
     )
 }
 
-// The subscriber finds no session and gets nothing, subscribes again, and then is away.
+// Has the subscriber find no session and get nothing, subscribe again, and then be away.
 fn begin_anew<R>(rt: &R, listener: Option<&Listener>) -> Result<(), Came>
 where
     R: Net<Stream = TcpStream>,
@@ -182,7 +182,7 @@ where
     named(hear_end(last), "the client of the last order is closed")
 }
 
-// Client `q` finds its session, and gets all three publications.
+// Has client `q` find its session, and get all three publications.
 fn hear_all<R>(rt: &R, listener: Option<&Listener>) -> Result<(), Came>
 where
     R: AllocGlobal + Net<Stream = TcpStream>,
@@ -191,7 +191,7 @@ where
     hear_all_by(rt, listener, &mut heard)
 }
 
-// The same of a subscriber that has not accepted anything.
+// Does the same with a subscriber that has not accepted anything.
 fn hear_all_by<R>(rt: &R, listener: Option<&Listener>, heard: &mut Heard) -> Result<(), Came>
 where
     R: Net<Stream = TcpStream>,

@@ -32,9 +32,9 @@ fn sessions_outlive_their_nodes(rt: HostRuntime) {
 // CONNACK with a session present, and the PUBLISH again.
 const FOUND: [u8; 14] = [0x20, 2, 1, 0, 0x3C, 8, 0, 3, 0x74, 0x2F, 0x31, 0, 1, 0x78];
 
-/// Client `a` has not finished a handshake with node 1 when ballot 2 with node 2 as sole member is
-/// given. It finds its session at node 2, and is sent the publication again. Returns the first step
-/// that fails.
+/// Gives ballot 2 with node 2 as sole member while client `a` has not finished a handshake with
+/// node 1. The client finds its session at node 2, and is sent the publication again. Returns the
+/// first step that fails.
 pub(super) fn moving<R>(rt: &R, cluster: &Cluster, listeners: &[Listener]) -> Result<(), Fault>
 where
     R: AllocGlobal + Wait + Clock + Net<Stream = TcpStream>,
@@ -54,7 +54,7 @@ where
     )
 }
 
-// Client `a` is sent what it had not acknowledged, with its session present.
+// Checks that client `a` is sent what it had not acknowledged, with its session present.
 fn find<R>(rt: &R, listener: Option<&Listener>) -> Result<(), Came>
 where
     R: Net<Stream = TcpStream>,
@@ -63,8 +63,8 @@ where
     exchange(&mut stream, &connect(b'a', false), &FOUND)
 }
 
-/// The subscriber gets each of four publications once, in order, if node 1 crashes between them and
-/// node 2 takes over. Returns the first step that fails.
+/// Publishes four times, while node 1 crashes and node 2 takes over: the subscriber gets each
+/// publication once, in order. Returns the first step that fails.
 pub(super) fn taking_over<R>(rt: &R, cluster: &Cluster, listeners: &[Listener]) -> Result<(), Fault>
 where
     R: AllocGlobal + Wait + Clock + Net<Stream = TcpStream>,
@@ -73,7 +73,7 @@ where
     taking_over_by(rt, cluster, listeners, &mut heard)
 }
 
-// The same of a subscriber that has not accepted anything.
+// Does the same with a subscriber that has not accepted anything.
 fn taking_over_by<R>(
     rt: &R,
     cluster: &Cluster,
@@ -98,7 +98,7 @@ where
     )
 }
 
-// Two clients begin at node 1, which then crashes.
+// Has two clients begin at node 1, which then crashes.
 fn begin<R>(
     rt: &R,
     cluster: &Cluster,
@@ -115,7 +115,7 @@ where
     begin_by(rt, cluster, &mut pair, heard)
 }
 
-// The same of these two.
+// Does the same with these two.
 fn begin_by<R>(rt: &R, cluster: &Cluster, pair: &mut Pair, heard: &mut Heard) -> Result<(), Fault>
 where
     R: Wait + Clock,
@@ -124,9 +124,9 @@ where
     unless(cluster.crash(rt, 1) == Ok(true), "node 1 crashes")
 }
 
-// Of `x` the publisher's handshake is done and the subscriber's lacks the PUBCOMP; of `y` the
-// publisher has the PUBREC and the subscriber the PUBLISH; of `z` it is not known whether the
-// PUBLISH came.
+// Begins three handshakes. Of `x` the publisher's is done and the subscriber's lacks the PUBCOMP;
+// of `y` the publisher has the PUBREC and the subscriber the PUBLISH; of `z` it is not known
+// whether the PUBLISH came.
 fn begin_three(pair: &mut Pair, heard: &mut Heard) -> Result<(), Came> {
     pair.subscribe()?;
     deliver(&mut pair.speaker, publish(0x34, 1, b'x'))?;
@@ -137,7 +137,7 @@ fn begin_three(pair: &mut Pair, heard: &mut Heard) -> Result<(), Came> {
     send(&mut pair.speaker, &publish(0x34, 3, b'z'))
 }
 
-// Both find their sessions at another node, and end there what they began.
+// Has both find their sessions at another node, and end there what they began.
 fn end<R>(rt: &R, listener: Option<&Listener>, heard: &mut Heard) -> Result<(), Came>
 where
     R: Net<Stream = TcpStream>,
@@ -146,7 +146,7 @@ where
     end_by(&mut pair, heard)
 }
 
-// By DUP or PUBREL (MQTT 4.4), and a last publication.
+// Ends it by DUP or PUBREL (MQTT 4.4), and passes a last publication.
 fn end_by(pair: &mut Pair, heard: &mut Heard) -> Result<(), Came> {
     exchange(&mut pair.speaker, &[0x62, 2, 0, 2], &[0x70, 2, 0, 2])?;
     deliver(&mut pair.speaker, publish(0x3C, 3, b'z'))?;

@@ -17,8 +17,8 @@ fn is_cut_once(world: &mut World, node: u8) -> bool {
 // The step that fails, and what the world shows then.
 type CutFault = (&'static str, Fault);
 
-// A node cuts its log after the row at this index, or after each row for the index after the last
-// one. Returns the first row that fails.
+// Has a node cut its log after the row at this index, or after each row for the index after the
+// last one. Returns the first row that fails.
 fn first_fault(
     alloc: Global,
     world: &mut World,
@@ -40,7 +40,7 @@ fn first_fault(
     }
 }
 
-// The same for a fresh world.
+// Does the same with a fresh world.
 fn first_fault_of_fresh(
     alloc: Global,
     rows: &'static [Row],

@@ -47,7 +47,7 @@ fn first_fault_of(
     }
 }
 
-// The same in a world in which nothing happened.
+// Does the same in a world in which nothing happened.
 fn first_fault_in(
     alloc: Global,
     world: &mut World,
@@ -237,7 +237,7 @@ fn answer(alloc: Global, actions: &[Action], client: &str, asked: Asked<'_>) -> 
     }
 }
 
-// The same in a world in which nothing happened.
+// Does the same in a world in which nothing happened.
 fn answer_in(
     alloc: Global,
     world: &mut World,

@@ -65,7 +65,7 @@ impl Course {
         self.numbers.next()
     }
 
-    // A connection, mostly the last one of a client.
+    // Draws a connection, mostly the last one of a client.
     fn connection(&mut self) -> u64 {
         let client = (self.draw() % 4) as usize;
         let number = self.draw();
@@ -108,7 +108,7 @@ fn step(world: &mut World, course: &mut Course, event: Event) -> bool {
     happened
 }
 
-// The next node cuts its log, if it has something to cut.
+// Has the next node cut its log, if it has something to cut.
 fn cut_next(world: &mut World, course: &mut Course) {
     let node = (course.events / UNTIL_A_CUT % 3) as u8 + 1;
     let cut = Event::Cut(node);
@@ -136,7 +136,7 @@ pub fn step_next(alloc: Global, world: &mut World, course: &mut Course) -> bool 
     true
 }
 
-// The next message comes; one in 32 is lost, and one in 8 comes again.
+// Lets the next message come; one in 32 is lost, and one in 8 comes again.
 fn deliver(world: &mut World, course: &mut Course) {
     let number = course.draw();
     if number % 8 == 0 {
@@ -176,7 +176,8 @@ fn tick(world: &mut World, course: &mut Course) {
     step(world, course, Event::Tick(node));
 }
 
-// The next ballot is given to some of the nodes that run, one time of four.
+// Gives the next ballot to some of the nodes that run, one time of four. False if it ran out of
+// memory.
 fn assign(alloc: Global, world: &mut World, course: &mut Course) -> bool {
     if course.draw() % 4 != 0 {
         return true;
@@ -308,7 +309,7 @@ fn filter(alloc: Global, number: u64) -> Option<Filter> {
     Filter::new(alloc, FILTERS[(number / 16 % 4) as usize]).ok()
 }
 
-// QoS 2 mostly.
+// Returns the QoS of a number: mostly QoS 2.
 fn qos(number: u64) -> QoS {
     match number % 8 {
         0 => QoS::AtMostOnce,

@@ -87,7 +87,8 @@ fn shown_unless_well(alloc: Global, world: &mut World) -> Option<Shown> {
     }
 }
 
-// If memory runs out for a world, or for the events, nothing is asked of it.
+// Returns what a world from its opening shows in the end, unless all came as usual or a loss was
+// counted. If memory runs out for the world, or for the events, nothing is asked of it.
 fn shown_from_the_opening(alloc: Global) -> Option<Shown> {
     match opened(alloc, 2, &[1, 2]) {
         Some(mut world) => {
