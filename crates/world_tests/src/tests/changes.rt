@@ -18,44 +18,70 @@ fn deliver_from(world: &mut World, first: u64) {
     }
 }
 
-// Gives members 1, 2 and 3 a new ballot with this primary, and returns whether it becomes active.
-fn change_primary(alloc: Global, world: &mut World, primary: u8, ballot: u64) -> bool {
+// What a change leads to: whether its ballot was given, which one is active, how many commands are
+// agreed, and how many losses were counted.
+type Shown = (bool, u64, u64, u64);
+
+// Why changes fail.
+#[derive(Clone, Copy, Debug, PartialEq, Eq)]
+enum Fault {
+    // There was no memory for a world or a configuration.
+    NoMemory,
+    // The change at this index was to lead to the first of these, and leads to the second.
+    Change(u64, Shown, Shown),
+}
+
+// Gives members 1, 2 and 3 a new ballot with this primary, and returns what that leads to; none if
+// there was no memory for the configuration.
+fn change_primary(alloc: Global, world: &mut World, primary: u8) -> Option<Shown> {
     let first = world.messages();
     let Some(config) = config_of(alloc, &[1, 2, 3], primary) else {
-        return false;
+        return None;
     };
     let assign = Event::Assign(config);
-    let assigned = world.step(&assign).is_ok();
+    let is_given = world.step(&assign).is_ok();
     drop(assign);
     deliver_from(world, first);
-    assigned && world.active().0 == ballot && world.agreed_len() == ballot.saturating_sub(1)
+    Some((
+        is_given,
+        world.active().0,
+        world.agreed_len(),
+        world.losses(),
+    ))
 }
 
-// Returns the first change that fails. The primary is node 2, 3, 1 in turn, and each of their
-// ballots is active. The number after the last change says that something was lost.
-fn first_fault(alloc: Global, world: &mut World) -> Option<u64> {
+// Changes the primary. Returns what that leads to, if its ballot does not become active, does not
+// add one command to the agreed list, or something was lost.
+fn fault_of(alloc: Global, world: &mut World, change: u64, primary: u8) -> Option<Fault> {
+    let wanted: Shown = (true, change.saturating_add(2), change.saturating_add(1), 0);
+    match change_primary(alloc, world, primary) {
+        Some(shown) if shown == wanted => None,
+        Some(shown) => Some(Fault::Change(change, wanted, shown)),
+        None => Some(Fault::NoMemory),
+    }
+}
+
+// Returns the first change that fails, and what it leads to. The primary is node 2, 3, 1 in turn.
+fn first_fault(alloc: Global, world: &mut World) -> Option<Fault> {
     for change in 0..CHANGES {
         let primary = (change.saturating_add(1) % 3) as u8 + 1;
-        if !change_primary(alloc, world, primary, change.saturating_add(2)) {
-            return Some(change);
+        let fault = fault_of(alloc, world, change, primary);
+        if fault.is_some() {
+            return fault;
         }
     }
-    if world.losses() == 0 {
-        None
-    } else {
-        Some(CHANGES)
-    }
+    None
 }
 
-// Returns the first change that fails in a world of three nodes; 0 if it does not open.
-fn first_fault_of_three(alloc: Global) -> Option<u64> {
+// Returns the first change that fails in a world of three nodes.
+fn first_fault_of_three(alloc: Global) -> Option<Fault> {
     match opened(alloc, 3, &[1, 2, 3]) {
         Some(mut world) => {
             let fault = first_fault(alloc, &mut world);
             drop(world);
             fault
         }
-        None => Some(0),
+        None => Some(Fault::NoMemory),
     }
 }
 

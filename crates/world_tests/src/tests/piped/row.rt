@@ -7,7 +7,7 @@ use topics::{Filter, TopicName};
 use world_pipes::{ClientError, PipedClient, Port, Sending};
 
 /// What a client does, or what is seen of it.
-#[derive(Clone, Copy)]
+#[derive(Clone, Copy, Debug, PartialEq, Eq)]
 pub enum Row<'a> {
     /// It opens a connection to this node, by this port.
     Open(usize, u64),
@@ -48,17 +48,104 @@ pub enum Row<'a> {
     Accepted(usize),
 }
 
-/// Returns the first row that does not hold for client `a`. If there is no memory for the client,
-/// it is the first row.
-pub fn fault_of(alloc: Global, rows: &[Row<'_>]) -> Option<usize> {
+/// How many bytes are shown at most of what waits.
+const SHOWN: usize = 24;
+
+/// What came of a row, besides what a `Fault` shows of each client.
+#[derive(Clone, Copy, Debug, PartialEq, Eq)]
+pub enum Came {
+    /// Nothing more, or memory ran out.
+    Nothing,
+    /// This many bytes wait on the connection, and these are the first of them (zeros after the
+    /// last).
+    Bytes(usize, [u8; SHOWN]),
+    /// The connection leads to this node, by this port.
+    Leads(usize, u64),
+}
+
+/// Why rows fail.
+#[derive(Clone, Copy, Debug, PartialEq, Eq)]
+pub enum Fault<'a> {
+    /// There was no memory for a client.
+    NoMemory,
+    /// At this index this row did not hold, and this came instead. Then how many connections there
+    /// are, and how many publications are kept and were accepted.
+    Row(usize, Row<'a>, Came, usize, (usize, usize)),
+}
+
+/// Returns the first row that does not hold for client `a`, and what came.
+pub fn fault_of<'a>(alloc: Global, rows: &[Row<'a>]) -> Option<Fault<'a>> {
     match ClientId::new(alloc, "a") {
         Ok(client) => {
             let mut client = PipedClient::new(alloc, client);
-            rows.iter()
-                .position(|row| !is_right(alloc, &mut client, *row))
+            first_fault(alloc, &mut client, rows)
         }
-        Err(_) => Some(0),
+        Err(_) => Some(Fault::NoMemory),
     }
+}
+
+// Returns the first row that does not hold for this client, and what came.
+fn first_fault<'a>(alloc: Global, client: &mut PipedClient, rows: &[Row<'a>]) -> Option<Fault<'a>> {
+    for (at, row) in rows.iter().enumerate() {
+        if !is_right(alloc, client, *row) {
+            return Some(fault_at(client, at, *row));
+        }
+    }
+    None
+}
+
+// Returns a row that does not hold, by its index, with what this client shows then.
+fn fault_at<'a>(client: &PipedClient, at: usize, row: Row<'a>) -> Fault<'a> {
+    let core = client.core();
+    let counts = (core.kept(), core.accepted().len());
+    Fault::Row(at, row, came_instead(client, row), client.len(), counts)
+}
+
+// Returns what this client shows in place of what a row says.
+fn came_instead(client: &PipedClient, row: Row<'_>) -> Came {
+    match row {
+        Row::Up(at, _) => waiting_up(client, at),
+        Row::UpSome(at, _, _) => waiting_up(client, at),
+        Row::Down(_, _) => waiting_down(client),
+        Row::Sent(_) => waiting_down(client),
+        Row::Violates(_) => waiting_down(client),
+        Row::Leads(at, _, _) => target_of(client, at),
+        _ => Came::Nothing,
+    }
+}
+
+// Returns what waits to go up on a connection, if there is such a one.
+fn waiting_up(client: &PipedClient, at: usize) -> Came {
+    if at >= client.len() {
+        return Came::Nothing;
+    }
+    waiting(client.up(at))
+}
+
+// Returns what waits to come on the newest connection, if there is one.
+fn waiting_down(client: &PipedClient) -> Came {
+    if client.len() == 0 {
+        return Came::Nothing;
+    }
+    waiting(client.down(client.len() - 1))
+}
+
+// Returns where a connection leads, if there is such a one.
+fn target_of(client: &PipedClient, at: usize) -> Came {
+    if at >= client.len() {
+        return Came::Nothing;
+    }
+    let (node, port) = client.leads_to(at);
+    Came::Leads(node, port.0)
+}
+
+// Returns how many bytes wait, and the first of them.
+fn waiting(bytes: &[u8]) -> Came {
+    let mut first = [0; SHOWN];
+    for (to, byte) in first.iter_mut().zip(bytes) {
+        *to = *byte;
+    }
+    Came::Bytes(bytes.len(), first)
 }
 
 fn is_right(alloc: Global, client: &mut PipedClient, row: Row<'_>) -> bool {
