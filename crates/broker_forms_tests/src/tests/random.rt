@@ -2,7 +2,9 @@
 
 use super::giving::{Event, has_bytes, is_given};
 use broker::BrokerMachine;
+use broker_spec::Output;
 use machine::Machine;
+use packet::{Packet, encode};
 use random_numbers::Numbers;
 use std::alloc::Global;
 use std::test::*;
@@ -13,6 +15,35 @@ const COMMANDS: u64 = 20_000;
 const FROZEN: u64 = 1_000;
 
 const CLIENTS: [&str; 4] = ["a", "b", "c", "d"];
+
+// How many bytes of a packet are shown. No packet of the run is longer.
+const SHOWN: usize = 10;
+
+// An answer as it is shown: the number of its connection, and the first bytes of the packet (zeros
+// after the last, and zeros alone if the connection is closed).
+type Shown = (u64, [u8; SHOWN]);
+
+// What came of a command that the two brokers do not answer alike.
+#[derive(Clone, Copy, Debug, PartialEq, Eq)]
+enum Came {
+    // No answer of one of them: memory ran out.
+    Nothing,
+    // The whole one gives so many answers, and the thawed one so many; those that both give are
+    // alike.
+    Counts(usize, usize),
+    // At this index the whole one gives the first of these, and the thawed one the second.
+    Answers(usize, Shown, Shown),
+    // Both answer alike, but the second one is not thawed from its own bytes, or is frozen to other
+    // bytes then.
+    NotThawed,
+}
+
+// A command that two brokers do not answer alike, by its number, and what came.
+#[derive(Clone, Copy, Debug, PartialEq, Eq)]
+struct Fault {
+    command: u64,
+    came: Came,
+}
 
 // Draws the bytes of a packet; what comes after them is not read.
 fn packet_of(numbers: &mut Numbers) -> [u8; 10] {
@@ -34,18 +65,61 @@ fn packet_of(numbers: &mut Numbers) -> [u8; 10] {
     }
 }
 
-// Says whether two brokers answer an event alike, and with memory.
-fn answer_alike(
+// Returns the first of these bytes that are shown, and zeros after the last.
+fn front_of(bytes: &[u8]) -> [u8; SHOWN] {
+    let mut front = [0; SHOWN];
+    for (to, byte) in front.iter_mut().zip(bytes) {
+        *to = *byte;
+    }
+    front
+}
+
+// Returns the first bytes of a packet.
+fn spelled(alloc: Global, packet: &Packet) -> [u8; SHOWN] {
+    let mut bytes = Vec::new(alloc);
+    if !packet.has_no_empty_list() || encode(packet, &mut bytes).is_err() {
+        return [0; SHOWN];
+    }
+    front_of(bytes.as_slice())
+}
+
+// Returns an answer as it is shown.
+fn shown(alloc: Global, output: &Output) -> Shown {
+    match output {
+        Output::Close(name) => (name.count(), [0; SHOWN]),
+        Output::Send(name, packet) => (name.count(), spelled(alloc, packet)),
+    }
+}
+
+// Returns the first answers of two lists that differ; how many both have if there are more in one
+// of them.
+fn first_fault_of_answers(alloc: Global, here: &[Output], there: &[Output]) -> Came {
+    let mut index: usize = 0;
+    for (one, other) in here.iter().zip(there) {
+        if *one != *other {
+            return Came::Answers(index, shown(alloc, one), shown(alloc, other));
+        }
+        index = index.saturating_add(1);
+    }
+    Came::Counts(here.len(), there.len())
+}
+
+// Returns what came of an event, if two brokers do not answer it alike, and with memory.
+fn came_instead(
     alloc: Global,
     one: &mut BrokerMachine,
     other: &mut BrokerMachine,
     event: Event<'_>,
-) -> bool {
+) -> Option<Came> {
     let mut here = Vec::new(alloc);
     let mut there = Vec::new(alloc);
-    is_given(alloc, one, event, &mut here)
-        && is_given(alloc, other, event, &mut there)
-        && here.as_slice() == there.as_slice()
+    if !is_given(alloc, one, event, &mut here) || !is_given(alloc, other, event, &mut there) {
+        Some(Came::Nothing)
+    } else if here.as_slice() == there.as_slice() {
+        None
+    } else {
+        Some(first_fault_of_answers(alloc, here.as_slice(), there.as_slice()))
+    }
 }
 
 // Replaces a broker by the one that is thawed from the bytes. Says whether there is one, and it is
@@ -86,42 +160,54 @@ fn event_of<'a>(
     }
 }
 
-// Says whether two brokers answer the next command alike, the second being thawed from its own
-// bytes if it is frozen then.
-fn is_next_alike(
+// Returns what came of the next command, if two brokers do not answer it alike, the second being
+// thawed from its own bytes if it is frozen then.
+fn next_fault(
     alloc: Global,
     whole: &mut BrokerMachine,
     thawed: &mut BrokerMachine,
     numbers: &mut Numbers,
     count: u64,
     last: &mut [u64; 4],
-) -> bool {
+) -> Option<Came> {
     let packet = packet_of(numbers);
     let event = event_of(numbers, count, last, &packet);
-    answer_alike(alloc, whole, thawed, event) && (count > FROZEN || is_thawed_again(alloc, thawed))
+    let came = came_instead(alloc, whole, thawed, event);
+    if came.is_some() || count > FROZEN || is_thawed_again(alloc, thawed) {
+        came
+    } else {
+        Some(Came::NotThawed)
+    }
 }
 
-// Returns the first command that two brokers do not answer alike.
+// Returns the first command that two brokers do not answer alike, and what came.
 fn first_fault(
     alloc: Global,
     whole: &mut BrokerMachine,
     thawed: &mut BrokerMachine,
-) -> Option<usize> {
+) -> Option<Fault> {
     let mut numbers = Numbers::new(17);
     let mut last = [1; 4];
     for count in 1..=COMMANDS {
-        if !is_next_alike(alloc, whole, thawed, &mut numbers, count, &mut last) {
-            return Some(count as usize);
+        if let Some(came) = next_fault(alloc, whole, thawed, &mut numbers, count, &mut last) {
+            return Some(Fault {
+                command: count,
+                came,
+            });
         }
     }
     None
 }
 
-// Returns the first command that a broker and one that is frozen and thawed do not answer alike.
-fn first_fault_of_fresh(alloc: Global) -> Option<usize> {
+// Returns the first command that a broker and one that is frozen and thawed do not answer alike,
+// and what came. If there is no memory for a broker, it is number 0.
+fn first_fault_of_fresh(alloc: Global) -> Option<Fault> {
     match (BrokerMachine::fresh(alloc), BrokerMachine::fresh(alloc)) {
         (Ok(mut whole), Ok(mut thawed)) => first_fault(alloc, &mut whole, &mut thawed),
-        _ => Some(0),
+        _ => Some(Fault {
+            command: 0,
+            came: Came::Nothing,
+        }),
     }
 }
 

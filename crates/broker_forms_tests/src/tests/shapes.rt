@@ -43,8 +43,36 @@ const ONE_CONNECTION: &[u8] = &[
     0, 1, 0x62, 0, 1, 0, 0, 0, 0, 0, 0, 0, 1, 0, 0, 0, 0, 0, 0, 0, 1, 0, 0, 0, 0, 0, 0, 0, 0, 0,
 ];
 
-fn is_refused(alloc: Global, bytes: &[u8]) -> bool {
-    BrokerMachine::thaw(alloc, bytes).err() == Some(ThawFault::Shape)
+// What came of bytes that are of neither form.
+#[derive(Clone, Copy, Debug, PartialEq, Eq)]
+enum Came {
+    // They were read as a broker.
+    Broker,
+    // There was no memory to read them.
+    NoMemory,
+    // They were not made: there was no memory for them, or no byte at the index.
+    Unmade,
+}
+
+// Bytes that are not refused, and what came of them.
+#[derive(Clone, Copy, Debug, PartialEq, Eq)]
+enum Fault<'a> {
+    // The change at the first index in its list, which puts this byte at the second one into
+    // [`ONE_ENTRY`].
+    Change(usize, usize, u8, Came),
+    // These bytes stand at this index in their list.
+    Form(usize, &'a [u8], Came),
+    // A front of this length.
+    Front(usize, Came),
+}
+
+// Returns what came of these bytes, if they are not refused by their form.
+fn came_instead(alloc: Global, bytes: &[u8]) -> Option<Came> {
+    match BrokerMachine::thaw(alloc, bytes) {
+        Ok(_) => Some(Came::Broker),
+        Err(ThawFault::Shape) => None,
+        Err(ThawFault::Memory) => Some(Came::NoMemory),
+    }
 }
 
 // Puts another byte at an index of bytes, and says whether there is such an index.
@@ -58,19 +86,22 @@ fn is_changed(bytes: &mut [u8], index: usize, byte: u8) -> bool {
     }
 }
 
-// Says whether the bytes of [`ONE_ENTRY`] with one changed are refused.
-fn is_refused_when_changed(alloc: Global, index: usize, byte: u8) -> bool {
+// Returns what came of the bytes of [`ONE_ENTRY`] with one changed, if they are not refused.
+fn came_when_changed(alloc: Global, index: usize, byte: u8) -> Option<Came> {
     let mut bytes = Vec::new(alloc);
-    bytes.extend_from_slice(ONE_ENTRY).is_ok()
-        && is_changed(bytes.as_mut_slice(), index, byte)
-        && is_refused(alloc, bytes.as_slice())
+    if bytes.extend_from_slice(ONE_ENTRY).is_err()
+        || !is_changed(bytes.as_mut_slice(), index, byte)
+    {
+        return Some(Came::Unmade);
+    }
+    came_instead(alloc, bytes.as_slice())
 }
 
-// Returns the first change, by its index in the list, with which the bytes are not refused.
-fn first_fault_of_changes(alloc: Global, changes: &[(usize, u8)]) -> Option<usize> {
+// Returns the first change with which the bytes are not refused, and what came of them.
+fn first_fault_of_changes(alloc: Global, changes: &[(usize, u8)]) -> Option<Fault<'static>> {
     for (row, (index, byte)) in changes.iter().enumerate() {
-        if !is_refused_when_changed(alloc, *index, *byte) {
-            return Some(row);
+        if let Some(came) = came_when_changed(alloc, *index, *byte) {
+            return Some(Fault::Change(row, *index, *byte, came));
         }
     }
     None
@@ -85,16 +116,21 @@ const OTHER_FORMS: &[&[u8]] = &[
     &[2, 0x20, 0, 0, 0, 0],
 ];
 
-// Returns the first of these bytes, by its index in the list, that are not refused.
-fn first_fault_of_forms(alloc: Global, forms: &[&[u8]]) -> Option<usize> {
-    forms.iter().position(|bytes| !is_refused(alloc, bytes))
+// Returns the first of these bytes that are not refused, and what came of them.
+fn first_fault_of_forms<'a>(alloc: Global, forms: &[&'a [u8]]) -> Option<Fault<'a>> {
+    for (row, bytes) in forms.iter().enumerate() {
+        if let Some(came) = came_instead(alloc, *bytes) {
+            return Some(Fault::Form(row, *bytes, came));
+        }
+    }
+    None
 }
 
-// Returns the first length of a front of these bytes that is not refused.
-fn first_fault_of_fronts(alloc: Global, bytes: &[u8]) -> Option<usize> {
+// Returns the first front of these bytes that is not refused, and what came of it.
+fn first_fault_of_fronts(alloc: Global, bytes: &[u8]) -> Option<Fault<'static>> {
     for end in 0..bytes.len() {
-        if !is_refused(alloc, &bytes[..end]) {
-            return Some(end);
+        if let Some(came) = came_instead(alloc, &bytes[..end]) {
+            return Some(Fault::Front(end, came));
         }
     }
     None
