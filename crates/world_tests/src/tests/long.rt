@@ -12,6 +12,30 @@ const EVENTS: u32 = 20_000;
 // next one.
 const UNTIL_A_CRASH: u32 = 8_000;
 
+// What a world and its run show: how many events were tried, how many losses were counted, whether
+// the agreed list never became shorter, which ballot is active, how many cuts there were, and how
+// many places are agreed.
+#[derive(Clone, Copy, Debug, PartialEq, Eq)]
+struct Shown {
+    events: u64,
+    losses: u64,
+    only_grows: bool,
+    ballot: u64,
+    cuts: u64,
+    agreed: u64,
+}
+
+// Why the run fails.
+#[derive(Clone, Copy, Debug, PartialEq, Eq)]
+enum Fault {
+    // There was no memory for the world.
+    NoMemory,
+    // This step fails, and the world shows this then.
+    Step(&'static str, Shown),
+    // This client did not take over 100 publications, each once.
+    Client(&'static str),
+}
+
 // Says whether all events come, two primaries crash, nothing is lost, and the agreed list only
 // grows.
 fn let_all_come(alloc: Global, world: &mut World, course: &mut Course) -> bool {
@@ -65,21 +89,33 @@ fn is_new(accepted: &Accepted, last: &mut [Option<u64>; 4], count: &mut u32) -> 
     is_newer && accepted.session == 1
 }
 
-// Says whether each client did.
-fn all_took_each_once(alloc: Global, world: &World) -> bool {
-    CLIENTS
-        .iter()
-        .all(|client| took_each_once(alloc, world, client))
+// Returns the first client that did not take over 100 publications, each once.
+fn first_fault_of_clients(alloc: Global, world: &World) -> Option<Fault> {
+    for client in CLIENTS {
+        if !took_each_once(alloc, world, client) {
+            return Some(Fault::Client(client));
+        }
+    }
+    None
+}
+
+// Returns what a world and its run show.
+fn shown_by(world: &World, course: &Course) -> Shown {
+    Shown {
+        events: course.events,
+        losses: world.losses(),
+        only_grows: course.only_grows,
+        ballot: world.active().0,
+        cuts: course.cuts,
+        agreed: world.agreed_len(),
+    }
 }
 
 // Checks a world after the run, with many takeovers and many cuts. Returns the first step that
 // fails, in words.
-fn first_fault(alloc: Global, world: &mut World) -> Option<&'static str> {
-    let mut course = Course::new();
-    if !let_all_come(alloc, world, &mut course) {
+fn first_step(all_came: bool, world: &World, course: &Course) -> Option<&'static str> {
+    if !all_came {
         Some("all events come, two primaries crash, nothing is lost, the list grows")
-    } else if !all_took_each_once(alloc, world) {
-        Some("each client took over 100 publications, each once")
     } else if world.active().0 <= 20 {
         Some("there are over 20 ballots")
     } else if course.cuts <= 50 {
@@ -91,15 +127,26 @@ fn first_fault(alloc: Global, world: &mut World) -> Option<&'static str> {
     }
 }
 
+// Lets the run happen. Returns the first step that fails, with what the world shows then, or the
+// first client that did not take each publication once.
+fn first_fault(alloc: Global, world: &mut World) -> Option<Fault> {
+    let mut course = Course::new();
+    let all_came = let_all_come(alloc, world, &mut course);
+    match first_step(all_came, world, &course) {
+        Some(step) => Some(Fault::Step(step, shown_by(world, &course))),
+        None => first_fault_of_clients(alloc, world),
+    }
+}
+
 // Returns the first step that fails with the world that the run begins in.
-fn first_fault_from_the_opening(alloc: Global) -> Option<&'static str> {
+fn first_fault_from_the_opening(alloc: Global) -> Option<Fault> {
     match opened_for(alloc, 3, &[1, 2, 3], &CLIENTS) {
         Some(mut world) => {
             let fault = first_fault(alloc, &mut world);
             drop(world);
             fault
         }
-        None => Some("there is memory for the world"),
+        None => Some(Fault::NoMemory),
     }
 }
 
