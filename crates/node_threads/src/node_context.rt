@@ -64,7 +64,7 @@ impl<'a> NodeContext<'a> {
         })
     }
 
-    /// Returns the milliseconds since its times began.
+    /// Returns the milliseconds since its times began, or 0 if the clock fails. No clause says so.
     pub(crate) fn now<R: Clock>(&self, rt: &R) -> u64 {
         match self.start.elapsed(rt) {
             Ok(time) => u64::try_from(time.as_millis()).unwrap_or(u64::MAX),
