@@ -93,7 +93,7 @@ pub fn send_appends<M: Machine>(
     whole
 }
 
-/// Sends to each node whose progress is below the length of the log the command at its progress.
+/// Sends the command at its progress to each node whose progress is below the length of the log.
 /// Returns whether no message was lost.
 pub fn send_after<M: Machine>(
     alloc: Global,

@@ -24,7 +24,7 @@ pub trait Hearer {
     fn report<R: Wait + Clock>(&mut self, rt: &R, item: Item)
         ensures { heard self.new ≡ heard self.old ++ item ∷ [] };
 
-    /// Lets the connection that was opened in, or not: answers whether it may be read.
+    /// Lets a connection in that was just opened, or not. Says whether it may be read.
     fn let_in<R: Wait>(&self, rt: &R) -> bool
         ensures { lets self.now result };
 }

@@ -62,7 +62,8 @@ impl Piece {
     }
 
     /// Adds the bytes of a packet at the end, and says whether they were added. They are not if
-    /// memory runs out, or if the packet has none: it has an empty list, or is over the size limit.
+    /// memory runs out, or if the packet has no bytes: it has an empty list, or is over the size
+    /// limit.
     pub fn put(&mut self, packet: &Packet) -> bool
         ensures whole { result ≡ true → self.new ≡ self.old ++ spelling packet.now }
         ensures packet { result ≡ true → IsPacket packet.now }
@@ -77,7 +78,7 @@ impl Piece {
 
     /// Adds the bytes of a packet at the end, if there are no more than `most` then, and says
     /// whether they were added. Gives up with [`Memory`] where [`Piece::put`] adds nothing: memory
-    /// ran out, or the packet has none, as it has an empty list or is over the size limit.
+    /// ran out, or the packet has no bytes.
     pub fn put_within(&mut self, packet: &Packet, most: usize) -> Result<bool, Memory>
         ensures fits { IfOk result (λ put.
             put ≡ nat_le (length self.old + length (spelling packet.now)) most) }

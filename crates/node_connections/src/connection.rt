@@ -244,8 +244,8 @@ impl Connection {
     }
 
     /// Queues a packet, or closes the connection as lost if there is no room for it, or if its
-    /// bytes cannot be written: memory ran out, or it has none, as it has an empty list or is over
-    /// the size limit. Says whether they could be written.
+    /// bytes cannot be written: memory ran out, or the packet has no bytes, since it has an empty
+    /// list or is over the size limit. Says whether they could be written.
     pub fn put_or_fail(&mut self, packet: &Packet) -> bool
         ensures whole { result ≡ true → self.new ≡ with_queued (spelling packet.now) self.old }
         ensures lost { result ≡ false → self.new ≡ failing self.old }

@@ -32,9 +32,9 @@ impl<'e, 'a, J: NodeNaming, S: Stated<J>, G: Gate> Hearer for LaneReporter<'e, '
         served.shared.context.now(rt)
     }
 
-    // Bytes are reported once the node takes more of them, and count as in transit until it has
-    // taken them. Then nodes for which something was queued have their turns. After that, what this
-    // node queued is written, to this connection first.
+    // Sends the item by the lane. Bytes are sent once the node takes more of them, and count as in
+    // transit until it has taken them. Then nodes for which something was queued have their turns.
+    // After that, what this node queued is written, to this connection first.
     fn report<R: Wait + Clock>(&mut self, rt: &R, item: Item) {
         let served = self.served;
         let all = self.all;

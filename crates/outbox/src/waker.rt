@@ -34,7 +34,7 @@ impl Waker {
         *self.asleep.lock(rt)
     }
 
-    /// Says that the thread is about to sleep: it looks for work once more after this call.
+    /// Notes that the thread is about to sleep: it looks for work once more after this call.
     pub fn doze<R: Wait>(&self, rt: &R) {
         *self.asleep.lock(rt) = true;
     }

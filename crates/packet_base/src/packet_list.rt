@@ -76,7 +76,7 @@ impl<T: ListItem> PacketList<T> {
         Ok(PacketList { items })
     }
 
-    /// Returns how many bytes the list has after `before` others, as far as a `usize` counts.
+    /// Returns `before` and the bytes of the list together, but no more than `usize::MAX`.
     pub fn len_after(&self, before: usize) -> usize
         ensures { result ≡ min (before + length (flat_map T.spelled self.now)) usize.MAX }
     {

@@ -248,7 +248,7 @@ impl Peer {
         self.waker.wake(rt);
     }
 
-    /// Says that the node's own thread is about to sleep: it looks for work once more after this
+    /// Notes that the node's own thread is about to sleep: it looks for work once more after this
     /// call. Returns whether there is some already.
     pub fn doze<R: Wait>(&self, rt: &R) -> bool {
         self.waker.doze(rt);

@@ -81,8 +81,8 @@ impl RetainedStore {
     }
 
     /// Retains a publication in place of the topic's last one. An empty payload removes it, which
-    /// takes no memory (MQTT 3.3.1.3). `RetainedFull` if the topic would be the 16,385th,
-    /// `Memory` because memory ran out, which a topic that is there never takes.
+    /// takes no memory (MQTT 3.3.1.3). `RetainedFull` if the topic would be the 16,385th, `Memory`
+    /// if memory ran out; a topic that has a publication takes none.
     pub fn put(&mut self, topic: TopicName, qos: QoS, payload: Payload) -> Result<(), RetainedError>
         ensures ok { OnOk result (self.new ≡ after_put self.old topic qos payload) }
 
@@ -106,7 +106,7 @@ impl RetainedStore {
     }
 
     /// Keeps a publication in place of the topic's last one, if there is a place for it. The only
-    /// error is that memory ran out, which a topic that is there never takes.
+    /// error is that memory ran out; a topic that has a publication takes none.
     pub fn keep(&mut self, topic: TopicName, kept: RetainedPublication) -> Result<(), AllocError>
         requires room { is_full_for self.old topic ≡ false }
         ensures ok { OnOk result (self.new ≡ with_topic self.old topic kept) }
