@@ -77,7 +77,7 @@ impl<C: Drop> Log<C> {
     }
 
     /// Returns an empty vector with capacity for as many bytes as the snapshot has, and an eighth
-    /// more. If there is no memory for it, it has no capacity yet.
+    /// more. If there is no memory for it, it has no capacity yet. No clause speaks of capacity.
     pub fn snapshot_buffer(&self, alloc: Global) -> Vec<u8>
         ensures { result.items ≡ [] }
     {

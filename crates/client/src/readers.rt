@@ -18,7 +18,7 @@ impl ClientCore {
     }
 
     /// Appends what was written and not yet handed over. If the vector is empty the bytes are not
-    /// copied. After `Memory` nothing has changed.
+    /// copied, which no clause says. After `Memory` nothing has changed.
     pub fn outgoing(&mut self, out: &mut Vec<u8>) -> Result<(), ClientError>
         ensures bytes { OnOk result (out.new.items ≡ out.old.items ++ self.old.out) }
         ensures ok { OnOk result (self.new ≡ record self.old { out = [] }) }

@@ -1,7 +1,8 @@
 // The right to take the bytes of one connection.
 
 /// The right to take the bytes of one connection: nobody hands over bytes for the connection
-/// without it. It cannot be copied, and its state tells one call from the next.
+/// without it, which no clause says. It cannot be copied, and its state tells one call from the
+/// next.
 pub trait Tap: Drop {
     ghost use Rattle.std.specs.Prelude.{List, ℕ};
     ghost use Rattle.node_core.specs.declared.Handed.{Handed};

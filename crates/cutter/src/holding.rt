@@ -97,9 +97,9 @@ impl Piece {
         Ok(true)
     }
 
-    /// Moves all bytes to the end of `out`. If `out` is empty, no byte is copied: the two vectors
-    /// are swapped. The only error is that memory runs out, and then nothing changes. No bytes take
-    /// no memory.
+    /// Moves all bytes to the end of `out`. If `out` is empty, the two vectors are swapped: no byte
+    /// is copied, which no clause says. The only error is that memory runs out, and then nothing
+    /// changes. If there are no bytes, no memory is taken.
     pub fn move_to(&mut self, out: &mut Vec<u8>) -> Result<(), Memory>
         ensures moved { OnOk result (out.new.items ≡ out.old.items ++ self.old) }
         ensures emptied { OnOk result (self.new ≡ []) }

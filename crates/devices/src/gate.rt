@@ -4,7 +4,7 @@ use std::sync::Wait;
 
 /// What is asked before a node takes an item. A test that holds nodes at it sees which of them
 /// continue without the others. Several nodes may ask it at once, and the lock of a node's state is
-/// not held meanwhile.
+/// not held meanwhile, which no clause says.
 pub trait Gate {
     ghost use Rattle.std.specs.Prelude.{ℕ, Bool};
 

@@ -192,7 +192,8 @@ impl<M: Machine> Group<M> {
         )
     }
 
-    /// Returns the length of the agreed list. It takes no longer, however much was sent.
+    /// Returns the length of the agreed list. It takes no longer, however much was sent, which no
+    /// clause says.
     pub fn agreed_len(&self) -> u64
         ensures { (config : Config) (past : List (Moment M M.Command M.Output))
             (agreed : List M.Command) →

@@ -158,7 +158,7 @@ impl<'g, J: NodeNaming, S: Stated<J>, G: Gate> Node<'g, J, S, G> {
 
     /// Begins a taking: waits until the gate opens for the node's next taking, if it opens in time.
     /// Without a gate it does not wait. With a gate, takings come one after another: until this one
-    /// is done no other begins.
+    /// is done no other begins. No clause says how long it waits, or what another thread may begin.
     pub fn pass<R: Wait + Clock>(&self, rt: &R) -> Permit<'_>
         ensures one { IfSome result.taking (λ _. result.most ≡ 1) }
 

@@ -274,8 +274,9 @@ impl Connection {
         }
     }
 
-    /// Hands over what was queued, after what `out` holds. If `out` is empty no byte is copied. If
-    /// memory runs out, nothing changes; it does not run out if nothing was queued.
+    /// Hands over what was queued, after what `out` holds. If `out` is empty no byte is copied,
+    /// which no clause says. If memory runs out, nothing changes; it does not run out if nothing
+    /// was queued.
     pub fn outgoing(&mut self, out: &mut Vec<u8>) -> Result<(), Memory>
         ensures bytes { OnOk result (out.new.items ≡ out.old.items ++ self.old.pending) }
         ensures ok { OnOk result (self.new ≡ nothing_pending self.old) }

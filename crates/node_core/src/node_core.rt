@@ -148,8 +148,8 @@ impl NodeCore {
         self.stepping.heeds(message)
     }
 
-    /// Ignores a message that has no effect on the node: like [`NodeCore::step`] with it, but
-    /// without a copy of it.
+    /// Ignores a message that has no effect on the node: like [`NodeCore::step`] with it, but the
+    /// caller needs no copy of it.
     pub fn pass_over(
         &mut self,
         message: &Message<Command>,

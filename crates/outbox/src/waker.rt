@@ -4,7 +4,8 @@ use std::sync::{Mutex, Wait};
 use std::thread::Parker;
 use std::time::Duration;
 
-/// Wakes a thread, at the cost of a wake-up only if it sleeps.
+/// Wakes a thread, at the cost of a wake-up only if it sleeps. Whether it sleeps is under a lock:
+/// no call has a clause.
 #[derive(Drop)]
 pub struct Waker {
     asleep: Mutex<bool>,

@@ -24,7 +24,7 @@ struct Urgency {
 }
 
 /// Bytes of a client that count as in transit to a node. It cannot be dropped: it ends when they
-/// are counted as taken. So no bytes count for ever.
+/// are counted as taken. So no code forgets to count them.
 pub struct Entering {
     bytes: u64,
 }

@@ -29,7 +29,8 @@ use streams::{Closed, Listener};
 /// The errors are [`ServeError::Clock`] and those of the opening, where `BadMembers` comes also if
 /// two listeners have one number. [`ServeError::Threads`] comes before anything is served if fewer
 /// threads can be started than the nodes need. It also comes at the end, in place of the answer, if
-/// a node's own thread could not be started later: then that node was not served.
+/// a node's own thread could not be started later: then that node was not served. The clause is of
+/// `attend` alone: with which nodes it ran, and what it returned.
 pub fn serve_while<R, T, F>(
     rt: &R,
     alloc: Global,
@@ -54,7 +55,7 @@ where
 /// Serves as [`serve_while`] does, but each node asks a gate before it takes an item. At the end it
 /// reports what it took and what it left. The reports are in the order of the nodes' numbers. If
 /// the gate has not opened after it was asked ten thousand times, a millisecond apart, the node
-/// continues, and its report counts it.
+/// continues, and its report counts it. No clause says anything of gate and reports.
 ///
 /// The errors are those of [`serve_while`].
 pub fn serve_gated<R, G, T, F>(

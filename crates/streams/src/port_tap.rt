@@ -9,7 +9,8 @@ use connection::Tap;
 use node::{Handed, Memory, NodeNaming, NodeState, Port};
 
 /// The right to take what a node queued for one port, and for no other. A connection has one, made
-/// with it, and it counts the bytes.
+/// with it, and it counts the bytes. No clause says that a port has only one, or that its bytes are
+/// taken by it alone.
 #[derive(Drop)]
 pub struct PortTap {
     port: Port,

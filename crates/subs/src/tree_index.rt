@@ -19,7 +19,7 @@ use subs_base::{ListIndex, SubIndex};
 use topics::{Filter, TopicName};
 
 /// An index that walks the levels of a topic: the cost of a publication depends on its levels and
-/// the rows that are found, not on other subscriptions.
+/// the rows that are found, not on other subscriptions. No clause speaks of cost.
 #[derive(Debug)]
 pub struct TreeIndex {
     // Each client with its filters, which are removed with it.

@@ -7,7 +7,7 @@ ghost use Rattle.topics.specs.Text.{levels, levels_of, has_length, has_no_wildca
 const MAX_TEXT_BYTES: usize = 65_535;
 
 /// Returns a text's first level, which may be empty (MQTT 4.7.1.1), and what follows its `/`, if
-/// one is there. Takes no memory; its time grows with the bytes of the level.
+/// one is there. Takes no memory; its time grows with the bytes of the level, which no clause says.
 #[tactic(auto, using(crate::proofs::LevelByLevel::levels_cut, crate::proofs::LevelByLevel::levels_whole))]
 pub fn split_level(text: &[u8]) -> (&[u8], Option<&[u8]>)
     ensures { levels text.now ≡ result.0.now ∷ levels_of result.1 }

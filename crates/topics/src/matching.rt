@@ -13,7 +13,7 @@ use crate::topic_name::TopicName;
 /// Says whether the filter matches the topic (MQTT 4.7): `#` matches any number of levels,
 /// including none, `+` exactly one level, including an empty one, and any other level only itself.
 /// A filter that begins with a wildcard matches no topic that begins with `$`. Takes no memory; its
-/// time grows with the bytes of both texts.
+/// time grows with the bytes of both texts, which no clause says.
 #[tactic(auto, using(crate::proofs::MatchingIsTested::answer_tested))]
 pub fn matches(filter: &Filter, topic: &TopicName) -> bool
     ensures meaning { IsTrue result ↔ Matches filter.now topic.now }

@@ -21,7 +21,7 @@ use world_pipes::{ClientCore, PipedClient};
 impl World {
     /// Returns the list on which the nodes agree, the longest that is chosen in a ballot that was
     /// active, in two parts: the second continues where the first ends. The time that it takes does
-    /// not depend on how many messages were sent.
+    /// not depend on how many messages were sent, which no clause says.
     pub fn agreed(&self) -> (&[Command], &[Command])
         ensures agreed { AgreeOn self.now.nodes (result.0.now ++ result.1.now) }
 
@@ -38,7 +38,7 @@ impl World {
     }
 
     /// Returns the length of that list. The time that it takes does not depend on how many messages
-    /// were sent.
+    /// were sent, which no clause says.
     pub fn agreed_len(&self) -> u64
         ensures agreed { AgreeOnSoMany self.now.nodes result }
         ensures reached { (nodes : ℕ) (config : Config)

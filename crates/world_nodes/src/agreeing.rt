@@ -11,7 +11,8 @@ use node_core::Command;
 
 impl Nodes {
     /// Returns the agreed list, the longest that is chosen in a ballot that was active, in two
-    /// parts: the second continues where the first ends. It takes no longer, however much was sent.
+    /// parts: the second continues where the first ends. It takes no longer, however much was sent,
+    /// which no clause says.
     pub fn agreed(&self) -> (&[Command], &[Command])
         ensures { AgreeOn self.now (result.0.now ++ result.1.now) }
     {

@@ -5,7 +5,8 @@ use std::sync::Mutex;
 use std::thread::Parker;
 use streams::{Blocked, MAX_CONNECTIONS};
 
-/// The connections of a node whose sockets were full, each with its token.
+/// The connections of a node whose sockets were full, each with its token. They are under a lock:
+/// no clause of a call says which there are.
 #[derive(Drop)]
 pub struct BlockedLinks {
     pub(crate) links: Mutex<Vec<Blocked>>,

@@ -26,7 +26,7 @@ const MAX_PAUSE_MILLIS: u64 = 16;
 impl<'e, 'a, J: NodeNaming, S: Stated<J>, G: Gate> Writer<'e, 'a, J, S, G> {
     /// Goes on with connections whose sockets were full until it sees the listener closed. Returns
     /// the witness. No thread waits for this one, and it waits for no socket: between its tries it
-    /// sleeps, longer each time while all stay full.
+    /// sleeps, longer each time while all stay full. The clause says only whose witness it is.
     pub fn write_blocked<R: Wait>(&self, rt: &R) -> Closed
         ensures { result ≡ self.now.listener.now.number }
     {

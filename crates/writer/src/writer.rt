@@ -16,7 +16,8 @@ const BUSY_CAPACITY: usize = 8;
 /// The lowest index of a connection. [`Writer::write_busy`] begins there if none is to come first.
 pub const FIRST_INDEX: usize = 0;
 
-/// What writes to the connections of a node. It holds no lock while it writes or sleeps.
+/// What writes to the connections of a node. It holds no lock while it writes or sleeps. No clause
+/// says so, or which connections a call writes to.
 #[derive(Drop)]
 pub struct Writer<'e, 'a, J: NodeNaming, S: Stated<J>, G: Gate> {
     /// Where its lists are allocated.

@@ -19,8 +19,9 @@ impl<M: Machine> Replica<M> {
 
     /// Drops the applied places, once the machine is frozen in their place. Its bytes go into a
     /// vector with capacity for as many as the last snapshot has, and an eighth more, so that it
-    /// seldom grows. Nothing is sent. Returns false if there is nothing to drop, or memory ran out:
-    /// then nothing is changed, except that the latter is counted.
+    /// seldom grows; no clause speaks of capacity. Nothing is sent. Returns false if there is
+    /// nothing to drop, or memory ran out: then nothing is changed, except that the latter is
+    /// counted.
     pub fn cut(&mut self) -> bool
         ensures done { result ≡ true → (can_cut self.old.state ≡ true)
             × (self.new ≡ record self.old { state = cut M.rules self.old.state }) }
