@@ -41,7 +41,8 @@ impl<T: Drop> From<AllocFailed<T>> for Memory {
 }
 
 /// Memory ran out in the middle of a command: the machine may have done a part of it and is not
-/// used again. A replica also answers so once its node has crashed.
+/// used again. A replica also answers so once its node has crashed, and its text then names memory,
+/// too.
 #[derive(Clone, Copy, Debug, PartialEq, Eq)]
 pub struct Halted;
 
