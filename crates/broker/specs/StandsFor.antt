@@ -1,38 +1,14 @@
--- What a command does to a broker, and which list of commands its state corresponds to.
+-- Which list of commands the state of a broker corresponds to.
 use Rattle.std.specs.Prelude.{◌≡◌, ℕ, List, [], ◌∷◌, ◌++◌, Some}
-use Rattle.machine.specs.Machine.{Rules}
 use Rattle.broker_spec.specs.AnswersInOrder.{answers_of}
 use Rattle.broker_spec.specs.Commands.{past_of, limits_from, usual_limits}
 use Rattle.broker_spec.specs.Window.{narrow_window, wide_window}
 use Rattle.broker_spec.specs.declared.command.Command.{Command}
-use Rattle.broker_spec.specs.declared.command.Command.TheVariants.{Start}
-use Rattle.broker_spec.specs.declared.command.Output.{Output}
 use Rattle.broker_tables.specs.broker_base.State.{State, state_of, empty_state}
-use Rattle.broker_tables.specs.broker_base.Step.{step}
+use Rattle.broker_form.specs.BrokerRules.{after, answers}
 use Rattle.broker_form.specs.Form.{thawed}
-use Rattle.broker_form.specs.Writing.{frozen, frozen_before}
+use Rattle.broker_form.specs.Writing.{frozen_before}
 use Rattle.broker_form.specs.FormLaws.{IsUsualState}
-
--- the state after a command, with the limits of this broker
-abbrev pub after : State → Command → State
-after state command = (step usual_limits wide_window state command).0
-
--- the answers to a command, with the limits of this broker
-abbrev pub answers : State → Command → List Output
-answers state command = (step usual_limits wide_window state command).1
-
--- the rules of the broker's machine: it begins with the wide window, then goes step by step, and
--- is frozen to form 2. A model that uses no code has the same rules under this name.
-abbrev pub broker_rules : Rules State Command Output
-broker_rules =
-    record {
-      opening = empty_state wide_window;
-      start_of = Start;
-      after = after;
-      gives = answers;
-      frozen = frozen;
-      thawed = thawed;
-    }
 
 -- the state is the one that this list of commands means, if the window was this one at first
 abbrev pub StateStandsFor : ℕ → State → List Command → Type 0

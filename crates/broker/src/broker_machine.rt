@@ -41,7 +41,7 @@ impl Machine for BrokerMachine {
     ghost use Rattle.broker_spec.specs.Logged.{IsBrokerCommand};
     ghost use Rattle.broker_form.specs.FormLaws.{IsUsualState};
     ghost use Rattle.broker_form.proofs.Thawing.{frozen_is_thawed};
-    ghost use Rattle.broker.specs.StandsFor.{broker_rules};
+    ghost use Rattle.broker_form.specs.BrokerRules.{broker_rules};
     ghost use Rattle.broker_form.proofs.UsualStates.{empty_is_usual, stays_usual};
 
     type Command = Command;

@@ -14,7 +14,8 @@ use Rattle.packet_world.specs.World.{ClientsAreApart, ClientEnds, End, World, wi
 use Rattle.packet_world.specs.Steps.{HasPipe, Reached}
 use Rattle.packet_world.specs.Steps.PacketWorldStep.{reads}
 use Rattle.packet_world.specs.Steps.Reached.{goes_on}
-use Rattle.packet_world.specs.PutOut.{broker_rules, end_given}
+use Rattle.packet_world.specs.broker_form.BrokerRules.{broker_rules}
+use Rattle.packet_world.specs.PutOut.{end_given}
 use Rattle.packet_world.proofs.Ends.{pipe_at}
 use Rattle.packet_world.proofs.Holds.{HasPipes}
 use Rattle.packet_world.proofs.Lists.{each_get}

@@ -5,7 +5,7 @@ use Rattle.broker.specs.broker_base.State.{State}
 use Rattle.broker_spec.specs.Connection.{ConnectionName}
 use Rattle.broker_spec.specs.declared.command.Command.{Command}
 use Rattle.broker_spec.specs.declared.command.Output.{Output}
-use Rattle.broker.specs.StandsFor.{broker_rules}
+use Rattle.broker.specs.broker_form.BrokerRules.{broker_rules}
 use Rattle.ballot.specs.ballot_base.declared.config.Config.{Config}
 use Rattle.ballot.specs.ballot_base.declared.message.Effect.{Effect}
 use Rattle.ballot.specs.ballot_base.Replica.{CountedReplica, is_active, opening}

@@ -20,7 +20,8 @@ use Rattle.packet_world.specs.snapshots.World.{outputs}
 use Rattle.packet_world.proofs.of_agreement.Given.Places.{none_between}
 use Rattle.packet_world.proofs.of_agreement.Given.StepGives.{from_active}
 use Rattle.packet_world.specs.snapshots.Whole.{whole}
-use Rattle.packet_world.specs.PutOut.{outputs_alone, broker_rules}
+use Rattle.packet_world.specs.broker_form.BrokerRules.{broker_rules}
+use Rattle.packet_world.specs.PutOut.{outputs_alone}
 use Rattle.packet_world.proofs.Answers.{put_front, put_push}
 use Rattle.packet_world.proofs.Lists.{take_next, there_is}
 use Rattle.packet_world.proofs.PutOut.{between, given_more}

@@ -8,7 +8,7 @@ use Rattle.exactly_once.specs.broker_spec.declared.command.Output.{Output}
 use Rattle.exactly_once.specs.broker_base.State.{State, empty_state}
 use Rattle.exactly_once.specs.broker_base.Step.{IsWindow, state_from, step}
 use Rattle.exactly_once.proofs.of_broker_base.StepByStep.{step_stands, usual_lists_stand}
-use Rattle.packet_world.specs.PutOut.{broker_rules}
+use Rattle.broker_form.specs.BrokerRules.{broker_rules}
 
 replayed : (state : State) (xs : List Command) → replay_from broker_rules state xs ≡ state_from usual_limits 64 state xs
 replayed state [] = refl

@@ -7,7 +7,8 @@ use Rattle.snapshots.proofs.Orders.{answers_while_it_leads}
 use Rattle.exactly_once.specs.broker_spec.declared.command.Output.{Output}
 use Rattle.packet_world.specs.World.{with_client}
 use Rattle.packet_world.specs.Steps.{Reached}
-use Rattle.packet_world.specs.PutOut.{GroupsPutOut, broker_rules, end_given}
+use Rattle.broker_form.specs.BrokerRules.{broker_rules}
+use Rattle.packet_world.specs.PutOut.{GroupsPutOut, end_given}
 use Rattle.packet_world.proofs.PutOut.{given_is_put_out}
 
 same_rest : {X : Type 0} (xs ys zs : List X) → xs ++ ys ≡ xs ++ zs → ys ≡ zs

@@ -21,7 +21,8 @@ use Rattle.packet_world.specs.World.{End, ClientEnds, World, with_client}
 use Rattle.packet_world.specs.Steps.{Reached, shown}
 use Rattle.packet_world.specs.Steps.PacketWorldStep.{answers}
 use Rattle.packet_world.specs.Steps.Reached.{goes_on}
-use Rattle.packet_world.specs.PutOut.{GivenIsPutOut, outputs_alone, broker_rules, end_given}
+use Rattle.broker_form.specs.BrokerRules.{broker_rules}
+use Rattle.packet_world.specs.PutOut.{GivenIsPutOut, outputs_alone, end_given}
 use Rattle.packet_world.proofs.BrokerRules.{gives_answers}
 
 -- ---- lists

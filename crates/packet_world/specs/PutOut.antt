@@ -1,6 +1,5 @@
 -- The outputs of a node are sent on the ends of its connections.
 use Rattle.std.specs.Prelude.{◌≡◌, ◌≤◌, ℕ, true, List, ◌∷◌, ◌++◌, length, map, set, slice_get, Some}
-use Rattle.machine.specs.Machine.{Rules}
 use Rattle.snapshots.specs.whole.Applying.{outputs_between}
 use Rattle.snapshots.specs.ballot_base.declared.config.Config.{Config}
 use Rattle.snapshots.specs.ballot_base.Replica.{ReplicaState}
@@ -9,32 +8,14 @@ use Rattle.snapshots.specs.Moments.{Moment, Moments, IsAgreed}
 use Rattle.snapshots.specs.agreement.World.{outputs}
 use Rattle.exactly_once.specs.broker_spec.Connection.{ConnectionName}
 use Rattle.exactly_once.specs.broker_spec.Place.{Client}
-use Rattle.exactly_once.specs.broker_spec.Commands.{usual_limits}
-use Rattle.exactly_once.specs.broker_spec.Window.{wide_window}
 use Rattle.exactly_once.specs.broker_spec.declared.command.Command.{Command}
-use Rattle.exactly_once.specs.broker_spec.declared.command.Command.TheVariants as commands
 use Rattle.exactly_once.specs.broker_spec.declared.command.Output.{Output}
-use Rattle.exactly_once.specs.broker_base.State.{State, empty_state}
-use Rattle.exactly_once.specs.broker_base.Step.{step}
-use Rattle.broker_form.specs.Form.{thawed}
-use Rattle.broker_form.specs.Writing.{frozen}
+use Rattle.exactly_once.specs.broker_base.State.{State}
+use Rattle.broker_form.specs.BrokerRules.{broker_rules}
 use Rattle.exactly_once.specs.Sends.{sends_to}
 use Rattle.exactly_once.specs.Sides.{ClientConnection}
 use Rattle.packet_world.specs.World.{End, ClientEnds, World, with_client}
 use Rattle.packet_world.specs.Steps.{HasPipe, Reached}
-
--- the broker's machine, with the wide window, frozen to form 2: the rules of `broker`, whose code
--- no model uses
-abbrev pub broker_rules : Rules State Command Output
-broker_rules =
-    record {
-      opening = empty_state wide_window;
-      start_of = commands.Start;
-      after = λ state command. (step usual_limits wide_window state command).0;
-      gives = λ state command. (step usual_limits wide_window state command).1;
-      frozen = frozen;
-      thawed = thawed;
-    }
 
 -- the outputs that a node returned, without their places
 abbrev pub outputs_alone : List (ℕ × Output) → List Output
