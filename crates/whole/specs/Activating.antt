@@ -1,5 +1,6 @@
 -- The rows of the protocol from the last Installed to Activated, or to Superseded, on whole logs.
-use Rattle.std.specs.Prelude.{ℕ, List, [], ◌∷◌, length, ◌==◌, ◌&&◌, nat_lt, nat_le, if◌then◌else◌}
+use Rattle.std.specs.Prelude.{ℕ, Bool, List, [], ◌∷◌, length, ◌==◌, ◌&&◌, nat_lt, nat_le}
+use Rattle.std.specs.Prelude.{if◌then◌else◌}
 use Rattle.std.specs.List.{list_any}
 use Rattle.ballot_base.specs.machine.Machine.{Rules}
 use Rattle.whole.specs.Messages.Body.{Activate}
@@ -15,13 +16,16 @@ abbrev pub activates : {S C : Type 0} (O : Type 0) → ReplicaState S C → List
 activates O replica [] = message_to O replica.id (Activate replica.joined) master ∷ []
 activates O replica (member ∷ members) = []
 
+-- whether a replica is the new primary of the ballot that sends its log
+abbrev pub is_installing_in : {S C : Type 0} → ReplicaState S C → ℕ → Bool
+is_installing_in replica ballot = replica.joined == ballot && is_installing replica.role
+
 -- Installed(ballot, ..): a member that lacked the log of this ballot has it now; with the last one
 -- the master may activate the ballot
 unfoldable pub on_installed : {S C : Type 0} (O : Type 0) → ReplicaState S C → ℕ → ℕ → Outcome S C O
 on_installed O replica from ballot =
     let fewer = record replica { lacking = others from replica.lacking } in
-    if (replica.joined == ballot && is_installing replica.role)
-    && list_any (λ member. member == from) replica.lacking
+    if is_installing_in replica ballot && list_any (λ member. member == from) replica.lacking
     then record { state = fewer; effects = activates O fewer fewer.lacking }
     else nothing_done O replica
 
@@ -33,7 +37,7 @@ on_activated {O = O} rules replica ballot =
       role = Active;
       progress = progress_at (length replica.log) (others replica.id replica.members);
     } in
-    if (replica.joined == ballot && is_installing replica.role)
+    if is_installing_in replica ballot
     && (nat_le (length replica.lacking) 0 && nat_lt (length replica.log) max_places)
     then added rules active (rules.start_of ballot)
     else nothing_done O replica
@@ -41,6 +45,6 @@ on_activated {O = O} rules replica ballot =
 -- Superseded(ballot): the new primary of this ballot gives it up, and is a backup then
 unfoldable pub on_superseded : {S C : Type 0} (O : Type 0) → ReplicaState S C → ℕ → Outcome S C O
 on_superseded O replica ballot =
-    if replica.joined == ballot && is_installing replica.role
+    if is_installing_in replica ballot
     then record { state = record replica { role = Backup }; effects = [] }
     else nothing_done O replica

@@ -3,8 +3,7 @@
 ghost use Rattle.std.specs.Prelude.{◌≡◌, ◌&&◌, ◌==◌, []};
 ghost use Rattle.std.specs.List.{list_any};
 ghost use Rattle.ballot.specs.Inside.{PlainStepOrLost};
-ghost use Rattle.ballot_base.specs.Activating.{on_installed, on_superseded};
-ghost use Rattle.ballot_base.specs.Replica.{is_installing};
+ghost use Rattle.ballot_base.specs.Activating.{is_installing_in, on_installed, on_superseded};
 
 use super::Replica;
 use ballot_base::{Body, Effect, MASTER, Role, forget};
@@ -47,8 +46,7 @@ impl<M: Machine> Replica<M> {
 
     /// Says whether this new primary has not yet received a member's answer that it took the log.
     pub(super) fn waits_for_answer(&self, from: u8, ballot: u64) -> bool
-        ensures { result ≡ ((self.now.state.joined == ballot
-            && is_installing self.now.state.role)
+        ensures { result ≡ (is_installing_in self.now.state ballot
             && list_any (λ member. member == from) self.now.state.lacking) }
     {
         self.installs(ballot) && self.lacking.contains(&from)
@@ -56,8 +54,7 @@ impl<M: Machine> Replica<M> {
 
     /// Says whether this is the new primary of a ballot, which sends its log.
     pub(super) fn installs(&self, ballot: u64) -> bool
-        ensures { result ≡ (self.now.state.joined == ballot
-            && is_installing self.now.state.role) }
+        ensures { result ≡ is_installing_in self.now.state ballot }
     {
         self.joined == ballot && self.role.is_installing()
     }
