@@ -16,7 +16,7 @@ use Rattle.ballot_base.specs.Taking.{taken}
 use Rattle.ballot_base.specs.Unread.{reads_none}
 use Rattle.ballot.proofs.Heeding.{read_or_none}
 use Rattle.ballot_base.specs.Sending.{Outcome, message_to, message_to_each, master}
-use Rattle.ballot_base.specs.Changing.{waits_for, lacks, on_new_ballot, on_join, installs, on_state, on_install}
+use Rattle.ballot_base.specs.Changing.{waits_for, lacks, on_new_ballot, on_join, install_effects, on_state, on_install}
 use Rattle.ballot_base.specs.Activating.{activates, on_installed, on_superseded}
 use Rattle.ballot_base.proofs.ChangeRows.{on_new_ballot-joins, on_join-answers, on_state-takes, on_install-takes, on_install-answers, on_installed-counts, on_superseded-leaves}
 use Rattle.ballot_base.specs.Sends.{Sends}
@@ -89,7 +89,7 @@ join_answered {S = S} {C = C} O {rules = rules} old mid new from ballot previous
     (losses ∙ ap (λ (z : CountedReplica S C). cond sent z.losses (one_more z.losses)) m))
 
 -- messages to some members, or to the master, are some
-installs_some : {S C : Type 0} (O : Type 0) (r : ReplicaState S C) (members : List ℕ) → installs O r members ≡ [] → ⊥
+installs_some : {S C : Type 0} (O : Type 0) (r : ReplicaState S C) (members : List ℕ) → install_effects O r members ≡ [] → ⊥
 installs_some O r [] e = cc
 installs_some O r (member ∷ members) e = cc
 
@@ -99,7 +99,7 @@ pub state_taken : {S C O : Type 0} {rules : Rules S C O} (old took mid new : Cou
     waits_for old.state ballot (places log) ≡ true → taken rules old.state log ≡ Some took.state → took.losses ≡ old.losses →
     lacking ≡ others old.state.id old.state.members →
     mid ≡ record took { state = record took.state { held_in = ballot; role = Installing; lacking = lacking } } →
-    Sends before after (installs O mid.state mid.state.lacking) sent →
+    Sends before after (install_effects O mid.state mid.state.lacking) sent →
     new.state ≡ mid.state → new.losses ≡ cond sent mid.losses (one_more mid.losses) →
     ReadingStepOrLost rules old (on_state rules old.state ballot log) unread new before after
 state_taken {S = S} {C = C} {O = O} {rules = rules} old took mid new ballot log unread lacking before after sent waits is losses l m sends state count =
@@ -108,7 +108,7 @@ state_taken {S = S} {C = C} {O = O} {rules = rules} old took mid new ballot log 
     m ∙ ap (λ ms. let z : CountedReplica S C = record took { state = record took.state { held_in = ballot; role = Installing; lacking = ms } } in z) l in
     subst (λ (o : Outcome S C O). ReadingStepOrLost rules old o unread new before after) (sym (on_state-takes rules old.state took.state ballot log waits is))
     (went_sent old _ new before after sent
-    (subst (λ (z : CountedReplica S C). Sends before after (installs O z.state z.state.lacking) sent) same sends)
+    (subst (λ (z : CountedReplica S C). Sends before after (install_effects O z.state z.state.lacking) sent) same sends)
     (state ∙ ap (λ (z : CountedReplica S C). z.state) same)
     (count ∙ ap (λ (z : CountedReplica S C). cond sent z.losses (one_more z.losses)) same ∙ ap (λ n. cond sent n (one_more n)) losses))
 

@@ -20,7 +20,7 @@ use Rattle.ballot_base.specs.Taking.{taken, with_places, with_snapshot}
 use Rattle.ballot_base.specs.Unread.{is_unread, reads_none}
 use Rattle.ballot_base.proofs.LogsTaken.{reads_none-is, reads_none-low, reads_none-not, taken-none, taken-places, taken-reads}
 use Rattle.ballot_base.proofs.LongerLogs.{places_pushed}
-use Rattle.ballot_base.specs.Changing.{waits_for, lacks, on_state, on_install, installs, on_tick_fetching}
+use Rattle.ballot_base.specs.Changing.{waits_for, lacks, on_state, on_install, install_effects, on_tick_fetching}
 use Rattle.ballot_base.specs.Activating.{on_installed, on_activated, on_superseded}
 use Rattle.ballot_base.specs.Protocol.{received, ticked}
 use Rattle.ballot_base.proofs.StepRows.{added-log, commit_at-goes, commit_at-stays}
@@ -336,7 +336,7 @@ asked_some : {S C : Type 0} {P : Type 0} (O : Type 0) (r : ReplicaState S C) (m 
 asked_some {S = S} {C = C} O r m members e f =
     let g = sym (ap (message_to_each {C = C} O r.id (Join r.joined r.previous)) e) ∙ ap (λ (z : Outcome S C O). z.effects) f in cc
 
-hands_some : {S C : Type 0} {P : Type 0} (O : Type 0) (r : ReplicaState S C) (members : List ℕ) → installs O r members ≡ [] → P
+hands_some : {S C : Type 0} {P : Type 0} (O : Type 0) (r : ReplicaState S C) (members : List ℕ) → install_effects O r members ≡ [] → P
 hands_some O r [] e = cc
 hands_some O r (m ∷ members) e = cc
 

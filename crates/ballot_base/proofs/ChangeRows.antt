@@ -14,7 +14,7 @@ use Rattle.ballot_base.specs.Protocol.{ticked}
 use Rattle.ballot_base.specs.Replica.{ReplicaState, is_backup, is_fetching, is_installing, others, progress_at}
 use Rattle.ballot_base.specs.Sending.{nothing_done, message_to, message_to_each}
 use Rattle.ballot_base.specs.Serving.{max_places, added}
-use Rattle.ballot_base.specs.Changing.{waits_for, lacks, installs_taken, answers_installed, on_new_ballot, on_join, on_install, installs, on_state, on_tick_fetching, on_tick_installing}
+use Rattle.ballot_base.specs.Changing.{waits_for, lacks, installs_taken, answers_installed, on_new_ballot, on_join, on_install, install_effects, on_state, on_tick_fetching, on_tick_installing}
 use Rattle.ballot_base.specs.Activating.{on_superseded, activates, on_installed, on_activated}
 
 -- NewBallot
@@ -62,7 +62,7 @@ on_state-stays rules r b log e = rw e refl
 pub on_state-takes : {S C O : Type 0} (rules : Rules S C O) (r took : ReplicaState S C) (b : ℕ) (log : Log C) →
     waits_for r b (places log) ≡ true → taken rules r log ≡ Some took → on_state rules r b log ≡ record {
       state = record took { held_in = b; role = Installing; lacking = others r.id r.members };
-      effects = installs O (record took { held_in = b; role = Installing; lacking = others r.id r.members }) (others r.id r.members);
+      effects = install_effects O (record took { held_in = b; role = Installing; lacking = others r.id r.members }) (others r.id r.members);
     }
 unfolding on_state
 on_state-takes rules r took b log e f = rw e (ap (installs_taken _ r b) f)
@@ -142,10 +142,10 @@ unfolding on_activated
 on_activated-adds rules r b e = rw e refl
 
 -- the log that is sent if members lack it, and if none does
-pub installs-some : {S C : Type 0} (O : Type 0) (r : ReplicaState S C) (members : List ℕ) → (members ≡ [] → ⊥) →
-    installs O r members ≡ message_to_each O r.id (Install r.joined r.log) members
-installs-some O r [] some = absurd (some refl)
-installs-some O r (member ∷ members) some = refl
+pub install_effects-some : {S C : Type 0} (O : Type 0) (r : ReplicaState S C) (members : List ℕ) → (members ≡ [] → ⊥) →
+    install_effects O r members ≡ message_to_each O r.id (Install r.joined r.log) members
+install_effects-some O r [] some = absurd (some refl)
+install_effects-some O r (member ∷ members) some = refl
 
 -- a tick of a new primary
 pub ticked-fetching : {S C : Type 0} (O : Type 0) (r : ReplicaState S C) (role : Role) →

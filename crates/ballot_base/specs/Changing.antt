@@ -41,9 +41,10 @@ on_join O replica from ballot previous =
     } else nothing_done O replica
 
 -- the log is sent to the members that lack it; if there is none, the master may activate the ballot
-abbrev pub installs : {S C : Type 0} (O : Type 0) → ReplicaState S C → List ℕ → List (Effect C O)
-installs O replica [] = message_to O replica.id (Activate replica.joined) master ∷ []
-installs O replica (member ∷ members) =
+abbrev pub install_effects : {S C : Type 0} (O : Type 0) →
+    ReplicaState S C → List ℕ → List (Effect C O)
+install_effects O replica [] = message_to O replica.id (Activate replica.joined) master ∷ []
+install_effects O replica (member ∷ members) =
     message_to_each O replica.id (Install replica.joined replica.log) (member ∷ members)
 
 -- whether a State is awaited: its ballot is the one joined, no log came yet, and this one lacks no
@@ -62,7 +63,7 @@ installs_taken O replica ballot (Some took) =
       role = Installing;
       lacking = others replica.id replica.members;
     } in
-    record { state = new; effects = installs O new new.lacking }
+    record { state = new; effects = install_effects O new new.lacking }
 
 -- State(ballot, log): the first log that comes is taken, unless it lacks an applied place; then all
 -- other members lack it, and are sent the log as it was taken
@@ -116,4 +117,4 @@ on_tick_fetching O replica =
 -- a primary that installs its log sends it at a tick to those that lack it
 abbrev pub on_tick_installing : {S C : Type 0} (O : Type 0) → ReplicaState S C → Outcome S C O
 on_tick_installing O replica =
-    record { state = replica; effects = installs O replica replica.lacking }
+    record { state = replica; effects = install_effects O replica replica.lacking }

@@ -8,7 +8,7 @@ use Rattle.machine.specs.Machine.{Rules}
 use Rattle.ballot.specs.lists.Lists.{In}
 use Rattle.ballot.specs.ballot_base.declared.message.Body.{Body}
 use Rattle.ballot.specs.ballot_base.declared.message.Body.TheVariants.{NewBallot, Join, State, Install, Installed, Activate, Activated, Superseded, Append, Held, Commit}
-use Rattle.ballot.specs.ballot_base.Changing.{installs, lacks, on_install, on_new_ballot, on_state, waits_for}
+use Rattle.ballot.specs.ballot_base.Changing.{install_effects, lacks, on_install, on_new_ballot, on_state, waits_for}
 use Rattle.ballot.specs.ballot_base.declared.config.Config.{Config}
 use Rattle.ballot.specs.ballot_base.declared.message.Effect.{Effect}
 use Rattle.ballot.specs.ballot_base.Logs.{Log, places}
@@ -98,7 +98,7 @@ sends_some : {S C O : Type 0} {P : Type 0} (o : Outcome S C O) (s : ReplicaState
 sends_some {S = S} {C = C} {O = O} o s e es is none = let f = ap (λ (z : Outcome S C O). z.effects) (sym is) ∙ none in cc
 
 -- a log is handed to members that lack it, or the master is asked
-hands_some : {S C : Type 0} {P : Type 0} (O : Type 0) (r : ReplicaState S C) (members : List ℕ) → installs O r members ≡ [] → P
+hands_some : {S C : Type 0} {P : Type 0} (O : Type 0) (r : ReplicaState S C) (members : List ℕ) → install_effects O r members ≡ [] → P
 hands_some O r [] e = cc
 hands_some O r (m ∷ members) e = cc
 

@@ -20,7 +20,7 @@ use Rattle.agreement.specs.ballot_base.Sending.{Outcome, message_to_each, messag
 use Rattle.snapshots.specs.World.{messages}
 use Rattle.agreement.specs.ballot_base.declared.message.Body.TheVariants.{Join, State, Install, Installed, Append, Held, Commit}
 use Rattle.agreement.specs.ballot_base.declared.message.Effect.TheVariants.{To, Out}
-use Rattle.agreement.specs.ballot_base.Changing.{answers_installed, installs_taken, installs, on_join, on_new_ballot}
+use Rattle.agreement.specs.ballot_base.Changing.{answers_installed, installs_taken, install_effects, on_join, on_new_ballot}
 use Rattle.agreement.specs.ballot_base.Activating.{activates, on_activated, on_installed, on_superseded}
 use Rattle.agreement.specs.ballot_base.Applying.{applied_to, outputs_from, outputs_to}
 
@@ -81,7 +81,7 @@ own_outputs rules s x place (c ∷ commands) to m i =
     own_join s (map (Out place) (rules.gives x c)) (outputs_from rules (rules.after x c) (place + 1) commands) (outs_own s place (rules.gives x c))
     (own_outputs rules s (rules.after x c) (place + 1) commands) to m i
 
-own_installs : {S C : Type 0} (O : Type 0) (s : ReplicaState S C) (lacking : List ℕ) → SaysOwn {O = O} s (installs O s lacking)
+own_installs : {S C : Type 0} (O : Type 0) (s : ReplicaState S C) (lacking : List ℕ) → SaysOwn {O = O} s (install_effects O s lacking)
 own_installs O s [] to m here = tt
 own_installs O s [] to m (there i) = elim i [ ]
 own_installs O s (x ∷ lacking) to m i = own_each O s s.id (Install s.joined s.log) (x ∷ lacking) (refl, refl) to m i
@@ -262,7 +262,7 @@ pub each_keeps : {S C : Type 0} (O : Type 0) (r : ReplicaState S C) (body : Body
     KeepsBase {O = O} r (record { state = r; effects = message_to_each O r.id body receivers })
 each_keeps O r body receivers own = record { base = refl; snapshot = refl; committed = omega arith; own = own_each O r r.id body receivers own }
 
-pub handed_keeps : {S C : Type 0} (O : Type 0) (r : ReplicaState S C) (lacking : List ℕ) → KeepsBase {O = O} r (record { state = r; effects = installs O r lacking })
+pub handed_keeps : {S C : Type 0} (O : Type 0) (r : ReplicaState S C) (lacking : List ℕ) → KeepsBase {O = O} r (record { state = r; effects = install_effects O r lacking })
 handed_keeps O r lacking = record { base = refl; snapshot = refl; committed = omega arith; own = own_installs O r lacking }
 
 pub one_keeps : {S C : Type 0} (O : Type 0) (r : ReplicaState S C) (x : ℕ) (body : Body C) → IsOwn r body →

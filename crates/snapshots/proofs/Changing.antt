@@ -10,7 +10,7 @@ use Rattle.agreement.specs.ballot_base.declared.status.Role.TheVariants.{Backup,
 use Rattle.agreement.specs.whole.Sending.{message_to_each as whole_each}
 use Rattle.agreement.specs.ballot_base.Serving.{max_places, added}
 use Rattle.agreement.specs.whole.Serving.{added as whole_added}
-use Rattle.agreement.specs.whole.Changing.{on_new_ballot as whole_on_new_ballot, on_join as whole_on_join, installs as whole_installs, on_tick_fetching as whole_on_tick_fetching, on_tick_installing as whole_on_tick_installing}
+use Rattle.agreement.specs.whole.Changing.{on_new_ballot as whole_on_new_ballot, on_join as whole_on_join, install_effects as whole_install_effects, on_tick_fetching as whole_on_tick_fetching, on_tick_installing as whole_on_tick_installing}
 use Rattle.agreement.specs.whole.Activating.{activates as whole_activates, on_installed as whole_on_installed, on_activated as whole_on_activated, on_superseded as whole_on_superseded}
 use Rattle.agreement.specs.ballot_base.Logs.{places}
 use Rattle.snapshots.specs.Whole.{whole_log, whole, whole_body, whole_effects}
@@ -18,7 +18,7 @@ use Rattle.snapshots.specs.Matches.{IsBased, OutcomeMatches}
 use Rattle.agreement.specs.ballot_base.declared.message.Body.{Body}
 use Rattle.agreement.specs.ballot_base.Sending.{message_to_each}
 use Rattle.agreement.specs.ballot_base.declared.message.Body.TheVariants.{Join, Install}
-use Rattle.agreement.specs.ballot_base.Changing.{installs, on_join, on_new_ballot, on_tick_fetching, on_tick_installing}
+use Rattle.agreement.specs.ballot_base.Changing.{install_effects, on_join, on_new_ballot, on_tick_fetching, on_tick_installing}
 use Rattle.agreement.specs.ballot_base.Activating.{activates, on_activated, on_installed, on_superseded}
 use Rattle.agreement.specs.ballot_base.Applying.{applied_to}
 use Rattle.snapshots.proofs.Fronts.{whole_long, whole_part}
@@ -31,7 +31,7 @@ whole_to_each O archive id body (x ∷ receivers) =
     ap (λ us. effects.To x (record { from = id; body = whole_body archive body }) ∷ us) (whole_to_each O archive id body receivers)
 
 pub whole_handed : {S C : Type 0} (O : Type 0) (archive : List C) (r : ReplicaState S C) (lacking : List ℕ) →
-    whole_effects archive (installs O r lacking) ≡ whole_installs O (whole archive r) lacking
+    whole_effects archive (install_effects O r lacking) ≡ whole_install_effects O (whole archive r) lacking
 whole_handed O archive r [] = refl
 whole_handed O archive r (x ∷ lacking) = whole_to_each O archive r.id (Install r.joined r.log) (x ∷ lacking)
 

@@ -6,7 +6,7 @@ use Rattle.std.proofs.lemmas.Bool.{and_parts, cases_Bool, eqb-true, leb-true}
 use Rattle.machine.specs.Machine.{Rules}
 use Rattle.agreement.proofs.of_whole.ChangeRows.{on_state-stays, on_state-takes, on_install-answers, on_install-stays, on_install-takes}
 use Rattle.agreement.specs.whole.Messages.{Body as bodies}
-use Rattle.agreement.specs.whole.Changing.{on_state as whole_on_state, on_install as whole_on_install, installs as whole_installs}
+use Rattle.agreement.specs.whole.Changing.{on_state as whole_on_state, on_install as whole_on_install, install_effects as whole_install_effects}
 use Rattle.agreement.specs.ballot_base.declared.status.Role.TheVariants.{Backup, Installing}
 use Rattle.agreement.specs.whole.Messages.{Effect as WholeEffect}
 use Rattle.agreement.specs.whole.Messages.{Effect as effects}
@@ -43,7 +43,7 @@ state_takes {S = S} {C = C} {O = O} rules archive r from ballot log within e =
   where
     row : whole_on_state O (whole archive r) ballot (whole_log archive log) ≡ record {
       state = record (whole archive r) { held_in = ballot; log = whole_log archive log; role = Installing; lacking = others r.id r.members };
-      effects = whole_installs O (record (whole archive r) { held_in = ballot; log = whole_log archive log; role = Installing; lacking = others r.id r.members }) (others r.id r.members);
+      effects = whole_install_effects O (record (whole archive r) { held_in = ballot; log = whole_log archive log; role = Installing; lacking = others r.id r.members }) (others r.id r.members);
     }
     row = on_state-takes O (whole archive r) ballot (whole_log archive log)
         (ap (λ n. r.joined == ballot && (is_fetching r.role && nat_le r.committed n)) (whole_long archive log within) ∙ e)

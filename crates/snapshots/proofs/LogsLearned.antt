@@ -5,7 +5,7 @@ use Rattle.machine.specs.Machine.{Rules}
 use Rattle.agreement.proofs.of_whole.ChangeRows.{on_state-takes, on_install-takes}
 use Rattle.agreement.specs.whole.Applying.{applied_to as whole_applied_to}
 use Rattle.agreement.specs.whole.Messages.{Body as bodies}
-use Rattle.agreement.specs.whole.Changing.{on_state as whole_on_state, on_install as whole_on_install, installs as whole_installs}
+use Rattle.agreement.specs.whole.Changing.{on_state as whole_on_state, on_install as whole_on_install, install_effects as whole_install_effects}
 use Rattle.agreement.specs.whole.Messages.{Effect as WholeEffect}
 use Rattle.agreement.specs.whole.Messages.{Effect as effects}
 use Rattle.agreement.specs.whole.Losses.{Thinned as WholeThinned}
@@ -37,7 +37,7 @@ unfolding on_install
 install_took {O = O} rules r took from ballot log e is = rw e (ap (answers_installed O r from ballot (places log)) is)
 
 same_installs : {S C O : Type 0} (rules : Rules S C O) (x : WholeState S C) (k : ℕ) (lacking : List ℕ) →
-    whole_installs O (whole_applied_to rules x k) lacking ≡ whole_installs O x lacking
+    whole_install_effects O (whole_applied_to rules x k) lacking ≡ whole_install_effects O x lacking
 same_installs rules x k [] = refl
 same_installs rules x k (m ∷ lacking) = refl
 
@@ -53,10 +53,10 @@ state_learns {S = S} {C = C} {O = O} rules archive r took ballot log k e within 
     (ap (λ n. r.joined == ballot && (is_fetching r.role && nat_le r.committed n)) (whole_long archive log within) ∙ e)))
     (record {
       state = state;
-      effects = subst (λ (us : List (WholeEffect C O)). WholeThinned us (whole_installs O new (others r.id r.members)))
+      effects = subst (λ (us : List (WholeEffect C O)). WholeThinned us (whole_install_effects O new (others r.id r.members)))
           (sym (whole_handed O archive (record took { held_in = ballot; role = Installing; lacking = others r.id r.members }) (others r.id r.members)
-          ∙ ap (λ (x : WholeState S C). whole_installs O x (others r.id r.members)) state ∙ same_installs rules new k (others r.id r.members)))
-          (thinned_same (whole_installs O new (others r.id r.members)));
+          ∙ ap (λ (x : WholeState S C). whole_install_effects O x (others r.id r.members)) state ∙ same_installs rules new k (others r.id r.members)))
+          (thinned_same (whole_install_effects O new (others r.id r.members)));
     }))
   where
     new : WholeState S C

@@ -4,7 +4,7 @@ use Rattle.std.specs.Prelude.{nat_lt, nat_le, ◌&&◌, ◌||◌, ◌==◌}
 use Rattle.machine.specs.Machine.{Rules}
 use Rattle.agreement.specs.whole.Applying.{applied_to as whole_applied_to}
 use Rattle.agreement.specs.whole.Messages.{Body as bodies}
-use Rattle.agreement.specs.whole.Changing.{on_state as whole_on_state, on_install as whole_on_install, installs as whole_installs}
+use Rattle.agreement.specs.whole.Changing.{on_state as whole_on_state, on_install as whole_on_install, install_effects as whole_install_effects}
 use Rattle.agreement.specs.whole.Messages.{Effect as WholeEffect}
 use Rattle.agreement.specs.whole.Messages.{Effect as effects}
 use Rattle.agreement.specs.whole.Losses.{Thinned as WholeThinned}
@@ -32,10 +32,10 @@ state_matches {S = S} {C = C} {O = O} rules archive r took ballot log within is 
     if_matches archive (r.joined == ballot && (is_fetching r.role && nat_le r.committed (places log)))
     (r.joined == ballot && (is_fetching r.role && nat_le r.committed (length (whole_log archive log)))) _ _ _ _
     (ap (λ n. r.joined == ballot && (is_fetching r.role && nat_le r.committed n)) (sym (whole_long archive log within)))
-    (subst (λ (o : Option (ReplicaState S C)). OutcomeMatches {O = O} archive (installs_taken O r ballot o) (record { state = new; effects = whole_installs O new (others r.id r.members) })) (sym is)
+    (subst (λ (o : Option (ReplicaState S C)). OutcomeMatches {O = O} archive (installs_taken O r ballot o) (record { state = new; effects = whole_install_effects O new (others r.id r.members) })) (sym is)
     (matches_all archive _ _ state
     (whole_handed O archive (record took { held_in = ballot; role = Installing; lacking = others r.id r.members }) (others r.id r.members)
-    ∙ ap (λ (x : WholeState S C). whole_installs O x (others r.id r.members)) state)))
+    ∙ ap (λ (x : WholeState S C). whole_install_effects O x (others r.id r.members)) state)))
     (matches_nothing O archive r)
   where
     new : WholeState S C

@@ -12,7 +12,7 @@ use Rattle.agreement.specs.ballot_base.declared.message.Body.TheVariants.{NewBal
 use Rattle.agreement.specs.ballot_base.declared.message.Effect.{Effect}
 use Rattle.agreement.specs.ballot_base.declared.message.Effect.TheVariants.{To, Out}
 use Rattle.agreement.specs.ballot_base.declared.status.Role.TheVariants.{Installing}
-use Rattle.agreement.specs.ballot_base.Changing.{answers_installed, installs_taken, installs, lacks, on_install, on_state, waits_for}
+use Rattle.agreement.specs.ballot_base.Changing.{answers_installed, installs_taken, install_effects, lacks, on_install, on_state, waits_for}
 use Rattle.agreement.specs.ballot_base.Logs.{Log, places}
 use Rattle.agreement.specs.ballot_base.Losses.{Loses, Thinned, halted}
 use Rattle.agreement.specs.ballot_base.Losses.Thinned.{none, keeps, loses}
@@ -58,7 +58,7 @@ each_silent : {C : Type 0} (O : Type 0) (id : ℕ) (body : Body C) (receivers : 
 each_silent O id body [] = refl
 each_silent O id body (receiver ∷ receivers) = each_silent O id body receivers
 
-installs_silent : {S C : Type 0} (O : Type 0) (r : ReplicaState S C) (lacking : List ℕ) → outputs (installs O r lacking) ≡ []
+installs_silent : {S C : Type 0} (O : Type 0) (r : ReplicaState S C) (lacking : List ℕ) → outputs (install_effects O r lacking) ≡ []
 installs_silent O r [] = refl
 installs_silent O r (member ∷ members) = each_silent O r.id (Install r.joined r.log) (member ∷ members)
 

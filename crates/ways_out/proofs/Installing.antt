@@ -4,7 +4,7 @@ use Rattle.std.specs.Prelude.{slice_get}
 use Rattle.machine.specs.Machine.{Rules}
 use Rattle.snapshots.specs.whole.Messages.{Body, Message}
 use Rattle.snapshots.specs.whole.Messages.Body.{State, Install, Installed, Activate}
-use Rattle.snapshots.specs.whole.Changing.{installs}
+use Rattle.snapshots.specs.whole.Changing.{install_effects}
 use Rattle.snapshots.specs.whole.Protocol.{received}
 use Rattle.snapshots.specs.whole.Replica.{ReplicaState, others}
 use Rattle.snapshots.specs.ballot_base.declared.status.Role.TheVariants.{Fetching}
@@ -64,7 +64,7 @@ module _ {S C O : Type 0} (rules : Rules S C O) (b : ℕ) (log : List C) (index 
         effects = message_to O (index + 1) (Activate b) master ∷ [];
       }
       row = state_taken rules b from log r joined role applied
-          ∙ ap (λ (l : List ℕ). let o : Outcome S C O = record { state = installing b log r l; effects = installs O (installing b log r l) l } in o) are
+          ∙ ap (λ (l : List ℕ). let o : Outcome S C O = record { state = installing b log r l; effects = install_effects O (installing b log r l) l } in o) are
           ∙ ap (λ n. let o : Outcome S C O = record { state = installing b log r []; effects = message_to O n (Activate r.joined) master ∷ [] } in o) id
           ∙ ap (λ n. let o : Outcome S C O = record { state = installing b log r []; effects = message_to O (index + 1) (Activate n) master ∷ [] } in o) joined
 
@@ -96,7 +96,7 @@ module _ {S C O : Type 0} (rules : Rules S C O) (b : ℕ) (log : List C) (index 
         effects = message_to_each O (index + 1) (Install b log) (x ∷ xs);
       }
       row = state_taken rules b from log r joined role applied
-          ∙ ap (λ (l : List ℕ). let o : Outcome S C O = record { state = installing b log r l; effects = installs O (installing b log r l) l } in o) are
+          ∙ ap (λ (l : List ℕ). let o : Outcome S C O = record { state = installing b log r l; effects = install_effects O (installing b log r l) l } in o) are
           ∙ ap (λ n. let o : Outcome S C O = record { state = installing b log r (x ∷ xs); effects = message_to_each O n (Install r.joined log) (x ∷ xs) } in o) id
           ∙ ap (λ n. let o : Outcome S C O = record { state = installing b log r (x ∷ xs); effects = message_to_each O (index + 1) (Install n log) (x ∷ xs) } in o) joined
 

@@ -6,7 +6,7 @@ use Rattle.std.proofs.lemmas.Bool.{eq-eqb, ne_eqb, le-leb, lt-ltb}
 use Rattle.machine.specs.Machine.{Rules}
 use Rattle.snapshots.specs.whole.Applying.{applied_to, outputs_from, outputs_to}
 use Rattle.snapshots.specs.whole.Messages.Body.{State, Installed, Activate, Activated, Append, Held, Commit}
-use Rattle.snapshots.specs.whole.Changing.{installs}
+use Rattle.snapshots.specs.whole.Changing.{install_effects}
 use Rattle.snapshots.specs.whole.Activating.{activates}
 use Rattle.snapshots.specs.whole.Messages.{Effect}
 use Rattle.snapshots.specs.whole.Messages.Effect.{Out}
@@ -34,7 +34,7 @@ installing_with b log r came left = installing b log r left
 pub state_taken : {S C O : Type 0} (rules : Rules S C O) (b from : ℕ) (log : List C) (r : ReplicaState S C) → r.joined ≡ b → r.role ≡ Fetching →
     r.committed ≤ length log → received rules r from (State b log) ≡ record {
       state = installing b log r (others r.id r.members);
-      effects = installs O (installing b log r (others r.id r.members)) (others r.id r.members);
+      effects = install_effects O (installing b log r (others r.id r.members)) (others r.id r.members);
     }
 state_taken {O = O} rules b from log r joined role short =
     on_state-takes O r b log

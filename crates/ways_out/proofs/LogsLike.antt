@@ -11,7 +11,7 @@ use Rattle.snapshots.proofs.of_whole.AppliesInOrder.{replay_goes_on}
 use Rattle.snapshots.proofs.of_whole.ChangeRows.{on_install-answers, on_install-stays, on_install-takes, on_state-stays, on_state-takes}
 use Rattle.snapshots.specs.agreement.Moments.{Moment as WholeMoment}
 use Rattle.snapshots.specs.whole.Applying.{applied_to as whole_applied_to}
-use Rattle.snapshots.specs.whole.Changing.{installs as whole_installs, on_install as whole_on_install, on_state as whole_on_state}
+use Rattle.snapshots.specs.whole.Changing.{install_effects as whole_install_effects, on_install as whole_on_install, on_state as whole_on_state}
 use Rattle.snapshots.specs.whole.Messages.{Body as bodies}
 use Rattle.snapshots.specs.whole.Messages.{Effect as WholeEffect}
 use Rattle.snapshots.specs.whole.Messages.{Effect as effects}
@@ -168,7 +168,7 @@ module _ {S C O : Type 0} (rules : Rules S C O) (config : Config) (m : MasterSta
       new = record W { held_in = b; log = L; role = Installing; lacking = others r.id r.members }
 
       given : WholeOutcome S C O
-      given = record { state = new; effects = whole_installs O new (others r.id r.members) }
+      given = record { state = new; effects = whole_install_effects O new (others r.id r.members) }
 
       by_took : (r.joined == b && (is_fetching r.role && nat_le r.committed (places log))) ≡ true → Took rules w.archive r log →
           AreLike {O = O} rules ballot (whole_on_state O W b L) (wholly w.archive (on_state rules r b log))
@@ -182,13 +182,13 @@ module _ {S C O : Type 0} (rules : Rules S C O) (config : Config) (m : MasterSta
           with_it : ReplicaState S C
           with_it = record t.took { held_in = b; role = Installing; lacking = others r.id r.members }
 
-          sends : whole_effects w.archive (installs_taken O r b (Some t.took)).effects ≡ whole_installs O (whole w.archive with_it) (others r.id r.members)
+          sends : whole_effects w.archive (installs_taken O r b (Some t.took)).effects ≡ whole_install_effects O (whole w.archive with_it) (others r.id r.members)
           sends = whole_handed O w.archive with_it (others r.id r.members)
 
           by_so : TookSo rules w.archive r log t.took → AreLike {O = O} rules ballot given (wholly w.archive (installs_taken O r b (Some t.took)))
           by_so (inl same) =
               let state : whole w.archive with_it ≡ new = ap (λ (x : WholeState S C). let y : WholeState S C = record x { held_in = b; role = Installing; lacking = others r.id r.members } in y) same in
-              record { state = inl state; effects = sends ∙ ap (λ (x : WholeState S C). whole_installs O x (others r.id r.members)) state }
+              record { state = inl state; effects = sends ∙ ap (λ (x : WholeState S C). whole_install_effects O x (others r.id r.members)) state }
           by_so (inr (past, front, learned)) =
               let state : whole w.archive with_it ≡ whole_applied_to rules new log.base =
               ap (λ (x : WholeState S C). let y : WholeState S C = record x { held_in = b; role = Installing; lacking = others r.id r.members } in y) learned in
@@ -196,10 +196,10 @@ module _ {S C O : Type 0} (rules : Rules S C O) (config : Config) (m : MasterSta
               record {
                 state = inr (learned_ahead ballot new (whole w.archive with_it) log snap.within refl refl refl front past state mine
                     (sym (eqb-true r.joined b (and_parts (r.joined == b) (is_fetching r.role && nat_le r.committed (places log)) e).0) ∙ mine) refl refl);
-                effects = sends ∙ ap (λ (x : WholeState S C). whole_installs O x (others r.id r.members)) state ∙ alike (others r.id r.members);
+                effects = sends ∙ ap (λ (x : WholeState S C). whole_install_effects O x (others r.id r.members)) state ∙ alike (others r.id r.members);
               }
             where
-              alike : (lacking : List ℕ) → whole_installs O (whole_applied_to rules new log.base) lacking ≡ whole_installs O new lacking
+              alike : (lacking : List ℕ) → whole_install_effects O (whole_applied_to rules new log.base) lacking ≡ whole_install_effects O new lacking
               alike [] = refl
               alike (x ∷ lacking) = refl
 

@@ -12,7 +12,7 @@ use Rattle.whole.specs.Protocol.{ticked}
 use Rattle.whole.specs.Replica.{ReplicaState, is_backup, is_fetching, is_installing, others, progress_at}
 use Rattle.whole.specs.Sending.{nothing_done, message_to, message_to_each}
 use Rattle.whole.specs.Serving.{max_places, added}
-use Rattle.whole.specs.Changing.{on_new_ballot, on_join, on_install, installs, on_state, on_tick_fetching, on_tick_installing}
+use Rattle.whole.specs.Changing.{on_new_ballot, on_join, on_install, install_effects, on_state, on_tick_fetching, on_tick_installing}
 use Rattle.whole.specs.Activating.{on_superseded, activates, on_installed, on_activated}
 
 -- NewBallot
@@ -60,7 +60,7 @@ on_state-stays O r b log e = rw e refl
 pub on_state-takes : {S C : Type 0} (O : Type 0) (r : ReplicaState S C) (b : ℕ) (log : List C) →
     (r.joined == b && (is_fetching r.role && nat_le r.committed (length log))) ≡ true → on_state O r b log ≡ record {
       state = record r { held_in = b; log = log; role = Installing; lacking = others r.id r.members };
-      effects = installs O (record r { held_in = b; log = log; role = Installing; lacking = others r.id r.members }) (others r.id r.members);
+      effects = install_effects O (record r { held_in = b; log = log; role = Installing; lacking = others r.id r.members }) (others r.id r.members);
     }
 unfolding on_state
 on_state-takes O r b log e = rw e refl
@@ -131,10 +131,10 @@ unfolding on_activated
 on_activated-adds rules r b e = rw e refl
 
 -- the log that is sent if members lack it, and if none does
-pub installs-some : {S C : Type 0} (O : Type 0) (r : ReplicaState S C) (members : List ℕ) → (members ≡ [] → ⊥) →
-    installs O r members ≡ message_to_each O r.id (Install r.joined r.log) members
-installs-some O r [] some = absurd (some refl)
-installs-some O r (member ∷ members) some = refl
+pub install_effects-some : {S C : Type 0} (O : Type 0) (r : ReplicaState S C) (members : List ℕ) → (members ≡ [] → ⊥) →
+    install_effects O r members ≡ message_to_each O r.id (Install r.joined r.log) members
+install_effects-some O r [] some = absurd (some refl)
+install_effects-some O r (member ∷ members) some = refl
 
 -- a tick of a new primary
 pub ticked-fetching : {S C : Type 0} (O : Type 0) (r : ReplicaState S C) (role : Role) →

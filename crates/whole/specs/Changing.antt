@@ -39,9 +39,10 @@ on_join O replica from ballot previous =
     else nothing_done O replica
 
 -- the log is sent to the members that lack it; if there is none, the master may activate the ballot
-abbrev pub installs : {S C : Type 0} (O : Type 0) → ReplicaState S C → List ℕ → List (Effect C O)
-installs O replica [] = message_to O replica.id (Activate replica.joined) master ∷ []
-installs O replica (member ∷ members) =
+abbrev pub install_effects : {S C : Type 0} (O : Type 0) →
+    ReplicaState S C → List ℕ → List (Effect C O)
+install_effects O replica [] = message_to O replica.id (Activate replica.joined) master ∷ []
+install_effects O replica (member ∷ members) =
     message_to_each O replica.id (Install replica.joined replica.log) (member ∷ members)
 
 -- State(ballot, log): the first log that comes is taken, unless it lacks an applied place; all
@@ -57,7 +58,7 @@ on_state O replica ballot log =
     } in
     if replica.joined == ballot
     && (is_fetching replica.role && nat_le replica.committed (length log))
-    then record { state = taken; effects = installs O taken taken.lacking }
+    then record { state = taken; effects = install_effects O taken taken.lacking }
     else nothing_done O replica
 
 -- Install(ballot, log): a log is taken once, unless it lacks an applied place; later it is only
@@ -88,4 +89,4 @@ on_tick_fetching O replica =
 -- a primary that installs its log sends it at a tick to those that lack it
 abbrev pub on_tick_installing : {S C : Type 0} (O : Type 0) → ReplicaState S C → Outcome S C O
 on_tick_installing O replica =
-    record { state = replica; effects = installs O replica replica.lacking }
+    record { state = replica; effects = install_effects O replica replica.lacking }

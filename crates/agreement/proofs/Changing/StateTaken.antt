@@ -4,7 +4,7 @@ use Rattle.std.specs.Prelude.{slice_get}
 use Rattle.machine.specs.Machine.{Rules}
 use Rattle.whole.specs.ballot_base.declared.status.Role.TheVariants.{Installing}
 use Rattle.whole.specs.Replica.{ReplicaState, others}
-use Rattle.whole.specs.Changing.{installs}
+use Rattle.whole.specs.Changing.{install_effects}
 use Rattle.agreement.specs.World.{GroupWorld, moved}
 use Rattle.whole.specs.lists.Lists.{In, IsPrefixOf}
 use Rattle.agreement.specs.Inside.Ballots.{Given, Line, History, Told, Applied}
@@ -38,7 +38,7 @@ pub state_taken : {S C O : Type 0} (rules : Rules S C O) (w : GroupWorld S C O) 
     IsSoundWorld rules w h → slice_get w.nodes n ≡ Some r → StateHeard w h n r xs → r.committed ≤ length xs →
     KeepsSoundness rules w h n (record {
       state = record r { held_in = r.joined; log = xs; role = Installing; lacking = others r.id r.members };
-      effects = installs O (record r { held_in = r.joined; log = xs; role = Installing; lacking = others r.id r.members }) (others r.id r.members);
+      effects = install_effects O (record r { held_in = r.joined; log = xs; role = Installing; lacking = others r.id r.members }) (others r.id r.members);
     })
 state_taken {S = S} {C = C} {O = O} rules w h n r xs s stands q long given thinned =
     record {

@@ -7,7 +7,7 @@ use Rattle.whole.specs.Messages.Body.{State}
 use Rattle.whole.specs.ballot_base.declared.status.Role.TheVariants.{Installing}
 use Rattle.whole.specs.Replica.{ReplicaState, is_fetching, others}
 use Rattle.whole.specs.Sending.{Outcome}
-use Rattle.whole.specs.Changing.{installs, on_state}
+use Rattle.whole.specs.Changing.{install_effects, on_state}
 use Rattle.agreement.specs.World.{GroupWorld}
 use Rattle.whole.specs.lists.Lists.{In}
 use Rattle.agreement.specs.Inside.Ballots.{History}
@@ -36,7 +36,7 @@ keeps_state {S = S} {C = C} {O = O} rules w h n r from b xs s stands sent =
         subst (λ (o : Outcome S C O). KeepsSoundness rules w h n o) (sym (on_state-takes O r b xs e))
         (subst (λ c. KeepsSoundness rules w h n (record {
           state = record r { held_in = c; log = xs; role = Installing; lacking = others r.id r.members };
-          effects = installs O (record r { held_in = c; log = xs; role = Installing; lacking = others r.id r.members }) (others r.id r.members);
+          effects = install_effects O (record r { held_in = c; log = xs; role = Installing; lacking = others r.id r.members }) (others r.id r.members);
         })) same
         (state_taken rules w h n r xs s stands
         (state_heard w h n r from b xs same ((s.nodes n r stands).fetching (role_fetching r.role z.0)) (s.said (n + 1) _ sent))

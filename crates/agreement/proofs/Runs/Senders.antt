@@ -7,7 +7,7 @@ use Rattle.machine.specs.Machine.{Rules}
 use Rattle.whole.specs.Applying.{outputs_from}
 use Rattle.whole.specs.Messages.{Body, Effect, Message}
 use Rattle.whole.specs.Messages.Body.{NewBallot, Join, State, Install, Installed, Activate, Activated, Superseded, Append, Held, Commit}
-use Rattle.whole.specs.Changing.{on_new_ballot, on_join, installs, on_state, on_install}
+use Rattle.whole.specs.Changing.{on_new_ballot, on_join, install_effects, on_state, on_install}
 use Rattle.whole.specs.Activating.{activates, on_installed, on_activated, on_superseded}
 use Rattle.whole.specs.Messages.Effect.{To, Out}
 use Rattle.whole.specs.ballot_base.declared.status.Progress.{Progress}
@@ -88,7 +88,7 @@ from_added {O = O} rules r command =
     from_append r.id (from_followed O r.id (Append r.joined (length r.log) command) r.progress) (from_commit_at rules _ _)
 
 -- the log that is sent, and what follows the last answer
-from_installs : {S C : Type 0} (O : Type 0) (r : ReplicaState S C) (members : List ℕ) → AreFrom r.id (installs O r members)
+from_installs : {S C : Type 0} (O : Type 0) (r : ReplicaState S C) (members : List ℕ) → AreFrom r.id (install_effects O r members)
 from_installs O r [] = (says none)
 from_installs O r (member ∷ members) = from_each O r.id (Install r.joined r.log) (member ∷ members)
 

@@ -8,7 +8,7 @@ use Rattle.whole.specs.ballot_base.declared.status.Role.{Role}
 use Rattle.whole.specs.ballot_base.declared.status.Role.TheVariants.{Backup, Fetching, Installing, Active}
 use Rattle.whole.specs.Replica.{ReplicaState}
 use Rattle.whole.specs.Sending.{message_to_each}
-use Rattle.whole.specs.Changing.{on_tick_fetching, installs}
+use Rattle.whole.specs.Changing.{on_tick_fetching, install_effects}
 use Rattle.whole.specs.Serving.{on_tick_active}
 use Rattle.whole.specs.Protocol.{ticked}
 use Rattle.agreement.specs.World.{GroupWorld, messages, outputs, moved}
@@ -62,7 +62,7 @@ keeps_tick_fetching {S = S} {C = C} {O = O} rules w h n r s stands (leads, low, 
 
 -- what a new primary says whose log is being installed
 pub says_installs : {S C O : Type 0} (w : GroupWorld S C O) (h : History C) (n : ℕ) (r : ReplicaState S C) → r.id ≡ n + 1 → IsInstalling w h n r →
-    (ms : List ℕ) → r.lacking ≡ ms → (to : ℕ) (m : Message C) → In (to, m) (messages (installs O r ms)) →
+    (ms : List ℕ) → r.lacking ≡ ms → (to : ℕ) (m : Message C) → In (to, m) (messages (install_effects O r ms)) →
     SpeaksTruth w h to m.from m.body
 says_installs {S = S} {C = C} {O = O} w h n r id j [] none to m (there i) = elim i [ ]
 says_installs {S = S} {C = C} {O = O} w h n r id j [] none to m here =
@@ -81,19 +81,19 @@ says_installs {S = S} {C = C} {O = O} w h n r id j (x ∷ ms) some to m i =
     (g, j.later.1, id ∙ sym primary, (member, λ e. lack.1 (e ∙ primary)), (j.line, j.lined, sym j.base)))
     to m i
 
-pub silent_installs : {S C : Type 0} (O : Type 0) (r : ReplicaState S C) (ms : List ℕ) → AreSilent (messages (installs O r ms))
+pub silent_installs : {S C : Type 0} (O : Type 0) (r : ReplicaState S C) (ms : List ℕ) → AreSilent (messages (install_effects O r ms))
 silent_installs O r [] to m here = tt
 silent_installs O r [] to m (there i) = elim i [ ]
 silent_installs O r (x ∷ ms) to m i =
     said_to_each O (λ to m. IsSilent m.body) r.id (Install r.joined r.log) (x ∷ ms) (λ to i. tt) to m i
 
-pub dumb_installs : {S C : Type 0} (O : Type 0) (r : ReplicaState S C) (ms : List ℕ) → outputs (installs O r ms) ≡ []
+pub dumb_installs : {S C : Type 0} (O : Type 0) (r : ReplicaState S C) (ms : List ℕ) → outputs (install_effects O r ms) ≡ []
 dumb_installs O r [] = refl
 dumb_installs O r (x ∷ ms) = outputs_to_each O r.id (Install r.joined r.log) (x ∷ ms)
 
 -- these messages name their sender
 pub from_installs : {S C : Type 0} (O : Type 0) (r : ReplicaState S C) (ms : List ℕ) (to : ℕ) (m : Message C) →
-    In (to, m) (messages (installs O r ms)) → m.from ≡ r.id
+    In (to, m) (messages (install_effects O r ms)) → m.from ≡ r.id
 from_installs O r [] to m here = refl
 from_installs O r [] to m (there i) = elim i [ ]
 from_installs O r (x ∷ ms) to m i =
@@ -108,7 +108,7 @@ keeps_tick rules w h n r s stands active Backup e = keeps_nothing rules w h n r 
 keeps_tick rules w h n r s stands active Fetching e = keeps_tick_fetching rules w h n r s stands ((s.nodes n r stands).fetching e)
 keeps_tick {S = S} {C = C} {O = O} rules w h n r s stands active Installing e =
     let t = s.nodes n r stands in
-    speaking_keeps rules w h n r (installs O r r.lacking) s stands
+    speaking_keeps rules w h n r (install_effects O r r.lacking) s stands
     (silent_installs O r r.lacking) (dumb_installs O r r.lacking)
     (says_installs w h n r t.id (t.installing e) r.lacking refl)
 keeps_tick rules w h n r s stands active Active e = active ((s.nodes n r stands).active e)

@@ -7,7 +7,7 @@ ghost use Rattle.ballot_base.specs.Protocol.{replica_step, ticked};
 ghost use Rattle.ballot_base.specs.Protocol.Input.{Ticks};
 ghost use Rattle.ballot_base.specs.Serving.{appends_after};
 ghost use Rattle.ballot_base.specs.Sending.{message_to_followed};
-ghost use Rattle.ballot_base.specs.Changing.{installs};
+ghost use Rattle.ballot_base.specs.Changing.{install_effects};
 
 use super::Replica;
 use ballot_base::{
@@ -79,7 +79,7 @@ impl<M: Machine> Replica<M> {
     /// ballot. Returns whether no message was lost.
     pub(super) fn send_log(&self, out: &mut Vec<Effect<M::Command, M::Output>>) -> bool
         ensures { Sends out.old.items out.new.items
-            (installs M.Output self.now.state self.now.state.lacking) result }
+            (install_effects M.Output self.now.state self.now.state.lacking) result }
     {
         if self.lacking.is_empty() {
             let body = Body::Activate(self.joined);
