@@ -1,11 +1,11 @@
 -- When a connection is ended because its first packet does not come.
 use Rattle.std.specs.Prelude.{ℕ, ◌+◌, Bool, false, nat_lt}
 use Rattle.node_core.specs.declared.Standing.{Standing}
-use Rattle.node_core.specs.declared.Standing.TheVariants.{Awaits, Open, Closed}
+use Rattle.node_core.specs.declared.Standing.TheVariants.{Awaits, Proposed, Closed}
 
 -- the first packet of a connection is awaited, more than ten seconds after it was accepted; times
 -- count milliseconds
 abbrev pub is_overdue : Standing → ℕ → ℕ → Bool
 is_overdue Awaits opened now = nat_lt (opened + 10000) now
-is_overdue Open opened now = false
+is_overdue Proposed opened now = false
 is_overdue Closed opened now = false

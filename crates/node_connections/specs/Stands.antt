@@ -4,12 +4,12 @@ use Rattle.node_connections.specs.declared.connection.Connection.{Connection}
 use Rattle.node_connections.specs.declared.connection.ConnectionStage.{ConnectionStage}
 use Rattle.node_connections.specs.declared.connection.ConnectionStage.TheVariants as stages
 use Rattle.node_connections.specs.declared.standing.Standing.{Standing}
-use Rattle.node_connections.specs.declared.standing.Standing.TheVariants.{Awaits, Open, Closed}
+use Rattle.node_connections.specs.declared.standing.Standing.TheVariants.{Awaits, Proposed, Closed}
 
 -- the state that the stream's code is told, by the stage of the connection
 abbrev pub standing_at : ConnectionStage → Standing
 standing_at stages.Awaits = Awaits
-standing_at stages.Proposed = Open
+standing_at stages.Proposed = Proposed
 standing_at stages.Closed = Closed
 standing_at stages.Failed = Closed
 

@@ -180,7 +180,7 @@ impl Connection {
     {
         match self.stage {
             ConnectionStage::Awaits => Standing::Awaits,
-            ConnectionStage::Proposed => Standing::Open,
+            ConnectionStage::Proposed => Standing::Proposed,
             ConnectionStage::Closed | ConnectionStage::Failed => Standing::Closed,
         }
     }

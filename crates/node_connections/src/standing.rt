@@ -6,7 +6,7 @@ pub enum Standing {
     /// It is open, and its first packet is awaited.
     Awaits,
     /// It is open, and its CONNECT was proposed.
-    Open,
+    Proposed,
     /// It is closed, or there is none.
     Closed,
 }
