@@ -10,7 +10,7 @@ use Rattle.lists.specs.Lists.{Each}
 use Rattle.lists.proofs.Places.{get_set}
 use Rattle.exactly_once.specs.Sends.{put_to}
 use Rattle.exactly_once.specs.Sides.{ClientConnection}
-use Rattle.packet_world.specs.World.{ClientsAreApart, ClientEnds, End, World, with_client}
+use Rattle.packet_world.specs.World.{ClientsAreApart, ClientEnds, End, PacketWorld, with_client}
 use Rattle.packet_world.specs.Steps.{HasPipe, Reached}
 use Rattle.packet_world.specs.Steps.PacketWorldStep.{reads}
 use Rattle.packet_world.specs.Steps.Reached.{goes_on}
@@ -38,20 +38,20 @@ IsFull agreed c = c.ends ≡ ends_of agreed c.connections
 
 -- ---- reading
 
-more_read : (cs : List Client) (w : World) (i j : ℕ) (c : ClientEnds) (κ : ClientConnection) (e : End) → Reached cs w → HasPipe w i c j κ e → e.is_open ≡ true
+more_read : (cs : List Client) (w : PacketWorld) (i j : ℕ) (c : ClientEnds) (κ : ClientConnection) (e : End) → Reached cs w → HasPipe w i c j κ e → e.is_open ≡ true
     → (k : ℕ) → e.read + k ≤ length κ.written → Reached cs (with_client i (record c { ends = set c.ends j (record e { read = e.read + k }) }) w)
 more_read cs w i j c κ e reached pipe is_open zero within =
     let none : e.read + 0 ≡ e.read = omega arith in
-    subst (λ (v : World). Reached cs v)
+    subst (λ (v : PacketWorld). Reached cs v)
     (sym (ap (λ n. with_client i (record c { ends = set c.ends j (record e { read = n }) }) w) none
     ∙ ap (λ l. with_client i (record c { ends = l }) w) (set_same c.ends j e pipe.end)
-    ∙ ap (λ l. let z : World = record w { clients = l } in z) (set_same w.clients i c pipe.client))) reached
+    ∙ ap (λ l. let z : PacketWorld = record w { clients = l } in z) (set_same w.clients i c pipe.client))) reached
 more_read cs w i j c κ e reached pipe is_open (suc k) within =
     let now : End = record e { read = e.read + k } in
     let after : ClientEnds = record c { ends = set c.ends j now } in
     let next : suc (e.read + k) ≡ e.read + suc k = omega arith in
-    subst (λ (v : World). Reached cs v)
-    (ap (λ l. let z : World = record w { clients = l } in z)
+    subst (λ (v : PacketWorld). Reached cs v)
+    (ap (λ l. let z : PacketWorld = record w { clients = l } in z)
     (set_twice w.clients i after (record c { ends = set (set c.ends j now) j (record e { read = suc (e.read + k) }) }))
     ∙ ap (λ l. with_client i (record c { ends = l }) w)
     (set_twice c.ends j now (record e { read = suc (e.read + k) }) ∙ ap (λ n. set c.ends j (record e { read = n })) next))
@@ -66,7 +66,7 @@ past_less zero (suc b) low = absurd (omega (arith, low))
 past_less (suc a) (suc b) low = let z = past_less a b (omega (arith, low)) in let f = z.1 in (z.0, omega (arith, f))
 
 -- an open end reads all that was written
-pub all_read : (cs : List Client) (w : World) (i j : ℕ) (c : ClientEnds) (κ : ClientConnection) (e : End) → Reached cs w → HasPipe w i c j κ e → e.is_open ≡ true
+pub all_read : (cs : List Client) (w : PacketWorld) (i j : ℕ) (c : ClientEnds) (κ : ClientConnection) (e : End) → Reached cs w → HasPipe w i c j κ e → e.is_open ≡ true
     → e.read ≤ length κ.written → Reached cs (with_client i (record c { ends = set c.ends j (record e { read = length κ.written }) }) w)
 all_read cs w i j c κ e reached pipe is_open low =
     let z = past_less (length κ.written) e.read low in
@@ -80,7 +80,7 @@ same_end : (e f : End) → e.read ≡ f.read → e.seen ≡ f.seen → e.put ≡
 same_end e f a b c d = rw (a, b, c, d) refl
 
 -- one end
-one_put_out : (cs : List Client) (old : List Command) (w : World) (i j : ℕ) (c : ClientEnds) (κ : ClientConnection) → ClientsAreApart cs → Reached cs w
+one_put_out : (cs : List Client) (old : List Command) (w : PacketWorld) (i j : ℕ) (c : ClientEnds) (κ : ClientConnection) → ClientsAreApart cs → Reached cs w
     → HasPipe w i c j κ (end_of old κ) → length old ≤ length w.agreed → Reached cs (with_client i (record c { ends = set c.ends j (end_of w.agreed κ) }) w)
 one_put_out cs old w i j c κ apart reached pipe low =
     let given = outputs (outputs_between broker_rules w.agreed (length old) (length w.agreed)) in
@@ -94,29 +94,29 @@ one_put_out cs old w i j c κ apart reached pipe low =
     (same_end e (end_of w.agreed κ) refl refl (one.shown ∙ ap (λ l. put_to usual_limits (past_of usual_limits l) κ.name) (take_whole w.agreed)) refl) now
 
 -- each end of a client
-client_puts_out : (cs : List Client) (old : List Command) (w : World) (i : ℕ) (c : ClientEnds) → ClientsAreApart cs → Reached cs w → slice_get w.clients i ≡ Some c
+client_puts_out : (cs : List Client) (old : List Command) (w : PacketWorld) (i : ℕ) (c : ClientEnds) → ClientsAreApart cs → Reached cs w → slice_get w.clients i ≡ Some c
     → length old ≤ length w.agreed → IsFull old c → Reached cs (with_client i (record c { ends = ends_of w.agreed c.connections }) w)
 client_puts_out cs old w i c apart reached at low full =
     in_turn (end_of old) (end_of w.agreed) c.connections (λ ends. Reached cs (with_client i (record c { ends = ends }) w))
     (λ j κ ends there end before.
     let now : ClientEnds = record c { ends = ends } in
-    subst (λ l. Reached cs (let z : World = record w { clients = l } in z)) (set_twice w.clients i now (record c { ends = set ends j (end_of w.agreed κ) }))
+    subst (λ l. Reached cs (let z : PacketWorld = record w { clients = l } in z)) (set_twice w.clients i now (record c { ends = set ends j (end_of w.agreed κ) }))
     (one_put_out cs old (with_client i now w) i j now κ apart before
     (record { client = get_set w.clients i c now at; connection = there; end = end }) low))
     (subst (λ ends. Reached cs (with_client i (record c { ends = ends }) w)) full
-    (subst (λ l. Reached cs (let z : World = record w { clients = l } in z)) (sym (set_same w.clients i c at)) reached))
+    (subst (λ l. Reached cs (let z : PacketWorld = record w { clients = l } in z)) (sym (set_same w.clients i c at)) reached))
 
 abbrev pub filled : List Command → ClientEnds → ClientEnds
 filled agreed c = record c { ends = ends_of agreed c.connections }
 
 -- each client's, if they had sent what a shorter list asks for
-pub all_put_out : (cs : List Client) (old : List Command) (w : World) → ClientsAreApart cs → Reached cs w → length old ≤ length w.agreed → Each (IsFull old) w.clients
+pub all_put_out : (cs : List Client) (old : List Command) (w : PacketWorld) → ClientsAreApart cs → Reached cs w → length old ≤ length w.agreed → Each (IsFull old) w.clients
     → Reached cs (record w { clients = map (filled w.agreed) w.clients })
 all_put_out cs old w apart reached low full =
     in_turn (λ c. c) (filled w.agreed) w.clients (λ l. Reached cs (record w { clients = l }))
     (λ i c l there at before.
     client_puts_out cs old (record w { clients = l }) i c apart before at low (each_get (IsFull old) w.clients i c full there))
-    (subst (λ l. Reached cs (let z : World = record w { clients = l } in z)) (sym (map_same w.clients)) reached)
+    (subst (λ l. Reached cs (let z : PacketWorld = record w { clients = l } in z)) (sym (map_same w.clients)) reached)
   where
     map_same : (l : List ClientEnds) → map (λ c. c) l ≡ l
     map_same [] = refl

@@ -9,7 +9,7 @@ use Rattle.lists.specs.Lists.{Each, In, IsPrefixOf}
 use Rattle.lists.proofs.Prefixes.{prefix_length}
 use Rattle.exactly_once.specs.Sides.{ClientConnection}
 use Rattle.exactly_once.specs.StoryCommands.{is_packet_of}
-use Rattle.packet_world.specs.World.{ClientsAreApart, ClientEnds, End, World}
+use Rattle.packet_world.specs.World.{ClientsAreApart, ClientEnds, End, PacketWorld}
 use Rattle.packet_world.specs.Exact.{commands_from}
 use Rattle.packet_world.specs.Steps.{HasPipe, Reached, is_of_connection}
 use Rattle.packet_world.specs.Served.{IsOfPipe, ServesWorld, untaken}
@@ -34,7 +34,7 @@ ends_alone c = alone c.keeper c.connections
 
 -- a world with these clients, in which each node has read all and sent all
 pub record Beside (cs : List Client) (agreed : List Command) (clients : List Alone) : Type 0 where
-  pub world : World
+  pub world : PacketWorld
   pub reached : Reached cs world
   pub is : world.agreed ≡ agreed
   pub full : Each (IsFull agreed) world.clients

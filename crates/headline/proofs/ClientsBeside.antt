@@ -19,7 +19,7 @@ use Rattle.exactly_once.specs.Sides.{ClientConnection, Side}
 use Rattle.exactly_once.specs.Story.{StoryStep, Story}
 use Rattle.exactly_once.specs.StoryCommands.{any_named}
 use Rattle.exactly_once.proofs.publishing.Grown.{handled_grows}
-use Rattle.packet_world.specs.World.{ClientsAreApart, ClientEnds, End, IsFresh, World, new_end, story_of, with_client}
+use Rattle.packet_world.specs.World.{ClientsAreApart, ClientEnds, End, IsFresh, PacketWorld, new_end, story_of, with_client}
 use Rattle.packet_world.specs.Steps.{Reached, after_opening, is_call}
 use Rattle.packet_world.specs.Steps.PacketWorldStep.{calls, handles, opens}
 use Rattle.packet_world.specs.Steps.Reached.{goes_on}
@@ -49,14 +49,14 @@ becomes {agreed = agreed} b i later reached full =
     }
 
 -- the node of its newest connection reads all that it wrote there
-first_reads : (cs : List Client) (w : World) (i : ℕ) (before : ClientEnds) (keeper : Keeper) (κ : ClientConnection) (others : List ClientConnection) (e : End) (ends : List End)
+first_reads : (cs : List Client) (w : PacketWorld) (i : ℕ) (before : ClientEnds) (keeper : Keeper) (κ : ClientConnection) (others : List ClientConnection) (e : End) (ends : List End)
     → slice_get w.clients i ≡ Some before → Reached cs (with_client i (record { keeper = keeper; connections = κ ∷ others; ends = e ∷ ends }) w) → e.is_open ≡ true
     → e.read ≤ length κ.written
     → Reached cs (with_client i (record { keeper = keeper; connections = κ ∷ others; ends = record e { read = length κ.written } ∷ ends }) w)
 first_reads cs w i before keeper κ others e ends at reached is_open low =
     let now : ClientEnds = record { keeper = keeper; connections = κ ∷ others; ends = e ∷ ends } in
     let later : ClientEnds = record { keeper = keeper; connections = κ ∷ others; ends = record e { read = length κ.written } ∷ ends } in
-    subst (λ l. Reached cs (let z : World = record w { clients = l } in z)) (set_twice w.clients i now later)
+    subst (λ l. Reached cs (let z : PacketWorld = record w { clients = l } in z)) (set_twice w.clients i now later)
     (all_read cs (with_client i now w) i 0 now κ e reached (record { client = get_of_set w.clients i before now at; connection = refl; end = refl }) is_open low)
 
 same_client : (c d : ClientEnds) → c.keeper ≡ d.keeper → c.connections ≡ d.connections → c.ends ≡ d.ends → c ≡ d

@@ -17,7 +17,7 @@ use Rattle.snapshots.proofs.PastsAgree.{has_agreed}
 use Rattle.packet_world.specs.Exact.{IsExactInStep as IsExactBeside}
 use Rattle.packet_world.specs.World.{ClientsAreApart, ClientEnds, story_of as story_beside}
 use Rattle.packet_world.proofs.Lists.{each_by, each_get}
-use Rattle.packet_world.proofs.WorldsExact.{worlds_are_exact as worlds_beside_are_exact}
+use Rattle.packet_world.proofs.WorldsExact.{packet_worlds_are_exact as worlds_beside_are_exact}
 use Rattle.node_core.specs.Core.{rules}
 use Rattle.node_group.specs.Group.{moment_of_nodes}
 use Rattle.node_group.specs.Steps.{GroupTrace}

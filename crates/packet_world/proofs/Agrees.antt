@@ -26,7 +26,7 @@ use Rattle.exactly_once.specs.broker_spec.Place.{same_client}
 use Rattle.exactly_once.proofs.of_broker_spec.ClientsInOrder.{same_is, same_self}
 use Rattle.exactly_once.proofs.publishing.Last.{none_named, each_there, is_named}
 use Rattle.exactly_once.proofs.publishing.kept.KeepsNames.{counted_named}
-use Rattle.packet_world.specs.World.{End, ClientEnds, World, story_of, IsFresh}
+use Rattle.packet_world.specs.World.{End, ClientEnds, PacketWorld, story_of, IsFresh}
 use Rattle.packet_world.specs.Steps.{is_of_connection, HasPipe}
 use Rattle.packet_world.proofs.Lists.{each_get, each_by, set_get}
 use Rattle.packet_world.proofs.Answers.{past_push}
@@ -80,7 +80,7 @@ else_told agreed (commands.Expel d) c told e none = by (cases_Bool (same_client 
         others_told agreed (commands.Expel d) c told
         (λ n. both_ways (same_client d c.keeper.client) other (ap (λ k. same_client k c.keeper.client) n.0 ∙ same_self c.keeper.client)) none
 
-pub keeps_else : (w : World) (command : Command) → Holds w → is_of_connection command ≡ false → Holds (record w { agreed = w.agreed ++ command ∷ [] })
+pub keeps_else : (w : PacketWorld) (command : Command) → Holds w → is_of_connection command ≡ false → Holds (record w { agreed = w.agreed ++ command ∷ [] })
 keeps_else w command h e =
     record {
       told = each_by (IsTold (w.agreed ++ command ∷ [])) w.clients (λ k c there'. else_told w.agreed command c (each_get (IsTold w.agreed) w.clients k c h.told there') e
@@ -110,7 +110,7 @@ not_theirs c d κ v limits past untouched next other = by κ.taken refl
         subst (λ (z : Written). names_client past d (command_of κ.name 0 z.packet) → ⊥) same other
     by (suc n) e = no_client past d κ.name n v.packet
 
-pub keeps_agreed : (w : World) (i j : ℕ) (c : ClientEnds) (κ : ClientConnection) (e : End) (v : Written) → Holds w → HasPipe w i c j κ e → κ.taken < e.read → slice_get κ.written κ.taken ≡ Some v
+pub keeps_agreed : (w : PacketWorld) (i j : ℕ) (c : ClientEnds) (κ : ClientConnection) (e : End) (v : Written) → Holds w → HasPipe w i c j κ e → κ.taken < e.read → slice_get κ.written κ.taken ≡ Some v
     → Holds (record {
       agreed = w.agreed ++ command_of κ.name κ.taken v.packet ∷ [];
       clients = set w.clients i (record c { connections = with_one_counted j c.connections });

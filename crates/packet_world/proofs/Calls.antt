@@ -17,7 +17,7 @@ use Rattle.exactly_once.specs.Lives.{Lived}
 use Rattle.exactly_once.specs.Lives.Lived.{goes_on}
 use Rattle.exactly_once.specs.Story.StoryStep.{takes, others_take, receives, opens_anew, loses, disconnects, publishes_one, subscribes, unsubscribes}
 use Rattle.exactly_once.proofs.keeping.KeepsShape.{same_story}
-use Rattle.packet_world.specs.World.{End, ClientEnds, World, story_of, with_client}
+use Rattle.packet_world.specs.World.{End, ClientEnds, PacketWorld, story_of, with_client}
 use Rattle.packet_world.specs.Steps.{is_call}
 use Rattle.packet_world.proofs.Lists.{each_get}
 use Rattle.packet_world.proofs.Ends.{PipesHold, first_written}
@@ -68,7 +68,7 @@ call_pipes {s = s} agreed ends (publishes_one q needs) e p = first_written agree
 call_pipes {s = s} agreed ends (subscribes q on id) e p = first_written agreed s.connections ends (plain (packets.Subscribe q) ∷ []) p
 call_pipes {s = s} agreed ends (unsubscribes q on id) e p = first_written agreed s.connections ends (plain (packets.Unsubscribe q) ∷ []) p
 
-pub keeps_call : (w : World) (i : ℕ) (c : ClientEnds) (t : Story) (h : StoryStep usual_limits (story_of w.agreed c) t) → Holds w → slice_get w.clients i ≡ Some c → is_call h ≡ true
+pub keeps_call : (w : PacketWorld) (i : ℕ) (c : ClientEnds) (t : Story) (h : StoryStep usual_limits (story_of w.agreed c) t) → Holds w → slice_get w.clients i ≡ Some c → is_call h ≡ true
     → Holds (with_client i (record c { keeper = t.keeper; connections = t.connections }) w)
 keeps_call w i c t h holds there' call =
     let later : ClientEnds = record c { keeper = t.keeper; connections = t.connections } in

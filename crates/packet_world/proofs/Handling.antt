@@ -19,7 +19,7 @@ use Rattle.exactly_once.specs.Lives.Lived.{goes_on}
 use Rattle.exactly_once.specs.Story.StoryStep.{receives, opens_anew}
 use Rattle.exactly_once.proofs.keeping.KeepsShape.{same_story}
 use Rattle.exactly_once.proofs.publishing.Grown.{handled_grows}
-use Rattle.packet_world.specs.World.{End, ClientEnds, World, new_end, story_of, IsFresh, with_client}
+use Rattle.packet_world.specs.World.{End, ClientEnds, PacketWorld, new_end, story_of, IsFresh, with_client}
 use Rattle.packet_world.specs.Steps.{after_packet, after_opening}
 use Rattle.packet_world.proofs.Lists.{each_get, stands_within}
 use Rattle.packet_world.proofs.Answers.{counted_in, nothing_put, put_front}
@@ -29,7 +29,7 @@ use Rattle.packet_world.proofs.Holds.{IsTold, HasPipes, Holds, keeps_client, kee
 
 -- ---- a packet is handled
 
-pub keeps_handled : (w : World) (i : ℕ) (c : ClientEnds) (κ : ClientConnection) (e : End) (others : List ClientConnection) (ends : List End) (packet : Packet) → Holds w → slice_get w.clients i ≡ Some c
+pub keeps_handled : (w : PacketWorld) (i : ℕ) (c : ClientEnds) (κ : ClientConnection) (e : End) (others : List ClientConnection) (ends : List End) (packet : Packet) → Holds w → slice_get w.clients i ≡ Some c
     → c.connections ≡ κ ∷ others → c.ends ≡ e ∷ ends → c.keeper.is_open ≡ true → slice_get e.put κ.handled ≡ Some packet
     → Holds (with_client i (after_packet others (e ∷ ends) (packet_handled packet (record { keeper = c.keeper; connection = κ }))) w)
 keeps_handled w i c κ e others ends packet h there' are ends_are opened next =
@@ -53,10 +53,10 @@ nothing_before : {X : Type 0} (xs ys : List X) → IsPrefixOf xs ys → ys ≡ [
 nothing_before [] ys front e = refl
 nothing_before (x ∷ xs) ys front e = let none : [] ≡ x ∷ (xs ++ front.rest) = sym e ∙ front.is in cc
 
-pub fresh_uncounted : (w : World) (x : ConnectionName) → Holds w → IsFresh x w.clients → packet_count x (past_of usual_limits w.agreed) ≡ 0
+pub fresh_uncounted : (w : PacketWorld) (x : ConnectionName) → Holds w → IsFresh x w.clients → packet_count x (past_of usual_limits w.agreed) ≡ 0
 fresh_uncounted w x h fresh = counted_in usual_limits x w.agreed ∙ ap length (h.fresh x fresh)
 
-opened_pipe : (w : World) (d : Client) (x : ConnectionName) (seen : ℕ) → Holds w → IsFresh x w.clients → seen ≤ length w.agreed → PipeHolds w.agreed (new_connection d x) (new_end seen)
+opened_pipe : (w : PacketWorld) (d : Client) (x : ConnectionName) (seen : ℕ) → Holds w → IsFresh x w.clients → seen ≤ length w.agreed → PipeHolds w.agreed (new_connection d x) (new_end seen)
 opened_pipe w d x seen h fresh within =
     let none = nothing_put usual_limits w.agreed x (fresh_uncounted w x h fresh) in
     record {
@@ -69,7 +69,7 @@ opened_pipe w d x seen h fresh within =
       handled = omega arith;
     }
 
-pub keeps_opened : (w : World) (i : ℕ) (c : ClientEnds) (x : ConnectionName) (seen : ℕ) → Holds w → slice_get w.clients i ≡ Some c → IsFresh x w.clients → seen ≤ length w.agreed
+pub keeps_opened : (w : PacketWorld) (i : ℕ) (c : ClientEnds) (x : ConnectionName) (seen : ℕ) → Holds w → slice_get w.clients i ≡ Some c → IsFresh x w.clients → seen ≤ length w.agreed
     → AllParted (set w.clients i (after_opening x seen c)) → Holds (with_client i (after_opening x seen c) w)
 keeps_opened w i c x seen h there' fresh within apart =
     let none = fresh_uncounted w x h fresh in

@@ -11,7 +11,7 @@ use Rattle.exactly_once.specs.Story.{Story, no_story}
 use Rattle.exactly_once.specs.StoryCommands.{packet_count}
 use Rattle.exactly_once.specs.Lives.{Lived}
 use Rattle.exactly_once.specs.Lives.Lived.{opens}
-use Rattle.packet_world.specs.World.{ClientEnds, World, new_client, opening, story_of, ClientsAreApart, IsFresh, with_client}
+use Rattle.packet_world.specs.World.{ClientEnds, PacketWorld, new_client, opening, story_of, ClientsAreApart, IsFresh, with_client}
 use Rattle.packet_world.proofs.Lists.{each_set}
 use Rattle.packet_world.proofs.Answers.{of_name}
 use Rattle.packet_world.proofs.Ends.{PipesHold}
@@ -28,7 +28,7 @@ HasPipes agreed c = PipesHold agreed c.connections c.ends
 abbrev pub IsOnce : Past → ConnectionName → Type 0
 IsOnce past x = (packet_count x past ≡ 0 → connects_of x past ≡ 0) × (connects_of x past ≤ 1)
 
-pub record Holds (w : World) : Type 0 where
+pub record Holds (w : PacketWorld) : Type 0 where
   pub told : Each (IsTold w.agreed) w.clients
   pub pipes : Each (HasPipes w.agreed) w.clients
   pub apart : AllParted w.clients
@@ -60,7 +60,7 @@ opening_holds cs apart =
 
 -- ---- one client continues
 
-pub keeps_client : (w : World) (i : ℕ) (c later : ClientEnds) → Holds w → slice_get w.clients i ≡ Some c → IsTold w.agreed later → HasPipes w.agreed later
+pub keeps_client : (w : PacketWorld) (i : ℕ) (c later : ClientEnds) → Holds w → slice_get w.clients i ≡ Some c → IsTold w.agreed later → HasPipes w.agreed later
     → AllParted (set w.clients i later) → ((x : ConnectionName) → is_named_by x later ≡ false → is_named_by x c ≡ false) → Holds (with_client i later w)
 keeps_client w i c later h there' told pipes apart less =
     record {
@@ -71,7 +71,7 @@ keeps_client w i c later h there' told pipes apart less =
       once = h.once;
     }
 
-pub keeps_party : (w : World) (i : ℕ) (c later : ClientEnds) → Holds w → slice_get w.clients i ≡ Some c → IsTold w.agreed later → HasPipes w.agreed later → IsSameParty c later
+pub keeps_party : (w : PacketWorld) (i : ℕ) (c later : ClientEnds) → Holds w → slice_get w.clients i ≡ Some c → IsTold w.agreed later → HasPipes w.agreed later → IsSameParty c later
     → Holds (with_client i later w)
 keeps_party w i c later h there' told pipes same =
     keeps_client w i c later h there' told pipes (same_parted w.clients i c later h.apart there' same) (λ x none. sym (same.names (same_connection x)) ∙ none)

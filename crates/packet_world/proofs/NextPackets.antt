@@ -6,7 +6,7 @@ use Rattle.exactly_once.specs.broker_spec.declared.command.Command.{Command}
 use Rattle.exactly_once.specs.client_base.Keeper.{Written}
 use Rattle.exactly_once.specs.Sides.{ClientConnection}
 use Rattle.exactly_once.specs.StoryCommands.{is_packet_of, command_of}
-use Rattle.packet_world.specs.World.{End, ClientEnds, World}
+use Rattle.packet_world.specs.World.{End, ClientEnds, PacketWorld}
 use Rattle.packet_world.specs.Steps.{HasPipe}
 use Rattle.packet_world.specs.Exact.{commands_from}
 use Rattle.packet_world.specs.Served.{ServesWorld}
@@ -51,7 +51,7 @@ filter_joined test (x ∷ xs) ys = by (test x) (filter_joined test xs ys)
     by true ih = ap (λ l. x ∷ l) ih
     by false ih = ih
 
-pub next_of : (w : World) (later rest : List Command) (y : Command) (i j : ℕ) (c : ClientEnds) (κ : ClientConnection) (e : End) → Holds w → ServesWorld w later → later ≡ w.agreed ++ y ∷ rest
+pub next_of : (w : PacketWorld) (later rest : List Command) (y : Command) (i j : ℕ) (c : ClientEnds) (κ : ClientConnection) (e : End) → Holds w → ServesWorld w later → later ≡ w.agreed ++ y ∷ rest
     → HasPipe w i c j κ e → is_packet_of y κ.name ≡ true → IsNext κ.name 0 κ.taken e.read κ.written y
 next_of w later rest y i j c κ e h served is pipe mine =
     let holds : PipeHolds w.agreed κ e = pipe_at w.agreed c.connections c.ends j κ e (each_get (HasPipes w.agreed) w.clients i c h.pipes pipe.client) pipe.connection pipe.end in

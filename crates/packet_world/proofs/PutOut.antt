@@ -17,7 +17,7 @@ use Rattle.exactly_once.specs.broker_base.Step.{step}
 use Rattle.snapshots.proofs.of_lists.Places.{get_set}
 use Rattle.exactly_once.specs.Sends.{sends_to}
 use Rattle.exactly_once.proofs.Deliveries.{sends_append}
-use Rattle.packet_world.specs.World.{End, ClientEnds, World, with_client}
+use Rattle.packet_world.specs.World.{End, ClientEnds, PacketWorld, with_client}
 use Rattle.packet_world.specs.Steps.{Reached, shown}
 use Rattle.packet_world.specs.Steps.PacketWorldStep.{answers}
 use Rattle.packet_world.specs.Steps.Reached.{goes_on}
@@ -105,14 +105,14 @@ given_is_put_out cs w i j c κ e past reached pipe is_open low within = goes (pa
         ∙ ap (λ us. end_given κ.name e.seen us e) (none_between broker_rules w.agreed e.seen)
         ∙ ap (λ l. let z : End = record e { put = l } in z) (append-nil e.put))
         ∙ ap (λ l. with_client i (record c { ends = l }) w) (set_same c.ends j e pipe.end)
-        ∙ ap (λ l. let z : World = record w { clients = l } in z) (set_same w.clients i c pipe.client)
+        ∙ ap (λ l. let z : PacketWorld = record w { clients = l } in z) (set_same w.clients i c pipe.client)
 
     next : (p : ℕ) (command : Command) → e.seen ≤ p → p ≤ length w.agreed → slice_get w.agreed p ≡ Some command → Reached cs (with_client i (client_at p) w)
         → Reached cs (with_client i (client_at (suc p)) w)
     next p command above below at before =
         let end = end_given κ.name p (between w.agreed e.seen p) e in
-        subst (λ (v : World). Reached cs v)
-        (ap (λ l. let z : World = record w { clients = l } in z) (set_twice w.clients i (client_at p) (record c { ends = set (set c.ends j end) j (shown w.agreed κ.name command end) }))
+        subst (λ (v : PacketWorld). Reached cs v)
+        (ap (λ l. let z : PacketWorld = record w { clients = l } in z) (set_twice w.clients i (client_at p) (record c { ends = set (set c.ends j end) j (shown w.agreed κ.name command end) }))
         ∙ ap (λ l. with_client i (record c { ends = l }) w)
         (set_twice c.ends j end (shown w.agreed κ.name command end) ∙ ap (set c.ends j) (end_more w.agreed κ.name p command e above below at)))
         (goes_on before
@@ -124,7 +124,7 @@ given_is_put_out cs w i j c κ e past reached pipe is_open low within = goes (pa
         }) is_open at))
 
     goes : (k p : ℕ) → p ≡ e.seen + k → p ≤ length w.agreed → Reached cs (with_client i (client_at p) w)
-    goes zero p same below = subst (λ (v : World). Reached cs v) (sym (still p (omega (arith, same)))) reached
+    goes zero p same below = subst (λ (v : PacketWorld). Reached cs v) (sym (still p (omega (arith, same)))) reached
     goes (suc k) zero same below = absurd (omega (arith, same))
     goes (suc k) (suc p) same below =
         let z = there_is w.agreed p below in

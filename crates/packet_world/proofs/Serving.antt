@@ -13,7 +13,7 @@ use Rattle.snapshots.proofs.of_lists.Places.{get_set, get_set_other}
 use Rattle.exactly_once.specs.client_base.Keeper.{Written}
 use Rattle.exactly_once.specs.Sides.{ClientConnection}
 use Rattle.exactly_once.specs.StoryCommands.{is_packet_of, with_one_counted, command_of}
-use Rattle.packet_world.specs.World.{End, ClientEnds, World, ClientsAreApart}
+use Rattle.packet_world.specs.World.{End, ClientEnds, PacketWorld, ClientsAreApart}
 use Rattle.packet_world.specs.Steps.{HasPipe, Reached, is_of_connection}
 use Rattle.packet_world.specs.Steps.PacketWorldStep.{agrees, agrees_else}
 use Rattle.packet_world.specs.Steps.Reached.{goes_on}
@@ -27,7 +27,7 @@ use Rattle.packet_world.proofs.TakenOn.{IsKept, counted_back, counted_on, counte
 
 -- ---- the world after it
 
-abbrev after : World → ℕ → ℕ → ClientEnds → ClientConnection → Written → World
+abbrev after : PacketWorld → ℕ → ℕ → ClientEnds → ClientConnection → Written → PacketWorld
 after w i j c κ v =
     record {
       agreed = w.agreed ++ command_of κ.name κ.taken v.packet ∷ [];
@@ -38,7 +38,7 @@ some_is : {X : Type 0} (x y : X) → Some x ≡ Some y → x ≡ y
 some_is x y e = cc
 
 -- a connection after it was there before
-pub record WasPipe (w : World) (κ : ClientConnection) (e : End) : Type 0 where
+pub record WasPipe (w : PacketWorld) (κ : ClientConnection) (e : End) : Type 0 where
   pub i : ℕ
   pub j : ℕ
   pub client : ClientEnds
@@ -46,7 +46,7 @@ pub record WasPipe (w : World) (κ : ClientConnection) (e : End) : Type 0 where
   pub pipe : HasPipe w i client j connection e
   pub kept : IsKept connection κ
 
-pipe_before : (w : World) (i j : ℕ) (c : ClientEnds) (κ : ClientConnection) (v : Written) → slice_get w.clients i ≡ Some c → (k l : ℕ) (d : ClientEnds) (μ : ClientConnection) (f : End)
+pipe_before : (w : PacketWorld) (i j : ℕ) (c : ClientEnds) (κ : ClientConnection) (v : Written) → slice_get w.clients i ≡ Some c → (k l : ℕ) (d : ClientEnds) (μ : ClientConnection) (f : End)
     → HasPipe (after w i j c κ v) k d l μ f → WasPipe w μ f
 pipe_before w i j c κ v there' k l d μ f pipe = by (set_get w.clients i k c later d there' pipe.client)
   where
@@ -68,7 +68,7 @@ pipe_before w i j c κ v there' k l d μ f pipe = by (set_get w.clients i k c la
         record { i = k; j = l; client = d; connection = μ; pipe = record { client = at; connection = pipe.connection; end = pipe.end }; kept = record { name = refl; written = refl } }
 
 -- and one that was there is there
-pipe_after : (w : World) (i j : ℕ) (c : ClientEnds) (κ : ClientConnection) (v : Written) → slice_get w.clients i ≡ Some c → (command : Command) → IsOfPipe w command → IsOfPipe (after w i j c κ v) command
+pipe_after : (w : PacketWorld) (i j : ℕ) (c : ClientEnds) (κ : ClientConnection) (v : Written) → slice_get w.clients i ≡ Some c → (command : Command) → IsOfPipe w command → IsOfPipe (after w i j c κ v) command
 pipe_after w i j c κ v there' command of = by (same_or_other of.index i)
   where
     later : ClientEnds
@@ -102,7 +102,7 @@ pipe_after w i j c κ v there' command of = by (same_or_other of.index i)
           named = ap (is_packet_of command) on.2.name ∙ of.named;
         }
 
-served_after : (w : World) (later rest : List Command) (i j : ℕ) (c : ClientEnds) (κ : ClientConnection) (v : Written) → slice_get w.clients i ≡ Some c → ServesWorld w later
+served_after : (w : PacketWorld) (later rest : List Command) (i j : ℕ) (c : ClientEnds) (κ : ClientConnection) (v : Written) → slice_get w.clients i ≡ Some c → ServesWorld w later
     → later ≡ (after w i j c κ v).agreed ++ rest → ServesWorld (after w i j c κ v) later
 served_after w later rest i j c κ v there' served is =
     record {
@@ -123,17 +123,17 @@ pushed xs rest y = sym (append_assoc xs (y ∷ []) rest)
 from_zero : (n : ℕ) → 0 + n ≡ n
 from_zero n = omega arith
 
-comes_to : (cs : List Client) (rest : List Command) (w : World) (later : List Command) → ClientsAreApart cs → Reached cs w → ServesWorld w later → later ≡ w.agreed ++ rest → CommandsLeadTo cs w later
+comes_to : (cs : List Client) (rest : List Command) (w : PacketWorld) (later : List Command) → ClientsAreApart cs → Reached cs w → ServesWorld w later → later ≡ w.agreed ++ rest → CommandsLeadTo cs w later
 comes_to cs [] w later apart reached served is =
     record { after = w; reached = reached; agreed = sym (is ∙ append-nil w.agreed); clients = refl }
 comes_to cs (y ∷ rest) w later apart reached served is = by (cases_Bool (is_of_connection y)) (λ v. comes_to cs rest v later apart)
   where
     Next : Type 0
-    Next = (v : World) → Reached cs v → ServesWorld v later → later ≡ v.agreed ++ rest → CommandsLeadTo cs v later
+    Next = (v : PacketWorld) → Reached cs v → ServesWorld v later → later ≡ v.agreed ++ rest → CommandsLeadTo cs v later
 
     by : (is_of_connection y ≡ true) ⊎ (is_of_connection y ≡ false) → Next → CommandsLeadTo cs w later
     by (inr else') next =
-        let v : World = record w { agreed = w.agreed ++ y ∷ [] } in
+        let v : PacketWorld = record w { agreed = w.agreed ++ y ∷ [] } in
         let is' : later ≡ (w.agreed ++ y ∷ []) ++ rest = is ∙ pushed w.agreed rest y in
         let came = next v (goes_on reached (agrees_else y else'))
         (record {

@@ -21,7 +21,7 @@ use Rattle.exactly_once.specs.client_base.Connected.{opening_connect}
 use Rattle.exactly_once.specs.Sides.{ClientConnection}
 use Rattle.exactly_once.specs.Story.StoryStep.{subscribes, publishes_one, loses}
 use Rattle.exactly_once.specs.Rows.{writer, first_name, second_name, news, asks_for_news}
-use Rattle.packet_world.specs.World.{End, ClientEnds, World}
+use Rattle.packet_world.specs.World.{End, ClientEnds, PacketWorld}
 use Rattle.packet_world.specs.Steps.{Reached}
 use Rattle.packet_world.specs.Steps.PacketWorldStep.{calls, opens as gets_connection, handles, reads, answers, closes, agrees, agrees_else}
 use Rattle.packet_world.specs.Steps.Reached.{begins, goes_on}
@@ -67,7 +67,7 @@ first_end =
       is_open = false;
     }
 
-abbrev lost_world : World
+abbrev lost_world : PacketWorld
 lost_world =
     record {
       agreed = commands.Connect first_name writer false ∷ commands.Packet first_name (packets.Subscribe asks_for_news)
@@ -129,7 +129,7 @@ list_again =
     ∷ commands.Packet second_name (packets.Publish (publish_for true 1 news))
     ∷ []
 
-abbrev again_world : World
+abbrev again_world : PacketWorld
 again_world =
     record {
       agreed = list_again;
@@ -158,7 +158,7 @@ released_one =
       handled = 4;
     }
 
-abbrev released_world : World
+abbrev released_world : PacketWorld
 released_world =
     record {
       agreed = list_again ++ commands.Packet second_name (packets.Pubrec 1) ∷ [];

@@ -7,11 +7,11 @@ use Rattle.exactly_once.proofs.of_broker_spec.PacketOfNobody.{window_is_steady}
 use Rattle.snapshots.proofs.of_lists.OfEach.{each_then}
 use Rattle.exactly_once.specs.Sides.{ClientConnection}
 use Rattle.exactly_once.proofs.sessions.LivesExact.{lives_exact}
-use Rattle.packet_world.specs.World.{End, ClientEnds, World, ClientsAreApart, story_of, with_client}
+use Rattle.packet_world.specs.World.{End, ClientEnds, PacketWorld, ClientsAreApart, story_of, with_client}
 use Rattle.packet_world.specs.Steps.{PacketWorldStep, Reached, HasPipe}
 use Rattle.packet_world.specs.Steps.PacketWorldStep.{calls, opens, handles, reads, answers, closes, agrees, agrees_else}
 use Rattle.packet_world.specs.Steps.Reached.{begins, goes_on}
-use Rattle.packet_world.specs.Exact.{PipesInOrder, WorldsAreExact, IsExactInStep}
+use Rattle.packet_world.specs.Exact.{PipesInOrder, PacketWorldsAreExact, IsExactInStep}
 use Rattle.packet_world.proofs.Lists.{each_get}
 use Rattle.packet_world.proofs.Ends.{PipeHolds, pipe_at, pipes_in_order, end_set, more_read, more_shown, end_closed}
 use Rattle.packet_world.proofs.Parted.{opened_parted}
@@ -21,7 +21,7 @@ use Rattle.packet_world.proofs.Handling.{keeps_handled, keeps_opened}
 use Rattle.packet_world.proofs.Agrees.{keeps_agreed, keeps_else}
 
 -- a node's end becomes another
-keeps_end : (w : World) (i j : ℕ) (c : ClientEnds) (κ : ClientConnection) (e later : End) → Holds w → HasPipe w i c j κ e → (PipeHolds w.agreed κ e → PipeHolds w.agreed κ later)
+keeps_end : (w : PacketWorld) (i j : ℕ) (c : ClientEnds) (κ : ClientConnection) (e later : End) → Holds w → HasPipe w i c j κ e → (PipeHolds w.agreed κ e → PipeHolds w.agreed κ later)
     → Holds (with_client i (record c { ends = set c.ends j later }) w)
 keeps_end w i j c κ e later h pipe keeps =
     let pipes = each_get (HasPipes w.agreed) w.clients i c h.pipes pipe.client in
@@ -29,7 +29,7 @@ keeps_end w i j c κ e later h pipe keeps =
     (end_set w.agreed c.connections c.ends j κ later pipes pipe.connection (keeps (pipe_at w.agreed c.connections c.ends j κ e pipes pipe.connection pipe.end)))
     (record { client = refl; names = λ test. refl })
 
-holds_on : (v w : World) → Holds v → PacketWorldStep v w → Holds w
+holds_on : (v w : PacketWorld) → Holds v → PacketWorldStep v w → Holds w
 holds_on v w h (calls i c t happens there' call) = keeps_call v i c t happens h there' call
 holds_on v w h (opens i c x seen there' fresh within) = keeps_opened v i c x seen h there' fresh within (opened_parted v.clients i c x seen h.apart there' fresh)
 holds_on v w h (handles i c κ e others ends packet there' are ends_are opened next) = keeps_handled v i c κ e others ends packet h there' are ends_are opened next
@@ -39,12 +39,12 @@ holds_on v w h (closes i j c κ e pipe) = keeps_end v i j c κ e _ h pipe (end_c
 holds_on v w h (agrees i j c κ e written pipe less next) = keeps_agreed v i j c κ e written h pipe less next
 holds_on v w h (agrees_else command other) = keeps_else v command h other
 
-pub reached_holds : (cs : List Client) (w : World) → ClientsAreApart cs → Reached cs w → Holds w
+pub reached_holds : (cs : List Client) (w : PacketWorld) → ClientsAreApart cs → Reached cs w → Holds w
 reached_holds cs w apart begins = opening_holds cs apart
 reached_holds cs w apart (goes_on {old = v} reached goes) = holds_on v w (reached_holds cs v apart reached) goes
 
-pub worlds_are_exact : WorldsAreExact
-worlds_are_exact cs w apart reached =
+pub packet_worlds_are_exact : PacketWorldsAreExact
+packet_worlds_are_exact cs w apart reached =
     let h = reached_holds cs w apart reached in
     record {
       pipes = each_then (HasPipes w.agreed) (λ (c : ClientEnds). PipesInOrder w.agreed c.connections c.ends) w.clients (λ c p. pipes_in_order w.agreed c.connections c.ends p) h.pipes;

@@ -12,7 +12,7 @@ use Rattle.exactly_once.specs.Sides.{ClientConnection}
 use Rattle.exactly_once.specs.StoryCommands.{command_of, is_packet_of}
 use Rattle.exactly_once.specs.InStep.{IsInStep}
 use Rattle.exactly_once.specs.LivesAreExact.{ExactlyOnceOverSessions}
-use Rattle.packet_world.specs.World.{End, ClientEnds, World, story_of, ClientsAreApart}
+use Rattle.packet_world.specs.World.{End, ClientEnds, PacketWorld, story_of, ClientsAreApart}
 use Rattle.packet_world.specs.Steps.{Reached}
 
 -- the commands that a connection's written packets become
@@ -44,7 +44,7 @@ IsExactInStep agreed client =
     ExactlyOnceOverSessions usual_limits (story_of agreed client)
 
 -- what is promised in a world: for its connections, its clients, and ended sessions
-pub record WorldIsExact (world : World) : Type 0 where
+pub record PacketWorldIsExact (world : PacketWorld) : Type 0 where
   -- connections carry packets in order, both ways
   pub pipes : Each
       (λ (client : ClientEnds). PipesInOrder world.agreed client.connections client.ends)
@@ -57,7 +57,7 @@ pub record WorldIsExact (world : World) : Type 0 where
   pub sessions : EndsWithTheSession usual_limits (past_of usual_limits world.agreed)
 
 -- each world that clients with identifiers of their own reach is exact
-abbrev pub WorldsAreExact : Type 0
-WorldsAreExact =
-    (clients : List Client) (world : World) → ClientsAreApart clients → Reached clients world →
-    WorldIsExact world
+abbrev pub PacketWorldsAreExact : Type 0
+PacketWorldsAreExact =
+    (clients : List Client) (world : PacketWorld) → ClientsAreApart clients →
+    Reached clients world → PacketWorldIsExact world

@@ -14,7 +14,7 @@ use Rattle.snapshots.specs.agreement.Proposals.{commands_of}
 use Rattle.snapshots.specs.Proposals.{taken_at, taken_of}
 use Rattle.exactly_once.specs.Sides.{ClientConnection}
 use Rattle.exactly_once.specs.StoryCommands.{is_packet_of}
-use Rattle.packet_world.specs.World.{End, ClientEnds, World}
+use Rattle.packet_world.specs.World.{End, ClientEnds, PacketWorld}
 use Rattle.packet_world.specs.Steps.{HasPipe, is_of_connection}
 use Rattle.packet_world.specs.Exact.{commands_from}
 use Rattle.packet_world.specs.Served.{IsOfPipe, ServesWorld}
@@ -36,7 +36,7 @@ pub record ReadsAt {rules : Rules State Command Output} {config : Config}
 -- for each connection the packets that its end has read, in order, and nothing of others.
 pub record TakesAsRead {rules : Rules State Command Output} {config : Config}
     {past : List (Moment State Command Output)} (came : Moments rules config past)
-    (world : World) : Type 0 where
+    (world : PacketWorld) : Type 0 where
   pub ballots : (row : ℕ × Command) → In row (taken_of came) → (name : ConnectionName) →
       is_packet_of row.1 name ≡ true → row.0 ≡ name.ballot
   pub ends : (index nth : ℕ) (client : ClientEnds) (connection : ClientConnection)
@@ -53,6 +53,6 @@ GroupsServe =
     (rules : Rules State Command Output) →
     ((ballot : ℕ) → is_of_connection (rules.start_of ballot) ≡ false) →
     (config : Config) (moment : Moment State Command Output)
-    (past : List (Moment State Command Output)) (world : World) (later : List Command) →
+    (past : List (Moment State Command Output)) (world : PacketWorld) (later : List Command) →
     (came : Moments rules config (moment ∷ past)) → IsAgreed config past world.agreed →
     IsAgreed config (moment ∷ past) later → TakesAsRead came world → ServesWorld world later

@@ -14,7 +14,7 @@ use Rattle.exactly_once.specs.broker_base.State.{State}
 use Rattle.broker_form.specs.BrokerRules.{broker_rules}
 use Rattle.exactly_once.specs.Sends.{sends_to}
 use Rattle.exactly_once.specs.Sides.{ClientConnection}
-use Rattle.packet_world.specs.World.{End, ClientEnds, World, with_client}
+use Rattle.packet_world.specs.World.{End, ClientEnds, PacketWorld, with_client}
 use Rattle.packet_world.specs.Steps.{HasPipe, Reached}
 
 -- the outputs that a node returned, without their places
@@ -31,7 +31,7 @@ end_given name past given end =
 -- an open end: the world reaches a state that has them.
 abbrev pub GivenIsPutOut : Type 0
 GivenIsPutOut =
-    (clients : List Client) (world : World) (index nth : ℕ) (client : ClientEnds)
+    (clients : List Client) (world : PacketWorld) (index nth : ℕ) (client : ClientEnds)
     (connection : ClientConnection) (end : End) (past : ℕ) →
     Reached clients world → HasPipe world index client nth connection end →
     end.is_open ≡ true → end.seen ≤ past → past ≤ length world.agreed →
@@ -54,7 +54,7 @@ GroupsPutOut =
     (old new : ReplicaState State Command) → slice_get first.world.nodes node ≡ Some old →
     slice_get last.world.nodes node ≡ Some new →
     (given : List (ℕ × Output)) → given_of node more ≡ given_of node came ++ given →
-    (clients : List Client) (world : World) → Reached clients world →
+    (clients : List Client) (world : PacketWorld) → Reached clients world →
     IsAgreed config (last ∷ later) world.agreed →
     (index nth : ℕ) (client : ClientEnds) (connection : ClientConnection) (end : End) →
     HasPipe world index client nth connection end →

@@ -4,7 +4,7 @@ use Rattle.std.specs.Prelude.{◌≡◌, List, [], ◌∷◌, map, reverse}
 use Rattle.exactly_once.specs.session_base.declared.publication.Publication.{Publication}
 use Rattle.exactly_once.specs.Acceptance.{accepted_on}
 use Rattle.exactly_once.specs.Rows.{writer, news, commands_there}
-use Rattle.packet_world.specs.World.{ClientEnds, World}
+use Rattle.packet_world.specs.World.{ClientEnds, PacketWorld}
 use Rattle.packet_world.specs.Steps.{Reached}
 
 -- what a client accepted at QoS 2, on all of its connections
@@ -13,7 +13,7 @@ accepted_by client = accepted_on client.connections
 
 -- a world reaches the list of the worked example, and what was published once is accepted once
 pub record AcceptsOnce : Type 0 where
-  pub end : World
+  pub end : PacketWorld
   pub reached : Reached (writer ∷ []) end
   pub agreed : reverse end.agreed ≡ commands_there
   pub accepted : map accepted_by end.clients ≡ (news ∷ []) ∷ []

@@ -6,12 +6,12 @@ use Rattle.exactly_once.specs.broker_spec.declared.command.Command.{Command}
 use Rattle.snapshots.specs.lists.Lists.{In, IsPrefixOf}
 use Rattle.exactly_once.specs.Sides.{ClientConnection}
 use Rattle.exactly_once.specs.StoryCommands.{is_packet_of}
-use Rattle.packet_world.specs.World.{End, ClientEnds, World, ClientsAreApart}
+use Rattle.packet_world.specs.World.{End, ClientEnds, PacketWorld, ClientsAreApart}
 use Rattle.packet_world.specs.Steps.{HasPipe, Reached, is_of_connection}
 use Rattle.packet_world.specs.Exact.{commands_from}
 
 -- a command is of a connection that is there
-pub record IsOfPipe (world : World) (command : Command) : Type 0 where
+pub record IsOfPipe (world : PacketWorld) (command : Command) : Type 0 where
   pub index : ℕ
   pub nth : ℕ
   pub client : ClientEnds
@@ -22,7 +22,7 @@ pub record IsOfPipe (world : World) (command : Command) : Type 0 where
 
 -- The list only grew; for each connection it has a prefix of the packets that the node read and
 -- proposed, in order; and it has packets only of connections of the world.
-pub record ServesWorld (world : World) (later : List Command) : Type 0 where
+pub record ServesWorld (world : PacketWorld) (later : List Command) : Type 0 where
   pub grows : IsPrefixOf world.agreed later
   pub order : (index nth : ℕ) (client : ClientEnds) (connection : ClientConnection)
       (end : End) → HasPipe world index client nth connection end →
@@ -40,9 +40,9 @@ untaken client =
     }
 
 -- The world comes to this list, command by command, and all else stays as it is.
-pub record CommandsLeadTo (identifiers : List Client) (world : World)
+pub record CommandsLeadTo (identifiers : List Client) (world : PacketWorld)
     (later : List Command) : Type 0 where
-  pub after : World
+  pub after : PacketWorld
   pub reached : Reached identifiers after
   pub agreed : after.agreed ≡ later
   pub clients : map untaken after.clients ≡ map untaken world.clients
@@ -50,5 +50,5 @@ pub record CommandsLeadTo (identifiers : List Client) (world : World)
 -- each reachable world comes to each list by which it is served
 abbrev pub WorldsAreServed : Type 0
 WorldsAreServed =
-    (clients : List Client) (world : World) (later : List Command) → ClientsAreApart clients →
+    (clients : List Client) (world : PacketWorld) (later : List Command) → ClientsAreApart clients →
     Reached clients world → ServesWorld world later → CommandsLeadTo clients world later

@@ -15,7 +15,7 @@ use Rattle.exactly_once.specs.Sides.{ClientConnection, Side}
 use Rattle.exactly_once.specs.Story.{Story, StoryStep}
 use Rattle.exactly_once.specs.StoryCommands.{command_of, with_one_counted}
 use Rattle.exactly_once.specs.Story.StoryStep.{takes, others_take, receives, opens_anew, loses, disconnects, publishes_one, subscribes, unsubscribes}
-use Rattle.packet_world.specs.World.{End, ClientEnds, World, new_end, story_of, opening, IsFresh, with_client}
+use Rattle.packet_world.specs.World.{End, ClientEnds, PacketWorld, new_end, story_of, opening, IsFresh, with_client}
 
 -- what a client does: it publishes, subscribes, unsubscribes, disconnects, or loses its connection
 abbrev pub is_call : {limits : Limits} {before after : Story} → StoryStep limits before after → Bool
@@ -59,19 +59,18 @@ shown agreed name command end =
     }
 
 -- the nth connection of a client, and the node's end of it
-pub record HasPipe (world : World) (index : ℕ) (client_ends : ClientEnds) (nth : ℕ)
+pub record HasPipe (world : PacketWorld) (index : ℕ) (client_ends : ClientEnds) (nth : ℕ)
     (client_connection : ClientConnection) (node_end : End) : Type 0 where
   pub client : slice_get world.clients index ≡ Some client_ends
   pub connection : slice_get client_ends.connections nth ≡ Some client_connection
   pub end : slice_get client_ends.ends nth ≡ Some node_end
 
 -- one step of a world
-pub data PacketWorldStep (world : World) : World → Type 0 where
+pub data PacketWorldStep (world : PacketWorld) : PacketWorld → Type 0 where
   -- a client calls, or loses its connection
-  calls : (index : ℕ) (client : ClientEnds) (after : Story)
-      (step : StoryStep usual_limits (story_of world.agreed client) after) →
-      slice_get world.clients index ≡ Some client → is_call step ≡ true →
-      PacketWorldStep world (with_client index
+  calls : (index : ℕ) (client : ClientEnds) (after : Story) (step : StoryStep usual_limits
+      (story_of world.agreed client) after) → slice_get world.clients index ≡ Some client →
+      is_call step ≡ true → PacketWorldStep world (with_client index
       (record client { keeper = after.keeper; connections = after.connections }) world)
   -- a client opens a connection, which gets a name that no connection ever had
   opens : (index : ℕ) (client : ClientEnds) (name : ConnectionName) (seen : ℕ) →
@@ -115,6 +114,7 @@ pub data PacketWorldStep (world : World) : World → Type 0 where
       PacketWorldStep world (record world { agreed = world.agreed ++ command ∷ [] })
 
 -- the worlds that are reached with these clients, by no step or by one more
-pub data Reached (clients : List Client) : World → Type 0 where
+pub data Reached (clients : List Client) : PacketWorld → Type 0 where
   begins : Reached clients (opening clients)  -- the world opens
-  goes_on : {old new : World} → Reached clients old → PacketWorldStep old new → Reached clients new
+  goes_on : {old new : PacketWorld} → Reached clients old → PacketWorldStep old new →
+      Reached clients new

@@ -34,12 +34,12 @@ abbrev pub new_client : Client → ClientEnds
 new_client client = record { keeper = new_keeper client; connections = []; ends = [] }
 
 -- the list on which the nodes agree, and the clients with both ends of their connections
-pub record World : Type 0 where
+pub record PacketWorld : Type 0 where
   pub agreed : List Command
   pub clients : List ClientEnds
 
 -- nothing is agreed, and no client has a connection
-abbrev pub opening : List Client → World
+abbrev pub opening : List Client → PacketWorld
 opening clients = record { agreed = []; clients = map new_client clients }
 
 -- no two are equal
@@ -63,5 +63,5 @@ IsFresh name =
     Each (λ (client : ClientEnds). any_named (same_connection name) client.connections ≡ false)
 
 -- the client at this index is changed
-abbrev pub with_client : ℕ → ClientEnds → World → World
+abbrev pub with_client : ℕ → ClientEnds → PacketWorld → PacketWorld
 with_client index client world = record world { clients = set world.clients index client }

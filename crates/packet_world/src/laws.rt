@@ -1,7 +1,7 @@
 // Laws of every world of clients and nodes. The calls do nothing; their contracts are the laws.
 
 ghost use Rattle.packet_world.specs.Agreed.{AgreedKeepsTheOrder};
-ghost use Rattle.packet_world.specs.Exact.{WorldsAreExact};
+ghost use Rattle.packet_world.specs.Exact.{PacketWorldsAreExact};
 ghost use Rattle.packet_world.specs.Groups.{GroupsServe};
 ghost use Rattle.packet_world.specs.PutOut.{GivenIsPutOut, GroupsPutOut};
 ghost use Rattle.packet_world.specs.Served.{WorldsAreServed};
@@ -13,8 +13,8 @@ use machine::Machine;
 /// each of its sessions is in order, and an ended session gets nothing more. For this the nodes
 /// have to agree on one list of commands that only grows, in which each connection's commands are
 /// in order.
-pub fn worlds_are_exact()
-    ensures { WorldsAreExact }
+pub fn packet_worlds_are_exact()
+    ensures { PacketWorldsAreExact }
 {}
 
 /// States that if the list on which the nodes agree grows, and keeps for each connection the order

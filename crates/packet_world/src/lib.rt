@@ -6,7 +6,7 @@ mod laws;
 mod rows;
 
 pub use laws::{
-    agreed_keeps_the_order, given_is_put_out, groups_put_out, groups_serve, worlds_are_exact,
-    worlds_are_served,
+    agreed_keeps_the_order, given_is_put_out, groups_put_out, groups_serve,
+    packet_worlds_are_exact, worlds_are_served,
 };
 pub use rows::accepts_once_over_a_takeover;
