@@ -9,10 +9,10 @@ use Rattle.node_group.specs.lists.Lists.{Each}
 use Rattle.node_group.proofs.of_packet_world.Lists.{each_get, each_set}
 use Rattle.node_group.specs.exactly_once.Sides.{ClientConnection}
 use Rattle.node_group.proofs.of_exactly_once.publishing.Grown.{handled_grows}
-use Rattle.byte_world.specs.Steps.{Reached, WorldStep}
+use Rattle.byte_world.specs.Steps.{Reached, ByteWorldStep}
 use Rattle.byte_world.specs.Steps.Reached.{begins, goes_on}
-use Rattle.byte_world.specs.Steps.WorldStep.{group_goes, calls, connects, is_taken_back, comes_up, goes_down, arrives, handles}
-use Rattle.byte_world.specs.World.{ClientPipes, World, new_client}
+use Rattle.byte_world.specs.Steps.ByteWorldStep.{group_goes, calls, connects, is_taken_back, comes_up, goes_down, arrives, handles}
+use Rattle.byte_world.specs.World.{ClientPipes, ByteWorld, new_client}
 use Rattle.byte_world.proofs.WorldsKeep.{call_writes}
 
 pub record BeginsKept (κ : ClientConnection) : Type 0 where
@@ -35,7 +35,7 @@ new_clients : (cs : List Client) → Each AllBeginKept (map new_client cs)
 new_clients [] = tt
 new_clients (c ∷ cs) = (tt, new_clients cs)
 
-step_begins : (v w : World) → Each AllBeginKept v.clients → WorldStep v w → Each AllBeginKept w.clients
+step_begins : (v w : ByteWorld) → Each AllBeginKept v.clients → ByteWorldStep v w → Each AllBeginKept w.clients
 step_begins v w each (group_goes node_call d apart) = each
 step_begins v w each (calls i c t happens at call spelled) =
     let new = call_writes happens call in
@@ -52,6 +52,6 @@ step_begins v w each (handles i c κ others p pipes packet left at are piped is_
     let mine = subst (Each BeginsKept) are (each_get AllBeginKept v.clients i c each at) in
     each_set AllBeginKept v.clients i _ each (begins_still κ _ grown.more grown.written mine.0, mine.1)
 
-pub all_begin_kept : {nodes : ℕ} {config : Config} {cs : List Client} (w : World) → Reached nodes config cs w → Each AllBeginKept w.clients
+pub all_begin_kept : {nodes : ℕ} {config : Config} {cs : List Client} (w : ByteWorld) → Reached nodes config cs w → Each AllBeginKept w.clients
 all_begin_kept {cs = cs} w (begins can) = new_clients cs
 all_begin_kept w (goes_on {old = v} before step) = step_begins v w (all_begin_kept v before) step

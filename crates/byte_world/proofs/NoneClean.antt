@@ -20,7 +20,7 @@ use Rattle.node_group.specs.Order.{packet_commands as packets_in_list}
 use Rattle.node_group.proofs.CarriedInOrder.{CarriedSo, IsAgreedSo, carried_so, carries_each}
 use Rattle.byte_world.specs.Carried.{trace_of}
 use Rattle.byte_world.specs.Kept.{NoConnectIsClean, NoneIsClean}
-use Rattle.byte_world.specs.World.{World, packets_of}
+use Rattle.byte_world.specs.World.{ByteWorld, packets_of}
 use Rattle.byte_world.proofs.BeginsKept.{AllBeginKept, BeginsKept, all_begin_kept}
 use Rattle.byte_world.proofs.PipesInOrder.{in_order, reached_holds}
 use Rattle.byte_world.proofs.WorldsHold.{Holds, IsKnown, IsUnheard}
@@ -63,7 +63,7 @@ none_in : {X : Type 0} (x : X) (xs : List X) → IsPrefixOf xs [] → In x xs �
 none_in x (y ∷ xs) front i = let e = front.is in cc
 none_in x [] front i = elim i [ ]
 
-module _ {nodes : ℕ} {config : Config} (w : World) (went : GroupTrace nodes config w.group) (holds : Holds w went) (begin : Each AllBeginKept w.clients) (so : CarriedSo went)
+module _ {nodes : ℕ} {config : Config} (w : ByteWorld) (went : GroupTrace nodes config w.group) (holds : Holds w went) (begin : Each AllBeginKept w.clients) (so : CarriedSo went)
     (agreed : List Command) (is : IsAgreedSo so agreed) where
   -- of a connection of a client
   of_known : (x : ConnectionName) (c : Client) (clean : Bool) → In (commands.Connect x c clean) agreed → IsKnown w x → clean ≡ false

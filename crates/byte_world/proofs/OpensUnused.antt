@@ -17,7 +17,7 @@ use Rattle.node_group.specs.Steps.{GroupTrace}
 use Rattle.node_group.specs.Steps.GroupTrace.{then_went}
 use Rattle.node_group.specs.Streams.{comes_up, goes_down}
 use Rattle.byte_world.specs.Steps.{DoesCall, node_call_of}
-use Rattle.byte_world.specs.World.{ClientPipes, HasPipe, Pipe, World, is_used, leads_to}
+use Rattle.byte_world.specs.World.{ClientPipes, HasPipe, Pipe, ByteWorld, is_used, leads_to}
 use Rattle.byte_world.proofs.NodesGoOn.{IsOpened, carries_with}
 use Rattle.byte_world.proofs.PipesHold.{PipeHolds, apart_on}
 use Rattle.byte_world.proofs.PortsKept.{IsOfOld}
@@ -34,7 +34,7 @@ any_at test (y ∷ xs) (suc i) x e is = by (test y) (any_at test xs i x e is)
     by true rest = refl
     by false rest = rest
 
-leads_used : (v : World) (n : ℕ) (port : Port) → LeadsToPort v n port → is_used n port v.clients ≡ true
+leads_used : (v : ByteWorld) (n : ℕ) (port : Port) → LeadsToPort v n port → is_used n port v.clients ≡ true
 leads_used v n port l =
     any_at (λ (c : ClientPipes). list_any (leads_to n port) c.pipes) v.clients l.index l.client l.has.client
     (any_at (leads_to n port) l.client.pipes l.nth l.pipe l.has.pipe (both (l.pipe.node == n) (l.pipe.port.0 == port.0) (ap (λ k. l.pipe.node == k) (sym l.node) ∙ eq_same l.pipe.node) (ap (λ k. l.pipe.port.0 == k) (sym l.at) ∙ eq_same l.pipe.port.0)))
@@ -53,7 +53,7 @@ opened_port _ = 0
 
 -- what holds if one is reported to a node there: each connection that was there has its pipe, and
 -- the pipes continue
-pub record OpensUnused {nodes : ℕ} {config : Config} (v : World) (went : GroupTrace nodes config v.group) (n : ℕ) (port : Port) (now : ℕ)
+pub record OpensUnused {nodes : ℕ} {config : Config} (v : ByteWorld) (went : GroupTrace nodes config v.group) (n : ℕ) (port : Port) (now : ℕ)
     (d : DoesCall v.group (Some (n, takes (Opened port now)))) : Type 0 where
   pub no_lead : LeadsToPort v n port → ⊥
   pub old_led : (m : ℕ) (old : CoreState) (e : NodesEnd) → slice_get v.group.nodes m ≡ Some old → IsOfOld old.connections e → LeadsToPort v m e.port
@@ -61,7 +61,7 @@ pub record OpensUnused {nodes : ℕ} {config : Config} (v : World) (went : Group
   pub still_unheard : (x : ConnectionName) → IsUnheard went x → IsUnheard (then_went went d.step) x
   pub old_holds : (i : ℕ) (c : ClientPipes) (j : ℕ) (κ : ClientConnection) (p : Pipe) → HasPipe v i c j κ p → PipeHolds (then_went went d.step) κ p
 
-module _ {nodes : ℕ} {config : Config} (v : World) (went : GroupTrace nodes config v.group) (h : Holds v went) (n : ℕ) (port : Port) (now : ℕ) (d : DoesCall v.group (Some (n, takes (Opened port now))))
+module _ {nodes : ℕ} {config : Config} (v : ByteWorld) (went : GroupTrace nodes config v.group) (h : Holds v went) (n : ℕ) (port : Port) (now : ℕ) (d : DoesCall v.group (Some (n, takes (Opened port now))))
     (unused : is_used n port v.clients ≡ false) where
   no_lead : LeadsToPort v n port → ⊥
   no_lead l = both_ways (is_used n port v.clients) unused (leads_used v n port l)

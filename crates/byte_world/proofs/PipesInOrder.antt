@@ -16,11 +16,11 @@ use Rattle.node_group.specs.Carried.{answers_to}
 use Rattle.node_group.specs.Streams.{came_up, went_down}
 use Rattle.node_group.proofs.CarriedInOrder.{CarriedSo, IsAgreedSo, carried_so, carries_each, no_connections}
 use Rattle.byte_world.specs.Carried.{trace_of, went_on}
-use Rattle.byte_world.specs.Steps.{Reached, WorldStep}
+use Rattle.byte_world.specs.Steps.{Reached, ByteWorldStep}
 use Rattle.byte_world.specs.Steps.Reached.{begins, goes_on}
-use Rattle.byte_world.specs.Steps.WorldStep.{group_goes, calls, connects, is_taken_back, comes_up, goes_down, arrives, handles}
+use Rattle.byte_world.specs.Steps.ByteWorldStep.{group_goes, calls, connects, is_taken_back, comes_up, goes_down, arrives, handles}
 use Rattle.byte_world.specs.InPipes.{IsInOrder, PipesCarryInOrder}
-use Rattle.byte_world.specs.World.{ClientPipes, HasPipe, Pipe, World, new_client, opening, packets_of}
+use Rattle.byte_world.specs.World.{ClientPipes, HasPipe, Pipe, ByteWorld, new_client, opening, packets_of}
 use Rattle.byte_world.proofs.WorldsHold.{Holds, arrives_holds, client_holds, set_at}
 use Rattle.byte_world.proofs.WorldsKeep.{call_writes, calls_hold, comes_holds, goes_holds, group_holds, handles_hold}
 use Rattle.byte_world.proofs.TakenBack.{taken_back_holds}
@@ -58,7 +58,7 @@ opens_hold nodes config cs went silent =
 
 -- ---- each step
 
-pub step_holds : {nodes : ℕ} {config : Config} (v w : World) (went : GroupTrace nodes config v.group) → Holds v went → (step : WorldStep v w) → Holds w (went_on went step)
+pub step_holds : {nodes : ℕ} {config : Config} (v w : ByteWorld) (went : GroupTrace nodes config v.group) → Holds v went → (step : ByteWorldStep v w) → Holds w (went_on went step)
 step_holds v w went h (group_goes node_call d apart) = group_holds v went node_call d apart h
 step_holds v w went h (calls i c t happens at call spelled) =
     let new = call_writes happens call in calls_hold v went i c t.keeper t.connections new.0 at new.1 spelled h
@@ -73,14 +73,14 @@ step_holds v w went h (arrives i j c κ p piece rest has is) =
 step_holds v w went h (handles i c κ others p pipes packet left at first piped is_open cut spelled) =
     handles_hold v went i c κ others p pipes packet left at first piped cut spelled h
 
-pub reached_holds : {nodes : ℕ} {config : Config} {cs : List Client} (w : World) (trail : Reached nodes config cs w) → Holds w (trace_of trail)
+pub reached_holds : {nodes : ℕ} {config : Config} {cs : List Client} (w : ByteWorld) (trail : Reached nodes config cs w) → Holds w (trace_of trail)
 reached_holds {nodes = nodes} {config = config} {cs = cs} w (begins can) = opens_hold nodes config cs (opened can) (λ x. (refl, refl))
 reached_holds w (goes_on {old = v} before step) = step_holds v w (trace_of before) (reached_holds v before) step
 
 -- ---- the law
 
 -- what is carried on each connection, by each list that is agreed
-pub in_order : {nodes : ℕ} {config : Config} (w : World) (went : GroupTrace nodes config w.group) → Holds w went → (so : CarriedSo went) (agreed : List Command) → IsAgreedSo so agreed
+pub in_order : {nodes : ℕ} {config : Config} (w : ByteWorld) (went : GroupTrace nodes config w.group) → Holds w went → (so : CarriedSo went) (agreed : List Command) → IsAgreedSo so agreed
     → (i : ℕ) (c : ClientPipes) (j : ℕ) (κ : ClientConnection) (p : Pipe) → HasPipe w i c j κ p → IsInOrder agreed κ p
 in_order w went holds so agreed is i c j κ p has =
     let h = holds.each i c j κ p has in

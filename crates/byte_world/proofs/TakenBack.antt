@@ -15,7 +15,7 @@ use Rattle.node_group.specs.node_moves.Moves.NodeCall.{takes}
 use Rattle.node_group.specs.Steps.{GroupTrace}
 use Rattle.node_group.specs.Steps.GroupTrace.{then_went}
 use Rattle.byte_world.specs.Steps.{DoesCall, node_call_of}
-use Rattle.byte_world.specs.World.{HasPipe, World, is_used}
+use Rattle.byte_world.specs.World.{HasPipe, ByteWorld, is_used}
 use Rattle.byte_world.proofs.NodesGoOn.{IsOpened, of_each, stood_as}
 use Rattle.byte_world.proofs.PipesHold.{is_the_port, none_found}
 use Rattle.byte_world.proofs.OpensUnused.{OpensUnused, opens_unused}
@@ -25,7 +25,7 @@ use Rattle.byte_world.proofs.WorldsHold.{Holds, IsKnown, IsUnheard, LeadsToPort,
 same_core : (a b : CoreState) → (let o : Option CoreState = Some a in o) ≡ Some b → a ≡ b
 same_core a b e = cc
 
-module _ {nodes : ℕ} {config : Config} (v : World) (went : GroupTrace nodes config v.group) (h : Holds v went) (n : ℕ) (port : Port) (now : ℕ) (d : DoesCall v.group (Some (n, takes (Opened port now))))
+module _ {nodes : ℕ} {config : Config} (v : ByteWorld) (went : GroupTrace nodes config v.group) (h : Holds v went) (n : ℕ) (port : Port) (now : ℕ) (d : DoesCall v.group (Some (n, takes (Opened port now))))
     (unused : is_used n port v.clients ≡ false) (core : CoreState) (stands : slice_get d.after.nodes n ≡ Some core) (none : listed_at port core ≡ None) where
   facts : OpensUnused v went n port now d
   facts = opens_unused v went h n port now d unused

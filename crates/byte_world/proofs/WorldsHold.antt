@@ -18,13 +18,13 @@ use Rattle.node_group.specs.node_moves.Puts.{spelled}
 use Rattle.node_group.specs.Group.{Group}
 use Rattle.node_group.specs.Steps.{GroupTrace}
 use Rattle.node_group.specs.Streams.{came_up, went_down}
-use Rattle.byte_world.specs.World.{ClientPipes, HasPipe, Pipe, World, packets_of, with_client, with_pipe}
+use Rattle.byte_world.specs.World.{ClientPipes, HasPipe, Pipe, ByteWorld, packets_of, with_client, with_pipe}
 pub use Rattle.byte_world.specs.AtNodes.{LeadsToPort}
 use Rattle.byte_world.proofs.OnTheWay.{IsHandled, packets_after, piece_down}
 use Rattle.byte_world.proofs.PipesHold.{IsPlaced, IsUp, PipeHolds, up_written}
 
 -- a client has a connection of this name
-pub record IsKnown (w : World) (x : ConnectionName) : Type 0 where
+pub record IsKnown (w : ByteWorld) (x : ConnectionName) : Type 0 where
   pub i : ℕ
   pub c : ClientPipes
   pub j : ℕ
@@ -37,7 +37,7 @@ pub record IsKnown (w : World) (x : ConnectionName) : Type 0 where
 abbrev pub IsUnheard : {nodes : ℕ} {config : Config} {g : Group} → GroupTrace nodes config g → ConnectionName → Type 0
 IsUnheard went x = (came_up x went ≡ []) × (went_down x went ≡ [])
 
-pub record Holds {nodes : ℕ} {config : Config} (w : World) (went : GroupTrace nodes config w.group) : Type 0 where
+pub record Holds {nodes : ℕ} {config : Config} (w : ByteWorld) (went : GroupTrace nodes config w.group) : Type 0 where
   pub each : (i : ℕ) (c : ClientPipes) (j : ℕ) (κ : ClientConnection) (p : Pipe) → HasPipe w i c j κ p → PipeHolds went κ p
   pub one : (i : ℕ) (c : ClientPipes) (j : ℕ) (κ : ClientConnection) (p : Pipe) (k : ℕ) (d : ClientPipes) (l : ℕ) (μ : ClientConnection) (q : Pipe) → HasPipe w i c j κ p → HasPipe w k d l μ q
       → κ.name ≡ μ.name → (i ≡ k) × (j ≡ l)
@@ -47,7 +47,7 @@ pub record Holds {nodes : ℕ} {config : Config} (w : World) (went : GroupTrace 
 -- ---- a step that opens nothing
 
 -- a connection after a step, and the same one before
-pub record Came {nodes : ℕ} {config : Config} (v : World) {g : Group} (went : GroupTrace nodes config g) (k l : ℕ) (later : ClientConnection) (q : Pipe) : Type 0 where
+pub record Came {nodes : ℕ} {config : Config} (v : ByteWorld) {g : Group} (went : GroupTrace nodes config g) (k l : ℕ) (later : ClientConnection) (q : Pipe) : Type 0 where
   pub c : ClientPipes
   pub κ : ClientConnection
   pub p : Pipe
@@ -56,7 +56,7 @@ pub record Came {nodes : ℕ} {config : Config} (v : World) {g : Group} (went : 
   pub holds : PipeHolds went later q
 
 -- a connection before a step, and the same one after
-pub record Stays (w : World) (k l : ℕ) (κ : ClientConnection) (p : Pipe) : Type 0 where
+pub record Stays (w : ByteWorld) (k l : ℕ) (κ : ClientConnection) (p : Pipe) : Type 0 where
   pub c : ClientPipes
   pub later : ClientConnection
   pub q : Pipe
@@ -65,7 +65,7 @@ pub record Stays (w : World) (k l : ℕ) (κ : ClientConnection) (p : Pipe) : Ty
   pub node : q.node ≡ p.node
   pub port : q.port ≡ p.port
 
-pub holds_on : {nodes : ℕ} {config : Config} (v w : World) (went : GroupTrace nodes config v.group) (after : GroupTrace nodes config w.group) → Holds v went
+pub holds_on : {nodes : ℕ} {config : Config} (v w : ByteWorld) (went : GroupTrace nodes config v.group) (after : GroupTrace nodes config w.group) → Holds v went
     → ((k : ℕ) (c : ClientPipes) (l : ℕ) (κ : ClientConnection) (p : Pipe) → HasPipe w k c l κ p → Came v after k l κ p)
     → ((k : ℕ) (c : ClientPipes) (l : ℕ) (κ : ClientConnection) (p : Pipe) → HasPipe v k c l κ p → Stays w k l κ p)
     → ((n : ℕ) (core : CoreState) (d : NodesEnd) → slice_get w.group.nodes n ≡ Some core → In d core.connections → LeadsToPort v n d.port)
@@ -105,11 +105,11 @@ some_is : {X : Type 0} (a b : X) → (let o : Option X = Some a in o) ≡ Some b
 some_is a b e = cc
 
 -- after it each connection is that one, or another that stays as it is
-pub data Place (v : World) (i j : ℕ) (μ : ClientConnection) (q : Pipe) (k l : ℕ) (κ : ClientConnection) (p : Pipe) : Type 0 where
+pub data Place (v : ByteWorld) (i j : ℕ) (μ : ClientConnection) (q : Pipe) (k l : ℕ) (κ : ClientConnection) (p : Pipe) : Type 0 where
   mine : k ≡ i → l ≡ j → κ ≡ μ → p ≡ q → Place v i j μ q k l κ p
   another : ((k ≡ i) × (l ≡ j) → ⊥) → (d : ClientPipes) → HasPipe v k d l κ p → Place v i j μ q k l κ p
 
-pub place_back : (v : World) (g : Group) (i j : ℕ) (c later : ClientPipes) (κ μ : ClientConnection) (p q : Pipe) → HasPipe v i c j κ p → ChangedAt c later j κ μ p q
+pub place_back : (v : ByteWorld) (g : Group) (i j : ℕ) (c later : ClientPipes) (κ μ : ClientConnection) (p q : Pipe) → HasPipe v i c j κ p → ChangedAt c later j κ μ p q
     → (k : ℕ) (d : ClientPipes) (l : ℕ) (ν : ClientConnection) (r : Pipe) → HasPipe (with_client i later (record v { group = g })) k d l ν r → Place v i j μ q k l ν r
 place_back v g i j c later κ μ p q has change k d l ν r there_now = by (set_get v.clients i k c later d has.client there_now.client)
   where
@@ -130,7 +130,7 @@ place_back v g i j c later κ μ p q has change k d l ν r there_now = by (set_g
     by (inl (same, is)) = inner same is (same_or_other l j)
     by (inr (apart, at)) = another (λ both. apart both.0) d (record { client = at; connection = there_now.connection; pipe = there_now.pipe })
 
-pub place_forth : (v : World) (g : Group) (i j : ℕ) (c later : ClientPipes) (κ μ : ClientConnection) (p q : Pipe) → HasPipe v i c j κ p → ChangedAt c later j κ μ p q
+pub place_forth : (v : ByteWorld) (g : Group) (i j : ℕ) (c later : ClientPipes) (κ μ : ClientConnection) (p q : Pipe) → HasPipe v i c j κ p → ChangedAt c later j κ μ p q
     → (k : ℕ) (d : ClientPipes) (l : ℕ) (ν : ClientConnection) (r : Pipe) → HasPipe v k d l ν r → Stays (with_client i later (record v { group = g })) k l ν r
 place_forth v g i j c later κ μ p q has change k d l ν r was = by (same_or_other k i)
   where
@@ -181,7 +181,7 @@ place_forth v g i j c later κ μ p q has change k d l ν r was = by (same_or_ot
 
 -- ---- the group rests
 
-pub client_holds : {nodes : ℕ} {config : Config} (v : World) (went : GroupTrace nodes config v.group) (i j : ℕ) (c later : ClientPipes) (κ μ : ClientConnection) (p q : Pipe) → HasPipe v i c j κ p
+pub client_holds : {nodes : ℕ} {config : Config} (v : ByteWorld) (went : GroupTrace nodes config v.group) (i j : ℕ) (c later : ClientPipes) (κ μ : ClientConnection) (p q : Pipe) → HasPipe v i c j κ p
     → ChangedAt c later j κ μ p q → PipeHolds went μ q → Holds v went → Holds (with_client i later v) went
 client_holds v went i j c later κ μ p q has change holds h =
     holds_on v (with_client i later v) went went h

@@ -36,7 +36,7 @@ use Rattle.node_group.specs.Steps.GroupTrace.{then_went}
 use Rattle.node_group.specs.Streams.{comes_up, goes_down, went_down}
 use Rattle.byte_world.specs.Steps.{DoesCall, node_call_of, is_apart}
 use Rattle.byte_world.specs.ClientSteps.{WritesCanBeSpelled, after_packet}
-use Rattle.byte_world.specs.World.{ClientPipes, HasPipe, Pipe, World, after_writing, newly_written, packets_of, sent_up, with_client, with_pipe}
+use Rattle.byte_world.specs.World.{ClientPipes, HasPipe, Pipe, ByteWorld, after_writing, newly_written, packets_of, sent_up, with_client, with_pipe}
 use Rattle.byte_world.proofs.NodesGoOn.{IsOpened, carries_with, is_quiet, stood_as}
 use Rattle.byte_world.proofs.OnTheWay.{IsHandled, more_down, newly_is, one_handled}
 use Rattle.byte_world.proofs.PipesHold.{PipeHolds, apart_on, none_opens, opens_in, others_down, others_up, placed_on, up_on, up_piece}
@@ -67,7 +67,7 @@ call_writes (subscribes p on id) e = (plain (packets.Subscribe p) ∷ [], refl)
 call_writes (unsubscribes p on id) e = (plain (packets.Unsubscribe p) ∷ [], refl)
 
 -- a client that has no connection with a pipe changes no pipe
-no_pipe_holds : {nodes : ℕ} {config : Config} (v : World) (went : GroupTrace nodes config v.group) (i : ℕ) (c later : ClientPipes) → slice_get v.clients i ≡ Some c
+no_pipe_holds : {nodes : ℕ} {config : Config} (v : ByteWorld) (went : GroupTrace nodes config v.group) (i : ℕ) (c later : ClientPipes) → slice_get v.clients i ≡ Some c
     → ((j : ℕ) (κ : ClientConnection) (p : Pipe) → slice_get c.connections j ≡ Some κ → slice_get c.pipes j ≡ Some p → ⊥)
     → ((j : ℕ) (κ : ClientConnection) (p : Pipe) → slice_get later.connections j ≡ Some κ → slice_get later.pipes j ≡ Some p → ⊥) → Holds v went → Holds (with_client i later v) went
 no_pipe_holds v went i c later at none none_later h = holds_on v (with_client i later v) went went h back forth h.used h.known
@@ -109,7 +109,7 @@ no_place xs j x none at = nowhere j (sym (ap (λ l. slice_get l j) none) ∙ at)
     nowhere : (k : ℕ) → slice_get (let l : List _ = [] in l) k ≡ Some x → ⊥
     nowhere k e = cc
 
-pub calls_hold : {nodes : ℕ} {config : Config} (v : World) (went : GroupTrace nodes config v.group) (i : ℕ) (c : ClientPipes) (keeper : Keeper) (connections : List ClientConnection) (new : List Written)
+pub calls_hold : {nodes : ℕ} {config : Config} (v : ByteWorld) (went : GroupTrace nodes config v.group) (i : ℕ) (c : ClientPipes) (keeper : Keeper) (connections : List ClientConnection) (new : List Written)
     → slice_get v.clients i ≡ Some c → connections ≡ writes_first new c.connections → WritesCanBeSpelled c.connections connections → Holds v went
     → Holds (with_client i (after_writing keeper connections c) v) went
 calls_hold v went i c keeper connections new at is whole h = by c.connections c.pipes refl refl
@@ -138,7 +138,7 @@ calls_hold v went i c keeper connections new at is whole h = by c.connections c.
 
 -- ---- a client handles a packet
 
-pub handles_hold : {nodes : ℕ} {config : Config} (v : World) (went : GroupTrace nodes config v.group) (i : ℕ) (c : ClientPipes) (κ : ClientConnection) (others : List ClientConnection) (p : Pipe)
+pub handles_hold : {nodes : ℕ} {config : Config} (v : ByteWorld) (went : GroupTrace nodes config v.group) (i : ℕ) (c : ClientPipes) (κ : ClientConnection) (others : List ClientConnection) (p : Pipe)
     (pipes : List Pipe) (packet : Packet) (left : Stream) → slice_get v.clients i ≡ Some c → c.connections ≡ κ ∷ others → c.pipes ≡ p ∷ pipes → Takes p.came (Ok (Some packet)) left
     → WritesCanBeSpelled c.connections ((packet_handled packet (record { keeper = c.keeper; connection = κ })).connection ∷ others) → Holds v went
     → Holds (with_client i (after_packet others pipes p left (packet_handled packet (record { keeper = c.keeper; connection = κ })) c) v) went
@@ -159,7 +159,7 @@ handles_hold v went i c κ others p pipes packet left at are piped cut whole h =
 -- ---- the group continues
 
 -- after a step that opens nothing each connection of a node has a pipe
-still_used : {nodes : ℕ} {config : Config} (v : World) (g : Group) (went : GroupTrace nodes config v.group) (step : GroupStep v.group g) → opens_in (node_call_of step) ≡ false → Holds v went
+still_used : {nodes : ℕ} {config : Config} (v : ByteWorld) (g : Group) (went : GroupTrace nodes config v.group) (step : GroupStep v.group g) → opens_in (node_call_of step) ≡ false → Holds v went
     → (n : ℕ) (core : CoreState) (d : NodesEnd) → slice_get g.nodes n ≡ Some core → In d core.connections → LeadsToPort v n d.port
 still_used v g went step none h n core d at i = by (stood_as v.group g went step n core at).core (stood_as v.group g went step n core at).stands ((stood_as v.group g went step n core at).after.was d i)
   where
@@ -185,7 +185,7 @@ unheard_on : {nodes : ℕ} {config : Config} {g h : Group} (went : GroupTrace no
     → IsUnheard went x → IsUnheard (then_went went step) x
 unheard_on went step x quiet none = (ap (λ l. l ++ comes_up x step) none.0 ∙ quiet.0, ap (λ l. l ++ goes_down x step) none.1 ∙ quiet.1)
 
-pub group_holds : {nodes : ℕ} {config : Config} (v : World) (went : GroupTrace nodes config v.group) (node_call : Option (ℕ × NodeCall)) (d : DoesCall v.group node_call) → is_apart node_call ≡ true → Holds v went
+pub group_holds : {nodes : ℕ} {config : Config} (v : ByteWorld) (went : GroupTrace nodes config v.group) (node_call : Option (ℕ × NodeCall)) (d : DoesCall v.group node_call) → is_apart node_call ≡ true → Holds v went
     → Holds (record v { group = d.after }) (then_went went d.step)
 group_holds v went node_call d apart h =
     let quiet = is_quiet v.group d.after d.step d.faithful (ap is_apart d.is ∙ apart) in
@@ -211,7 +211,7 @@ group_holds v went node_call d apart h =
 
 -- ---- bytes of one connection are carried
 
-port_holds : {nodes : ℕ} {config : Config} (v : World) (g : Group) (went : GroupTrace nodes config v.group) (step : GroupStep v.group g) (i j : ℕ) (c later : ClientPipes) (κ : ClientConnection) (p q : Pipe)
+port_holds : {nodes : ℕ} {config : Config} (v : ByteWorld) (g : Group) (went : GroupTrace nodes config v.group) (step : GroupStep v.group g) (i j : ℕ) (c later : ClientPipes) (κ : ClientConnection) (p q : Pipe)
     → HasPipe v i c j κ p → ChangedAt c later j κ κ p q → opens_in (node_call_of step) ≡ false
     → ((y : ConnectionName) → (κ.name ≡ y → ⊥) → (comes_up y step ≡ []) × (goes_down y step ≡ [])) → PipeHolds (then_went went step) κ q → Holds v went
     → Holds (with_client i later (record v { group = g })) (then_went went step)
@@ -255,7 +255,7 @@ port_holds v g went step i j c later κ p q has change none quiet holds h =
 same_core : (a b : CoreState) → (let o : Option CoreState = Some a in o) ≡ Some b → a ≡ b
 same_core a b e = cc
 
-pub comes_holds : {nodes : ℕ} {config : Config} (v : World) (went : GroupTrace nodes config v.group) (i j : ℕ) (c : ClientPipes) (κ : ClientConnection) (p : Pipe) (piece rest : List ℕ) (now : ℕ)
+pub comes_holds : {nodes : ℕ} {config : Config} (v : ByteWorld) (went : GroupTrace nodes config v.group) (i j : ℕ) (c : ClientPipes) (κ : ClientConnection) (p : Pipe) (piece rest : List ℕ) (now : ℕ)
     (d : DoesCall v.group (Some (p.node, takes (Bytes p.port piece now)))) → HasPipe v i c j κ p → p.up ≡ piece ++ rest → Holds v went
     → Holds (with_client i (with_pipe j (record p { up = rest }) c) (record v { group = d.after })) (then_went went d.step)
 comes_holds v went i j c κ p piece rest now d has cut h =
@@ -272,7 +272,7 @@ comes_holds v went i j c κ p piece rest now d has cut h =
       down = subst (IsHandled κ.handled p.came p.down) (sym (ap (λ l. went_down κ.name went ++ l) (carried.down κ.name) ∙ append-nil (went_down κ.name went))) old.down;
     }) h
 
-pub goes_holds : {nodes : ℕ} {config : Config} (v : World) (went : GroupTrace nodes config v.group) (i j : ℕ) (c : ClientPipes) (κ : ClientConnection) (p : Pipe)
+pub goes_holds : {nodes : ℕ} {config : Config} (v : ByteWorld) (went : GroupTrace nodes config v.group) (i j : ℕ) (c : ClientPipes) (κ : ClientConnection) (p : Pipe)
     (d : DoesCall v.group (Some (p.node, gives p.port))) → HasPipe v i c j κ p → Holds v went
     → Holds (with_client i (with_pipe j (record p { down = p.down ++ goes_down κ.name d.step }) c) (record v { group = d.after })) (then_went went d.step)
 goes_holds v went i j c κ p d has h =

@@ -32,7 +32,7 @@ use Rattle.node_group.proofs.NamesInGroups.{all_well, each_got}
 use Rattle.byte_world.specs.Apart.{HasName}
 use Rattle.byte_world.specs.Steps.{DoesCall, node_call_of}
 use Rattle.byte_world.specs.ClientSteps.{after_connecting}
-use Rattle.byte_world.specs.World.{ClientPipes, HasPipe, Pipe, World, is_used, packets_of, with_client}
+use Rattle.byte_world.specs.World.{ClientPipes, HasPipe, Pipe, ByteWorld, is_used, packets_of, with_client}
 use Rattle.byte_world.proofs.NamesApart.{names_stay_apart}
 use Rattle.byte_world.proofs.NodesGoOn.{IsOpened, StoodAs, of_each, stood_as}
 use Rattle.byte_world.proofs.OnTheWay.{joins_more}
@@ -55,7 +55,7 @@ named_there x cs d i is = by (find (named x) cs) refl
 same_core : (a b : CoreState) → (let o : Option CoreState = Some a in o) ≡ Some b → a ≡ b
 same_core a b e = cc
 
-module _ {nodes : ℕ} {config : Config} (v : World) (went : GroupTrace nodes config v.group) (h : Holds v went) (n : ℕ) (port : Port) (now : ℕ) (d : DoesCall v.group (Some (n, takes (Opened port now))))
+module _ {nodes : ℕ} {config : Config} (v : ByteWorld) (went : GroupTrace nodes config v.group) (h : Holds v went) (n : ℕ) (port : Port) (now : ℕ) (d : DoesCall v.group (Some (n, takes (Opened port now))))
     (core : CoreState) (end : NodesEnd) (stands : slice_get d.after.nodes n ≡ Some core) (found : listed_at port core ≡ Some end) (unused : is_used n port v.clients ≡ false) where
   abbrev after : GroupTrace nodes config d.after
   after = then_went went d.step
@@ -113,7 +113,7 @@ module _ {nodes : ℕ} {config : Config} (v : World) (went : GroupTrace nodes co
     abbrev later : ClientPipes
     later = after_connecting end.name n port c
 
-    abbrev w : World
+    abbrev w : ByteWorld
     w = with_client i later (record v { group = d.after })
 
     new_holds : PipeHolds after κ_new p_new

@@ -9,11 +9,11 @@ use Rattle.node_group.specs.node_core.declared.Connection.{Connection as NodesEn
 use Rattle.node_group.specs.node_core.declared.Port.{Port}
 use Rattle.node_group.specs.node_core.Core.{CoreState}
 use Rattle.node_group.specs.node_moves.Ends.{IsOrderly}
-use Rattle.byte_world.specs.World.{ClientPipes, HasPipe, Pipe, World}
+use Rattle.byte_world.specs.World.{ClientPipes, HasPipe, Pipe, ByteWorld}
 use Rattle.byte_world.specs.Steps.{Reached}
 
 -- a pipe leads to this port of the node
-pub record LeadsToPort (world : World) (node_index : ℕ) (port : Port) : Type 0 where
+pub record LeadsToPort (world : ByteWorld) (node_index : ℕ) (port : Port) : Type 0 where
   pub index : ℕ
   pub client : ClientPipes
   pub nth : ℕ
@@ -27,7 +27,7 @@ pub record LeadsToPort (world : World) (node_index : ℕ) (port : Port) : Type 0
 -- bytes to hand over
 abbrev pub PortsHavePipes : Type 0
 PortsHavePipes =
-    (nodes : ℕ) (config : Config) (clients : List Client) (world : World) →
+    (nodes : ℕ) (config : Config) (clients : List Client) (world : ByteWorld) →
     Reached nodes config clients world → (node : ℕ) (core : CoreState) (end : NodesEnd) →
     slice_get world.group.nodes node ≡ Some core → In end core.connections →
     LeadsToPort world node end.port
@@ -36,6 +36,6 @@ PortsHavePipes =
 -- that the node joined.
 abbrev pub NodesAreOrderly : Type 0
 NodesAreOrderly =
-    (nodes : ℕ) (config : Config) (clients : List Client) (world : World) →
+    (nodes : ℕ) (config : Config) (clients : List Client) (world : ByteWorld) →
     Reached nodes config clients world → (node : ℕ) (core : CoreState) →
     slice_get world.group.nodes node ≡ Some core → IsOrderly core

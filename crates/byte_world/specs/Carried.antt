@@ -5,14 +5,14 @@ use Rattle.node_group.specs.broker_spec.Place.{Client}
 use Rattle.node_group.specs.Steps.{GroupTrace}
 use Rattle.node_group.specs.Steps.GroupTrace.{opened, then_went}
 use Rattle.node_group.specs.Carried.{Carries}
-use Rattle.byte_world.specs.World.{World}
-use Rattle.byte_world.specs.Steps.{Reached, WorldStep}
+use Rattle.byte_world.specs.World.{ByteWorld}
+use Rattle.byte_world.specs.Steps.{Reached, ByteWorldStep}
 use Rattle.byte_world.specs.Steps.Reached.{begins, goes_on}
-use Rattle.byte_world.specs.Steps.WorldStep.{group_goes, calls, connects, is_taken_back, comes_up, goes_down, arrives, handles}
+use Rattle.byte_world.specs.Steps.ByteWorldStep.{group_goes, calls, connects, is_taken_back, comes_up, goes_down, arrives, handles}
 
 -- if a step of a world has a step of its group, the group does that step
-abbrev pub went_on : {nodes : ℕ} {config : Config} {before after : World} →
-    GroupTrace nodes config before.group → WorldStep before after →
+abbrev pub went_on : {nodes : ℕ} {config : Config} {before after : ByteWorld} →
+    GroupTrace nodes config before.group → ByteWorldStep before after →
     GroupTrace nodes config after.group
 went_on went (group_goes node_call done apart) = then_went went done.step
 went_on went (calls index client after step at call spelled) = went
@@ -28,7 +28,7 @@ went_on went
     spelled) = went
 
 -- the steps of the group of a world on this way to it
-abbrev pub trace_of : {nodes : ℕ} {config : Config} {clients : List Client} {world : World} →
+abbrev pub trace_of : {nodes : ℕ} {config : Config} {clients : List Client} {world : ByteWorld} →
     Reached nodes config clients world → GroupTrace nodes config world.group
 trace_of (begins can) = opened can
 trace_of (goes_on before step) = went_on (trace_of before) step
@@ -37,5 +37,5 @@ trace_of (goes_on before step) = went_on (trace_of before) step
 -- group
 abbrev pub WorldsCarryInOrder : Type 0
 WorldsCarryInOrder =
-    (nodes : ℕ) (config : Config) (clients : List Client) (world : World)
+    (nodes : ℕ) (config : Config) (clients : List Client) (world : ByteWorld)
     (trail : Reached nodes config clients world) → Carries (trace_of trail)

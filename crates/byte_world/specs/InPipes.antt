@@ -17,7 +17,7 @@ use Rattle.node_group.specs.Order.{packet_commands as packets_in_list}
 use Rattle.node_group.specs.Pasts.{HasPast}
 use Rattle.node_group.specs.Carried.{answers_to}
 use Rattle.byte_world.specs.Carried.{trace_of}
-use Rattle.byte_world.specs.World.{ClientPipes, HasPipe, Pipe, World, packets_of}
+use Rattle.byte_world.specs.World.{ClientPipes, HasPipe, Pipe, ByteWorld, packets_of}
 use Rattle.byte_world.specs.Steps.{Reached}
 
 -- A connection's commands in the list are a prefix of the packets that its client wrote, in order.
@@ -36,7 +36,7 @@ pub record IsInOrder (agreed : List Command) (connection : ClientConnection)
 
 -- each connection of each client is in order, by the list on which the nodes agree at the end of
 -- the group's steps on the way to the world
-pub record PipesAreInOrder {nodes : ℕ} {config : Config} {clients : List Client} {world : World}
+pub record PipesAreInOrder {nodes : ℕ} {config : Config} {clients : List Client} {world : ByteWorld}
     (trail : Reached nodes config clients world) : Type 0 where
   pub of : HasPast config world.group (groups_on_trace (trace_of trail))
       (all_proposed (trace_of trail))
@@ -49,5 +49,5 @@ pub record PipesAreInOrder {nodes : ℕ} {config : Config} {clients : List Clien
 -- in each world that can be reached the connections of each client are in order
 abbrev pub PipesCarryInOrder : Type 0
 PipesCarryInOrder =
-    (nodes : ℕ) (config : Config) (clients : List Client) (world : World)
+    (nodes : ℕ) (config : Config) (clients : List Client) (world : ByteWorld)
     (trail : Reached nodes config clients world) → PipesAreInOrder trail

@@ -15,7 +15,7 @@ use Rattle.node_group.specs.Steps.{all_proposed, groups_on_trace}
 use Rattle.node_group.specs.Pasts.{HasPast}
 use Rattle.byte_world.specs.Carried.{trace_of}
 use Rattle.byte_world.specs.Steps.{Reached}
-use Rattle.byte_world.specs.World.{World}
+use Rattle.byte_world.specs.World.{ByteWorld}
 
 -- none of these commands is a Connect that asks for a clean session
 abbrev pub NoneIsClean : List Command → Type 0
@@ -26,8 +26,8 @@ NoneIsClean list =
 
 -- no list that is agreed at the end of the group's steps on the way to the world has a Connect that
 -- asks for a clean session
-pub record AsksForNoneClean {nodes : ℕ} {config : Config} {clients : List Client} {world : World}
-    (trail : Reached nodes config clients world) : Type 0 where
+pub record AsksForNoneClean {nodes : ℕ} {config : Config} {clients : List Client}
+    {world : ByteWorld} (trail : Reached nodes config clients world) : Type 0 where
   pub of : HasPast config world.group (groups_on_trace (trace_of trail))
       (all_proposed (trace_of trail))
   pub none : (agreed : List Command) →
@@ -37,7 +37,7 @@ pub record AsksForNoneClean {nodes : ℕ} {config : Config} {clients : List Clie
 -- in each world that can be reached no agreed list asks for a clean session
 abbrev pub NoConnectIsClean : Type 0
 NoConnectIsClean =
-    (nodes : ℕ) (config : Config) (clients : List Client) (world : World)
+    (nodes : ℕ) (config : Config) (clients : List Client) (world : ByteWorld)
     (trail : Reached nodes config clients world) → AsksForNoneClean trail
 
 -- if no Connect of a list asks for a clean session, no session that a client has after any prefix

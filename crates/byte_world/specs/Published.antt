@@ -5,10 +5,10 @@ use Rattle.node_group.specs.broker_spec.Place.{Client, Limits}
 use Rattle.node_group.specs.session_base.declared.publication.Publication.{Publication}
 use Rattle.node_group.specs.exactly_once.Story.{Story, StoryStep}
 use Rattle.node_group.specs.exactly_once.Story.StoryStep.{takes, others_take, receives, opens_anew, loses, disconnects, publishes_one, subscribes, unsubscribes}
-use Rattle.byte_world.specs.World.{World}
-use Rattle.byte_world.specs.Steps.{Reached, WorldStep}
+use Rattle.byte_world.specs.World.{ByteWorld}
+use Rattle.byte_world.specs.Steps.{Reached, ByteWorldStep}
 use Rattle.byte_world.specs.Steps.Reached.{begins, goes_on}
-use Rattle.byte_world.specs.Steps.WorldStep.{group_goes, calls, connects, is_taken_back, comes_up, goes_down, arrives, handles}
+use Rattle.byte_world.specs.Steps.ByteWorldStep.{group_goes, calls, connects, is_taken_back, comes_up, goes_down, arrives, handles}
 
 -- what a client publishes with a call
 abbrev pub published_by_call : {limits : Limits} {before after : Story} →
@@ -28,7 +28,7 @@ abbrev pub from_client : ℕ → List Publication → List (ℕ × Publication)
 from_client index = map (λ (publication : Publication). (index, publication))
 
 -- in a step only a call of a client publishes
-abbrev pub published_in_step : {before after : World} → WorldStep before after →
+abbrev pub published_in_step : {before after : ByteWorld} → ByteWorldStep before after →
     List (ℕ × Publication)
 published_in_step (group_goes node_call done apart) = []
 published_in_step (calls index client after step at call spelled) =
@@ -45,7 +45,7 @@ published_in_step
 
 -- all that clients published on this way to a world, the oldest first
 abbrev pub published_on_way :
-    {nodes : ℕ} {config : Config} {clients : List Client} {world : World} →
+    {nodes : ℕ} {config : Config} {clients : List Client} {world : ByteWorld} →
     Reached nodes config clients world → List (ℕ × Publication)
 published_on_way (begins can) = []
 published_on_way (goes_on before step) = published_on_way before ++ published_in_step step

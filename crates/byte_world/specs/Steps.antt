@@ -22,23 +22,23 @@ use Rattle.node_group.specs.node_moves.Moves.NodeCall.{takes, gives}
 use Rattle.node_group.specs.Streams.{goes_down as goes_down_in}
 use Rattle.byte_world.specs.ClientSteps.{story_alone, after_connecting, after_packet, WritesCanBeSpelled}
 pub use Rattle.byte_world.specs.Carrying.{CarriesItsBytes, DoesCall, IsFaithful, coming_with, node_call_of, going_with, is_apart}
-use Rattle.byte_world.specs.World.{ClientPipes, HasPipe, Pipe, World, after_writing, is_used, opening, with_client, with_pipe}
+use Rattle.byte_world.specs.World.{ClientPipes, HasPipe, Pipe, ByteWorld, after_writing, is_used, opening, with_client, with_pipe}
 
 -- ---- the step
 
 -- Any of these may happen, or not, at any time: so bytes, messages and connections may come late,
 -- or never. Bytes on one connection do not overtake each other.
-pub data WorldStep (world : World) : World → Type 0 where
+pub data ByteWorldStep (world : ByteWorld) : ByteWorld → Type 0 where
   -- the nodes and the master move by themselves: messages come late, again or never, a node ticks
   -- or crashes, a stream ends at its node, an administrator asks for a configuration
   group_goes : (node_call : Option (ℕ × NodeCall)) (done : DoesCall world.group node_call) →
-      is_apart node_call ≡ true → WorldStep world (record world { group = done.after })
+      is_apart node_call ≡ true → ByteWorldStep world (record world { group = done.after })
   -- a client calls, or loses its connection
   calls : (index : ℕ) (client : ClientPipes) (after : Story)
       (step : StoryStep usual_limits (story_alone client) after) →
       slice_get world.clients index ≡ Some client → is_call step ≡ true →
       WritesCanBeSpelled client.connections after.connections →
-      WorldStep world
+      ByteWorldStep world
       (with_client index (after_writing after.keeper after.connections client) world)
   -- a client opens a connection to a node, at a port that was never used there, and the node takes
   -- it
@@ -49,27 +49,27 @@ pub data WorldStep (world : World) : World → Type 0 where
       slice_get done.after.nodes node ≡ Some core → listed_at port core ≡ Some end →
       IsPacket (packets.Connect
       (record { client = client.keeper.client; clean = false; keep_alive = 0 })) →
-      WorldStep world (with_client index (after_connecting end.name node port client)
+      ByteWorldStep world (with_client index (after_connecting end.name node port client)
       (record world { group = done.after }))
   -- the node does not take it, because memory ran out, and then the client has none
   is_taken_back : (node : ℕ) (port : Port) (now : ℕ)
       (done : DoesCall world.group (Some (node, takes (Opened port now)))) (core : CoreState) →
       is_used node port world.clients ≡ false →
       slice_get done.after.nodes node ≡ Some core → listed_at port core ≡ None →
-      WorldStep world (record world { group = done.after })
+      ByteWorldStep world (record world { group = done.after })
   -- a prefix of the bytes in transit reaches the node
   comes_up : (index nth : ℕ) (client : ClientPipes) (connection : ClientConnection) (pipe : Pipe)
       (piece rest : List ℕ) (now : ℕ)
       (done : DoesCall world.group (Some (pipe.node, takes (Bytes pipe.port piece now)))) →
       HasPipe world index client nth connection pipe → pipe.up ≡ piece ++ rest →
-      WorldStep world
+      ByteWorldStep world
       (with_client index (with_pipe nth (record pipe { up = rest }) client)
       (record world { group = done.after }))
   -- a node hands over what it queued
   goes_down : (index nth : ℕ) (client : ClientPipes) (connection : ClientConnection) (pipe : Pipe)
       (done : DoesCall world.group (Some (pipe.node, gives pipe.port))) →
       HasPipe world index client nth connection pipe →
-      WorldStep world (with_client index
+      ByteWorldStep world (with_client index
       (with_pipe nth
       (record pipe { down = pipe.down ++ goes_down_in connection.name done.step }) client)
       (record world { group = done.after }))
@@ -77,7 +77,7 @@ pub data WorldStep (world : World) : World → Type 0 where
   arrives : (index nth : ℕ) (client : ClientPipes) (connection : ClientConnection) (pipe : Pipe)
       (piece rest : List ℕ) →
       HasPipe world index client nth connection pipe → pipe.down ≡ piece ++ rest →
-      WorldStep world (with_client index
+      ByteWorldStep world (with_client index
       (with_pipe nth
       (record pipe { down = rest; came = record pipe.came { bytes = pipe.came.bytes ++ piece } })
       client) world)
@@ -91,16 +91,16 @@ pub data WorldStep (world : World) : World → Type 0 where
       WritesCanBeSpelled client.connections
       ((packet_handled packet
       (record { keeper = client.keeper; connection = connection })).connection ∷ others) →
-      WorldStep world (with_client index
+      ByteWorldStep world (with_client index
       (after_packet others pipes pipe left
       (packet_handled packet (record { keeper = client.keeper; connection = connection })) client)
       world)
 
 -- the worlds that are reached with this many nodes, a configuration at first, and these clients
-pub data Reached (nodes : ℕ) (config : Config) (clients : List Client) : World → Type 0 where
+pub data Reached (nodes : ℕ) (config : Config) (clients : List Client) : ByteWorld → Type 0 where
   -- the world opens
   begins : can_open nodes config ≡ true →
       Reached nodes config clients (opening nodes config clients)
   -- one more step
-  goes_on : {old new : World} → Reached nodes config clients old → WorldStep old new →
+  goes_on : {old new : ByteWorld} → Reached nodes config clients old → ByteWorldStep old new →
       Reached nodes config clients new

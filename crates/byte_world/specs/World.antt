@@ -27,7 +27,7 @@ pub record ClientPipes : Type 0 where
   pub pipes : List Pipe
 
 -- a group of nodes, and its clients with their connections and pipes
-pub record World : Type 0 where
+pub record ByteWorld : Type 0 where
   pub group : Group
   pub clients : List ClientPipes
 
@@ -38,14 +38,14 @@ abbrev pub new_client : Client → ClientPipes
 new_client client = record { keeper = new_keeper client; connections = []; pipes = [] }
 
 -- a group as it opens, and clients without connections
-abbrev pub opening : ℕ → Config → List Client → World
+abbrev pub opening : ℕ → Config → List Client → ByteWorld
 opening nodes config clients =
     record { group = opening_group nodes config; clients = map new_client clients }
 
 -- ---- places
 
 -- the nth connection of the client at an index, and its pipe
-pub record HasPipe (world : World) (index : ℕ) (client_pipes : ClientPipes) (nth : ℕ)
+pub record HasPipe (world : ByteWorld) (index : ℕ) (client_pipes : ClientPipes) (nth : ℕ)
     (client_connection : ClientConnection) (connection_pipe : Pipe) : Type 0 where
   pub client : slice_get world.clients index ≡ Some client_pipes
   pub connection : slice_get client_pipes.connections nth ≡ Some client_connection
@@ -62,7 +62,7 @@ is_used node port = list_any (λ (client : ClientPipes). list_any (leads_to node
 -- ---- changes
 
 -- the world with this client at an index
-abbrev pub with_client : ℕ → ClientPipes → World → World
+abbrev pub with_client : ℕ → ClientPipes → ByteWorld → ByteWorld
 with_client index client world = record world { clients = set world.clients index client }
 
 -- the client with this pipe at an index

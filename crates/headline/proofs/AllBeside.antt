@@ -11,10 +11,10 @@ use Rattle.packet_world.proofs.Lists.{each_by}
 use Rattle.node_group.specs.Steps.{GroupTrace}
 use Rattle.node_group.specs.Steps.GroupTrace.{opened}
 use Rattle.byte_world.specs.Carried.{trace_of, went_on}
-use Rattle.byte_world.specs.Steps.{Reached, WorldStep}
+use Rattle.byte_world.specs.Steps.{Reached, ByteWorldStep}
 use Rattle.byte_world.specs.Steps.Reached.{begins, goes_on}
-use Rattle.byte_world.specs.Steps.WorldStep.{group_goes, calls, connects, is_taken_back, comes_up, goes_down, arrives, handles}
-use Rattle.byte_world.specs.World.{World, new_client, opening}
+use Rattle.byte_world.specs.Steps.ByteWorldStep.{group_goes, calls, connects, is_taken_back, comes_up, goes_down, arrives, handles}
+use Rattle.byte_world.specs.World.{ByteWorld, new_client, opening}
 use Rattle.byte_world.proofs.PipesInOrder.{opens_hold, step_holds}
 use Rattle.byte_world.proofs.WorldsHold.{Holds}
 use Rattle.headline.proofs.AllPutOut.{IsFull}
@@ -54,8 +54,8 @@ opens_so nodes config cs apart can =
 
 -- ---- each step
 
-step_goes : {nodes : ℕ} {config : Config} {cs : List Client} → ClientsAreApart cs → (v w : World) (went : GroupTrace nodes config v.group) → GoesBeside nodes config cs v went
-    → (step : WorldStep v w) → Holds w (went_on went step) → GoesBeside nodes config cs w (went_on went step)
+step_goes : {nodes : ℕ} {config : Config} {cs : List Client} → ClientsAreApart cs → (v w : ByteWorld) (went : GroupTrace nodes config v.group) → GoesBeside nodes config cs v went
+    → (step : ByteWorldStep v w) → Holds w (went_on went step) → GoesBeside nodes config cs w (went_on went step)
 step_goes apart v w went s (group_goes node_call d is_apart) holds =
     group_beside apart (record v { group = d.after }) v.group went s.so d.step (λ agreed is. s.beside agreed is) holds s.piped
 step_goes apart v w went s (calls i c t h at call spelled) holds = calls_so v went i c t h s at call holds
@@ -69,7 +69,7 @@ step_goes apart v w went s (arrives i j c κ p piece rest has is) holds =
 step_goes apart v w went s (handles i c κ others p pipes packet left at first piped is_open cut spelled) holds =
     handles_so v went i c κ others p pipes packet left s at first piped is_open cut holds
 
-pub goes_beside : {nodes : ℕ} {config : Config} {cs : List Client} → ClientsAreApart cs → (w : World) (trail : Reached nodes config cs w) → GoesBeside nodes config cs w (trace_of trail)
+pub goes_beside : {nodes : ℕ} {config : Config} {cs : List Client} → ClientsAreApart cs → (w : ByteWorld) (trail : Reached nodes config cs w) → GoesBeside nodes config cs w (trace_of trail)
 goes_beside {nodes = nodes} {config = config} {cs = cs} apart w (begins can) = opens_so nodes config cs apart can
 goes_beside apart w (goes_on {old = v} before step) =
     let s = goes_beside apart v before in step_goes apart v w (trace_of before) s step (step_holds v w (trace_of before) s.holds step)

@@ -17,7 +17,7 @@ use Rattle.byte_world.specs.node_moves.Moves.NodeCall.{takes}
 use Rattle.byte_world.specs.node_moves.Puts.{spelled}
 use Rattle.byte_world.specs.Steps.{Reached}
 use Rattle.byte_world.specs.Steps.Reached.{begins, goes_on}
-use Rattle.byte_world.specs.Steps.WorldStep.{connects}
+use Rattle.byte_world.specs.Steps.ByteWorldStep.{connects}
 use Rattle.byte_world.specs.World.{new_client, packets_of}
 use Rattle.headline.specs.Rows.{AClientIsServed, one_node}
 use Rattle.headline.proofs.RowGoes.{Row, client_with, pipe_with, row_arrives, row_down, row_handles, row_up, the_port, turned}

@@ -37,7 +37,7 @@ use Rattle.node_core.specs.declared.item.Item.TheVariants.{Opened}
 use Rattle.node_core.specs.declared.Port.{Port}
 use Rattle.byte_world.specs.Steps.{DoesCall}
 use Rattle.byte_world.specs.ClientSteps.{after_connecting, after_packet, story_alone}
-use Rattle.byte_world.specs.World.{ClientPipes, HasPipe, Pipe, World, after_writing, newly_written, packets_of, sent_up, with_client}
+use Rattle.byte_world.specs.World.{ClientPipes, HasPipe, Pipe, ByteWorld, after_writing, newly_written, packets_of, sent_up, with_client}
 use Rattle.byte_world.proofs.WorldsHold.{Holds}
 use Rattle.byte_world.proofs.WorldsKeep.{call_writes}
 use Rattle.headline.proofs.AnswersFit.{answers_fit}
@@ -53,7 +53,7 @@ use Rattle.headline.proofs.WorldsWrite.{HasAllPipes, clients_alone, known_at, or
 
 -- ---- one client becomes another, and the group rests
 
-client_rests : {nodes : ℕ} {config : Config} {cs : List Client} (v : World) (went : GroupTrace nodes config v.group) (i : ℕ) (later : ClientPipes) (s : GoesBeside nodes config cs v went) → Holds (with_client i later v) went
+client_rests : {nodes : ℕ} {config : Config} {cs : List Client} (v : ByteWorld) (went : GroupTrace nodes config v.group) (i : ℕ) (later : ClientPipes) (s : GoesBeside nodes config cs v went) → Holds (with_client i later v) went
     → HasAllPipes later → ((agreed : List Command) → IsAgreedSo s.so agreed → Beside cs agreed (set (clients_alone v) i (pipes_alone later))) → GoesBeside nodes config cs (with_client i later v) went
 client_rests {cs = cs} v went i later s holds all beside =
     record {
@@ -73,7 +73,7 @@ writes_length : (new : List Written) (connections : List ClientConnection) → l
 writes_length new [] = refl
 writes_length new (κ ∷ connections) = refl
 
-pub calls_so : {nodes : ℕ} {config : Config} {cs : List Client} (v : World) (went : GroupTrace nodes config v.group) (i : ℕ) (c : ClientPipes) (t : Story)
+pub calls_so : {nodes : ℕ} {config : Config} {cs : List Client} (v : ByteWorld) (went : GroupTrace nodes config v.group) (i : ℕ) (c : ClientPipes) (t : Story)
     (h : StoryStep usual_limits (story_alone c) t) (s : GoesBeside nodes config cs v went)
     → slice_get v.clients i ≡ Some c → is_call h ≡ true → Holds (with_client i (after_writing t.keeper t.connections c) v) went
     → GoesBeside nodes config cs (with_client i (after_writing t.keeper t.connections c) v) went
@@ -89,7 +89,7 @@ joins_whole : (ps : List Packet) (bytes : List ℕ) → Joins ps bytes → Each 
 joins_whole [] bytes j = tt
 joins_whole (p ∷ ps) bytes (front, rest, spells, fits, is, j) = (fits, joins_whole ps rest j)
 
-module _ {nodes : ℕ} {config : Config} {cs : List Client} (v : World) (went : GroupTrace nodes config v.group) (s : GoesBeside nodes config cs v went) (agreed : List Command) (is : IsAgreedSo s.so agreed) where
+module _ {nodes : ℕ} {config : Config} {cs : List Client} (v : ByteWorld) (went : GroupTrace nodes config v.group) (s : GoesBeside nodes config cs v went) (agreed : List Command) (is : IsAgreedSo s.so agreed) where
   -- each packet in the list was written by a client on a connection
   was_written : (command : Command) → In command agreed → is_of_connection command ≡ true → IsWritten agreed command
   was_written command among own =
@@ -115,7 +115,7 @@ module _ {nodes : ℕ} {config : Config} {cs : List Client} (v : World) (went : 
       ∙ next_answer h.down.handled (put_to usual_limits (past_of usual_limits agreed) κ.name) p.came left p.down packet h.down.whole
       (answers_fit agreed κ.name (list_fits agreed was_written)) h.down.sound (subst (λ l. IsPrefixOf l (answers_to κ.name agreed)) (sym h.down.is) down) cut
 
-pub handles_so : {nodes : ℕ} {config : Config} {cs : List Client} (v : World) (went : GroupTrace nodes config v.group) (i : ℕ) (c : ClientPipes) (κ : ClientConnection) (others : List ClientConnection) (p : Pipe) (pipes : List Pipe)
+pub handles_so : {nodes : ℕ} {config : Config} {cs : List Client} (v : ByteWorld) (went : GroupTrace nodes config v.group) (i : ℕ) (c : ClientPipes) (κ : ClientConnection) (others : List ClientConnection) (p : Pipe) (pipes : List Pipe)
     (packet : Packet) (left : Stream) (s : GoesBeside nodes config cs v went) → slice_get v.clients i ≡ Some c → c.connections ≡ κ ∷ others → c.pipes ≡ p ∷ pipes → c.keeper.is_open ≡ true
     → Takes p.came (Ok (Some packet)) left → Holds (with_client i (after_packet others pipes p left (packet_handled packet (record { keeper = c.keeper; connection = κ })) c) v) went
     → GoesBeside nodes config cs (with_client i (after_packet others pipes p left (packet_handled packet (record { keeper = c.keeper; connection = κ })) c) v) went
@@ -140,10 +140,10 @@ named_at x (κ ∷ connections) e = by (same_connection x κ.name) refl e (named
     by true is rest next = (zero, κ, refl, same_name x κ.name is)
     by false is rest next = let z = next rest in (suc z.0, z.1, z.2, z.3)
 
-module _ {nodes : ℕ} {config : Config} (v : World) (g : Group) (i : ℕ) (c : ClientPipes) (κ : ClientConnection) (p : Pipe) (later : ClientPipes) (at : slice_get v.clients i ≡ Some c)
+module _ {nodes : ℕ} {config : Config} (v : ByteWorld) (g : Group) (i : ℕ) (c : ClientPipes) (κ : ClientConnection) (p : Pipe) (later : ClientPipes) (at : slice_get v.clients i ≡ Some c)
     (are : later.connections ≡ κ ∷ c.connections) (piped_so : later.pipes ≡ p ∷ c.pipes) (piped : Each HasAllPipes v.clients) {went : GroupTrace nodes config g}
     (holds : Holds (with_client i later (record v { group = g })) went) where
-  abbrev w : World
+  abbrev w : ByteWorld
   w = with_client i later (record v { group = g })
 
   mine : HasPipe w i later 0 κ p
@@ -184,7 +184,7 @@ module _ {nodes : ℕ} {config : Config} (v : World) (g : Group) (i : ℕ) (c : 
       by k e there (inr none) = none
       by k e there (inl some) = let z = named_at κ.name e.connections some in absurd (other_name k e z.0 z.1 there z.2 z.3)
 
-pub connects_so : {nodes : ℕ} {config : Config} {cs : List Client} → ClientsAreApart cs → (v : World) (went : GroupTrace nodes config v.group) (i n : ℕ) (c : ClientPipes) (x : ConnectionName) (port : Port) (now : ℕ)
+pub connects_so : {nodes : ℕ} {config : Config} {cs : List Client} → ClientsAreApart cs → (v : ByteWorld) (went : GroupTrace nodes config v.group) (i n : ℕ) (c : ClientPipes) (x : ConnectionName) (port : Port) (now : ℕ)
     (d : DoesCall v.group (Some (n, takes (Opened port now)))) (s : GoesBeside nodes config cs v went) → slice_get v.clients i ≡ Some c
     → Holds (with_client i (after_connecting x n port c) (record v { group = d.after })) (then_went went d.step)
     → GoesBeside nodes config cs (with_client i (after_connecting x n port c) (record v { group = d.after })) (then_went went d.step)

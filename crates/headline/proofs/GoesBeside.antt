@@ -15,14 +15,14 @@ use Rattle.node_core.specs.Core.{rules}
 use Rattle.node_group.specs.Group.{Group, moment_of_nodes}
 use Rattle.node_group.specs.Steps.{GroupStep, GroupTrace}
 use Rattle.node_group.specs.Steps.GroupTrace.{then_went}
-use Rattle.byte_world.specs.World.{ClientPipes, Pipe, World, with_client, with_pipe}
+use Rattle.byte_world.specs.World.{ClientPipes, Pipe, ByteWorld, with_client, with_pipe}
 use Rattle.byte_world.proofs.WorldsHold.{Holds}
 use Rattle.headline.proofs.Beside.{Beside, grows_beside}
 use Rattle.node_group.proofs.CarriedInOrder.{CarriedSo, IsAgreedSo, carried_on}
 use Rattle.headline.proofs.WorldsWrite.{HasAllPipes, clients_alone, is_of_written, pipes_alone}
 
 -- a past of all steps of its group, and for each list that is agreed at its end a world of `model`
-pub record GoesBeside (nodes : ℕ) (config : Config) (cs : List Client) (w : World) (went : GroupTrace nodes config w.group) : Type 0 where
+pub record GoesBeside (nodes : ℕ) (config : Config) (cs : List Client) (w : ByteWorld) (went : GroupTrace nodes config w.group) : Type 0 where
   pub holds : Holds w went
   pub piped : Each HasAllPipes w.clients
   pub so : CarriedSo went
@@ -30,7 +30,7 @@ pub record GoesBeside (nodes : ℕ) (config : Config) (cs : List Client) (w : Wo
 
 -- ---- the group continues
 
-pub group_beside : {nodes : ℕ} {config : Config} {cs : List Client} → ClientsAreApart cs → (w : World) (g : Group) (went : GroupTrace nodes config g) (so : CarriedSo went) (step : GroupStep g w.group)
+pub group_beside : {nodes : ℕ} {config : Config} {cs : List Client} → ClientsAreApart cs → (w : ByteWorld) (g : Group) (went : GroupTrace nodes config g) (so : CarriedSo went) (step : GroupStep g w.group)
     → ((agreed : List Command) → IsAgreedSo so agreed → Beside cs agreed (clients_alone w)) → Holds w (then_went went step) → Each HasAllPipes w.clients
     → GoesBeside nodes config cs w (then_went went step)
 group_beside {config = config} {cs = cs} apart w g went so step beside holds piped =
@@ -57,7 +57,7 @@ pub alone_still : (clients : List ClientPipes) (i j : ℕ) (c : ClientPipes) (q 
 alone_still clients i j c q at = map_set pipes_alone clients i c (with_pipe j q c) at refl
 
 -- while the group continues
-pub pipe_beside : {nodes : ℕ} {config : Config} {cs : List Client} → ClientsAreApart cs → (v : World) (went : GroupTrace nodes config v.group) (g : Group) (i j : ℕ) (c : ClientPipes) (q : Pipe)
+pub pipe_beside : {nodes : ℕ} {config : Config} {cs : List Client} → ClientsAreApart cs → (v : ByteWorld) (went : GroupTrace nodes config v.group) (g : Group) (i j : ℕ) (c : ClientPipes) (q : Pipe)
     (s : GoesBeside nodes config cs v went) (step : GroupStep v.group g) → slice_get v.clients i ≡ Some c → Holds (with_client i (with_pipe j q c) (record v { group = g })) (then_went went step)
     → GoesBeside nodes config cs (with_client i (with_pipe j q c) (record v { group = g })) (then_went went step)
 pipe_beside {cs = cs} apart v went g i j c q s step at holds =
@@ -65,7 +65,7 @@ pipe_beside {cs = cs} apart v went g i j c q s step at holds =
     (λ agreed is. subst (Beside cs agreed) (sym (alone_still v.clients i j c q at)) (s.beside agreed is)) holds (piped_still v.clients i j c q at s.piped)
 
 -- while it rests
-pub pipe_rests : {nodes : ℕ} {config : Config} {cs : List Client} (v : World) (went : GroupTrace nodes config v.group) (i j : ℕ) (c : ClientPipes) (q : Pipe)
+pub pipe_rests : {nodes : ℕ} {config : Config} {cs : List Client} (v : ByteWorld) (went : GroupTrace nodes config v.group) (i j : ℕ) (c : ClientPipes) (q : Pipe)
     (s : GoesBeside nodes config cs v went) → slice_get v.clients i ≡ Some c
     → Holds (with_client i (with_pipe j q c) v) went → GoesBeside nodes config cs (with_client i (with_pipe j q c) v) went
 pipe_rests {cs = cs} v went i j c q s at holds =

@@ -12,7 +12,7 @@ use Rattle.packet_world.proofs.Holds.{IsTold}
 use Rattle.packet_world.proofs.Lists.{each_get}
 use Rattle.packet_world.proofs.WorldsExact.{reached_holds}
 use Rattle.node_group.specs.Steps.{GroupTrace}
-use Rattle.byte_world.specs.World.{ClientPipes, World}
+use Rattle.byte_world.specs.World.{ClientPipes, ByteWorld}
 use Rattle.node_group.proofs.CarriedInOrder.{IsAgreedSo}
 use Rattle.node_group.proofs.Placed.{get_mapped}
 use Rattle.headline.proofs.Beside.{Alone, Beside, ends_alone}
@@ -28,7 +28,7 @@ pub record HasLife (agreed : List Command) (c : ClientPipes) : Type 0 where
   pub keeper : story.keeper ≡ c.keeper
   pub connections : AreSameUntaken story.connections c.connections
 
-pub lived_beside : {nodes : ℕ} {config : Config} {cs : List Client} → ClientsAreApart cs → (w : World) (went : GroupTrace nodes config w.group) (s : GoesBeside nodes config cs w went)
+pub lived_beside : {nodes : ℕ} {config : Config} {cs : List Client} → ClientsAreApart cs → (w : ByteWorld) (went : GroupTrace nodes config w.group) (s : GoesBeside nodes config cs w went)
     (agreed : List Command) → IsAgreedSo s.so agreed → (i : ℕ) (c : ClientPipes) → slice_get w.clients i ≡ Some c → HasLife agreed c
 lived_beside {cs = cs} apart w went s agreed is i c at = by (map_back ends_alone b.world.clients i (pipes_alone c) (ap (λ l. slice_get l i) b.same ∙ get_mapped pipes_alone w.clients i c at))
   where

@@ -27,11 +27,11 @@ use Rattle.node_core.specs.Core.{rules}
 use Rattle.node_group.specs.Group.{moment_of_nodes}
 use Rattle.node_group.specs.Steps.{GroupTrace}
 use Rattle.byte_world.specs.Carried.{trace_of}
-use Rattle.byte_world.specs.Steps.{Reached, WorldStep}
+use Rattle.byte_world.specs.Steps.{Reached, ByteWorldStep}
 use Rattle.byte_world.specs.Steps.Reached.{begins, goes_on}
-use Rattle.byte_world.specs.Steps.WorldStep.{group_goes, calls, connects, is_taken_back, comes_up, goes_down, arrives, handles}
+use Rattle.byte_world.specs.Steps.ByteWorldStep.{group_goes, calls, connects, is_taken_back, comes_up, goes_down, arrives, handles}
 use Rattle.byte_world.specs.Published.{from_client, published_by_call, published_in_step, published_of, published_on_way}
-use Rattle.byte_world.specs.World.{ClientPipes, World, new_client}
+use Rattle.byte_world.specs.World.{ClientPipes, ByteWorld, new_client}
 use Rattle.headline.proofs.GoesBeside.{GoesBeside}
 use Rattle.headline.proofs.LivedBeside.{lived_beside}
 use Rattle.exactly_once.proofs.sessions.LivedIsLife.{lived_is_life}
@@ -94,7 +94,7 @@ call_says {s = s} (unsubscribes p on id) call = sym (append-nil (own_publication
 
 -- ---- a packet
 
-packet_says : {nodes : ℕ} {config : Config} {cs : List Client} → ClientsAreApart cs → (v : World) (went : GroupTrace nodes config v.group) (s : GoesBeside nodes config cs v went) (i : ℕ)
+packet_says : {nodes : ℕ} {config : Config} {cs : List Client} → ClientsAreApart cs → (v : ByteWorld) (went : GroupTrace nodes config v.group) (s : GoesBeside nodes config cs v went) (i : ℕ)
     (c : ClientPipes) (κ : ClientConnection) (packet : Packet) → slice_get v.clients i ≡ Some c
     → own_publications (all_own (packet_handled packet (let side : Side = record { keeper = c.keeper; connection = κ } in side)).keeper) ≡ own_publications (all_own c.keeper)
 packet_says {config = config} apart v went s i c κ packet at =
@@ -106,15 +106,15 @@ packet_says {config = config} apart v went s i c κ packet at =
 -- ---- on the way to a world
 
 -- of each client
-abbrev AllPublished : World → List (ℕ × Publication) → Type 0
+abbrev AllPublished : ByteWorld → List (ℕ × Publication) → Type 0
 AllPublished w asked = (i : ℕ) (c : ClientPipes) → slice_get w.clients i ≡ Some c → own_publications (all_own c.keeper) ≡ published_of i asked
 
 -- nothing is published, and what was is kept
-still : (w : World) (asked : List (ℕ × Publication)) → AllPublished w asked → AllPublished w (asked ++ [])
+still : (w : ByteWorld) (asked : List (ℕ × Publication)) → AllPublished w asked → AllPublished w (asked ++ [])
 still w asked all i c at = all i c at ∙ ap (published_of i) (sym (append-nil asked))
 
 -- one client becomes another, which published this
-becomes : (v : World) (clients : List ClientPipes) (asked : List (ℕ × Publication)) (j : ℕ) (c later : ClientPipes) (more : List Publication) → clients ≡ set v.clients j later
+becomes : (v : ByteWorld) (clients : List ClientPipes) (asked : List (ℕ × Publication)) (j : ℕ) (c later : ClientPipes) (more : List Publication) → clients ≡ set v.clients j later
     → slice_get v.clients j ≡ Some c → own_publications (all_own later.keeper) ≡ own_publications (all_own c.keeper) ++ more → AllPublished v asked
     → (i : ℕ) (d : ClientPipes) → slice_get clients i ≡ Some d → own_publications (all_own d.keeper) ≡ published_of i (asked ++ from_client j more)
 becomes v clients asked j c later more are at says all i d there = by (set_get v.clients j i c later d at (ap (λ l. slice_get l i) (sym are) ∙ there))
@@ -128,8 +128,8 @@ becomes v clients asked j c later more are at says all i d there = by (set_get v
         all i d stood ∙ sym (append-nil (published_of i asked)) ∙ ap (λ (l : List Publication). published_of i asked ++ l) (sym (of_another i j more other))
         ∙ sym (of_both i asked (from_client j more))
 
-step_says : {nodes : ℕ} {config : Config} {cs : List Client} → ClientsAreApart cs → (v w : World) (went : GroupTrace nodes config v.group) → GoesBeside nodes config cs v went
-    → (asked : List (ℕ × Publication)) → AllPublished v asked → (step : WorldStep v w) → AllPublished w (asked ++ published_in_step step)
+step_says : {nodes : ℕ} {config : Config} {cs : List Client} → ClientsAreApart cs → (v w : ByteWorld) (went : GroupTrace nodes config v.group) → GoesBeside nodes config cs v went
+    → (asked : List (ℕ × Publication)) → AllPublished v asked → (step : ByteWorldStep v w) → AllPublished w (asked ++ published_in_step step)
 step_says apart v w went s asked all (group_goes node_call d is_apart) = still w asked all
 step_says apart v w went s asked all (calls j c t h at call spelled) = becomes v w.clients asked j c _ (published_by_call h) refl at (call_says h call) all
 step_says apart v w went s asked all (connects j n c port now d core end at unused after there_so spelled) =
@@ -147,7 +147,7 @@ none_published cs i c at =
     (each_of_made new_client (λ (d : ClientPipes). own_publications (all_own d.keeper) ≡ []) cs (each_by (λ (d : Client). own_publications (all_own (new_client d).keeper) ≡ []) cs (λ k d there. refl))) at
 
 -- what a client published is what the steps on the way say about it
-pub own_published : {nodes : ℕ} {config : Config} {cs : List Client} → ClientsAreApart cs → (w : World) (trail : Reached nodes config cs w) (i : ℕ) (c : ClientPipes)
+pub own_published : {nodes : ℕ} {config : Config} {cs : List Client} → ClientsAreApart cs → (w : ByteWorld) (trail : Reached nodes config cs w) (i : ℕ) (c : ClientPipes)
     → slice_get w.clients i ≡ Some c → own_publications (all_own c.keeper) ≡ published_of i (published_on_way trail)
 own_published {cs = cs} apart w (begins can) i c at = none_published cs i c at
 own_published apart w (goes_on {old = v} before step) i c at =

@@ -30,8 +30,8 @@ use Rattle.byte_world.specs.NodeCalls.{NodeCallWasSent}
 use Rattle.byte_world.specs.Steps.{DoesCall, Reached, going_with}
 use Rattle.byte_world.specs.ClientSteps.{WritesCanBeSpelled, story_alone}
 use Rattle.byte_world.specs.Steps.Reached.{goes_on}
-use Rattle.byte_world.specs.Steps.WorldStep.{calls, comes_up, goes_down as step_down, arrives, handles}
-use Rattle.byte_world.specs.World.{ClientPipes, Pipe, World, after_writing, newly_written}
+use Rattle.byte_world.specs.Steps.ByteWorldStep.{calls, comes_up, goes_down as step_down, arrives, handles}
+use Rattle.byte_world.specs.World.{ClientPipes, Pipe, ByteWorld, after_writing, newly_written}
 use Rattle.byte_world.proofs.NodeCallsCarry.{node_calls_carry_their_bytes}
 use Rattle.headline.specs.Rows.{one_node}
 
@@ -67,7 +67,7 @@ pipe_with up down held = record { node = 0; port = the_port; up = up; down = dow
 abbrev pub client_with : Keeper → ClientConnection → Pipe → ClientPipes
 client_with keeper κ p = record { keeper = keeper; connections = κ ∷ []; pipes = p ∷ [] }
 
-abbrev pub world_with : Group → ClientPipes → World
+abbrev pub world_with : Group → ClientPipes → ByteWorld
 world_with g c = record { group = g; clients = c ∷ [] }
 
 -- such a world is reached, in which the node keeps this

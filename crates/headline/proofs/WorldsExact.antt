@@ -24,7 +24,7 @@ use Rattle.node_group.specs.Steps.{GroupTrace}
 use Rattle.node_group.proofs.Placed.{get_mapped}
 use Rattle.byte_world.specs.Carried.{trace_of}
 use Rattle.byte_world.specs.Published.{published_of, published_on_way}
-use Rattle.byte_world.specs.World.{ClientPipes, World}
+use Rattle.byte_world.specs.World.{ClientPipes, ByteWorld}
 use Rattle.byte_world.proofs.PipesInOrder.{in_order}
 use Rattle.headline.specs.Exact.{IsExactBy, IsExactInStep, IsInOneSession, IsShownBy, WorldsAreExact, story_of}
 use Rattle.headline.specs.Promise.{Promise, PromiseBy}
@@ -41,7 +41,7 @@ use Rattle.headline.proofs.Untaken.{AreSameUntaken}
 use Rattle.headline.proofs.WorldsWrite.{clients_alone, pipes_alone}
 use Rattle.exactly_once.specs.Sides.{ClientConnection}
 
-exact_by : {nodes : ℕ} {config : Config} {cs : List Client} → ClientsAreApart cs → (w : World) (went : GroupTrace nodes config w.group) (s : GoesBeside nodes config cs w went) (agreed : List Command) → IsAgreedSo s.so agreed
+exact_by : {nodes : ℕ} {config : Config} {cs : List Client} → ClientsAreApart cs → (w : ByteWorld) (went : GroupTrace nodes config w.group) (s : GoesBeside nodes config cs w went) (agreed : List Command) → IsAgreedSo s.so agreed
     → IsExactBy agreed w
 exact_by {cs = cs} apart w went s agreed is =
     let exact = worlds_beside_are_exact cs b.world apart b.reached in
@@ -85,7 +85,7 @@ promise_untaken c connections others published past state same p =
     }
 
 -- what is promised for a client by what it shows
-promised : {nodes : ℕ} {config : Config} {cs : List Client} → ClientsAreApart cs → (w : World) (went : GroupTrace nodes config w.group) (s : GoesBeside nodes config cs w went) (agreed : List Command) → IsAgreedSo s.so agreed
+promised : {nodes : ℕ} {config : Config} {cs : List Client} → ClientsAreApart cs → (w : ByteWorld) (went : GroupTrace nodes config w.group) (s : GoesBeside nodes config cs w went) (agreed : List Command) → IsAgreedSo s.so agreed
     → (published : List Publication) (i : ℕ) (c : ClientPipes) (state : ClientState) → slice_get w.clients i ≡ Some c → own_publications (all_own c.keeper) ≡ published → IsShownBy c state
     → Promise c.connections published agreed state
 promised apart w went s agreed is published i c state at said shown =

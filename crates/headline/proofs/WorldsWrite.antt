@@ -20,7 +20,7 @@ use Rattle.byte_world.specs.node_moves.Ends.{packet_commands_from}
 use Rattle.node_group.specs.Steps.{GroupTrace}
 use Rattle.node_group.specs.Order.{packet_commands as packets_in_list}
 use Rattle.node_group.proofs.Placed.{get_mapped}
-use Rattle.byte_world.specs.World.{ClientPipes, HasPipe, Pipe, World, packets_of}
+use Rattle.byte_world.specs.World.{ClientPipes, HasPipe, Pipe, ByteWorld, packets_of}
 use Rattle.byte_world.proofs.WorldsHold.{Holds, IsKnown, IsUnheard}
 use Rattle.headline.proofs.Untaken.{untaken_connection}
 use Rattle.headline.proofs.Beside.{Alone, IsOfWritten, alone}
@@ -30,7 +30,7 @@ use Rattle.headline.proofs.Places.{map_back}
 abbrev pub pipes_alone : ClientPipes → Alone
 pipes_alone c = alone c.keeper c.connections
 
-abbrev pub clients_alone : World → List Alone
+abbrev pub clients_alone : ByteWorld → List Alone
 clients_alone w = map pipes_alone w.clients
 
 -- each of its connections has a pipe
@@ -67,7 +67,7 @@ none_in x [] front i = elim i [ ]
 
 -- ---- what is agreed
 
-module _ {nodes : ℕ} {config : Config} (w : World) (went : GroupTrace nodes config w.group) (holds : Holds w went) (piped : Each HasAllPipes w.clients) (so : CarriedSo went)
+module _ {nodes : ℕ} {config : Config} (w : ByteWorld) (went : GroupTrace nodes config w.group) (holds : Holds w went) (piped : Each HasAllPipes w.clients) (so : CarriedSo went)
     (agreed : List Command) (is : IsAgreedSo so agreed) where
   -- a connection of a client, with its pipe
   pub record Stands (i j : ℕ) (a : Alone) (κ : ClientConnection) : Type 0 where

@@ -21,7 +21,7 @@ use Rattle.packet_world.specs.World.{ClientsAreApart}
 use Rattle.node_group.specs.Group.{moment_of_nodes}
 use Rattle.node_group.specs.Steps.{all_proposed, groups_on_trace}
 use Rattle.node_group.specs.Pasts.{HasPast}
-use Rattle.byte_world.specs.World.{ClientPipes, HasPipe, Pipe, World}
+use Rattle.byte_world.specs.World.{ClientPipes, HasPipe, Pipe, ByteWorld}
 use Rattle.byte_world.specs.Carried.{trace_of}
 use Rattle.byte_world.specs.Accepted.{accepted_once}
 use Rattle.byte_world.specs.Published.{published_of, published_on_way}
@@ -56,7 +56,7 @@ pub record IsShownBy (client : ClientPipes) (state : ClientState) : Type 0 where
   pub accepted : accepted_once state.accepted ≡ accepted_on client.connections
 
 -- what a world is promised if this is the list on which its nodes agree
-pub record IsExactBy (agreed : List Command) (world : World) : Type 0 where
+pub record IsExactBy (agreed : List Command) (world : ByteWorld) : Type 0 where
   -- each client that is in step publishes once, and accepts in order in each of its sessions
   pub clients : Each (IsExactInStep agreed) world.clients
   pub unexpelled : Each (IsInOneSession agreed) world.clients
@@ -70,7 +70,7 @@ pub record IsExactBy (agreed : List Command) (world : World) : Type 0 where
 
 -- A world that is reached by these steps: the steps of its group are a past, there is a list on
 -- which the nodes agree at its end, and the world is exact by that list.
-pub record IsExact {nodes : ℕ} {config : Config} {clients : List Client} {world : World}
+pub record IsExact {nodes : ℕ} {config : Config} {clients : List Client} {world : ByteWorld}
     (trail : Reached nodes config clients world) : Type 0 where
   pub of : HasPast config world.group (groups_on_trace (trace_of trail))
       (all_proposed (trace_of trail))
@@ -88,5 +88,5 @@ pub record IsExact {nodes : ℕ} {config : Config} {clients : List Client} {worl
 -- each world of clients with identifiers of their own is exact, whatever its steps
 abbrev pub WorldsAreExact : Type 0
 WorldsAreExact =
-    (nodes : ℕ) (config : Config) (clients : List Client) (world : World) →
+    (nodes : ℕ) (config : Config) (clients : List Client) (world : ByteWorld) →
     ClientsAreApart clients → (trail : Reached nodes config clients world) → IsExact trail

@@ -13,7 +13,7 @@ use Rattle.exactly_once.specs.Acceptance.{accepted_on}
 use Rattle.exactly_once.specs.Rows.{asks_for_news, first_name, news, writer}
 use Rattle.node_core.specs.Core.{CoreState}
 use Rattle.byte_world.specs.Steps.{Reached}
-use Rattle.byte_world.specs.World.{ClientPipes, World}
+use Rattle.byte_world.specs.World.{ClientPipes, ByteWorld}
 
 -- a group of one node
 abbrev pub one_node : Config
@@ -27,7 +27,7 @@ is_served client = client.keeper.is_online
 
 -- a world is reached in which the client is served
 pub record AClientIsServed : Type 0 where
-  pub end : World
+  pub end : ByteWorld
   pub trail : Reached 1 one_node (writer ∷ []) end
   pub served : map is_served end.clients ≡ true ∷ []
 
@@ -59,7 +59,7 @@ published_by client = client.keeper.own
 -- A world is reached in which the client has subscribed to what it published at QoS 2, both
 -- handshakes have ended, it has accepted its publication once, and the node keeps this list.
 pub record APublicationIsAccepted : Type 0 where
-  pub end : World
+  pub end : ByteWorld
   pub trail : Reached 1 one_node (writer ∷ []) end
   pub accepted : map accepted_by end.clients ≡ (news ∷ []) ∷ []
   pub done : map published_by end.clients ≡ (Own.Done 0 news ∷ []) ∷ []

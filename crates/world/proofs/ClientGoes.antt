@@ -2,7 +2,7 @@
 use Rattle.std.proofs.Common.{◌≡◌, ◌≤◌, ℕ, List, [], ◌++◌, Some, set, slice_get, refl, sym, ap, ap₂, ◌∙◌, subst, arith}
 use Rattle.std.proofs.lemmas.List.{append-nil, map-append, set-set}
 use Rattle.escaping_client.proofs.of_lists.Places.{get_set}
-use Rattle.headline.specs.byte_world.World.{ClientPipes, World, with_client}
+use Rattle.headline.specs.byte_world.World.{ClientPipes, ByteWorld, with_client}
 use Rattle.headline.specs.byte_world.Published.{from_client}
 use Rattle.session_base.specs.declared.publication.Publication.{Publication}
 use Rattle.world_pipes.specs.Following.{FollowsAll, FollowsBy}
@@ -26,16 +26,16 @@ use Rattle.world_clients.proofs.Turned.{set_itself}
 -- ---- the model
 
 -- steps to a world of these clients, with what is published
-record StepsBy (asked : List (ℕ × Publication)) (w : World) (cs : List ClientPipes) : Type 0 where
+record StepsBy (asked : List (ℕ × Publication)) (w : ByteWorld) (cs : List ClientPipes) : Type 0 where
   pub steps : WorldSteps w (record w { clients = cs })
   pub asked_is : published_along steps ≡ asked
 
 -- the step of one client, and its place then
-record StepsTo (asked : List Publication) (w : World) (i : ℕ) (d : ClientPipes) : Type 0 where
+record StepsTo (asked : List Publication) (w : ByteWorld) (i : ℕ) (d : ClientPipes) : Type 0 where
   pub by : StepsBy (from_client i asked) w (set w.clients i d)
   pub at : slice_get (with_client i d w).clients i ≡ Some d
 
-steps_to : (w : World) (i : ℕ) {c d : ClientPipes} → slice_get w.clients i ≡ Some c → (goes : ClientTrace c d) → StepsTo (published_with goes) w i d
+steps_to : (w : ByteWorld) (i : ℕ) {c d : ClientPipes} → slice_get w.clients i ≡ Some c → (goes : ClientTrace c d) → StepsTo (published_with goes) w i d
 steps_to w i {c = c} at ClientTrace.stays =
     record {
       by = subst (λ (cs : List ClientPipes). StepsBy [] w cs) (sym (set_itself w.clients i c at)) (record { steps = rests; asked_is = refl });

@@ -5,8 +5,8 @@ use Rattle.std.proofs.lemmas.Option.{same_Some}
 use Rattle.node_core.specs.declared.item.Item.TheVariants.{Bytes}
 use Rattle.node_core.specs.declared.Port.{Port}
 use Rattle.headline.specs.node_moves.Moves.NodeCall.{takes}
-use Rattle.headline.specs.byte_world.World.{HasPipe, Pipe, World, with_client, with_pipe}
-use Rattle.headline.specs.byte_world.Steps.WorldStep.{comes_up}
+use Rattle.headline.specs.byte_world.World.{HasPipe, Pipe, ByteWorld, with_client, with_pipe}
+use Rattle.headline.specs.byte_world.Steps.ByteWorldStep.{comes_up}
 use Rattle.world_nodes.specs.ExactSteps.{NodeDoesCall}
 use Rattle.world_nodes.specs.Nodes.{NodesState}
 use Rattle.world_pipes.specs.declared.way.Way.{Way}
@@ -24,7 +24,7 @@ use Rattle.world.proofs.GoesDown.{put_down}
 use Rattle.world_clients.proofs.LeadsKept.{led}
 use Rattle.world.proofs.WaysStand.{PipeAt, pipe_at, way_changes}
 
-taken_up : (old : WorldState) (m : World) (s : WorldStandsFor m old) (place : ConnectionSlot) (client : WorldClient) (one : StandsAt m.clients place.client client.piped) (way : Way)
+taken_up : (old : WorldState) (m : ByteWorld) (s : WorldStandsFor m old) (place : ConnectionSlot) (client : WorldClient) (one : StandsAt m.clients place.client client.piped) (way : Way)
     (x : PipeAt client.piped one.c place.at way) (new : NodesState) (count : ℕ) → count ≤ length way.up
     → NodeDoesCall x.p.node (takes (Bytes x.p.port (take count way.up) 0)) old.nodes new → ModelStepsTo [] m (put_down place.client client (with_less place.at count way client.piped) new old)
 taken_up old m s place client one way x new count part acts =

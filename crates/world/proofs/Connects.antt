@@ -12,9 +12,9 @@ use Rattle.node_core.specs.Core.{CoreState, CountedCore}
 use Rattle.node_core.specs.Handing.{listed_at}
 use Rattle.headline.specs.node_moves.Moves.NodeCall.{takes}
 use Rattle.headline.proofs.of_node_group.Placed.{get_mapped}
-use Rattle.headline.specs.byte_world.World.{ClientPipes, Pipe, World, is_used, leads_to, with_client}
+use Rattle.headline.specs.byte_world.World.{ClientPipes, Pipe, ByteWorld, is_used, leads_to, with_client}
 use Rattle.headline.specs.byte_world.ClientSteps.{after_connecting}
-use Rattle.headline.specs.byte_world.Steps.WorldStep.{connects}
+use Rattle.headline.specs.byte_world.Steps.ByteWorldStep.{connects}
 use Rattle.world_nodes.specs.ExactSteps.{NodeDoesCall}
 use Rattle.world_nodes.specs.Running.{numbered_node}
 use Rattle.world_nodes.specs.Nodes.{NodesState, NodesStandFor}
@@ -101,7 +101,7 @@ connects_goes i node old new housed one nodes config cs m trail s = by node refl
         let follows = subst (λ (k : ℕ). ConnectingFollows k port one.client.piped (Ok tt) one.piped) low one.reaches.follows c.c end.0.name c.stands in
         let step = connects i n c.c port 0 d.does has.core.core end.0 c.at
         (unused n (length old.connections) port (let e : length old.connections < suc (length old.connections) = omega arith in e) old.clients m.clients s.clients housed.used) stands end.1 follows.1 in
-        let after : World = with_client i (after_connecting end.0.name n port c.c) (record m { group = d.does.after }) in
+        let after : ByteWorld = with_client i (after_connecting end.0.name n port c.c) (record m { group = d.does.after }) in
         record {
           after = after;
           steps = goes_on rests step;

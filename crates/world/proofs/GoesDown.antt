@@ -16,9 +16,9 @@ use Rattle.headline.specs.node_moves.Moves.NodeCall.{gives}
 use Rattle.headline.proofs.of_node_moves.Views.{found_passes}
 use Rattle.headline.specs.node_group.Streams.{bytes_named}
 use Rattle.headline.specs.node_group.Streams.{goes_down as goes_down_in}
-use Rattle.headline.specs.byte_world.World.{HasPipe, Pipe, World, with_client, with_pipe}
+use Rattle.headline.specs.byte_world.World.{HasPipe, Pipe, ByteWorld, with_client, with_pipe}
 use Rattle.headline.specs.byte_world.Steps.{Reached}
-use Rattle.headline.specs.byte_world.Steps.WorldStep.{goes_down}
+use Rattle.headline.specs.byte_world.Steps.ByteWorldStep.{goes_down}
 use Rattle.headline.proofs.of_byte_world.NodesGoOn.{carries_with}
 use Rattle.headline.proofs.of_byte_world.PipesHold.{found_in}
 use Rattle.headline.proofs.of_byte_world.PipesInOrder.{reached_holds}
@@ -56,7 +56,7 @@ all_named x port core ports = by (listed_at port core) refl
 abbrev pub put_down : ℕ → WorldClient → Piped → NodesState → WorldState → WorldState
 put_down i client later new old = record old { nodes = new; clients = set old.clients i (record client { piped = later }) }
 
-module _ {nodes : ℕ} {config : Config} {cs : List Client} (m : World) (trail : Reached nodes config cs m) (old : WorldState) (s : WorldStandsFor m old) (place : ConnectionSlot) (client : WorldClient)
+module _ {nodes : ℕ} {config : Config} {cs : List Client} (m : ByteWorld) (trail : Reached nodes config cs m) (old : WorldState) (s : WorldStandsFor m old) (place : ConnectionSlot) (client : WorldClient)
     (one : StandsAt m.clients place.client client.piped) (way : Way) (x : PipeAt client.piped one.c place.at way) (new : NodesState) where
   has : HasPipe m place.client one.c x.turned.place x.κ x.p
   has = record { client = one.at; connection = x.connection; pipe = x.pipe }

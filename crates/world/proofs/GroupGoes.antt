@@ -12,9 +12,9 @@ use Rattle.node_core.specs.declared.item.Item.TheVariants.{Cut, Expel, Peer}
 use Rattle.headline.specs.node_moves.Moves.{NodeCall}
 use Rattle.headline.specs.node_moves.Moves.NodeCall.{takes}
 use Rattle.headline.specs.node_group.Group.{Group}
-use Rattle.headline.specs.byte_world.World.{World}
+use Rattle.headline.specs.byte_world.World.{ByteWorld}
 use Rattle.headline.specs.byte_world.Steps.{is_apart}
-use Rattle.headline.specs.byte_world.Steps.WorldStep.{group_goes}
+use Rattle.headline.specs.byte_world.Steps.ByteWorldStep.{group_goes}
 use Rattle.world_nodes.specs.Nodes.{NodesState, NodesStandFor}
 use Rattle.world_nodes.specs.ExactSteps.{NodeDoesCall, GoesBy}
 use Rattle.world_nodes.specs.Steps.{nodes_with_loss}
@@ -49,7 +49,7 @@ world_goes old new (stays stay) nodes config cs m trail s = world_stands old new
 world_goes old new (acts node_call apart by) nodes config cs m trail s =
     let d = by m.group s.nodes in
     record {
-      after = (let w : World = record m { group = d.does.after } in w);
+      after = (let w : ByteWorld = record m { group = d.does.after } in w);
       steps = goes_on rests (group_goes node_call d.does apart);
       asked_is = refl;
       stands = record { nodes = d.stands; clients = s.clients };

@@ -7,7 +7,7 @@ use Rattle.headline.specs.broker_spec.Place.{Client}
 use Rattle.headline.proofs.WorldsExact.{worlds_are_exact}
 use Rattle.headline.specs.packet_world.World.{ClientsAreApart}
 use Rattle.session_base.specs.declared.publication.Publication.{Publication}
-use Rattle.headline.specs.byte_world.World.{World}
+use Rattle.headline.specs.byte_world.World.{ByteWorld}
 use Rattle.headline.specs.byte_world.Steps.{Reached}
 use Rattle.headline.specs.byte_world.Steps.Reached.{goes_on as reached_more}
 use Rattle.headline.specs.byte_world.Published.{published_in_step, published_on_way}
@@ -23,21 +23,21 @@ use Rattle.world_clients.proofs.NodesGoOn.{nodes_go_join, nodes_join, nodes_rest
 
 -- ---- worlds of the model
 
-pub steps_join : {m n o : World} → WorldSteps m n → WorldSteps n o → WorldSteps m o
+pub steps_join : {m n o : ByteWorld} → WorldSteps m n → WorldSteps n o → WorldSteps m o
 steps_join one rests = one
 steps_join one (goes_on two step) = goes_on (steps_join one two) step
 
-pub along_join : {m n o : World} (one : WorldSteps m n) (two : WorldSteps n o) → published_along (steps_join one two) ≡ published_along one ++ published_along two
+pub along_join : {m n o : ByteWorld} (one : WorldSteps m n) (two : WorldSteps n o) → published_along (steps_join one two) ≡ published_along one ++ published_along two
 unfolding steps_join
 along_join one rests = sym (append-nil (published_along one))
 along_join one (goes_on two step) =
     ap (λ (l : List (ℕ × Publication)). l ++ published_in_step step) (along_join one two) ∙ append_assoc (published_along one) (published_along two) (published_in_step step)
 
-pub reached_on : {nodes : ℕ} {config : Config} {cs : List Client} {m n : World} → Reached nodes config cs m → WorldSteps m n → Reached nodes config cs n
+pub reached_on : {nodes : ℕ} {config : Config} {cs : List Client} {m n : ByteWorld} → Reached nodes config cs m → WorldSteps m n → Reached nodes config cs n
 reached_on trail rests = trail
 reached_on trail (goes_on steps step) = reached_more (reached_on trail steps) step
 
-pub reached_asked : {nodes : ℕ} {config : Config} {cs : List Client} {m n : World} (trail : Reached nodes config cs m) (steps : WorldSteps m n)
+pub reached_asked : {nodes : ℕ} {config : Config} {cs : List Client} {m n : ByteWorld} (trail : Reached nodes config cs m) (steps : WorldSteps m n)
     → published_on_way (reached_on trail steps) ≡ published_on_way trail ++ published_along steps
 unfolding reached_on
 reached_asked trail rests = sym (append-nil (published_on_way trail))
@@ -47,7 +47,7 @@ reached_asked trail (goes_on steps step) =
 -- ---- worlds in code
 
 -- only the nodes and the clients of a world matter for its correspondence to one of the model
-pub stands_as : (m : World) (a b : WorldState) → b.nodes ≡ a.nodes → b.clients ≡ a.clients → WorldStandsFor m a → WorldStandsFor m b
+pub stands_as : (m : ByteWorld) (a b : WorldState) → b.nodes ≡ a.nodes → b.clients ≡ a.clients → WorldStandsFor m a → WorldStandsFor m b
 stands_as m a b nodes clients s =
     record {
       nodes = subst (λ (n : NodesState). NodesStandFor m.group n) (sym nodes) s.nodes;
@@ -125,11 +125,11 @@ world_on_join a b c one two =
 
 -- ---- what is promised
 
-pub is_reached : (nodes : ℕ) (config : Config) (cs : List Client) (m : World) (w : WorldState) → ClientsAreApart cs → Reached nodes config cs m → WorldStandsFor m w → IsReached nodes config cs w
+pub is_reached : (nodes : ℕ) (config : Config) (cs : List Client) (m : ByteWorld) (w : WorldState) → ClientsAreApart cs → Reached nodes config cs m → WorldStandsFor m w → IsReached nodes config cs w
 is_reached nodes config cs m w apart trail stands =
     record { apart = apart; world = m; trail = trail; stands = stands; exact = worlds_are_exact nodes config cs m apart trail }
 
-pub is_reached_asked : (nodes : ℕ) (config : Config) (cs : List Client) (m : World) (w : WorldState) (apart : ClientsAreApart cs) (trail : Reached nodes config cs m) (stands : WorldStandsFor m w)
+pub is_reached_asked : (nodes : ℕ) (config : Config) (cs : List Client) (m : ByteWorld) (w : WorldState) (apart : ClientsAreApart cs) (trail : Reached nodes config cs m) (stands : WorldStandsFor m w)
     → asked_on (is_reached nodes config cs m w apart trail stands) ≡ published_on_way trail
 unfolding is_reached
 is_reached_asked nodes config cs m w apart trail stands = refl

@@ -23,7 +23,7 @@ use Rattle.ways_out.proofs.Rows.{others_first}
 use Rattle.headline.specs.node_group.Group.{moment_of_nodes, replica_of}
 use Rattle.headline.specs.snapshots.Moments.{Moment, Moments, whole_moment}
 use Rattle.headline.specs.snapshots.Whole.{whole}
-use Rattle.headline.specs.byte_world.World.{World}
+use Rattle.headline.specs.byte_world.World.{ByteWorld}
 use Rattle.headline.specs.byte_world.Steps.{Reached}
 use Rattle.headline.proofs.of_node_group.Placed.{get_mapped}
 use Rattle.headline.proofs.of_byte_world.NodesHoused.{nodes_are_orderly}
@@ -71,7 +71,7 @@ module _ (first : ℕ) (os : List ℕ) (lawful : is_lawful (first ∷ os) first 
 
 -- ---- the new primary
 
-module _ (config : Config) {nodes : ℕ} {cs : List Client} (m : World) (trail : Reached nodes config cs m) (w : WorldState) (s : WorldStandsFor m w)
+module _ (config : Config) {nodes : ℕ} {cs : List Client} (m : ByteWorld) (trail : Reached nodes config cs m) (w : WorldState) (s : WorldStandsFor m w)
     (past : List (Moment State Command Output)) (came : Moments rules config (moment_of_nodes m.group ∷ past)) (first : ℕ) (os : List ℕ) (name : Client)
     (possible : CanEscape (first ∷ os) name w) (more : List Event) (new : WorldState)
     (l : LedTo config m.group past (first ∷ os) possible.index (whole_log_of w.nodes possible.source) more w new)

@@ -9,7 +9,7 @@ use Rattle.headline.specs.broker_spec.Place.{Client}
 use Rattle.escaping_nodes.specs.Opened.{first_of}
 use Rattle.headline.specs.node_moves.Ends.{IsGiven}
 use Rattle.headline.specs.byte_world.AtNodes.{LeadsToPort}
-use Rattle.headline.specs.byte_world.World.{ClientPipes, World, is_used, leads_to}
+use Rattle.headline.specs.byte_world.World.{ClientPipes, ByteWorld, is_used, leads_to}
 use Rattle.headline.specs.byte_world.Steps.{Reached}
 use Rattle.headline.proofs.of_node_group.Placed.{get_mapped}
 use Rattle.headline.proofs.of_byte_world.NodesHoused.{nodes_are_orderly, ports_have_pipes}
@@ -43,7 +43,7 @@ at_none test (y ∷ xs) (suc i) x none e = at_none test xs i x (or_parts (test y
 
 -- ---- its ports and its names
 
-module _ {nodes : ℕ} {config : Config} {cs : List Client} (m : World) (trail : Reached nodes config cs m) (w : WorldState) (s : WorldStandsFor m w)
+module _ {nodes : ℕ} {config : Config} {cs : List Client} (m : ByteWorld) (trail : Reached nodes config cs m) (w : WorldState) (s : WorldStandsFor m w)
     (housed : SlotsAreValid (targets_of_clients w.clients) w.connections) (at : ℕ) (node : CountedCore) (stands : slice_get w.nodes.nodes at ≡ Some node) where
   in_model : slice_get m.group.nodes at ≡ Some node.core
   in_model = ap (λ (l : List CoreState). slice_get l at) s.nodes.nodes ∙ get_mapped (λ (c : CountedCore). c.core) w.nodes.nodes at node stands

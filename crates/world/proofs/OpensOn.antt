@@ -11,8 +11,8 @@ use Rattle.node_core.specs.Core.{CoreState, CountedCore}
 use Rattle.node_core.specs.Handing.{listed_at}
 use Rattle.headline.specs.node_moves.Moves.NodeCall.{takes}
 use Rattle.headline.proofs.of_node_group.Placed.{get_mapped}
-use Rattle.headline.specs.byte_world.World.{World}
-use Rattle.headline.specs.byte_world.Steps.WorldStep.{is_taken_back}
+use Rattle.headline.specs.byte_world.World.{ByteWorld}
+use Rattle.headline.specs.byte_world.Steps.ByteWorldStep.{is_taken_back}
 use Rattle.world_nodes.specs.ExactSteps.{NodeDoesCall}
 use Rattle.world_nodes.specs.Running.{numbered_node}
 use Rattle.world_nodes.specs.Nodes.{NodesState}
@@ -93,7 +93,7 @@ turned old new node port housed beyond (inr hears) nodes config cs m trail s = b
         let found : slice_get new.nodes n ≡ Some has.core = sym (ap (numbered_node new.nodes) is) ∙ has.stands in
         let stands = ap (λ (l : List CoreState). slice_get l n) d.stands.nodes ∙ get_mapped (λ (c : CountedCore). c.core) new.nodes n has.core found in
         record {
-          after = (let w : World = record m { group = d.does.after } in w);
+          after = (let w : ByteWorld = record m { group = d.does.after } in w);
           steps = goes_on rests (is_taken_back n port 0 d.does has.core.core (unused n (length old.connections) port beyond old.clients m.clients s.clients housed.used) stands
               (is_none (listed_at port has.core.core) has.known));
           asked_is = refl;

@@ -6,8 +6,8 @@ use Rattle.headline.specs.packet_world.World.{ClientsAreApart}
 use Rattle.session_base.specs.declared.publication.Publication.{Publication}
 use Rattle.headline.specs.exactly_once.Sides.{ClientConnection}
 use Rattle.headline.specs.Exact.{IsExact}
-use Rattle.headline.specs.byte_world.World.{ClientPipes, World}
-use Rattle.headline.specs.byte_world.Steps.{Reached, WorldStep}
+use Rattle.headline.specs.byte_world.World.{ClientPipes, ByteWorld}
+use Rattle.headline.specs.byte_world.Steps.{Reached, ByteWorldStep}
 use Rattle.headline.specs.byte_world.Published.{published_in_step, published_on_way}
 use Rattle.world_nodes.specs.Nodes.{NodesStandFor}
 use Rattle.world.specs.World.{WorldState}
@@ -15,30 +15,31 @@ use Rattle.world_clients.specs.Clients.{ClientsStand}
 
 -- A world in code corresponds to one of the model: its nodes to the group, its clients to the
 -- clients. What was written, handled and agreed before is history: no field keeps it.
-pub record WorldStandsFor (model : World) (world : WorldState) : Type 0 where
+pub record WorldStandsFor (model : ByteWorld) (world : WorldState) : Type 0 where
   pub nodes : NodesStandFor model.group world.nodes
   pub clients : ClientsStand world.clients model.clients
 
 -- ---- how it moves
 
 -- steps of a world, one after another
-pub data WorldSteps (first : World) : World → Type 0 where
+pub data WorldSteps (first : ByteWorld) : ByteWorld → Type 0 where
   -- no step
   rests : WorldSteps first first
   -- one more step
-  goes_on : {next last : World} → WorldSteps first next → WorldStep next last →
+  goes_on : {next last : ByteWorld} → WorldSteps first next → ByteWorldStep next last →
       WorldSteps first last
 
 -- what clients publish in these steps, the oldest first
-abbrev pub published_along : {first last : World} → WorldSteps first last → List (ℕ × Publication)
+abbrev pub published_along : {first last : ByteWorld} →
+    WorldSteps first last → List (ℕ × Publication)
 published_along rests = []
 published_along (goes_on steps step) = published_along steps ++ published_in_step step
 
 -- A world of the model moves by steps in which its clients publish this, and the world in code
 -- corresponds to the one after them.
-pub record ModelStepsTo (asked : List (ℕ × Publication)) (model : World) (new : WorldState)
+pub record ModelStepsTo (asked : List (ℕ × Publication)) (model : ByteWorld) (new : WorldState)
     : Type 0 where
-  pub after : World
+  pub after : ByteWorld
   pub steps : WorldSteps model after
   pub asked_is : published_along steps ≡ asked
   pub stands : WorldStandsFor after new
@@ -47,7 +48,7 @@ pub record ModelStepsTo (asked : List (ℕ × Publication)) (model : World) (new
 -- (`ModelStepsTo`)
 abbrev pub FollowsModelAsking : List (ℕ × Publication) → WorldState → WorldState → Type 0
 FollowsModelAsking asked old new =
-    (nodes : ℕ) (config : Config) (clients : List Client) (model : World) →
+    (nodes : ℕ) (config : Config) (clients : List Client) (model : ByteWorld) →
     Reached nodes config clients model → WorldStandsFor model old → ModelStepsTo asked model new
 
 -- nothing is published
@@ -62,7 +63,7 @@ FollowsModel old new = FollowsModelAsking [] old new
 pub record IsReached (nodes : ℕ) (config : Config) (clients : List Client)
     (state : WorldState) : Type 0 where
   pub apart : ClientsAreApart clients
-  pub world : World
+  pub world : ByteWorld
   pub trail : Reached nodes config clients world
   pub stands : WorldStandsFor world state
   pub exact : IsExact trail
@@ -78,7 +79,7 @@ connections_in (Some client) = client.connections
 connections_in None = []
 
 -- the connections of the client at this index
-abbrev pub connections_at : ℕ → World → List ClientConnection
+abbrev pub connections_at : ℕ → ByteWorld → List ClientConnection
 connections_at index world = connections_in (slice_get world.clients index)
 
 -- a world that can be reached still can after it, and this was published since

@@ -8,8 +8,8 @@ use Rattle.client.specs.client_base.Handled.{packet_handled}
 use Rattle.byte_world.specs.exactly_once.Sides.{ClientConnection}
 use Rattle.byte_world.specs.exactly_once.Story.{Story, StoryStep}
 use Rattle.byte_world.specs.packet_world.Steps.{is_call}
-use Rattle.byte_world.specs.World.{ClientPipes, Pipe, World, after_writing, with_client, with_pipe}
-use Rattle.byte_world.specs.Steps.{WorldStep}
+use Rattle.byte_world.specs.World.{ClientPipes, Pipe, ByteWorld, after_writing, with_client, with_pipe}
+use Rattle.byte_world.specs.Steps.{ByteWorldStep}
 use Rattle.byte_world.specs.ClientSteps.{WritesCanBeSpelled, after_packet, story_alone}
 use Rattle.byte_world.specs.Published.{from_client, published_by_call, published_in_step}
 
@@ -70,14 +70,14 @@ published_in_steps (ClientTrace.goes_on goes step) = published_in_steps goes ++ 
 
 -- a client's step is a step of the world in which it is a client, and what it publishes is
 -- published there
-pub record StepsIn (world : World) (index : ℕ) {client next : ClientPipes}
+pub record StepsIn (world : ByteWorld) (index : ℕ) {client next : ClientPipes}
     (step : ClientStep client next) : Type 0 where
-  pub is : WorldStep world (with_client index next world)
+  pub is : ByteWorldStep world (with_client index next world)
   pub published : published_in_step is ≡ from_client index (published_with step)
 
 -- each step of each client is a step of its world
 abbrev pub ClientsStepInWorlds : Type 0
 ClientsStepInWorlds =
-    (world : World) (index : ℕ) (client next : ClientPipes) →
+    (world : ByteWorld) (index : ℕ) (client next : ClientPipes) →
     slice_get world.clients index ≡ Some client →
     (step : ClientStep client next) → StepsIn world index step
