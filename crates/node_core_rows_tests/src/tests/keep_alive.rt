@@ -2,7 +2,7 @@
 // closed (MQTT 3.1.2.10).
 
 use super::row::{
-    ACCEPTED, Act, CONNECT_A, CONNECT_B, Effects, NOTHING, Row, bring, first_fault, hands_over,
+    ACCEPTED, Act, CONNECT_A, CONNECT_B, Effects, NOTHING, Row, bring, first_fault, hand_over,
     lost, primary, take,
 };
 use node_core::{Item, NodeCore, Port};
@@ -88,9 +88,9 @@ fn first_fault_of_two(alloc: Global, node: &mut NodeCore) -> Option<&'static str
         Some("the client of port 3 connects")
     } else if !lose(alloc, node, 90_001, &[2, 1]) {
         Some("both are lost, that of port 3 first")
-    } else if !hands_over(alloc, node, 3, NOTHING, false) {
+    } else if !hand_over(alloc, node, 3, NOTHING, false) {
         Some("port 3 is closed")
-    } else if !hands_over(alloc, node, 7, NOTHING, false) {
+    } else if !hand_over(alloc, node, 7, NOTHING, false) {
         Some("port 7 is closed")
     } else if node.losses() != 0 {
         Some("no step counted a loss")

@@ -119,8 +119,9 @@ pub fn lost(effect: &Effect<Command, Output>) -> Option<ConnectionName> {
     }
 }
 
-/// Says whether these bytes are handed over for a port, which is open then or not.
-pub fn hands_over(alloc: Global, node: &mut NodeCore, port: u64, bytes: &[u8], open: bool) -> bool {
+/// Has a node hand over what it queued for a port, which takes it away. Says whether it is these
+/// bytes, and the port is open then or not.
+pub fn hand_over(alloc: Global, node: &mut NodeCore, port: u64, bytes: &[u8], open: bool) -> bool {
     let mut out = Vec::new(alloc);
     let answer = if open { Handed::Open } else { Handed::Closed };
     node.outgoing(Port(port), &mut out) == Ok(answer) && out.as_slice() == bytes

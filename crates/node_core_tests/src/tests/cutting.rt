@@ -1,6 +1,6 @@
 // Nodes that cut their logs, and a snapshot that goes over to another node, byte by byte.
 
-use super::handling::{ACCEPTED, Effects, PRESENT, bring, give, hands_over, node_of, take, tell};
+use super::handling::{ACCEPTED, Effects, PRESENT, bring, give, hand_over, node_of, take, tell};
 use ballot::Log;
 use node_core::{Body, Command, Effect, Item, Members, NodeCore, Port};
 use std::alloc::Global;
@@ -93,7 +93,7 @@ fn asks_for_2(effects: &Effects) -> bool {
 fn serve_and_cut(alloc: Global, one: &mut NodeCore) -> bool {
     take(alloc, one, Item::Opened(Port(1), 0));
     bring(alloc, one, 1, CONNECT, 0).is_some()
-        && hands_over(alloc, one, 1, ACCEPTED, true)
+        && hand_over(alloc, one, 1, ACCEPTED, true)
         && cut(alloc, one, 1, CONNECTED)
 }
 
@@ -125,7 +125,7 @@ fn come_back(alloc: Global, one: &mut NodeCore, two: &mut NodeCore) -> bool {
         Some(appended) => commit(alloc, one, two, appended),
         None => return false,
     }
-    hands_over(alloc, two, 1, PRESENT, true)
+    hand_over(alloc, two, 1, PRESENT, true)
 }
 
 // Checks that a session goes over by a snapshot, and both nodes lose nothing. Returns the first

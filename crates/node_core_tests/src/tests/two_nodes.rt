@@ -1,7 +1,7 @@
 // Two nodes by hand: the answer to a CONNECT waits until both hold it.
 
 use super::handling::{
-    ACCEPTED, CONNECT_A, Effects, NOTHING, bring, give, hands_over, node_of, take,
+    ACCEPTED, CONNECT_A, Effects, NOTHING, bring, give, hand_over, node_of, take,
 };
 use node_core::{Body, Command, Effect, Item, Message, NodeCore, Port};
 use std::alloc::Global;
@@ -48,7 +48,7 @@ fn append(alloc: Global, primary: &mut NodeCore) -> Option<Effects> {
         return None;
     }
     let appended = bring(alloc, primary, 1, CONNECT_A, 0)?;
-    if appends(&appended) && hands_over(alloc, primary, 1, NOTHING, true) {
+    if appends(&appended) && hand_over(alloc, primary, 1, NOTHING, true) {
         Some(appended)
     } else {
         None
@@ -65,7 +65,7 @@ fn hold(alloc: Global, backup: &mut NodeCore, appended: Effects) -> Option<Effec
 // answer is sent.
 fn commit(alloc: Global, primary: &mut NodeCore, held: Effects) -> Option<Effects> {
     let committed = give(alloc, primary, 1, held);
-    if commits(&committed) && hands_over(alloc, primary, 1, ACCEPTED, true) {
+    if commits(&committed) && hand_over(alloc, primary, 1, ACCEPTED, true) {
         Some(committed)
     } else {
         None

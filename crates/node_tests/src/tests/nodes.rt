@@ -171,8 +171,9 @@ pub(super) fn met<J: NodeNaming>(
     }
 }
 
-// Says whether these bytes are handed over for the connection, which is open.
-fn hands_over<J: NodeNaming>(alloc: Global, state: &mut NodeState<J>, bytes: &[u8]) -> bool {
+// Has a node hand over what it queued for the connection, which takes it away. Says whether it is
+// these bytes, and the connection is open.
+fn hand_over<J: NodeNaming>(alloc: Global, state: &mut NodeState<J>, bytes: &[u8]) -> bool {
     let mut out = Vec::new(alloc);
     state.outgoing(PORT, &mut out) == Ok(Handed::Open) && out.as_slice() == bytes
 }
@@ -192,7 +193,7 @@ fn is_right<J: NodeNaming, R: Wait>(
         Act::Take(wanted) => take_one(rt, alloc, state, wanted),
         Act::Meet(index, wanted) => met(state, lanes, index) == Some(wanted),
         Act::Held(wanted) => state.status().held == wanted,
-        Act::HandOver(bytes) => hands_over(alloc, state, bytes),
+        Act::HandOver(bytes) => hand_over(alloc, state, bytes),
     }
 }
 
