@@ -25,7 +25,7 @@ pub mod MovesOfReplica
 pub mod OpenAfter
 pub mod NamesInMoves
 pub mod NamesKeepTheirBallot
-pub mod NamesStayApart
+pub mod NamesComeOnce
 pub mod LossyOutputs
 pub mod LossyReads
 pub mod LossyShuts

@@ -32,7 +32,7 @@ use Rattle.node_moves.specs.LossyMoves.NodeMoveOrLost.{exactly, hears_losing, fi
 use Rattle.node_moves.proofs.Kept.{Stays, changed_orderly, closed_is_mild, heard_up, kept_same, left_true, live, named, named_kept, stays_at, stays_failed, stays_joined}
 use Rattle.node_moves.proofs.LossyOutputs.{failing_is_mild, stays_delivers}
 use Rattle.node_moves.proofs.NamesInOrder.{same_le}
-use Rattle.node_moves.proofs.NamesStayApart.{steps_up}
+use Rattle.node_moves.proofs.NamesComeOnce.{steps_up}
 use Rattle.node_moves.proofs.ProposesInOrder.{front_of}
 use Rattle.node_moves.proofs.ReadsInOrder.{IsChange, asked_change, end_kept, first_command, found_given, later_command, left_change, nodes_read_in_order, read_then}
 use Rattle.node_moves.proofs.ReplicaStays.{added_same}

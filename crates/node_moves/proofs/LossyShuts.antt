@@ -24,7 +24,7 @@ use Rattle.node_moves.proofs.Kept.{heard_up, left_true, live, named}
 use Rattle.node_moves.proofs.LossyOutputs.{delivers_shuts, failing_shuts}
 use Rattle.node_moves.proofs.LossyReads.{losses_read_in_order, replica_orderly, taken_joined}
 use Rattle.node_moves.proofs.NamesInOrder.{same_le}
-use Rattle.node_moves.proofs.NamesStayApart.{steps_up}
+use Rattle.node_moves.proofs.NamesComeOnce.{steps_up}
 use Rattle.node_moves.proofs.NothingOnClosed.{failed_dead}
 use Rattle.node_moves.proofs.PutsInOrder.{puts_in_order}
 use Rattle.node_moves.proofs.Shut.{Shuts, all, shuts_closed, shuts_joined, shuts_same, shuts_tested}

@@ -22,9 +22,9 @@ pub record KeepsNames (core later : CoreState) : Type 0 where
   pub gone : (name : ConnectionName) → IsGiven core.last_name name → listed_named name core ≡ None →
       listed_named name later ≡ None
 
--- names stay apart from the opening on, in each step, even if memory runs out, and when bytes are
--- handed over
-pub record NamesStayApart : Type 0 where
+-- a node gives no name twice, from the opening on, in each step, even if memory runs out, and when
+-- bytes are handed over
+pub record NamesComeOnce : Type 0 where
   pub opens : (id : ℕ) (config : Config) → IsOrderly (opening_core id config)
   pub steps : (item : Item) (core later : CoreState) (messages : List (Effect Command Output)) →
       RunsOn item core later messages → IsOrderly core → KeepsNames core later

@@ -2,7 +2,7 @@
 // nothing is lost is a case of those in which something may be (`exactly`), so a law of these holds
 // of it too.
 
-ghost use Rattle.node_moves.specs.Apart.{NamesStayApart};
+ghost use Rattle.node_moves.specs.Apart.{NamesComeOnce};
 ghost use Rattle.node_moves.specs.Settled.{EachLossIsReported, NoneIsSilent};
 ghost use Rattle.node_moves.specs.Hearing.{NodeCallsHearAtFirst};
 ghost use Rattle.node_moves.specs.Keeping.{NamesKeepTheirBallot};
@@ -46,8 +46,8 @@ pub fn names_keep_their_ballot()
 /// States that no two connections of a node have one name, and no connection gets a name again that
 /// was given and that no connection has. This holds from the opening on, in each step, also in one
 /// in which memory ran out, and when bytes are handed over.
-pub fn names_stay_apart()
-    ensures { NamesStayApart }
+pub fn names_come_once()
+    ensures { NamesComeOnce }
 {}
 
 /// States that each step of a node in which memory ran out is a run of moves, too, in which

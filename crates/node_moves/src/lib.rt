@@ -7,6 +7,6 @@ mod laws;
 pub use laws::{
     each_loss_is_reported, losses_are_moves, losses_are_taken, losses_propose_in_order,
     losses_put_in_order, losses_put_nothing_on_closed, losses_read_in_order,
-    lossy_names_are_of_the_ballot, lossy_names_keep_their_ballot, names_keep_their_ballot,
-    names_stay_apart, node_calls_are_moves, node_calls_hear_at_first, none_is_silent,
+    lossy_names_are_of_the_ballot, lossy_names_keep_their_ballot, names_come_once,
+    names_keep_their_ballot, node_calls_are_moves, node_calls_hear_at_first, none_is_silent,
 };

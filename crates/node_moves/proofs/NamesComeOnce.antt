@@ -39,7 +39,7 @@ use Rattle.node_core.specs.Reading.{changes, open_at, connect_refused, unread_of
 use Rattle.node_core.specs.Step.{crashed, next_name, with_next_connection, settled, with_cut}
 use Rattle.node_core.specs.LossyStep.LogCutOrLost.{nothing_to_cut, cuts_log, forgets_cut}
 use Rattle.node_core.specs.Effects.{changes_named}
-use Rattle.node_moves.specs.Apart.{KeepsNames, NamesStayApart}
+use Rattle.node_moves.specs.Apart.{KeepsNames, NamesComeOnce}
 use Rattle.node_moves.specs.Closed.{listed_named}
 use Rattle.node_moves.specs.Ends.{IsGiven, IsOrderly, Precedes}
 use Rattle.node_moves.specs.Names.{IsNextName}
@@ -336,8 +336,8 @@ keep_run item core new messages run =
     keep_both core run.did.core new (keep_acts item core run.did run.acts)
     (subst (λ (k : CoreState). Keep run.did.core k) (sym run.settles) (keep_settled run.did.core))
 
-pub names_stay_apart : NamesStayApart
-names_stay_apart =
+pub names_come_once : NamesComeOnce
+names_come_once =
     record {
       opens = opening_orderly;
       steps = keep_run;
