@@ -13,7 +13,7 @@ use Rattle.client_base.specs.State.{ClientState, new_client_state, ids_of_kept, 
 use Rattle.client_base.specs.Calls.{client_receives, on_first, loses_session, discarded, numbered}
 use Rattle.client_base.specs.Publishing.{published, publish_refusal}
 use Rattle.client_base.specs.Steps.{Call, keeper_step, request_refusal, subscribed, unsubscribed, state_after}
-use Rattle.client_base.specs.IdentifierLaws.{IdentifiersAreDistinct, RequestsAreApart}
+use Rattle.client_base.specs.IdentifierLaws.{UsedIdentifiersAreDistinct, RequestsAreApart}
 use Rattle.client_base.proofs.IdentifiersApart.{often, from_once, used_tally}
 use Rattle.client_base.proofs.IdentifiersStay.{AreOnce, fewer, published_once, asked_once, lost_once, ended_once, later_once, unless}
 
@@ -58,7 +58,7 @@ calls_once : (law : IsLeastFree) (calls : List Call) (state : ClientState) → A
 calls_once law [] state few = few
 calls_once law (call ∷ calls) state few = calls_once law calls (keeper_step call state).state (step_once law call state few)
 
-pub identifiers_distinct : IsLeastFree → IdentifiersAreDistinct
+pub identifiers_distinct : IsLeastFree → UsedIdentifiersAreDistinct
 identifiers_distinct law calls client keep_alive =
     from_once (used_ids (state_after calls (new_client_state client keep_alive)))
     (λ i. let few = calls_once law calls (new_client_state client keep_alive) (λ j. omega arith) i in

@@ -5,8 +5,8 @@ use Rattle.client_base.specs.State.{new_client_state, publication_ids, request_i
 use Rattle.client_base.specs.Steps.{Call, state_after}
 
 -- whatever the client is asked for and the server sends, no identifier is in flight twice
-abbrev pub IdentifiersAreDistinct : Type 0
-IdentifiersAreDistinct =
+abbrev pub UsedIdentifiersAreDistinct : Type 0
+UsedIdentifiersAreDistinct =
     (calls : List Call) (client : List ℕ) (keep_alive : ℕ) →
     IsDistinct (used_ids (state_after calls (new_client_state client keep_alive)))
 

@@ -1,7 +1,7 @@
 // Laws of the keeper's steps. The calls do nothing but call those that their laws rest on.
 
 ghost use Rattle.client_base.specs.HistoryLaws.{CallsFollow};
-ghost use Rattle.client_base.specs.IdentifierLaws.{IdentifiersAreDistinct, RequestsAreApart};
+ghost use Rattle.client_base.specs.IdentifierLaws.{UsedIdentifiersAreDistinct, RequestsAreApart};
 ghost use Rattle.client_base.specs.OrderLaws.{GoesOutInOrder, NumbersStay};
 ghost use Rattle.client_base.specs.Laws.{AcceptsUnlessKept, StaysKept};
 
@@ -25,8 +25,8 @@ pub fn history_is_followed()
 
 /// States that no identifier is in flight twice, and none is a publication's and a request's at
 /// once, whatever a client is asked for and the server sends (MQTT 2.3.1).
-pub fn identifiers_are_distinct()
-    ensures distinct { IdentifiersAreDistinct }
+pub fn used_identifiers_are_distinct()
+    ensures distinct { UsedIdentifiersAreDistinct }
     ensures apart { RequestsAreApart }
 {
     fill_takes_what_waits();

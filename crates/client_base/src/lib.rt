@@ -12,8 +12,8 @@ mod unacknowledged_publication;
 pub use accepted::Accepted;
 pub use error::ClientError;
 pub use laws::{
-    accepted_once_an_identifier, history_is_followed, identifiers_are_distinct,
-    publishing_order_is_kept,
+    accepted_once_an_identifier, history_is_followed, publishing_order_is_kept,
+    used_identifiers_are_distinct,
 };
 pub use request::Request;
 pub use stage::Stage;

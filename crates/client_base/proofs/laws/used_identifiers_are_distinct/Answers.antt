@@ -1,5 +1,5 @@
 use Rattle.client_base.proofs.IdentifiersOfRuns.{identifiers_distinct, requests_apart}
-use Rattle.client_base.proofs.laws.identifiers_are_distinct.Goals as goal
+use Rattle.client_base.proofs.laws.used_identifiers_are_distinct.Goals as goal
 
 pub returns : goal.returns
 returns c =
