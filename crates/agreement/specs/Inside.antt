@@ -3,9 +3,9 @@ pub mod Ballots
 pub mod Begun
 pub mod Chosen
 pub mod Extending
-pub mod GroupSteps
 pub mod Keeps
 pub mod Masters
+pub mod MomentSteps
 pub mod MovesAt
 pub mod OpeningHistory
 pub mod Own

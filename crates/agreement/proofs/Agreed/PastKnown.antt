@@ -6,7 +6,7 @@ use Rattle.whole.specs.lists.Lists.In.{here, there}
 use Rattle.whole.specs.ballot_base.declared.config.Config.{Config}
 use Rattle.agreement.specs.Inside.Ballots.{Given, History}
 use Rattle.agreement.specs.Inside.Extending.{Extends}
-use Rattle.agreement.specs.Inside.GroupSteps.{adds_of, GroupStep}
+use Rattle.agreement.specs.Inside.MomentSteps.{adds_of, MomentStep}
 use Rattle.agreement.specs.Inside.Serves.{Serves}
 use Rattle.agreement.specs.Inside.OpeningHistory.{opening_history}
 use Rattle.agreement.specs.Moments.{Learns, Moment, Moments, WasActive, opening_moment}
@@ -83,7 +83,7 @@ past_known {S = S} {C = C} {O = O} rules config v (a ∷ past) (went_on came ste
     by_step q (one_step rules a.master a.world v.master v.world step)
   where
     by_step : (q : IsKnown rules config a past) → ((v.master ≡ a.master) × (v.world ≡ a.world))
-        ⊎ ((g : GroupStep rules a.master a.world v.master v.world) × (adds_of g ≡ proposal_of step)) →
+        ⊎ ((g : MomentStep rules a.master a.world v.master v.world) × (adds_of g ≡ proposal_of step)) →
         IsKnown rules config v (a ∷ past)
     by_step q (inl (same, still)) =
         known_same rules config a v past q

@@ -8,7 +8,7 @@ use Rattle.whole.specs.Replica.{ReplicaState}
 use Rattle.whole.specs.lists.Lists.{In}
 use Rattle.agreement.specs.Inside.Ballots.{Applied, History}
 use Rattle.agreement.specs.Inside.Extending.{Extends}
-use Rattle.agreement.specs.Inside.GroupSteps.{GroupStep, adds_of}
+use Rattle.agreement.specs.Inside.MomentSteps.{MomentStep, adds_of}
 use Rattle.agreement.specs.Inside.Own.{OwnLines}
 use Rattle.agreement.specs.Inside.Serves.{Serves}
 use Rattle.agreement.specs.Inside.Sound.{IsSoundWorld}
@@ -47,7 +47,7 @@ pub plain_step : {S C O : Type 0} (rules : Rules S C O) (past : List (Moment S C
     (step : MayHappen rules m w k v) → proposal_of step ≡ [] → IsOrdered rules past m w rows → IsOrdered rules past k v rows
 plain_step {S = S} {C = C} {O = O} rules past m w k v rows step none q = by_step (one_step rules m w k v step)
   where
-    by_step : ((k ≡ m) × (v ≡ w)) ⊎ ((g : GroupStep rules m w k v) × (adds_of g ≡ proposal_of step)) → IsOrdered rules past k v rows
+    by_step : ((k ≡ m) × (v ≡ w)) ⊎ ((g : MomentStep rules m w k v) × (adds_of g ≡ proposal_of step)) → IsOrdered rules past k v rows
     by_step (inl (same, still)) =
         subst (λ (x : MasterState). IsOrdered rules past x v rows) (sym same) (subst (λ (u : GroupWorld S C O). IsOrdered rules past m u rows) (sym still) q)
     by_step (inr (goes, adds)) =

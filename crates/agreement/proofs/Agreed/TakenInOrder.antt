@@ -12,8 +12,8 @@ use Rattle.whole.specs.Replica.{ReplicaState}
 use Rattle.whole.specs.ballot_base.declared.status.Role.TheVariants.{Active}
 use Rattle.whole.specs.Serving.{added}
 use Rattle.agreement.specs.Inside.Ballots.{History}
-use Rattle.agreement.specs.Inside.GroupSteps.{GroupStep, adds_of}
-use Rattle.agreement.specs.Inside.GroupSteps.GroupStep.{takes}
+use Rattle.agreement.specs.Inside.MomentSteps.{MomentStep, adds_of}
+use Rattle.agreement.specs.Inside.MomentSteps.MomentStep.{takes}
 use Rattle.agreement.specs.Inside.Own.{OwnLines}
 use Rattle.agreement.specs.Inside.Serves.{Serves}
 use Rattle.agreement.specs.Inside.Sound.{IsActive, IsSoundNode}
@@ -63,7 +63,7 @@ proposed_step {S = S} {C = C} {O = O} rules past m w rows n r c new given stands
     s : Serves rules m w q.history
     s = q.serves
 
-    goes : GroupStep rules m w m v
+    goes : MomentStep rules m w m v
     goes = takes n r (Proposes c) stands runs may loses
 
     x : StepGoesOn rules w q.history m v (adds_of goes)

@@ -12,7 +12,7 @@ use Rattle.agreement.specs.Proposals.{proposal_by}
 use Rattle.agreement.specs.World.{GroupWorld}
 use Rattle.whole.specs.lists.Lists.{IsPrefixOf}
 use Rattle.agreement.specs.Inside.Ballots.{Line, History}
-use Rattle.agreement.specs.Inside.GroupSteps.{AddsBy}
+use Rattle.agreement.specs.Inside.MomentSteps.{AddsBy}
 use Rattle.agreement.specs.Inside.Keeps.{NodeGoesOn, LineAdds}
 use Rattle.agreement.specs.Inside.Keeps.LineAdds.{as_it_was, begins_after, adds_one}
 use Rattle.agreement.specs.Proposals.{commands_of, IsOfBallot}

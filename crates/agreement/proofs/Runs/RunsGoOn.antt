@@ -11,8 +11,8 @@ use Rattle.agreement.specs.Proposals.{proposal_by}
 use Rattle.agreement.specs.World.{GroupWorld}
 use Rattle.agreement.specs.Inside.Ballots.{Line, History, Told, TellsHere}
 use Rattle.agreement.specs.Inside.Begun.{AreBegun, BeginsOrFollows, AreLong}
-use Rattle.agreement.specs.Inside.GroupSteps.{adds_of, AddsBy, GroupStep}
-use Rattle.agreement.specs.Inside.GroupSteps.GroupStep.{takes, stops, assigns, hears, assigns_unheard, hears_unanswered}
+use Rattle.agreement.specs.Inside.MomentSteps.{adds_of, AddsBy, MomentStep}
+use Rattle.agreement.specs.Inside.MomentSteps.MomentStep.{takes, stops, assigns, hears, assigns_unheard, hears_unanswered}
 use Rattle.agreement.specs.Inside.Keeps.{NodeGoesOn, LineAdds}
 use Rattle.agreement.specs.Inside.Keeps.LineAdds.{as_it_was, begins_after, adds_one}
 use Rattle.agreement.specs.MasterState.{MasterState}
@@ -76,7 +76,7 @@ begun_same {C = C} start_of h i e begun b k f = begun b k (ap (λ (g : ℕ → O
 
 -- whatever happens
 pub group_goes_on : {S C O : Type 0} (rules : Rules S C O) (m k : MasterState) (w v : GroupWorld S C O) (h : History C) →
-    IsSoundWorld rules w h → AreLong w h → AreReplays rules w → IsMaster m h → (step : GroupStep rules m w k v) → StepGoesOn rules w h k v (adds_of step)
+    IsSoundWorld rules w h → AreLong w h → AreReplays rules w → IsMaster m h → (step : MomentStep rules m w k v) → StepGoesOn rules w h k v (adds_of step)
 group_goes_on {C = C} rules m k w v h s long all master (takes n r input {new = new} {given = given} stands runs may loses) =
     let g = lossy_goes_on rules w h n r (λ b c. AddsBy rules r input b c × BeginsOrFollows rules.start_of h b c) (replica_step rules r input) _ _ s stands
     (keeps_begun rules w h n r input s long stands (all n r stands runs) may) loses in

@@ -12,8 +12,8 @@ use Rattle.agreement.specs.Inside.Masters.{IsServing, IsMaster}
 use Rattle.agreement.specs.Agreement.{Holds}
 use Rattle.agreement.specs.Steps.MayHappen.{node_takes, node_stops, master_assigns, master_hears, assignment_lost, answer_lost}
 use Rattle.agreement.specs.Inside.Ballots.{Given, History}
-use Rattle.agreement.specs.Inside.GroupSteps.{adds_of, GroupStep}
-use Rattle.agreement.specs.Inside.GroupSteps.GroupStep.{takes, stops, assigns, hears, assigns_unheard, hears_unanswered}
+use Rattle.agreement.specs.Inside.MomentSteps.{adds_of, MomentStep}
+use Rattle.agreement.specs.Inside.MomentSteps.MomentStep.{takes, stops, assigns, hears, assigns_unheard, hears_unanswered}
 use Rattle.agreement.specs.Inside.Sound.{IsSoundWorld}
 use Rattle.agreement.proofs.Agreed.Agreeing.{sound_agrees}
 use Rattle.agreement.specs.Inside.Serves.{IsLedByNode, IsNode}
@@ -22,7 +22,7 @@ use Rattle.agreement.proofs.Masters.Assigns.{lawful_is, not_refused, serving_ass
 -- a step of such a group changes nothing, or is one of the group that takes in the same proposal
 pub one_step : {S C O : Type 0} (rules : Rules S C O) (m : MasterState) (w : GroupWorld S C O) (k : MasterState) (v : GroupWorld S C O) →
     (step : MayHappen rules m w k v) →
-    ((k ≡ m) × (v ≡ w)) ⊎ ((g : GroupStep rules m w k v) × (adds_of g ≡ proposal_of step))
+    ((k ≡ m) × (v ≡ w)) ⊎ ((g : MomentStep rules m w k v) × (adds_of g ≡ proposal_of step))
 one_step rules m w k v (node_takes n r input stands runs may loses) = inr (takes n r input stands runs may loses, refl)
 one_step rules m w k v (node_stops n r stands) = inr (stops n r stands, refl)
 one_step rules m w k v (master_hears from b sent) = inr (hears from b sent, refl)
@@ -31,13 +31,13 @@ one_step {S = S} {C = C} {O = O} rules m w k v (master_assigns config) = by_refu
   where
     by_refusal : (o : Option AssignRefusal) → refusal m config ≡ o →
         ((master_after m config o ≡ m) × (world_after m w config o ≡ w))
-        ⊎ ((g : GroupStep rules m w (master_after m config o) (world_after m w config o)) × (adds_of g ≡ []))
+        ⊎ ((g : MomentStep rules m w (master_after m config o) (world_after m w config o)) × (adds_of g ≡ []))
     by_refusal (Some why) e = inl (refl, refl)
     by_refusal None e = inr (assigns config (lawful_is config (not_refused m config e).0).0, refl)
 one_step {S = S} {C = C} {O = O} rules m w k v (assignment_lost config) = by_refusal (refusal m config) refl
   where
     by_refusal : (o : Option AssignRefusal) → refusal m config ≡ o →
-        ((master_after m config o ≡ m) × (w ≡ w)) ⊎ ((g : GroupStep rules m w (master_after m config o) w) × (adds_of g ≡ []))
+        ((master_after m config o ≡ m) × (w ≡ w)) ⊎ ((g : MomentStep rules m w (master_after m config o) w) × (adds_of g ≡ []))
     by_refusal (Some why) e = inl (refl, refl)
     by_refusal None e = inr (assigns_unheard config (lawful_is config (not_refused m config e).0).0, refl)
 

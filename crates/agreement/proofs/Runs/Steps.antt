@@ -11,7 +11,7 @@ use Rattle.whole.specs.Replica.{ReplicaState}
 use Rattle.agreement.specs.World.{GroupWorld}
 use Rattle.whole.specs.lists.Lists.{In}
 use Rattle.agreement.specs.Inside.Ballots.{Line, History}
-use Rattle.agreement.specs.Inside.GroupSteps.{AddsBy}
+use Rattle.agreement.specs.Inside.MomentSteps.{AddsBy}
 use Rattle.agreement.specs.Steps.{MayTake, sends_from_master}
 use Rattle.agreement.specs.Inside.Keeps.{HistoryGoesOn, NodeGoesOn, KeepsAdding}
 use Rattle.agreement.specs.Inside.Keeps.LineAdds.{as_it_was}

@@ -11,7 +11,7 @@ use Rattle.agreement.specs.World.{GroupWorld}
 use Rattle.whole.specs.lists.Lists.{In}
 use Rattle.agreement.specs.Inside.Ballots.{Line, History}
 use Rattle.agreement.specs.Inside.Begun.{AreBegun, BeginsOrFollows, AreLong}
-use Rattle.agreement.specs.Inside.GroupSteps.{AddsBy}
+use Rattle.agreement.specs.Inside.MomentSteps.{AddsBy}
 use Rattle.agreement.specs.Steps.{MayTake}
 use Rattle.agreement.specs.Inside.Keeps.{NodeGoesOn, KeepsAdding, LineAdds}
 use Rattle.agreement.specs.Inside.Keeps.LineAdds.{as_it_was, begins_after, adds_one}

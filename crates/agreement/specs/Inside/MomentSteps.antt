@@ -1,4 +1,4 @@
--- What may happen in a group, if an Assign is not refused.
+-- What may happen between two moments of a group, if an Assign is not refused.
 use Rattle.std.specs.Prelude.{ℕ, ◌≡◌, false, List, [], slice_get, Some}
 use Rattle.machine.specs.Machine.{Rules}
 use Rattle.whole.specs.ballot_base.declared.config.Config.{Config}
@@ -21,9 +21,9 @@ AddsBy rules r (Receives message) b c = c ≡ rules.start_of b
 AddsBy rules r (Proposes command) b c = (b ≡ r.joined) × (c ≡ command)
 AddsBy rules r Ticks b c = ⊥
 
--- what may happen in a group: a node takes its step, perhaps with losses, or stops; the master does
--- an Assign or receives an Activate
-pub data GroupStep {S C O : Type 0} (rules : Rules S C O) : MasterState → GroupWorld S C O →
+-- what may happen between two moments: a node takes its step, perhaps with losses, or stops; the
+-- master does an Assign or receives an Activate
+pub data MomentStep {S C O : Type 0} (rules : Rules S C O) : MasterState → GroupWorld S C O →
     MasterState → GroupWorld S C O → Type 0 where
   -- a node receives a message, takes a proposal, or ticks, perhaps with losses
   takes : {m : MasterState} {w : GroupWorld S C O} (n : ℕ) (r : ReplicaState S C)
@@ -31,32 +31,32 @@ pub data GroupStep {S C O : Type 0} (rules : Rules S C O) : MasterState → Grou
       {given : List (Effect C O)} → slice_get w.nodes n ≡ Some r → r.stopped ≡ false →
       MayTake w n input →
       Loses rules r (replica_step rules r input) new given →
-      GroupStep rules m w m (moved w n new given)
+      MomentStep rules m w m (moved w n new given)
   -- a node stops
   stops : {m : MasterState} {w : GroupWorld S C O} (n : ℕ) (r : ReplicaState S C) →
       slice_get w.nodes n ≡ Some r →
-      GroupStep rules m w m (moved w n (halted rules r) [])
+      MomentStep rules m w m (moved w n (halted rules r) [])
   -- the master gives a ballot
   assigns : {m : MasterState} {w : GroupWorld S C O} (config : Config) →
       In config.primary config.members →
-      GroupStep rules m w (assigned C m config).state (sends_from_master w (assigned C m config))
+      MomentStep rules m w (assigned C m config).state (sends_from_master w (assigned C m config))
   -- the master answers an Activate
   hears : {m : MasterState} {w : GroupWorld S C O} (from b : ℕ) →
       In (0, record { from = from; body = Activate b }) w.sent →
-      GroupStep rules m w (activated C m b from m.waiting).state (sends_from_master w
+      MomentStep rules m w (activated C m b from m.waiting).state (sends_from_master w
       (activated C m b from m.waiting))
   -- the master gives a ballot, and its message is lost
   assigns_unheard : {m : MasterState} {w : GroupWorld S C O} (config : Config) →
       In config.primary config.members →
-      GroupStep rules m w (assigned C m config).state w
+      MomentStep rules m w (assigned C m config).state w
   -- the master hears an Activate, and its answer is lost
   hears_unanswered : {m : MasterState} {w : GroupWorld S C O} (from b : ℕ) →
       In (0, record { from = from; body = Activate b }) w.sent →
-      GroupStep rules m w (activated C m b from m.waiting).state w
+      MomentStep rules m w (activated C m b from m.waiting).state w
 
 -- the proposal of a step
 abbrev pub adds_of : {S C O : Type 0} {rules : Rules S C O} {m : MasterState}
-    {w : GroupWorld S C O} {k : MasterState} {v : GroupWorld S C O} → GroupStep rules m w k v →
+    {w : GroupWorld S C O} {k : MasterState} {v : GroupWorld S C O} → MomentStep rules m w k v →
     List (ℕ × C)
 adds_of (takes n r input stands runs may loses) = proposal_by r input
 adds_of (stops n r stands) = []
