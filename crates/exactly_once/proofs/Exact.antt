@@ -5,7 +5,7 @@ use Rattle.lists.specs.Lists.{Each}
 use Rattle.exactly_once.specs.Items.{SenderItem, sent, item_released, finishing, start_first}
 use Rattle.exactly_once.specs.Handshake.{Forward, Backward, Transit, Handshake, answer, reply, sender_hears, receiver_takes, receiver_accepts, with_items}
 use Rattle.exactly_once.specs.HandshakeSteps.{HandshakeStep, HandshakeTrace, opening_handshake}
-use Rattle.exactly_once.specs.Exact.{is_pubrec_received, IsExact}
+use Rattle.exactly_once.specs.Exact.{is_pubrec_received, HandshakeIsExact}
 use Rattle.exactly_once.specs.HandshakeSteps.HandshakeStep.{adds, starts, takes, takes_alone, hears, hears_alone, sender_leaves, receiver_leaves, parts, parts_ahead, restarts}
 use Rattle.exactly_once.specs.HandshakeSteps.HandshakeTrace.{stays, goes_on}
 use Rattle.exactly_once.specs.HandshakeInvariant.{IsNew, IsAhead, FitsTransit, IsGood}
@@ -151,12 +151,12 @@ none_over received (SenderItem.Sent v id ∷ items) h = (refl, none_over receive
 none_over received (SenderItem.Released v id ∷ items) h = elim h.0 [ ]
 none_over received (SenderItem.Finished v ∷ items) h = elim h.0 [ ]
 
-pub good_exact : {V : Type 0} (h : Handshake V) → IsGood h → IsExact h
+pub good_exact : {V : Type 0} (h : Handshake V) → IsGood h → HandshakeIsExact h
 good_exact h g =
     record { prefix = g.old; others = g.new; is = g.sides.is; accepted = g.sides.accepted_is; rest = none_over h.received g.new g.sides.news }
 
 -- after every run from the opening
-pub runs_are_exact : (V : Type 0) (h : Handshake V) → HandshakeTrace (opening_handshake V) h → IsExact h
+pub runs_are_exact : (V : Type 0) (h : Handshake V) → HandshakeTrace (opening_handshake V) h → HandshakeIsExact h
 runs_are_exact V h r = good_exact h (good_run (opening_handshake V) h (good_opening V) r)
 
 pub run_then : {V : Type 0} {h k l : Handshake V} → HandshakeTrace h k → HandshakeTrace k l → HandshakeTrace h l

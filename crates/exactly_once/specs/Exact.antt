@@ -14,7 +14,7 @@ is_pubrec_received (SenderItem.Finished value) = true
 is_pubrec_received _ = false
 
 -- What is accepted is a prefix of the items, in order, and each that is released is among them.
-pub record IsExact {V : Type 0} (handshake : Handshake V) : Type 0 where
+pub record HandshakeIsExact {V : Type 0} (handshake : Handshake V) : Type 0 where
   pub prefix : List (SenderItem V)
   pub others : List (SenderItem V)
   pub is : handshake.items ≡ prefix ++ others
@@ -24,7 +24,8 @@ pub record IsExact {V : Type 0} (handshake : Handshake V) : Type 0 where
 -- each run from the opening leads to an exact handshake
 abbrev pub RunsAreExact : Type 0 → Type 0
 RunsAreExact V =
-    (handshake : Handshake V) → HandshakeTrace (opening_handshake V) handshake → IsExact handshake
+    (handshake : Handshake V) → HandshakeTrace (opening_handshake V) handshake →
+    HandshakeIsExact handshake
 
 -- what comes next to the receiver
 abbrev pub next_of : {V : Type 0} → Transit V → Option (Forward V)
