@@ -30,13 +30,13 @@ pub fn hand_down(
 {
     let mut bytes = Vec::new(alloc);
     piped.swap_down(at, &mut bytes);
-    let is_open = hands_over(nodes, node, port, &mut bytes);
+    let is_open = hand_over(nodes, node, port, &mut bytes);
     piped.swap_down(at, &mut bytes);
     is_open
 }
 
 // Hands over what a node queued for a port. Returns whether its end is open.
-fn hands_over(nodes: &mut Nodes, node: u8, port: Port, bytes: &mut Vec<u8>) -> bool
+fn hand_over(nodes: &mut Nodes, node: u8, port: Port, bytes: &mut Vec<u8>) -> bool
     ensures nodes { NodesGoOn nodes.old nodes.new }
     ensures quiet { StaysQuiet node nodes.old nodes.new }
     ensures may { MayHandDown node port nodes.old bytes.old.items nodes.new bytes.new.items }

@@ -1,6 +1,6 @@
 use Rattle.world_clients.proofs.PutsDown.{handed_down, handing_goes, may_hand_down}
 use Rattle.world_clients.proofs.HandsQuietly.{handing_quiet}
-use Rattle.world_clients.proofs.handing.hands_over.Goals as goal
+use Rattle.world_clients.proofs.handing.hand_over.Goals as goal
 
 pub returns-clause-may : goal.returns-clause-may
 returns-clause-may c =
