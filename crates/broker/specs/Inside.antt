@@ -24,7 +24,8 @@ ArePayloads content = AllByRecursion (λ row. length row.1.payload < 4294967296)
 -- the map of connections holds those of the sessions
 abbrev pub AreOwned : Rows → Type 0
 AreOwned rows =
-    (x : ConnectionName) → owners_at rows.owners.entries x ≡ owners_in rows.sessions.entries x
+    (connection : ConnectionName) →
+    owners_at rows.owners.entries connection ≡ owners_in rows.sessions.entries connection
 
 -- the broker with this window, these sessions and retained publications
 abbrev pub state_read : ℕ × Rows × RetainedTopics → State

@@ -26,7 +26,7 @@ use topics::{MalformedKind, TopicName};
 /// own. Other bytes stop the reading.
 #[tactic(auto, unfolding(broker_form::specs::Form::head_at))]
 pub(crate) fn read_head(reader: &mut Reader) -> Result<Window, Stop>
-    ensures { Reads (λ x. x) result reader.new (head_at reader.old) }
+    ensures { Reads (λ value. value) result reader.new (head_at reader.old) }
 {
     let form = reader.byte()?;
     check_form(form == 1 || form == 2)?;
@@ -39,7 +39,7 @@ pub(crate) fn read_head(reader: &mut Reader) -> Result<Window, Stop>
 // Reads the window, one of the two.
 #[tactic(auto, unfolding(broker_form::specs::Form::size_at))]
 fn read_window(reader: &mut Reader) -> Result<Window, Stop>
-    ensures { Reads (λ x. x) result reader.new (size_at reader.old) }
+    ensures { Reads (λ value. value) result reader.new (size_at reader.old) }
 {
     match Window::of(reader.byte()?) {
         Some(window) => Ok(window),
@@ -57,7 +57,7 @@ pub(crate) fn read_row(
     window: Window,
     reader: &mut Reader,
 ) -> Result<(ClientId, ClientRow), Stop>
-    ensures { Reads (λ x. x) result reader.new (row_at window reader.old) }
+    ensures { Reads (λ value. value) result reader.new (row_at window reader.old) }
 {
     let client = read_client(alloc, reader)?;
     let clean = read_flag(reader)?;
@@ -75,7 +75,7 @@ pub(crate) fn read_row(
 // Reads a Client Identifier.
 #[tactic(auto, unfolding(broker_form::specs::Form::client_at))]
 fn read_client(alloc: Global, reader: &mut Reader) -> Result<ClientId, Stop>
-    ensures { Reads (λ x. x) result reader.new (client_at reader.old) }
+    ensures { Reads (λ value. value) result reader.new (client_at reader.old) }
 {
     let text = reader.text()?;
     client_of(alloc, text)
@@ -100,7 +100,7 @@ fn client_of(alloc: Global, text: &str) -> Result<ClientId, Stop>
 // Reads whether there is a connection, and which.
 #[tactic(auto, unfolding(broker_form::specs::Form::connection_at))]
 fn read_connection(reader: &mut Reader) -> Result<Option<ConnectionName>, Stop>
-    ensures { Reads (λ x. x) result reader.new (connection_at reader.old) }
+    ensures { Reads (λ value. value) result reader.new (connection_at reader.old) }
 {
     if read_flag(reader)? {
         read_name(reader)
@@ -112,7 +112,7 @@ fn read_connection(reader: &mut Reader) -> Result<Option<ConnectionName>, Stop>
 // Reads the name of a connection.
 #[tactic(auto, unfolding(broker_form::specs::Form::name_at))]
 fn read_name(reader: &mut Reader) -> Result<Option<ConnectionName>, Stop>
-    ensures { Reads (λ x. x) result reader.new (name_at reader.old) }
+    ensures { Reads (λ value. value) result reader.new (name_at reader.old) }
 {
     let ballot = read_wide_number(reader)?;
     let count = read_wide_number(reader)?;
@@ -125,7 +125,7 @@ fn read_name(reader: &mut Reader) -> Result<Option<ConnectionName>, Stop>
 // Reads a number of eight bytes, the high one first.
 #[tactic(auto, unfolding(broker_form::specs::Form::wide_number_at))]
 fn read_wide_number(reader: &mut Reader) -> Result<u64, Stop>
-    ensures { Reads (λ x. x) result reader.new (wide_number_at reader.old) }
+    ensures { Reads (λ value. value) result reader.new (wide_number_at reader.old) }
 {
     let front = reader.front(8)?;
     Ok(u64::from_be_bytes([
@@ -141,7 +141,7 @@ pub(crate) fn read_topic(
     alloc: Global,
     reader: &mut Reader,
 ) -> Result<(TopicName, RetainedPublication), Stop>
-    ensures { Reads (λ x. x) result reader.new (retained_at reader.old) }
+    ensures { Reads (λ value. value) result reader.new (retained_at reader.old) }
 {
     let qos = read_qos(reader)?;
     let topic = reader.topic(alloc)?;
@@ -159,7 +159,7 @@ pub(crate) fn read_topic(
 // of a packet.
 fn retainable(publication: Publication) -> Result<(TopicName, RetainedPublication), Stop>
     requires { publication.retain ≡ true }
-    ensures { Gives (λ x. x) result
+    ensures { Gives (λ value. value) result
         (retainable
         (publication.topic, record { qos = publication.qos; payload = publication.payload })) }
 {

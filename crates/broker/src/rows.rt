@@ -131,9 +131,9 @@ fn own(
     client: &ClientId,
 ) -> Result<(), AllocError>
     ensures { OnOk result
-        ((q : SpecName) →
-        owners_at owners.new.entries q
-        ≡ owned_by connection client.now (owners_at owners.old.entries) q) }
+        ((name : SpecName) →
+        owners_at owners.new.entries name
+        ≡ owned_by connection client.now (owners_at owners.old.entries) name) }
 {
     if let Some(connection) = connection {
         owners.insert(connection, client.clone()?)?;

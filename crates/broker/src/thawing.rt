@@ -68,7 +68,7 @@ fn read_broker(alloc: Global, bytes: &[u8]) -> Result<(Window, Rows, RetainedSto
 // Reads as many topics as their count says, in rising order.
 #[tactic(auto, unfolding(session_base::specs::Counted::counted_items_at))]
 fn read_retained(alloc: Global, reader: &mut Reader) -> Result<RetainedStore, Stop>
-    ensures { Reads (λ x. x) result reader.new
+    ensures { Reads (λ value. value) result reader.new
         (counted_items_at number_at topic_follows retained_at MAX_TOPICS reader.old) }
 {
     let count = reader.number()?;
@@ -79,7 +79,7 @@ fn read_retained(alloc: Global, reader: &mut Reader) -> Result<RetainedStore, St
 // Reads this many topics.
 fn read_topics(alloc: Global, count: u16, reader: &mut Reader) -> Result<RetainedStore, Stop>
     requires { count ≤ MAX_TOPICS }
-    ensures { Reads (λ x. x) result reader.new
+    ensures { Reads (λ value. value) result reader.new
         (items_after topic_follows retained_at count [] reader.old) }
 {
     let mut retained = RetainedStore::new(alloc);

@@ -14,7 +14,7 @@ use Rattle.broker_base.specs.State.{State}
 
 -- a number of eight bytes
 abbrev pub wide_number : ℕ → List ℕ
-wide_number n = to_be_bytes w64 n
+wide_number value = to_be_bytes w64 value
 
 -- whether there is a current connection, and which
 abbrev pub connection_bytes : Option ConnectionName → List ℕ

@@ -24,7 +24,7 @@ impl std::marker::Model for Window {
 
     ghost view = { λ window. window.size };
 
-    ghost inverse = { λ n. record { size = n } };
+    ghost inverse = { λ size. record { size = size } };
 
     ghost invariant = { λ window. IsWindowSize window.size };
 }

@@ -201,9 +201,10 @@ fn move_client(
     client: &ClientId,
 ) -> Result<(), Halted>
     ensures { OnOk result
-        ((q : SpecName) →
-        owners_at owners.new.entries q
-        ≡ with_owner connection client.now (without_owner left (owners_at owners.old.entries)) q) }
+        ((name : SpecName) →
+        owners_at owners.new.entries name
+        ≡ with_owner connection client.now
+        (without_owner left (owners_at owners.old.entries)) name) }
 {
     remove_owner(owners, left);
     owners.insert(connection, client.clone()?)?;

@@ -73,8 +73,8 @@ pub(crate) fn remove_owner(
     owners: &mut BTreeMap<ConnectionName, ClientId>,
     left: Option<ConnectionName>,
 )
-    ensures { (q : SpecName) →
-        owners_at owners.new.entries q ≡ without_owner left (owners_at owners.old.entries) q }
+    ensures { (name : SpecName) →
+        owners_at owners.new.entries name ≡ without_owner left (owners_at owners.old.entries) name }
 {
     if let Some(left) = left {
         owners.remove(&left);

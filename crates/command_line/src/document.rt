@@ -21,9 +21,9 @@ const MAX_NODE: i64 = ballot_base::MAX_NODE as i64;
 
 /// Returns the table of nodes in a document, with no number above the greatest of a node.
 pub(crate) fn document_table(alloc: Global, document: &Table) -> Result<NodeTable, TableFault>
-    ensures value { IfOk result (λ t. table_view document.now ≡ document_of t) }
-    ensures shape { IsErrOf result TableFault.Shape → (t : NodeTable) → NumbersAreAtMostMaxNode t
-        → table_view document.now ≡ document_of t → ⊥ }
+    ensures value { IfOk result (λ table. table_view document.now ≡ document_of table) }
+    ensures shape { IsErrOf result TableFault.Shape → (table : NodeTable)
+        → NumbersAreAtMostMaxNode table → table_view document.now ≡ document_of table → ⊥ }
 {
     let mut entries = document.iter();
     let members = next_value(&mut entries, "members").ok_or(TableFault::Shape)?;
@@ -45,8 +45,8 @@ pub(crate) fn document_table(alloc: Global, document: &Table) -> Result<NodeTabl
 fn next_value<'a>(entries: &mut Iter<'a, String, Value>, key: &str) -> Option<&'a Value>
     ensures some { IfSome result (λ value. members_view entries.old
         ≡ member key.now (view value.now) (members_view entries.new)) }
-    ensures none { IsNone result → (d : Data) (rest : Entries)
-        → members_view entries.old ≡ member key.now d rest → ⊥ }
+    ensures none { IsNone result → (value : Data) (rest : Entries)
+        → members_view entries.old ≡ member key.now value rest → ⊥ }
 {
     let (name, value) = entries.next()?;
     if name.as_str() == key {
@@ -58,9 +58,9 @@ fn next_value<'a>(entries: &mut Iter<'a, String, Value>, key: &str) -> Option<&'
 
 // Returns a number from 0 to the greatest of a node.
 fn number_at_most_max_node(value: &Value) -> Option<u8>
-    ensures some { IfSome result (λ n. view value.now ≡ number_value n) }
-    ensures none { IsNone result → (n : ℕ) → is_at_most_max_node n ≡ true →
-        view value.now ≡ number_value n → ⊥ }
+    ensures some { IfSome result (λ number. view value.now ≡ number_value number) }
+    ensures none { IsNone result → (number : ℕ) → is_at_most_max_node number ≡ true →
+        view value.now ≡ number_value number → ⊥ }
 {
     let number = value.as_integer()?;
     if 0 <= number && number <= MAX_NODE {

@@ -146,7 +146,7 @@ fn number(found: &ArgMatches<'_>, id: &str) -> Result<u32, LineFault>
     ensures value { IfOk result (HasNumber id.now (rows_of (found_of found.now))) }
     ensures refused { IfErr result (IsRefusal []) }
     ensures missing { IsErrOf result LineFault.Incomplete
-        → (n : ℕ) → HasNumber id.now (rows_of (found_of found.now)) n → ⊥ }
+        → (number : ℕ) → HasNumber id.now (rows_of (found_of found.now)) number → ⊥ }
 {
     match found.get_one::<u32>(id) {
         Some(number) => Ok(number),

@@ -15,7 +15,8 @@ use std::alloc::Global;
 /// is no document of a lawful table, or has an unknown key; the order of its keys is free.
 pub fn table(alloc: Global, text: &str) -> Result<NodeTable, TableFault>
     ensures value { IfOk result (IsTableText text.now) }
-    ensures shape { IsErrOf result TableFault.Shape → (t : NodeTable) → IsTableText text.now t → ⊥ }
+    ensures shape { IsErrOf result TableFault.Shape → (table : NodeTable)
+        → IsTableText text.now table → ⊥ }
 {
     let document = match toml::table_from_str(alloc, text) {
         Ok(document) => document,

@@ -48,8 +48,8 @@ impl<T: Drop, J: Naming> Dealer<T, J> {
     /// out.
     pub(crate) fn deal(&mut self) -> Result<Lane<T, J>, AllocError>
         requires few { self.old.lanes < MAX_LANES }
-        ensures lane { IfOk result (λ l.
-            l ≡ record { inbox = self.old.inbox; lane = self.old.lanes; met = 0; sent = [] }) }
+        ensures lane { IfOk result (λ lane.
+            lane ≡ record { inbox = self.old.inbox; lane = self.old.lanes; met = 0; sent = [] }) }
         ensures more { OnOk result (self.new ≡ record self.old { lanes = self.old.lanes + 1 }) }
     {
         let queue = Arc::try_clone(&self.queue)?;

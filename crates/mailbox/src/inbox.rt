@@ -49,7 +49,7 @@ impl<T: Drop> Model for Inbox<T> {
 impl<T: Drop> Inbox<T> {
     /// Returns an empty inbox with capacity for [`MAX_ITEMS`] items.
     pub fn new(alloc: Global) -> Result<Self, AllocError>
-        ensures { IfOk result (λ n. n.slots ≡ max_items) }
+        ensures { IfOk result (λ inbox. inbox.slots ≡ max_items) }
     {
         let (queue, pass) = Queue::ruled(alloc, MAX_ITEMS)?;
         let queue = Arc::new(alloc, queue)?;
@@ -65,9 +65,9 @@ impl<T: Drop> Inbox<T> {
     ) -> Result<(Receiver<T, J>, Vec<Lane<T, J>>), AllocError>
         requires named { self ≡ J.inbox_of number }
         requires lanes { (1 ≤ lanes) × (lanes ≤ MAX_LANES) }
-        ensures receiver { IfOk result (λ r.
-            r.0 ≡ record { inbox = number; lanes = lanes; taken = [] }) }
-        ensures lanes { IfOk result (λ r. r.1.items ≡ fresh_lanes number lanes) }
+        ensures receiver { IfOk result (λ ends.
+            ends.0 ≡ record { inbox = number; lanes = lanes; taken = [] }) }
+        ensures lanes { IfOk result (λ ends. ends.1.items ≡ fresh_lanes number lanes) }
     {
         let Inbox { queue, pass, alloc } = self;
         let mut dealer = Dealer {

@@ -127,7 +127,7 @@ impl<T: Drop, J: Naming> Lane<T, J> {
         // What comes back is the item, and then nothing was sent.
         ensures full { OnErr result (WasFull self.old receipt ⊎ IsSpent self.old) }
         ensures room { OnErr result (IsFullByReceipt self.old receipt ⊎ IsSpent self.old) }
-        ensures back { IfErr result (λ x. x ≡ item) }
+        ensures back { IfErr result (λ back. back ≡ item) }
         ensures same { OnErr result (self.new ≡ self.old) }
     {
         if self.count >= MAX_SENT {

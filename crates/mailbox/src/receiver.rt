@@ -85,9 +85,9 @@ impl<T: Drop, J: Naming> Receiver<T, J> {
     /// says, was taken before.
     pub fn take<R: Wait>(&mut self, rt: &R, receipt: Receipt<T, J>) -> Option<(u8, T)>
         requires { receipt.inbox ≡ self.old.inbox }
-        ensures taken { IfSome result (λ x.
-            self.new ≡ record self.old { taken = self.old.taken ++ x ∷ [] }) }
-        ensures lane { IfSome result (λ x. x.0 < self.old.lanes) }
+        ensures taken { IfSome result (λ item.
+            self.new ≡ record self.old { taken = self.old.taken ++ item ∷ [] }) }
+        ensures lane { IfSome result (λ item. item.0 < self.old.lanes) }
 
         // If nothing came, the inbox was empty: everything that the receipt knows about was taken.
         ensures empty { IfNone result (WasEmpty self.old receipt) }
@@ -156,8 +156,8 @@ impl<T: Drop, J: Naming> Receiver<T, J> {
 
         // Those counted and those left over are, lane by lane and in order, all that was sent.
         ensures whole { All (ArrivesWhole counts.new left.new.items) lanes.new }
-        ensures counted { EachIndex counts.new (λ k.
-            slice_index counts.new k ≡ length (items_of_lane k self.old.taken)) }
+        ensures counted { EachIndex counts.new (λ lane.
+            slice_index counts.new lane ≡ length (items_of_lane lane self.old.taken)) }
 
         // All that was sent is taken.
         ensures arrived { All (IsDrained self.new.taken) lanes.new }
@@ -196,7 +196,7 @@ impl<T: Drop, J: Naming> Receiver<T, J> {
 
     // Says whether all that these lanes sent was taken.
     fn has_taken_all(&mut self, lanes: &mut [Lane<T, J>]) -> bool
-        requires { All (λ s. s.inbox ≡ self.old.inbox) lanes.old }
+        requires { All (λ lane. lane.inbox ≡ self.old.inbox) lanes.old }
         ensures all { IsTrue result → All (IsDrained self.old.taken) lanes.new }
         ensures receiver { self.new ≡ self.old }
         ensures lanes { map unmet lanes.new ≡ map unmet lanes.old }

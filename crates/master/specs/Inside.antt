@@ -32,7 +32,7 @@ pub record RunsAt {S C : Type 0} (nodes : List (ReplicaState S C)) (node at : �
 -- how long the log of a node is, if the node exists
 abbrev pub held_by : {S C : Type 0} → Option (ReplicaState S C) → ℕ
 held_by None = 0
-held_by (Some r) = places r.log
+held_by (Some replica) = places replica.log
 
 -- the log of a member's node has at least as many places
 pub record HoldsAt {S C : Type 0} (nodes : List (ReplicaState S C)) (members : List ℕ)
@@ -47,7 +47,7 @@ pub record HoldsAt {S C : Type 0} (nodes : List (ReplicaState S C)) (members : L
 -- the log of a node, if the node exists, has fewer places
 abbrev pub IsShort : {S C : Type 0} → Option (ReplicaState S C) → ℕ → Type 0
 IsShort None held = Unit {0}
-IsShort (Some r) held = places r.log < held
+IsShort (Some replica) held = places replica.log < held
 
 -- the world of a group with this record of places, this master, these replicas, messages and
 -- effects that left
@@ -55,7 +55,7 @@ abbrev pub world_of : {S C O : Type 0} → List C → List (CountedReplica S C) 
     List (Effect C O) → CutGroupWorld S C O
 world_of {S = S} {C = C} archive nodes sent left =
     record {
-      nodes = map (λ (r : CountedReplica S C). r.state) nodes;
+      nodes = map (λ (replica : CountedReplica S C). replica.state) nodes;
       sent = sent;
       left = outputs left;
       archive = archive;
@@ -64,12 +64,13 @@ world_of {S = S} {C = C} archive nodes sent left =
 -- the moment that a group with its master shows
 abbrev pub moment_of : {S C O : Type 0} → List C → MasterState → List (CountedReplica S C) →
     List (ℕ × Message C) → List (Effect C O) → Moment S C O
-moment_of archive m nodes sent left =
-    record { master = m; world = world_of archive nodes sent left }
+moment_of archive master nodes sent left =
+    record { master = master; world = world_of archive nodes sent left }
 
 -- no replica has counted more losses than its group, which counts each of them
 abbrev pub CountsAtMost : {S C : Type 0} → ℕ → List (CountedReplica S C) → Type 0
-CountsAtMost {S} {C} losses nodes = Each (λ (r : CountedReplica S C). r.losses ≤ losses) nodes
+CountsAtMost {S} {C} losses nodes =
+    Each (λ (replica : CountedReplica S C). replica.losses ≤ losses) nodes
 
 -- how many places the node of each number acknowledged in a ballot
 pub record ToldIn : Type 0 where
@@ -78,19 +79,21 @@ pub record ToldIn : Type 0 where
 
 -- these are the numbers that the messages say
 abbrev pub HasCounted : {C : Type 0} → List (ℕ × Message C) → ToldIn → Type 0
-HasCounted sent t = (m : ℕ) → m < 16 → get_or t.held m 0 ≡ max_told m t.ballot sent
+HasCounted sent told =
+    (member : ℕ) → member < 16 → get_or told.held member 0 ≡ max_told member told.ballot sent
 
 -- how a group came about, and what it counts: what was acknowledged in the active ballot, and in
 -- the ballot that waits
-pub record IsGroup {S C O : Type 0} (rules : Rules S C O) (a : Moment S C O) (told next : ToldIn) :
-    Type 0 where
+pub record IsGroup {S C O : Type 0} (rules : Rules S C O) (moment : Moment S C O)
+    (told next : ToldIn) : Type 0 where
   pub config : Config
   pub past : List (Moment S C O)
-  pub came : Moments rules config (a ∷ past)
-  pub active : told.ballot ≡ a.master.active
-  pub counted : HasCounted a.world.sent told
-  pub waits : (b : ℕ) (c : Config) → a.master.waiting ≡ Some (b, c) → next.ballot ≡ b
-  pub counted_next : HasCounted a.world.sent next
+  pub came : Moments rules config (moment ∷ past)
+  pub active : told.ballot ≡ moment.master.active
+  pub counted : HasCounted moment.world.sent told
+  pub waits : (ballot : ℕ) (configuration : Config) →
+      moment.master.waiting ≡ Some (ballot, configuration) → next.ballot ≡ ballot
+  pub counted_next : HasCounted moment.world.sent next
 
 -- the two smallest of a pair and one more number
 abbrev pub next_least : ℕ → ℕ → ℕ → ℕ × ℕ

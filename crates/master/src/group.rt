@@ -257,14 +257,14 @@ impl<M: Machine> Group<M> {
     fn heeds(&self, at: usize, message: &Message<M::Command>) -> bool
         requires at { at < length self.now.moment.world.nodes }
         requires sent { (to : ℕ) × In (to, message.now) self.now.moment.world.sent }
-        ensures nothing { (r : ReplicaState M M.Command) →
-            slice_get self.now.moment.world.nodes at ≡ Some r →
+        ensures nothing { (replica : ReplicaState M M.Command) →
+            slice_get self.now.moment.world.nodes at ≡ Some replica →
             ((result ≡ false) ↔
-            (replica_step M.rules r (Receives message.now) ≡ nothing_done M.Output r)) }
-        ensures more { (r : ReplicaState M M.Command) →
-            slice_get self.now.moment.world.nodes at ≡ Some r → result ≡ true →
+            (replica_step M.rules replica (Receives message.now) ≡ nothing_done M.Output replica)) }
+        ensures more { (replica : ReplicaState M M.Command) →
+            slice_get self.now.moment.world.nodes at ≡ Some replica → result ≡ true →
             has_numbers_alone message.now.body ≡ false →
-            SendsAndAddsNothing r (replica_step M.rules r (Receives message.now)) → ⊥ }
+            SendsAndAddsNothing replica (replica_step M.rules replica (Receives message.now)) → ⊥ }
     {
         self.nodes[at].heeds(message)
     }
@@ -308,8 +308,8 @@ impl<M: Machine> Group<M> {
         ensures some { IfSome result (λ at.
             HoldsAt self.now.moment.world.nodes self.now.moment.master.members held at) }
         ensures none { result ≡ None →
-            (m : ℕ) → In m self.now.moment.master.members →
-            IsShort (slice_get self.now.moment.world.nodes (m - 1)) held }
+            (member : ℕ) → In member self.now.moment.master.members →
+            IsShort (slice_get self.now.moment.world.nodes (member - 1)) held }
     {
         let (_, members) = self.master.active();
         for member in members {

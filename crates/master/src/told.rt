@@ -43,7 +43,7 @@ impl Told {
     /// memory ran out.
     pub fn new(alloc: Global, ballot: u64) -> Result<Told, Memory>
         ensures ballot { IfOk result (λ told. told.ballot ≡ ballot) }
-        ensures counted { IfOk result (λ told. (m : ℕ) → get_or told.held m 0 ≡ 0) }
+        ensures counted { IfOk result (λ told. (member : ℕ) → get_or told.held member 0 ≡ 0) }
     {
         let held = Vec::from_slice(alloc, &[0; NUMBERS])?;
         Ok(Told { ballot, held })
@@ -52,7 +52,7 @@ impl Told {
     /// Resets the counters for a ballot in which nothing was acknowledged.
     pub fn begin(&mut self, ballot: u64)
         ensures ballot { self.new.ballot ≡ ballot }
-        ensures counted { (m : ℕ) → get_or self.new.held m 0 ≡ 0 }
+        ensures counted { (member : ℕ) → get_or self.new.held member 0 ≡ 0 }
     {
         self.ballot = ballot;
         self.held.as_mut_slice().fill(0);
@@ -61,9 +61,9 @@ impl Told {
     /// Counts what a message acknowledges.
     pub fn count_message<C>(&mut self, message: &Message<C>)
         ensures ballot { self.new.ballot ≡ self.old.ballot }
-        ensures counted { (m : ℕ) → m < 16 →
-            get_or self.new.held m 0 ≡
-            max (get_or self.old.held m 0) (told_in m self.old.ballot message.now) }
+        ensures counted { (member : ℕ) → member < 16 →
+            get_or self.new.held member 0 ≡
+            max (get_or self.old.held member 0) (told_in member self.old.ballot message.now) }
     {
         let (ballot, held) = match message.body {
             Body::Installed(ballot, held) | Body::Held(ballot, held) => (ballot, held),
@@ -88,10 +88,10 @@ impl Told {
 
     /// Returns the second smallest of the numbers that these nodes acknowledged.
     pub fn least_but_one(&self, members: &[u8]) -> u64
-        requires { (m : ℕ) → In m members.now → m < 16 }
+        requires { (member : ℕ) → In member members.now → member < 16 }
         ensures least { result
             ≡ least_but_one self.now.held greatest_count greatest_count members.now }
-        ensures range { (m : ℕ) → get_or self.now.held m 0 < 2 ^ 64 }
+        ensures range { (member : ℕ) → get_or self.now.held member 0 < 2 ^ 64 }
     {
         second_least(self.held.as_slice(), members)
     }
@@ -99,9 +99,9 @@ impl Told {
 
 // Returns the second smallest of the numbers at some indices.
 fn second_least(told: &[u64], slots: &[u8]) -> u64
-    requires { (m : ℕ) → In m slots.now → m < length told.now }
+    requires { (index : ℕ) → In index slots.now → index < length told.now }
     ensures least { result ≡ least_but_one told.now greatest_count greatest_count slots.now }
-    ensures range { (m : ℕ) → get_or told.now m 0 < 2 ^ 64 }
+    ensures range { (index : ℕ) → get_or told.now index 0 < 2 ^ 64 }
 {
     let mut pair = (u64::MAX, u64::MAX);
     for slot in slots {

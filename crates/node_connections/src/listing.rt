@@ -47,7 +47,7 @@ fn lower(low: Option<Port>, port: Port) -> Port
 /// out some of them may be appended.
 pub fn push_idle(connections: &[Connection], ports: &mut Vec<Port>) -> Result<(), Memory>
     ensures ok { OnOk result (ports.new.items ≡ ports.old.items
-        ++ map (λ (c : Connection). c.port) (filter is_idle connections.now)) }
+        ++ map (λ (connection : Connection). connection.port) (filter is_idle connections.now)) }
     ensures err { OnErr result (IsPrefixOf ports.old.items ports.new.items) }
 {
     for connection in connections {

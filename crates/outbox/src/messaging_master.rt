@@ -104,9 +104,10 @@ impl MessagingMaster {
     /// Gives the next ballot to a configuration. Returns the ballot, and the message to its
     /// primary.
     pub fn assign(&mut self, alloc: Global, config: Config) -> Result<(u64, Answer), OrderError>
-        ensures ballot { IfOk result (λ r. r.0 ≡ self.old.given + 1) }
-        ensures given { IfOk result (λ r. MayGet config r.0) }
-        ensures answer { IfOk result (λ r. r.1 ≡ message_of (assigned Command self.old config)) }
+        ensures ballot { IfOk result (λ given. given.0 ≡ self.old.given + 1) }
+        ensures given { IfOk result (λ given. MayGet config given.0) }
+        ensures answer { IfOk result (λ given.
+            given.1 ≡ message_of (assigned Command self.old config)) }
         ensures state { OnOk result (self.new ≡ (assigned Command self.old config).state) }
         ensures taken { OnOk result (refusal self.old config ≡ None) }
         ensures bad { IsErrOf result (OrderError.Refused AssignError.BadMembers)

@@ -20,7 +20,7 @@ impl Connack {
     /// Reads the body of a CONNACK (MQTT 3.2). The first fault that is met stops it.
     #[tactic(auto, unfolding(crate::specs::Connack::connack_of))]
     pub(crate) fn read(body: &mut Reader) -> Result<Connack, Stop>
-        ensures exact { Gives (λ x. x) result (connack_of body.old) }
+        ensures exact { Gives (λ value. value) result (connack_of body.old) }
         ensures memory { TakesNoMemory result }
     {
         let present = body.byte()?;

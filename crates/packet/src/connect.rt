@@ -37,7 +37,7 @@ impl Connect {
     /// Reads the body of a CONNECT (MQTT 3.1). The first fault that is met stops it.
     #[tactic(auto, unfolding(crate::specs::Connect::connect_of), using(packet_base::proofs::Clients::client_checked))]
     pub(crate) fn read(alloc: Global, body: &mut Reader) -> Result<Connect, Stop>
-        ensures exact { Gives (λ x. x) result (connect_of body.old) }
+        ensures exact { Gives (λ value. value) result (connect_of body.old) }
         ensures memory { IsOutOfMemory result → IsOk (connect_of body.old) }
     {
         if !body.skip(&PROTOCOL) {
@@ -93,7 +93,7 @@ impl Connect {
 
 // Returns CleanSession of connect flags, of which no other may be set (MQTT 3.1.2.3).
 fn clean_of(flags: u8) -> Result<bool, Stop>
-    ensures exact { Gives (λ x. x) result (clean_of flags) }
+    ensures exact { Gives (λ value. value) result (clean_of flags) }
     ensures memory { TakesNoMemory result }
 {
     if flags % 2 != 0 {

@@ -76,8 +76,9 @@ fn front_step(alloc: Global, bytes: &[u8]) -> Result<Step, DecodeFault>
 // Returns the packet of a first byte and the bytes after it, and how many of these it takes.
 #[tactic(auto, unfolding(crate::specs::Verdict::verdict, crate::specs::Verdict::asks_memory))]
 fn front_packet(alloc: Global, first: u8, more: &[u8]) -> Result<(Packet, usize), Stop>
-    ensures exact { Gives (λ x. (x.0, drop x.1 more.now)) result (verdict (first ∷ more.now)) }
-    ensures within { IfOk result (λ x. x.1 ≤ length more.now) }
+    ensures exact { Gives (λ front. (front.0, drop front.1 more.now)) result
+        (verdict (first ∷ more.now)) }
+    ensures within { IfOk result (λ front. front.1 ≤ length more.now) }
     ensures memory { IsOutOfMemory result → MayNeedMemory (first ∷ more.now) }
 {
     let header = Header::of(first)?;

@@ -62,7 +62,7 @@ impl Delivery {
     /// Reads the identifier that these flags ask for. The first fault that is met stops it.
     #[tactic(auto, unfolding(crate::specs::Delivery::delivery_at))]
     pub(crate) fn read(flags: DeliveryFlags, body: &mut Reader) -> Result<Delivery, Stop>
-        ensures exact { Reads (λ x. x) result body.new (delivery_at flags body.old) }
+        ensures exact { Reads (λ value. value) result body.new (delivery_at flags body.old) }
         ensures memory { TakesNoMemory result }
     {
         match flags {

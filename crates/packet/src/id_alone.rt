@@ -11,7 +11,7 @@ use packet_base::{PacketId, Reader, Stop};
 /// it.
 #[tactic(auto, unfolding(crate::specs::IdAlone::id_alone_of))]
 pub(crate) fn read_id_alone(body: &mut Reader) -> Result<PacketId, Stop>
-    ensures exact { Gives (λ x. x) result (id_alone_of body.old) }
+    ensures exact { Gives (λ value. value) result (id_alone_of body.old) }
     ensures memory { TakesNoMemory result }
 {
     let id = body.id()?;

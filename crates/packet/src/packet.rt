@@ -138,7 +138,7 @@ impl Packet {
 
     /// Reads the body of a packet whose first byte says this. The first fault that is met stops it.
     pub(crate) fn read(alloc: Global, header: Header, body: &mut Reader) -> Result<Packet, Stop>
-        ensures exact { Gives (λ x. x) result (body_of header body.old) }
+        ensures exact { Gives (λ value. value) result (body_of header body.old) }
         ensures memory { IsOutOfMemory result → asks_in_body header body.old ≡ true }
     {
         Ok(match header {
@@ -212,7 +212,7 @@ fn ensure_id_range(id: PacketId)
 
 // Returns a packet whose body is empty.
 fn empty(packet: Packet, body: &mut Reader) -> Result<Packet, Stop>
-    ensures exact { Gives (λ x. x) result (empty_of packet body.old) }
+    ensures exact { Gives (λ value. value) result (empty_of packet body.old) }
     ensures memory { TakesNoMemory result }
 {
     body.end()?;

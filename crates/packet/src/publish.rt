@@ -44,7 +44,7 @@ impl Publish {
         retain: bool,
         body: &mut Reader,
     ) -> Result<Publish, Stop>
-        ensures exact { Gives (λ x. x) result (publish_of flags retain body.old) }
+        ensures exact { Gives (λ value. value) result (publish_of flags retain body.old) }
         ensures memory { IsOutOfMemory result → IsOk (topic_at body.old) }
     {
         let topic = body.topic(alloc)?;

@@ -95,7 +95,7 @@ impl Suback {
     /// Reads the body of a SUBACK (MQTT 3.9). The first fault that is met stops it.
     #[tactic(auto, unfolding(crate::specs::Suback::suback_of))]
     pub(crate) fn read(alloc: Global, body: &mut Reader) -> Result<Suback, Stop>
-        ensures exact { Gives (λ x. x) result (suback_of body.old) }
+        ensures exact { Gives (λ value. value) result (suback_of body.old) }
         ensures memory { IsOutOfMemory result → begins_list body.old ≡ true }
     {
         let id = body.id()?;

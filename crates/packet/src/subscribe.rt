@@ -92,7 +92,7 @@ impl Subscribe {
     /// Reads the body of a SUBSCRIBE (MQTT 3.8). The first fault that is met stops it.
     #[tactic(auto, unfolding(crate::specs::Subscribe::subscribe_of))]
     pub(crate) fn read(alloc: Global, body: &mut Reader) -> Result<Subscribe, Stop>
-        ensures exact { Gives (λ x. x) result (subscribe_of body.old) }
+        ensures exact { Gives (λ value. value) result (subscribe_of body.old) }
         ensures memory { IsOutOfMemory result → begins_list body.old ≡ true }
     {
         let id = body.id()?;

@@ -33,7 +33,7 @@ impl Unsubscribe {
     /// Reads the body of an UNSUBSCRIBE (MQTT 3.10). The first fault that is met stops it.
     #[tactic(auto, unfolding(crate::specs::Unsubscribe::unsubscribe_of))]
     pub(crate) fn read(alloc: Global, body: &mut Reader) -> Result<Unsubscribe, Stop>
-        ensures exact { Gives (λ x. x) result (unsubscribe_of body.old) }
+        ensures exact { Gives (λ value. value) result (unsubscribe_of body.old) }
         ensures memory { IsOutOfMemory result → begins_list body.old ≡ true }
     {
         let id = body.id()?;

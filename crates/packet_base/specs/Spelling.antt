@@ -26,7 +26,7 @@ use Rattle.std.specs.Int.{w16, to_be_bytes}
 
 -- two bytes, the high one first (MQTT 1.5.2)
 abbrev pub number : ℕ → List ℕ
-number n = to_be_bytes w16 n
+number value = to_be_bytes w16 value
 
 -- how many bytes it has, then the bytes (MQTT 1.5.3)
 abbrev pub text : List ℕ → List ℕ
@@ -35,32 +35,32 @@ text bytes = number (length bytes) ++ bytes
 -- Seven bits in each byte, the low ones first, and 128 more if another byte follows (MQTT 2.2.3).
 -- The last byte of several is not 0, so each number has one form.
 abbrev pub IsLength : List ℕ → ℕ → Type 0
-IsLength [] n = ⊥
-IsLength (byte ∷ []) n = (byte < 128) × (n ≡ byte)
-IsLength (byte ∷ next ∷ bytes) n =
-    (128 ≤ byte) × (byte < 256) × (high : ℕ) × (0 < high) × (n + 128 ≡ byte + 128 * high)
+IsLength [] value = ⊥
+IsLength (byte ∷ []) value = (byte < 128) × (value ≡ byte)
+IsLength (byte ∷ next ∷ bytes) value =
+    (128 ≤ byte) × (byte < 256) × (high : ℕ) × (0 < high) × (value + 128 ≡ byte + 128 * high)
     × IsLength (next ∷ bytes) high
 
 -- the bytes of a length, at most this many after the first
 abbrev pub length_digits : ℕ → ℕ → List ℕ
-length_digits zero n = n ∷ []
-length_digits (suc more) n =
-    if nat_lt n 128 then n ∷ [] else (n % 128 + 128) ∷ length_digits more (n / 128)
+length_digits zero value = value ∷ []
+length_digits (suc more) value =
+    if nat_lt value 128 then value ∷ [] else (value % 128 + 128) ∷ length_digits more (value / 128)
 
 -- the bytes of a length below 2 ^ 28 (MQTT 2.2.3)
 abbrev pub remaining_length : ℕ → List ℕ
-remaining_length n = length_digits 3 n
+remaining_length value = length_digits 3 value
 
 -- how many bytes the length takes, for lengths below 2 ^ 28 (MQTT 2.2.3, table 2.4)
 abbrev pub length_bytes : ℕ → ℕ
-length_bytes n =
-    if nat_lt n 128 then 1 else
-    if nat_lt n 16384 then 2 else
-    if nat_lt n 2097152 then 3 else 4
+length_bytes value =
+    if nat_lt value 128 then 1 else
+    if nat_lt value 16384 then 2 else
+    if nat_lt value 2097152 then 3 else 4
 
 -- new is old with the bytes of a length appended
 abbrev pub AppendsLength : List ℕ → List ℕ → ℕ → Type 0
-AppendsLength old new n = (bytes : List ℕ) × IsLength bytes n × (new ≡ old ++ bytes)
+AppendsLength old new value = (bytes : List ℕ) × IsLength bytes value × (new ≡ old ++ bytes)
 
 -- a flag as a bit
 abbrev pub bit : Bool → ℕ

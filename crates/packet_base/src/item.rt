@@ -33,7 +33,7 @@ pub trait ListItem: Drop {
 
     /// Reads an item.
     fn read(alloc: Global, body: &mut Reader) -> Result<Self, Stop>
-        ensures { Reads (λ x. x) result body.new (item_at body.old) };
+        ensures { Reads (λ value. value) result body.new (item_at body.old) };
 
     /// Returns how many bytes it takes.
     fn spelled_len(&self) -> usize

@@ -20,7 +20,7 @@ impl Model for PacketId {
 
     ghost invariant = { λ id. 0 < id.number };
 
-    ghost inverse = { λ n. record { number = n } };
+    ghost inverse = { λ number. record { number = number } };
 }
 
 impl PacketId {

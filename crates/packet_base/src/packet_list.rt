@@ -66,7 +66,7 @@ impl<T: ListItem> PacketList<T> {
     /// Reads items to the end of the body. An empty list is `Shape`, and takes no memory (MQTT
     /// 3.8.3, 3.9.3, 3.10.3).
     pub fn read(alloc: Global, body: &mut Reader) -> Result<PacketList<T>, Stop>
-        ensures exact { Gives (λ x. x) result (list_of T.item_at body.old) }
+        ensures exact { Gives (λ value. value) result (list_of T.item_at body.old) }
         ensures memory { IsOutOfMemory result → IsOk (byte_at body.old) }
     {
         let items = read_items(alloc, body)?;
@@ -109,7 +109,7 @@ impl<T: ListItem> PacketList<T> {
 
 // Reads items to the end of the body.
 fn read_items<T: ListItem>(alloc: Global, body: &mut Reader) -> Result<Vec<T>, Stop>
-    ensures exact { Gives (λ x. x.items) result (items_at T.item_at body.old) }
+    ensures exact { Gives (λ read. read.items) result (items_at T.item_at body.old) }
     ensures memory { IsOutOfMemory result → IsOk (byte_at body.old) }
 {
     let mut items = Vec::new(alloc);
@@ -125,7 +125,7 @@ fn read_items<T: ListItem>(alloc: Global, body: &mut Reader) -> Result<Vec<T>, S
 
 impl<T: Clone> Clone for PacketList<T> {
     ghost is_clone = { λ list copy. AllZip T.is_clone list copy
-        × (((x y : T) → T.is_clone x y → y ≡ x) → copy ≡ list) };
+        × (((item other : T) → T.is_clone item other → other ≡ item) → copy ≡ list) };
 
     fn clone(&self) -> Result<PacketList<T>, AllocError> {
         let items = Vec::from_clones(*self.items.allocator(), self.items.as_slice())?;

@@ -65,7 +65,7 @@ impl<'a> Reader<'a> {
 
     /// Removes the next byte and returns it. `Shape` says that none is left.
     pub fn byte(&mut self) -> Result<u8, Stop>
-        ensures exact { Reads (λ x. x) result self.new (byte_at self.old) }
+        ensures exact { Reads (λ value. value) result self.new (byte_at self.old) }
         ensures memory { TakesNoMemory result }
     {
         match self.rest {
@@ -79,7 +79,7 @@ impl<'a> Reader<'a> {
 
     /// Reads the next `len` bytes.
     pub fn front(&mut self, len: usize) -> Result<&'a [u8], Stop>
-        ensures exact { Reads (λ x. x.now) result self.new (front_at len self.old) }
+        ensures exact { Reads (λ bytes. bytes.now) result self.new (front_at len self.old) }
         ensures memory { TakesNoMemory result }
     {
         let bytes = self.rest;
@@ -94,7 +94,7 @@ impl<'a> Reader<'a> {
     /// Reads a number of two bytes, the high one first (MQTT 1.5.2).
     #[tactic(auto, unfolding(crate::specs::Reading::number_at))]
     pub fn number(&mut self) -> Result<u16, Stop>
-        ensures exact { Reads (λ x. x) result self.new (number_at self.old) }
+        ensures exact { Reads (λ value. value) result self.new (number_at self.old) }
         ensures memory { TakesNoMemory result }
     {
         let front = self.front(2)?;
@@ -104,7 +104,7 @@ impl<'a> Reader<'a> {
     /// Reads a Packet Identifier; zero is `Identifier` (MQTT 2.3.1).
     #[tactic(auto, unfolding(crate::specs::Reading::id_at))]
     pub fn id(&mut self) -> Result<PacketId, Stop>
-        ensures exact { Reads (λ x. x) result self.new (id_at self.old) }
+        ensures exact { Reads (λ value. value) result self.new (id_at self.old) }
         ensures memory { TakesNoMemory result }
     {
         let number = self.number()?;
@@ -118,8 +118,8 @@ impl<'a> Reader<'a> {
     /// or contain U+0000, are `Text`.
     #[tactic(auto, unfolding(crate::specs::Reading::text_at))]
     pub fn text(&mut self) -> Result<&'a str, Stop>
-        ensures exact { Reads (λ x. x.now) result self.new (text_at self.old) }
-        ensures checked { IfOk result (λ x. is_text x.now ≡ true) }
+        ensures exact { Reads (λ text. text.now) result self.new (text_at self.old) }
+        ensures checked { IfOk result (λ text. is_text text.now ≡ true) }
         ensures memory { TakesNoMemory result }
     {
         let len = self.number()?;
@@ -131,7 +131,7 @@ impl<'a> Reader<'a> {
     /// `TooDeep` (MQTT 4.7).
     #[tactic(auto, unfolding(crate::specs::TopicFields::topic_at, crate::specs::Reading::text_at), using(crate::proofs::Texts::topic_ends))]
     pub fn topic(&mut self, alloc: Global) -> Result<TopicName, Stop>
-        ensures exact { Reads (λ x. x) result self.new (topic_at self.old) }
+        ensures exact { Reads (λ value. value) result self.new (topic_at self.old) }
 
         // Memory may run out only for a text without a fault.
         ensures memory { IsOutOfMemory result → IsOk (topic_at self.old) }
@@ -145,7 +145,7 @@ impl<'a> Reader<'a> {
     /// `TooDeep` (MQTT 4.7.1).
     #[tactic(auto, unfolding(crate::specs::TopicFields::filter_at, crate::specs::Reading::text_at), using(crate::proofs::Texts::filter_ends))]
     pub fn filter(&mut self, alloc: Global) -> Result<Filter, Stop>
-        ensures exact { Reads (λ x. x) result self.new (filter_at self.old) }
+        ensures exact { Reads (λ value. value) result self.new (filter_at self.old) }
 
         // Memory may run out only for a text without a fault.
         ensures memory { IsOutOfMemory result → IsOk (filter_at self.old) }
@@ -164,7 +164,7 @@ impl<'a> Reader<'a> {
 
     /// Checks that no bytes are left over; if some are, that is `Shape`.
     pub fn end(&self) -> Result<(), Stop>
-        ensures exact { Gives (λ x. x) result (ended self.now) }
+        ensures exact { Gives (λ value. value) result (ended self.now) }
         ensures memory { TakesNoMemory result }
     {
         if self.rest.is_empty() {
@@ -177,8 +177,8 @@ impl<'a> Reader<'a> {
 // Returns the bytes as a text, if they are one.
 #[tactic(auto, using(crate::proofs::Texts::text_tests))]
 fn checked_text(bytes: &[u8]) -> Result<&str, Stop>
-    ensures exact { Gives (λ x. x.now) result (text_of bytes.now) }
-    ensures checked { IfOk result (λ x. is_text x.now ≡ true) }
+    ensures exact { Gives (λ text. text.now) result (text_of bytes.now) }
+    ensures checked { IfOk result (λ text. is_text text.now ≡ true) }
     ensures memory { TakesNoMemory result }
 {
     let Ok(text) = std::str::from_utf8(bytes) else {
@@ -193,7 +193,7 @@ fn checked_text(bytes: &[u8]) -> Result<&str, Stop>
 // Returns the bytes as a Topic Name. The name's own checks make sure that it has no U+0000.
 #[tactic(auto, using(crate::proofs::Texts::name_tests))]
 fn topic_name(alloc: Global, bytes: &[u8]) -> Result<TopicName, Stop>
-    ensures exact { Gives (λ x. x) result (name_of bytes.now) }
+    ensures exact { Gives (λ value. value) result (name_of bytes.now) }
     ensures memory { IsOutOfMemory result → IsOk (name_of bytes.now) }
 {
     let Ok(text) = std::str::from_utf8(bytes) else {
@@ -205,7 +205,7 @@ fn topic_name(alloc: Global, bytes: &[u8]) -> Result<TopicName, Stop>
 // Returns the bytes as a Topic Filter. Its own checks make sure that it has no U+0000.
 #[tactic(auto, using(crate::proofs::Texts::pattern_tests))]
 fn topic_filter(alloc: Global, bytes: &[u8]) -> Result<Filter, Stop>
-    ensures exact { Gives (λ x. x) result (pattern_of bytes.now) }
+    ensures exact { Gives (λ value. value) result (pattern_of bytes.now) }
     ensures memory { IsOutOfMemory result → IsOk (pattern_of bytes.now) }
 {
     let Ok(text) = std::str::from_utf8(bytes) else {

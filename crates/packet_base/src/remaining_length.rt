@@ -13,8 +13,8 @@ use topics::MalformedKind;
 /// another would follow, or a longer spelling than needed, is `Length`; bytes that end before the
 /// length does are `More`.
 pub fn take_length(bytes: &[u8]) -> Result<(u32, &[u8]), Stop>
-    ensures exact { Gives (λ x. (x.0, x.1.now)) result (length_at 3 bytes.now) }
-    ensures small { IfOk result (λ x. x.0 < 2 ^ 28) }
+    ensures exact { Gives (λ taken. (taken.0, taken.1.now)) result (length_at 3 bytes.now) }
+    ensures small { IfOk result (λ taken. taken.0 < 2 ^ 28) }
     ensures memory { TakesNoMemory result }
 {
     length_from(bytes, 3)
@@ -25,8 +25,8 @@ pub fn take_length(bytes: &[u8]) -> Result<(u32, &[u8]), Stop>
 #[tactic(auto, unfolding(crate::specs::Reading::length_at), using(crate::proofs::Lengths::limits))]
 fn length_from(bytes: &[u8], follow: u8) -> Result<(u32, &[u8]), Stop>
     requires { follow < 4 }
-    ensures exact { Gives (λ x. (x.0, x.1.now)) result (length_at follow bytes.now) }
-    ensures limit { IfOk result (λ x. x.0 < length_limit follow) }
+    ensures exact { Gives (λ taken. (taken.0, taken.1.now)) result (length_at follow bytes.now) }
+    ensures limit { IfOk result (λ taken. taken.0 < length_limit follow) }
     ensures memory { TakesNoMemory result }
 {
     match bytes {

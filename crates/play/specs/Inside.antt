@@ -55,24 +55,25 @@ pub record EndsTranscript (world : WorldState) (old new : List ℕ) : Type 0 whe
 
 -- the identifiers of the clients of these recipients
 abbrev pub names_of : List Recipient → List (List ℕ)
-names_of recipients = map (λ (l : Recipient). l.client) recipients
+names_of recipients = map (λ (recipient : Recipient). recipient.client) recipients
 
 -- everything that they show is written
 abbrev pub AreWritten : List Recipient → WorldState → Type 0
-AreWritten [] w = Unit {0}
-AreWritten (one ∷ more) w = (one.written ≡ length (accepted_by_client one.client w))
-    × AreWritten more w
+AreWritten [] world = Unit {0}
+AreWritten (one ∷ more) world = (one.written ≡ length (accepted_by_client one.client world))
+    × AreWritten more world
 
 -- the lines of what is not yet written
 abbrev pub lines_unwritten : List Recipient → WorldState → List ℕ
-lines_unwritten [] w = []
-lines_unwritten (one ∷ more) w = lines_after one.written one.client w ++ lines_unwritten more w
+lines_unwritten [] world = []
+lines_unwritten (one ∷ more) world =
+    lines_after one.written one.client world ++ lines_unwritten more world
 
 -- everything that it shows is now written
 abbrev pub written_at : WorldState → Recipient → Recipient
-written_at w recipient = record recipient {
+written_at world recipient = record recipient {
   written =
-      length (accepted_by_client recipient.client w);
+      length (accepted_by_client recipient.client world);
 }
 
 -- a client of which nothing is written

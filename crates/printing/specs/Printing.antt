@@ -10,7 +10,7 @@ is_plain byte = nat_le 33 byte && (nat_le byte 126 && not (byte == 92))
 
 -- the hexadecimal digit of a number below 16: `0` to `9`, `a` to `f`
 abbrev pub digit : ℕ → ℕ
-digit n = if nat_lt n 10 then 48 + n else 87 + n
+digit value = if nat_lt value 10 then 48 + value else 87 + value
 
 -- how a byte is printed: as it is, or as `\x` and its two digits
 abbrev pub printed_byte : ℕ → List ℕ

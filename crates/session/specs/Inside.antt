@@ -25,15 +25,17 @@ sends_with flights [] = []
 
 -- the entry with this identifier waits for PUBREC
 abbrev pub IsAwaited : ℕ → List Flight → Type 0
-IsAwaited id fs = (p : Publication) × (lookup (λ other. id == other) fs ≡ Some (waits_for.Pubrec p))
+IsAwaited id flights =
+    (publication : Publication)
+    × (lookup (λ other. id == other) flights ≡ Some (waits_for.Pubrec publication))
 
 -- the entry with this identifier waits for PUBCOMP, in its place
 abbrev pub with_released : ℕ → List Flight → List Flight
-with_released id fs = set_value (λ other. id == other) fs waits_for.Pubcomp
+with_released id flights = set_value (λ other. id == other) flights waits_for.Pubcomp
 
 -- the greater of two QoS, each of which may be missing
 abbrev pub greater_of : Option QoS → Option QoS → Option QoS
-greater_of (Some q) other = Some (greater_qos q other)
+greater_of (Some qos) other = Some (greater_qos qos other)
 greater_of None other = other
 
 -- an entry whose publication, if it has one, can be written

@@ -33,7 +33,7 @@ impl Subscriptions {
     /// Reads as many filters as their count says, none of them twice.
     #[tactic(auto, unfolding(session_base::specs::Counted::counted_items_at))]
     pub(crate) fn read(alloc: Global, reader: &mut Reader) -> Result<Subscriptions, Stop>
-        ensures { Reads (λ x. x) result reader.new
+        ensures { Reads (λ value. value) result reader.new
             (counted_items_at byte_at is_new_filter granted_filter_at MAX_SUBSCRIPTIONS
             reader.old) }
     {
@@ -56,7 +56,7 @@ impl Subscriptions {
 
 // Reads this many filters, each of which is new, with their QoS.
 fn read_filters(alloc: Global, count: u8, reader: &mut Reader) -> Result<Subscriptions, Stop>
-    ensures { Reads (λ x. x) result reader.new
+    ensures { Reads (λ value. value) result reader.new
         (items_after is_new_filter granted_filter_at count [] reader.old) }
 {
     let mut read = Subscriptions::new(alloc);
@@ -71,7 +71,7 @@ impl Received {
     /// Reads as many identifiers as their count says, in rising order.
     #[tactic(auto, unfolding(session_base::specs::Counted::counted_items_at))]
     pub(crate) fn read(alloc: Global, reader: &mut Reader) -> Result<Received, Stop>
-        ensures { Reads (λ x. x) result reader.new
+        ensures { Reads (λ value. value) result reader.new
             (counted_items_at number_at is_above id_at max_id reader.old) }
     {
         let count = reader.number()?;
@@ -107,7 +107,8 @@ impl Received {
 
 // Reads this many received identifiers, which rise.
 fn read_ids(alloc: Global, count: u16, reader: &mut Reader) -> Result<Received, Stop>
-    ensures { Reads (λ x. x) result reader.new (items_after is_above id_at count [] reader.old) }
+    ensures { Reads (λ value. value) result reader.new
+        (items_after is_above id_at count [] reader.old) }
 {
     let mut read = Received::new(alloc);
     for _ in 0..count {
@@ -125,7 +126,7 @@ impl Session {
     #[tactic(auto, unfolding(session_base::specs::SessionForm::state_at))]
     pub fn read(alloc: Global, window: usize, reader: &mut Reader) -> Result<Session, Stop>
         requires { window ≤ MAX_ENTRIES }
-        ensures { Reads (λ x. x) result reader.new (state_at window reader.old) }
+        ensures { Reads (λ value. value) result reader.new (state_at window reader.old) }
     {
         let subscriptions = Subscriptions::read(alloc, reader)?;
         let received = Received::read(alloc, reader)?;
@@ -146,10 +147,10 @@ fn read_in_flight(
     window: usize,
     reader: &mut Reader,
 ) -> Result<IndexMap<PacketId, Awaits>, Stop>
-    ensures exact { Reads (λ x. x.entries) result reader.new
+    ensures exact { Reads (λ read. read.entries) result reader.new
         (counted_items_at number_at may_follow flight_at window reader.old) }
-    ensures first { IfOk result (λ x. IsReleasedFirst x.entries) }
-    ensures few { IfOk result (λ x. length x.entries ≤ window) }
+    ensures first { IfOk result (λ read. IsReleasedFirst read.entries) }
+    ensures few { IfOk result (λ read. length read.entries ≤ window) }
 {
     read_counted_flights(alloc, window, reader)
 }
@@ -161,7 +162,7 @@ fn read_counted_flights(
     window: usize,
     reader: &mut Reader,
 ) -> Result<IndexMap<PacketId, Awaits>, Stop>
-    ensures { Reads (λ x. x.entries) result reader.new
+    ensures { Reads (λ read. read.entries) result reader.new
         (counted_items_at number_at may_follow flight_at window reader.old) }
 {
     let count = reader.number()?;
@@ -175,7 +176,7 @@ fn read_flights(
     count: u16,
     reader: &mut Reader,
 ) -> Result<IndexMap<PacketId, Awaits>, Stop>
-    ensures { Reads (λ x. x.entries) result reader.new
+    ensures { Reads (λ read. read.entries) result reader.new
         (items_after may_follow flight_at count [] reader.old) }
 {
     let mut read = IndexMap::new(alloc);
@@ -233,7 +234,7 @@ fn read_all_waiting(
     most: usize,
     reader: &mut Reader,
 ) -> Result<VecDeque<Publication>, Stop>
-    ensures { Reads (λ x. x.items) result reader.new
+    ensures { Reads (λ read. read.items) result reader.new
         (counted_items_at number_at anything waiting_at most reader.old) }
 {
     let count = reader.number()?;
@@ -247,7 +248,7 @@ fn read_publications(
     count: u16,
     reader: &mut Reader,
 ) -> Result<VecDeque<Publication>, Stop>
-    ensures { Reads (λ x. x.items) result reader.new
+    ensures { Reads (λ read. read.items) result reader.new
         (items_after anything waiting_at count [] reader.old) }
 {
     let mut read = VecDeque::new(alloc);

@@ -14,11 +14,11 @@ use Rattle.session_base.specs.Counted.{counted_bytes}
 
 -- a number of four bytes
 abbrev pub long_number : ℕ → List ℕ
-long_number n = to_be_bytes w32 n
+long_number value = to_be_bytes w32 value
 
 -- a number below 256 as its byte
 abbrev pub one_byte : ℕ → List ℕ
-one_byte n = n ∷ []
+one_byte value = value ∷ []
 
 -- RETAIN, QoS, topic, payload with its length
 abbrev pub publication_bytes : Publication → List ℕ

@@ -17,7 +17,7 @@ use topics::{Filter, MalformedKind};
 
 /// Checks a form: the error, `Shape`, comes if the test does not hold.
 pub fn check_form(test: bool) -> Result<(), Stop>
-    ensures { Gives (λ x. x) result (check_form test) }
+    ensures { Gives (λ value. value) result (check_form test) }
 {
     if test {
         return Ok(());
@@ -28,7 +28,7 @@ pub fn check_form(test: bool) -> Result<(), Stop>
 /// Reads a byte that is 0 or 1.
 #[tactic(auto, unfolding(crate::specs::Form::flag_at))]
 pub fn read_flag(reader: &mut Reader) -> Result<bool, Stop>
-    ensures { Reads (λ x. x) result reader.new (flag_at reader.old) }
+    ensures { Reads (λ value. value) result reader.new (flag_at reader.old) }
 {
     let byte = reader.byte()?;
     check_form(byte < 2)?;
@@ -38,7 +38,7 @@ pub fn read_flag(reader: &mut Reader) -> Result<bool, Stop>
 /// Reads a number of four bytes, the high one first.
 #[tactic(auto, unfolding(crate::specs::Form::long_number_at))]
 pub fn read_long_number(reader: &mut Reader) -> Result<u32, Stop>
-    ensures { Reads (λ x. x) result reader.new (long_number_at reader.old) }
+    ensures { Reads (λ value. value) result reader.new (long_number_at reader.old) }
 {
     let front = reader.front(4)?;
     Ok(u32::from_be_bytes([front[0], front[1], front[2], front[3]]))
@@ -47,7 +47,7 @@ pub fn read_long_number(reader: &mut Reader) -> Result<u32, Stop>
 /// Reads a QoS in one byte, 0 to 2.
 #[tactic(auto, unfolding(crate::specs::Form::qos_at))]
 pub fn read_qos(reader: &mut Reader) -> Result<QoS, Stop>
-    ensures { Reads (λ x. x) result reader.new (qos_at reader.old) }
+    ensures { Reads (λ value. value) result reader.new (qos_at reader.old) }
 {
     QoS::of(reader.byte()?)
 }
@@ -55,7 +55,7 @@ pub fn read_qos(reader: &mut Reader) -> Result<QoS, Stop>
 /// Reads a publication whose PUBLISH is within the size limit of a packet.
 #[tactic(auto, unfolding(crate::specs::Form::publication_at))]
 pub fn read_publication(alloc: Global, reader: &mut Reader) -> Result<Publication, Stop>
-    ensures { Reads (λ x. x) result reader.new (publication_at reader.old) }
+    ensures { Reads (λ value. value) result reader.new (publication_at reader.old) }
 {
     let retain = read_flag(reader)?;
     let qos = read_qos(reader)?;
@@ -74,7 +74,7 @@ pub fn read_publication(alloc: Global, reader: &mut Reader) -> Result<Publicatio
 
 /// Returns a copy of bytes as a payload. The only error is that memory ran out.
 pub fn payload_of(alloc: Global, bytes: &[u8]) -> Result<Payload, Stop>
-    ensures { Gives (λ x. x) result (Ok bytes.now) }
+    ensures { Gives (λ value. value) result (Ok bytes.now) }
 {
     match Payload::new(alloc, bytes) {
         Ok(payload) => Ok(payload),
@@ -97,7 +97,7 @@ pub fn body_length(publication: &Publication) -> usize
 /// Reads a filter with its QoS.
 #[tactic(auto, unfolding(crate::specs::Form::granted_filter_at))]
 pub fn read_granted_filter(alloc: Global, reader: &mut Reader) -> Result<(Filter, QoS), Stop>
-    ensures { Reads (λ x. x) result reader.new (granted_filter_at reader.old) }
+    ensures { Reads (λ value. value) result reader.new (granted_filter_at reader.old) }
 {
     let filter = reader.filter(alloc)?;
     let qos = read_qos(reader)?;
@@ -107,7 +107,7 @@ pub fn read_granted_filter(alloc: Global, reader: &mut Reader) -> Result<(Filter
 /// Reads a publication that waits: at QoS 1 or 2.
 #[tactic(auto, unfolding(crate::specs::Form::waiting_at))]
 pub fn read_waiting(alloc: Global, reader: &mut Reader) -> Result<Publication, Stop>
-    ensures { Reads (λ x. x) result reader.new (waiting_at reader.old) }
+    ensures { Reads (λ value. value) result reader.new (waiting_at reader.old) }
 {
     let publication = read_publication(alloc, reader)?;
     check_form(publication.qos != QoS::AtMostOnce)?;
@@ -117,7 +117,7 @@ pub fn read_waiting(alloc: Global, reader: &mut Reader) -> Result<Publication, S
 /// Reads an entry in flight: its identifier, and what it waits for.
 #[tactic(auto, unfolding(crate::specs::Form::flight_at))]
 pub fn read_flight(alloc: Global, reader: &mut Reader) -> Result<(PacketId, Awaits), Stop>
-    ensures { Reads (λ x. x) result reader.new (flight_at reader.old) }
+    ensures { Reads (λ value. value) result reader.new (flight_at reader.old) }
 {
     let id = reader.id()?;
     let awaits = read_awaits(alloc, reader)?;
@@ -127,7 +127,7 @@ pub fn read_flight(alloc: Global, reader: &mut Reader) -> Result<(PacketId, Awai
 // Reads for which answer an entry in flight waits, with what it keeps until then.
 #[tactic(auto, unfolding(crate::specs::Form::awaits_at))]
 fn read_awaits(alloc: Global, reader: &mut Reader) -> Result<Awaits, Stop>
-    ensures { Reads (λ x. x) result reader.new (awaits_at reader.old) }
+    ensures { Reads (λ value. value) result reader.new (awaits_at reader.old) }
 {
     let state = reader.byte()?;
     check_form(state < 3)?;
@@ -140,7 +140,7 @@ fn read_awaits(alloc: Global, reader: &mut Reader) -> Result<Awaits, Stop>
 // Reads a publication that waits for PUBACK at QoS 1, or for PUBREC at QoS 2.
 #[tactic(auto, unfolding(crate::specs::Form::sent_at))]
 fn read_sent(alloc: Global, acknowledged: bool, reader: &mut Reader) -> Result<Awaits, Stop>
-    ensures { Reads (λ x. x) result reader.new (sent_at acknowledged reader.old) }
+    ensures { Reads (λ value. value) result reader.new (sent_at acknowledged reader.old) }
 {
     let publication = read_waiting(alloc, reader)?;
     check_form(acknowledged == (publication.qos == QoS::AtLeastOnce))?;

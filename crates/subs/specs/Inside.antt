@@ -53,17 +53,20 @@ same_levels (part ∷ parts) (level ∷ rest) = bytes_eq part level && same_leve
 
 -- this is what the client asks for at the filter of these levels
 abbrev pub asked_with : Asked → Levels → List ℕ → Option QoS → Asked
-asked_with before filter client kept f c =
-    if same_levels filter f && bytes_eq client c then kept else before f c
+asked_with before filter client kept other_filter other_client =
+    if same_levels filter other_filter && bytes_eq client other_client then kept
+    else before other_filter other_client
 
 -- these are the clients of the filter of these levels
 abbrev pub with_rows : Asked → Levels → (List ℕ → Option QoS) → Asked
-with_rows before filter kept f c = if same_levels filter f then kept c else before f c
+with_rows before filter kept other_filter client =
+    if same_levels filter other_filter then kept client else before other_filter client
 
 -- the client's subscriptions of these filters are removed
 abbrev pub cleared : List ℕ → Filters → Content → Content
-cleared client filters before c f =
-    if bytes_eq client c && is_some (at f filters) then None else before c f
+cleared client filters before other_client filter =
+    if bytes_eq client other_client && is_some (at filter filters) then None
+    else before other_client filter
 
 -- the node has no row and no child
 pub record HoldsNothing (node : Node) : Type 0 where

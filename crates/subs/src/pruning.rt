@@ -20,8 +20,9 @@ impl Nodes {
         ensures root { self.new.root ≡ self.old.root }
 
         // The nodes on the way to this one stay.
-        ensures ways { (path after : Levels) (k : ℕ) → LeadsTo self.old (path ++ after) at.number
-            → LeadsTo self.old path k → LeadsTo self.new path k }
+        ensures ways { (path after : Levels) (number : ℕ)
+            → LeadsTo self.old (path ++ after) at.number
+            → LeadsTo self.old path number → LeadsTo self.new path number }
     {
         let Some(text) = text else {
             return;
@@ -41,8 +42,9 @@ impl Nodes {
         ensures rows { rows_at_levels self.new ≡ rows_at_levels self.old }
         ensures sound { IsSoundTree self.new }
         ensures root { self.new.root ≡ self.old.root }
-        ensures ways { (path after : Levels) (k : ℕ) → LeadsTo self.old (path ++ after) at.number
-            → LeadsTo self.old path k → LeadsTo self.new path k }
+        ensures ways { (path after : Levels) (number : ℕ)
+            → LeadsTo self.old (path ++ after) at.number
+            → LeadsTo self.old path number → LeadsTo self.new path number }
     {
         let Some(below) = child(&self.slab, at, level) else {
             return;

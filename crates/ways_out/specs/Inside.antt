@@ -4,19 +4,19 @@ use Rattle.snapshots.specs.ballot_base.declared.status.Role.TheVariants.{Fetchin
 use Rattle.snapshots.specs.whole.Replica.{ReplicaState, progress_at}
 
 -- a node that runs and can still take a ballot's log of this length
-pub record CanTake {S C : Type 0} (ballot length_of_log : ℕ) (m : ℕ)
-    (r : ReplicaState S C) : Type 0 where
-  pub runs : r.stopped ≡ false
-  pub id : r.id ≡ m
-  pub joined : r.joined ≤ ballot
-  pub held : r.held_in < ballot
-  pub applied : r.committed ≤ length_of_log
+pub record CanTake {S C : Type 0} (ballot length_of_log : ℕ) (number : ℕ)
+    (replica : ReplicaState S C) : Type 0 where
+  pub runs : replica.stopped ≡ false
+  pub id : replica.id ≡ number
+  pub joined : replica.joined ≤ ballot
+  pub held : replica.held_in < ballot
+  pub applied : replica.committed ≤ length_of_log
 
 -- the new primary while it fetches a log
 abbrev pub fetching : {S C : Type 0} →
     ℕ → List ℕ → ℕ → List ℕ → ReplicaState S C → ReplicaState S C
-fetching ballot members previous previous_members r =
-    record r {
+fetching ballot members previous previous_members replica =
+    record replica {
       joined = ballot;
       role = Fetching;
       members = members;
@@ -29,10 +29,10 @@ fetching ballot members previous previous_members r =
 -- the new primary while it installs a log
 abbrev pub installing : {S C : Type 0} →
     ℕ → List C → ReplicaState S C → List ℕ → ReplicaState S C
-installing ballot log r lacking =
-    record r { held_in = ballot; log = log; role = Installing; lacking = lacking }
+installing ballot log replica lacking =
+    record replica { held_in = ballot; log = log; role = Installing; lacking = lacking }
 
 -- the primary, if these others are known to hold one place more than those
 abbrev pub known : {S C : Type 0} → ℕ → ReplicaState S C → List ℕ → List ℕ → ReplicaState S C
-known held r came left =
-    record r { progress = progress_at (held + 1) came ++ progress_at held left }
+known held replica came left =
+    record replica { progress = progress_at (held + 1) came ++ progress_at held left }

@@ -48,11 +48,11 @@ ItemWasSent node Cut sent = ⊥
 ItemWasSent node _ sent = Unit {0}
 
 -- the message of this number was sent to the node that runs at this index, and ignores it
-pub record IsPassedOver (at number : ℕ) (n : NodesState) : Type 0 where
+pub record IsPassedOver (at number : ℕ) (nodes : NodesState) : Type 0 where
   pub node : ℕ
   pub message : Message Command
-  pub sent : slice_get n.sent number ≡ Some (node, message)
-  pub runs : RunsAt n.nodes node at
+  pub sent : slice_get nodes.sent number ≡ Some (node, message)
+  pub runs : RunsAt nodes.nodes node at
   pub nothing : DoesNothing (Peer message) runs.core.core
 
 -- a node took an item, perhaps with losses, and without any if the step was whole, for example if
@@ -72,9 +72,9 @@ pub record TookItem (old : CountedCore) (item : Item) (new : CountedCore)
 
 -- Nodes came about as a group of the model does, and count what their messages acknowledge: in the
 -- active ballot, and in the one that waits.
-pub record HaveCounted (n : NodesState) (told next : ToldIn) : Type 0 where
+pub record HaveCounted (nodes : NodesState) (told next : ToldIn) : Type 0 where
   pub group : Group
-  pub stands : NodesStandFor group n
+  pub stands : NodesStandFor group nodes
   pub counts : IsGroup rules (moment_of_nodes group) told next
 
 -- the replicas of nodes

@@ -46,8 +46,8 @@ impl Nodes {
     fn holder(&self, held: u64) -> Option<usize>
         ensures some { IfSome result (λ at.
             HoldsAt (replicas_of self.now.nodes) self.now.master.members held at) }
-        ensures none { result ≡ None → (m : ℕ) → In m self.now.master.members →
-            IsShort (slice_get (replicas_of self.now.nodes) (m - 1)) held }
+        ensures none { result ≡ None → (member : ℕ) → In member self.now.master.members →
+            IsShort (slice_get (replicas_of self.now.nodes) (member - 1)) held }
     {
         let (_, members) = self.master.active();
         for member in members {

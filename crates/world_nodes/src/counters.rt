@@ -23,9 +23,9 @@ impl Counters {
     pub fn new(alloc: Global) -> Result<Counters, Memory>
         ensures active { IfOk result (λ counters. counters.told.ballot ≡ 1) }
         ensures untold { IfOk result (λ counters.
-            (m : ℕ) → get_or counters.told.held m 0 ≡ 0) }
+            (member : ℕ) → get_or counters.told.held member 0 ≡ 0) }
         ensures next { IfOk result (λ counters.
-            (m : ℕ) → get_or counters.next.held m 0 ≡ 0) }
+            (member : ℕ) → get_or counters.next.held member 0 ≡ 0) }
     {
         let told = Told::new(alloc, 1)?;
         let next = Told::new(alloc, 1)?;
@@ -35,7 +35,7 @@ impl Counters {
     /// Lets another ballot wait, in which nothing was acknowledged.
     pub fn begin(&mut self, ballot: u64)
         ensures waits { self.new.next.ballot ≡ ballot }
-        ensures untold { (m : ℕ) → get_or self.new.next.held m 0 ≡ 0 }
+        ensures untold { (member : ℕ) → get_or self.new.next.held member 0 ≡ 0 }
         ensures same { self.new.told ≡ self.old.told }
     {
         self.next.begin(ballot);
@@ -68,10 +68,10 @@ impl Counters {
     /// Returns how many places all of several members acknowledged in the active ballot, except its
     /// primary, which acknowledges by no message.
     pub fn agreed_by(&self, members: &[u8]) -> u64
-        requires { (m : ℕ) → In m members.now → m < 16 }
+        requires { (member : ℕ) → In member members.now → member < 16 }
         ensures least { result
             ≡ least_but_one self.now.told.held greatest_count greatest_count members.now }
-        ensures range { (m : ℕ) → get_or self.now.told.held m 0 < 2 ^ 64 }
+        ensures range { (member : ℕ) → get_or self.now.told.held member 0 < 2 ^ 64 }
     {
         self.told.least_but_one(members)
     }

@@ -7,18 +7,23 @@ use Rattle.agreement.specs.Inside.Ballots.{Line, History}
 
 -- a ballot's list is its base, or has the ballot's start after it; the first ballot has none
 abbrev pub AreBegun : {C : Type 0} → (ℕ → C) → History C → Type 0
-AreBegun {C = C} start_of h =
-    (b : ℕ) (l : Line C) → h.line b ≡ Some l →
-    (b ≡ 1) ⊎ ((l.list ≡ l.base) ⊎ (slice_get l.list (length l.base) ≡ Some (start_of b)))
+AreBegun {C = C} start_of history =
+    (ballot : ℕ) (line : Line C) → history.line ballot ≡ Some line →
+    (ballot ≡ 1) ⊎ ((line.list ≡ line.base)
+    ⊎ (slice_get line.list (length line.base) ≡ Some (start_of ballot)))
 
 -- what may be added to a ballot's list: its start, or anything if the list is longer than its base
 -- or the ballot is the first
 abbrev pub BeginsOrFollows : {C : Type 0} → (ℕ → C) → History C → ℕ → C → Type 0
-BeginsOrFollows {C = C} start_of h b c =
-    (c ≡ start_of b) ⊎ ((l : Line C) → h.line b ≡ Some l → l.list ≡ l.base → b ≡ 1)
+BeginsOrFollows {C = C} start_of history ballot command =
+    (command ≡ start_of ballot)
+    ⊎ ((line : Line C) → history.line ballot ≡ Some line → line.list ≡ line.base → ballot ≡ 1)
 
 -- the list of a ballot that has an active primary is longer than its base, but in the first ballot
 abbrev pub AreLong : {S C O : Type 0} → GroupWorld S C O → History C → Type 0
-AreLong {S = S} {C = C} w h =
-    (n : ℕ) (r : ReplicaState S C) → slice_get w.nodes n ≡ Some r → r.role ≡ Active →
-    (r.joined ≡ 1) ⊎ ((l : Line C) → h.line r.joined ≡ Some l → length l.base < length l.list)
+AreLong {S = S} {C = C} world history =
+    (node : ℕ) (replica : ReplicaState S C) → slice_get world.nodes node ≡ Some replica →
+    replica.role ≡ Active →
+    (replica.joined ≡ 1)
+    ⊎ ((line : Line C) → history.line replica.joined ≡ Some line →
+    length line.base < length line.list)

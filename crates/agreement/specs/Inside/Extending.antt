@@ -8,21 +8,26 @@ use Rattle.agreement.specs.Inside.Ballots.{Given, Line, History, Told}
 
 -- a later world: what was output and acknowledged stays, no node goes back to a lower ballot, and
 -- none acknowledges in a ballot that it has left
-pub record Extends {S C O : Type 0} (w : GroupWorld S C O) (h : History C) (v : GroupWorld S C O)
-    (i : History C) : Type 0 where
-  pub sent : (x : ℕ × Message C) → In x w.sent → In x v.sent
-  pub nodes : (n : ℕ) (r : ReplicaState S C) → slice_get w.nodes n ≡ Some r →
-      (s : ReplicaState S C) × (slice_get v.nodes n ≡ Some s) × (r.joined ≤ s.joined)
-  pub given : (b : ℕ) (g : Given) → h.given b ≡ Some g → i.given b ≡ Some g
-  pub lines : (b : ℕ) (l : Line C) → h.line b ≡ Some l →
-      (k : Line C) × (i.line b ≡ Some k) × (k.base ≡ l.base) × IsPrefixOf l.list k.list
+pub record Extends {S C O : Type 0} (world : GroupWorld S C O) (history : History C)
+    (next : GroupWorld S C O) (continued : History C) : Type 0 where
+  pub sent : (row : ℕ × Message C) → In row world.sent → In row next.sent
+  pub nodes : (node : ℕ) (replica : ReplicaState S C) → slice_get world.nodes node ≡ Some replica →
+      (after : ReplicaState S C) × (slice_get next.nodes node ≡ Some after)
+      × (replica.joined ≤ after.joined)
+  pub given : (ballot : ℕ) (assigned : Given) → history.given ballot ≡ Some assigned →
+      continued.given ballot ≡ Some assigned
+  pub lines : (ballot : ℕ) (line : Line C) → history.line ballot ≡ Some line →
+      (longer : Line C) × (continued.line ballot ≡ Some longer) × (longer.base ≡ line.base)
+      × IsPrefixOf line.list longer.list
   -- a node that acknowledges more in a ballot has not left it
-  pub told : (n b k : ℕ) (r : ReplicaState S C) → slice_get w.nodes n ≡ Some r →
-      Told v i (n + 1) b k →
-      Told w h (n + 1) b k ⊎ (r.joined ≤ b)
+  pub told : (node ballot places : ℕ) (replica : ReplicaState S C) →
+      slice_get world.nodes node ≡ Some replica →
+      Told next continued (node + 1) ballot places →
+      Told world history (node + 1) ballot places ⊎ (replica.joined ≤ ballot)
 
 -- what is acknowledged lies within the ballot's list
 abbrev pub AcknowledgedIsWithin : {S C O : Type 0} → GroupWorld S C O → History C → Type 0
-AcknowledgedIsWithin {S = S} {C = C} w h =
-    (m b k : ℕ) (l : Line C) → h.line b ≡ Some l → Told w h m b k →
-    k ≤ length l.list
+AcknowledgedIsWithin {S = S} {C = C} world history =
+    (member ballot places : ℕ) (line : Line C) → history.line ballot ≡ Some line →
+    Told world history member ballot places →
+    places ≤ length line.list

@@ -17,50 +17,54 @@ use Rattle.agreement.specs.Steps.{sends_from_master, MayTake}
 -- what a step may add to the list of a ballot: a proposal to that of its primary, and otherwise the
 -- start of the ballot
 abbrev pub AddsBy : {S C O : Type 0} → Rules S C O → ReplicaState S C → Input C → ℕ → C → Type 0
-AddsBy rules r (Receives message) b c = c ≡ rules.start_of b
-AddsBy rules r (Proposes command) b c = (b ≡ r.joined) × (c ≡ command)
-AddsBy rules r Ticks b c = ⊥
+AddsBy rules replica (Receives message) ballot added = added ≡ rules.start_of ballot
+AddsBy rules replica (Proposes command) ballot added = (ballot ≡ replica.joined) × (added ≡ command)
+AddsBy rules replica Ticks ballot added = ⊥
 
 -- what may happen between two moments: a node takes its step, perhaps with losses, or stops; the
 -- master does an Assign or receives an Activate
 pub data MomentStep {S C O : Type 0} (rules : Rules S C O) : MasterState → GroupWorld S C O →
     MasterState → GroupWorld S C O → Type 0 where
   -- a node receives a message, takes a proposal, or ticks, perhaps with losses
-  takes : {m : MasterState} {w : GroupWorld S C O} (n : ℕ) (r : ReplicaState S C)
+  takes : {master : MasterState} {world : GroupWorld S C O} (node : ℕ) (replica : ReplicaState S C)
       (input : Input C) {new : ReplicaState S C}
-      {given : List (Effect C O)} → slice_get w.nodes n ≡ Some r → r.stopped ≡ false →
-      MayTake w n input →
-      Loses rules r (replica_step rules r input) new given →
-      MomentStep rules m w m (moved w n new given)
+      {given : List (Effect C O)} → slice_get world.nodes node ≡ Some replica →
+      replica.stopped ≡ false →
+      MayTake world node input →
+      Loses rules replica (replica_step rules replica input) new given →
+      MomentStep rules master world master (moved world node new given)
   -- a node stops
-  stops : {m : MasterState} {w : GroupWorld S C O} (n : ℕ) (r : ReplicaState S C) →
-      slice_get w.nodes n ≡ Some r →
-      MomentStep rules m w m (moved w n (halted rules r) [])
+  stops : {master : MasterState} {world : GroupWorld S C O} (node : ℕ)
+      (replica : ReplicaState S C) →
+      slice_get world.nodes node ≡ Some replica →
+      MomentStep rules master world master (moved world node (halted rules replica) [])
   -- the master gives a ballot
-  assigns : {m : MasterState} {w : GroupWorld S C O} (config : Config) →
+  assigns : {master : MasterState} {world : GroupWorld S C O} (config : Config) →
       In config.primary config.members →
-      MomentStep rules m w (assigned C m config).state (sends_from_master w (assigned C m config))
+      MomentStep rules master world (assigned C master config).state
+      (sends_from_master world (assigned C master config))
   -- the master answers an Activate
-  hears : {m : MasterState} {w : GroupWorld S C O} (from b : ℕ) →
-      In (0, record { from = from; body = Activate b }) w.sent →
-      MomentStep rules m w (activated C m b from m.waiting).state (sends_from_master w
-      (activated C m b from m.waiting))
+  hears : {master : MasterState} {world : GroupWorld S C O} (from ballot : ℕ) →
+      In (0, record { from = from; body = Activate ballot }) world.sent →
+      MomentStep rules master world (activated C master ballot from master.waiting).state
+      (sends_from_master world (activated C master ballot from master.waiting))
   -- the master gives a ballot, and its message is lost
-  assigns_unheard : {m : MasterState} {w : GroupWorld S C O} (config : Config) →
+  assigns_unheard : {master : MasterState} {world : GroupWorld S C O} (config : Config) →
       In config.primary config.members →
-      MomentStep rules m w (assigned C m config).state w
+      MomentStep rules master world (assigned C master config).state world
   -- the master hears an Activate, and its answer is lost
-  hears_unanswered : {m : MasterState} {w : GroupWorld S C O} (from b : ℕ) →
-      In (0, record { from = from; body = Activate b }) w.sent →
-      MomentStep rules m w (activated C m b from m.waiting).state w
+  hears_unanswered : {master : MasterState} {world : GroupWorld S C O} (from ballot : ℕ) →
+      In (0, record { from = from; body = Activate ballot }) world.sent →
+      MomentStep rules master world (activated C master ballot from master.waiting).state world
 
 -- the proposal of a step
-abbrev pub adds_of : {S C O : Type 0} {rules : Rules S C O} {m : MasterState}
-    {w : GroupWorld S C O} {k : MasterState} {v : GroupWorld S C O} → MomentStep rules m w k v →
+abbrev pub adds_of : {S C O : Type 0} {rules : Rules S C O} {master : MasterState}
+    {world : GroupWorld S C O} {next_master : MasterState} {next_world : GroupWorld S C O} →
+    MomentStep rules master world next_master next_world →
     List (ℕ × C)
-adds_of (takes n r input stands runs may loses) = proposal_by r input
-adds_of (stops n r stands) = []
+adds_of (takes node replica input stands runs may loses) = proposal_by replica input
+adds_of (stops node replica stands) = []
 adds_of (assigns config member) = []
-adds_of (hears from b sent) = []
+adds_of (hears from ballot sent) = []
 adds_of (assigns_unheard config member) = []
-adds_of (hears_unanswered from b sent) = []
+adds_of (hears_unanswered from ballot sent) = []

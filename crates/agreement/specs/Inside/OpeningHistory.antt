@@ -15,7 +15,7 @@ first_line C = record { base = []; list = [] }
 abbrev pub opening_history : (C : Type 0) → Config → History C
 opening_history C config =
     record {
-      given = λ x. if x == 1 then Some (first_ballot config) else None;
+      given = λ ballot. if ballot == 1 then Some (first_ballot config) else None;
       activated = 1 ∷ [];
-      line = λ x. if x == 1 then Some (first_line C) else None;
+      line = λ ballot. if ballot == 1 then Some (first_line C) else None;
     }

@@ -10,57 +10,69 @@ use Rattle.agreement.specs.Inside.Ballots.{Given, Line, History, IsChosenIn, Sea
 
 -- the node of a number has joined at least a ballot
 abbrev pub HasJoined : {S C O : Type 0} → GroupWorld S C O → ℕ → ℕ → Type 0
-HasJoined {S} {C} w m b =
-    (n : ℕ) × (m ≡ n + 1) × ((r : ReplicaState S C) × (slice_get w.nodes n ≡ Some r)
-    × (b ≤ r.joined))
+HasJoined {S} {C} world number ballot =
+    (node : ℕ) × (number ≡ node + 1)
+    × ((replica : ReplicaState S C) × (slice_get world.nodes node ≡ Some replica)
+    × (ballot ≤ replica.joined))
 
 -- the ballot that a message names
-pub record IsOf {C : Type 0} (h : History C) (b : ℕ) (g : Given) : Type 0 where
-  pub given : h.given b ≡ Some g
-  pub later : 0 < g.previous
+pub record IsOf {C : Type 0} (history : History C) (ballot : ℕ) (assigned : Given) : Type 0 where
+  pub given : history.given ballot ≡ Some assigned
+  pub later : 0 < assigned.previous
 
 -- a list that may be sent to the primary of a ballot to take, or that it has taken
 abbrev pub IsOffered : {C : Type 0} → History C → ℕ → Given → List C → Type 0
-IsOffered {C} h b g xs =
-    ((p : Line C) × (h.line g.previous ≡ Some p) × IsPrefixOf xs p.list)
-    ⊎ ((l : Line C) × (h.line b ≡ Some l) × IsPrefixOf l.base xs × IsPrefixOf xs l.list)
+IsOffered {C} history ballot given xs =
+    ((before : Line C) × (history.line given.previous ≡ Some before) × IsPrefixOf xs before.list)
+    ⊎ ((line : Line C) × (history.line ballot ≡ Some line) × IsPrefixOf line.base xs
+    × IsPrefixOf xs line.list)
 
 -- a member of a ballot other than its primary
 abbrev pub IsOther : Given → ℕ → Type 0
-IsOther g m = In m g.members × (m ≡ g.primary → ⊥)
+IsOther given member = In member given.members × (member ≡ given.primary → ⊥)
 
 -- what a message to a receiver says is true; a rejected ballot is below the active one, or was
 -- superseded
 abbrev pub SpeaksTruth : {S C O : Type 0} → GroupWorld S C O → History C → ℕ → ℕ → Body C → Type 0
-SpeaksTruth w h to from (NewBallot b members a old_members) =
-    (g : Given) × IsOf h b g × (from ≡ 0) × (to ≡ g.primary) × (members ≡ g.members)
-    × (a ≡ g.previous)
-    × ((old : Given) × (h.given a ≡ Some old) × (old_members ≡ old.members))
-SpeaksTruth w h to from (Join b a) =
-    (g : Given) × IsOf h b g × (from ≡ g.primary) × (a ≡ g.previous) × HasJoined w from b
-    × ((old : Given) × (h.given a ≡ Some old) × In to old.members)
-SpeaksTruth w h to from (State b xs) =
-    (g : Given) × IsOf h b g × (to ≡ g.primary) × HasJoined w from b × HasJoined w to b
-    × Sealed w h g.previous xs × IsOffered h b g xs
-SpeaksTruth {S} {C} w h to from (Install b xs) =
-    (g : Given) × IsOf h b g × (from ≡ g.primary) × IsOther g to
-    × ((l : Line C) × (h.line b ≡ Some l) × (l.base ≡ xs))
-SpeaksTruth {S} {C} w h to from (Installed b held) =
-    (g : Given) × IsOf h b g × (to ≡ g.primary) × IsOther g from
-    × ((l : Line C) × (h.line b ≡ Some l) × (held ≡ length l.base))
-SpeaksTruth {S} {C} w h to from (Activate b) =
-    (g : Given) × IsOf h b g × (from ≡ g.primary)
-    × ((l : Line C) × (h.line b ≡ Some l) × IsChosenIn w h b (length l.base))
-SpeaksTruth w h to from (Activated b) = (g : Given) × (h.given b ≡ Some g) × (to ≡ g.primary)
-    × In b h.activated
-SpeaksTruth w h to from (Superseded b) = (g : Given) × (h.given b ≡ Some g) × (to ≡ g.primary)
-SpeaksTruth {S} {C} w h to from (Append b place command) =
-    (g : Given) × (h.given b ≡ Some g) × (from ≡ g.primary) × IsOther g to × In b h.activated
-    × ((l : Line C) × (h.line b ≡ Some l) × (length l.base ≤ place)
-    × (slice_get l.list place ≡ Some command))
-SpeaksTruth {S} {C} w h to from (Held b held) =
-    (g : Given) × (h.given b ≡ Some g) × (to ≡ g.primary) × IsOther g from
-    × ((l : Line C) × (h.line b ≡ Some l) × (length l.base ≤ held) × (held ≤ length l.list))
-SpeaksTruth w h to from (Commit b held) =
-    (g : Given) × (h.given b ≡ Some g) × (from ≡ g.primary) × IsOther g to × In b h.activated
-    × IsChosenIn w h b held
+SpeaksTruth world history to from (NewBallot ballot members previous old_members) =
+    (given : Given) × IsOf history ballot given × (from ≡ 0) × (to ≡ given.primary)
+    × (members ≡ given.members)
+    × (previous ≡ given.previous)
+    × ((old : Given) × (history.given previous ≡ Some old) × (old_members ≡ old.members))
+SpeaksTruth world history to from (Join ballot previous) =
+    (given : Given) × IsOf history ballot given × (from ≡ given.primary)
+    × (previous ≡ given.previous) × HasJoined world from ballot
+    × ((old : Given) × (history.given previous ≡ Some old) × In to old.members)
+SpeaksTruth world history to from (State ballot xs) =
+    (given : Given) × IsOf history ballot given × (to ≡ given.primary) × HasJoined world from ballot
+    × HasJoined world to ballot
+    × Sealed world history given.previous xs × IsOffered history ballot given xs
+SpeaksTruth {S} {C} world history to from (Install ballot xs) =
+    (given : Given) × IsOf history ballot given × (from ≡ given.primary) × IsOther given to
+    × ((line : Line C) × (history.line ballot ≡ Some line) × (line.base ≡ xs))
+SpeaksTruth {S} {C} world history to from (Installed ballot held) =
+    (given : Given) × IsOf history ballot given × (to ≡ given.primary) × IsOther given from
+    × ((line : Line C) × (history.line ballot ≡ Some line) × (held ≡ length line.base))
+SpeaksTruth {S} {C} world history to from (Activate ballot) =
+    (given : Given) × IsOf history ballot given × (from ≡ given.primary)
+    × ((line : Line C) × (history.line ballot ≡ Some line)
+    × IsChosenIn world history ballot (length line.base))
+SpeaksTruth world history to from (Activated ballot) =
+    (given : Given) × (history.given ballot ≡ Some given) × (to ≡ given.primary)
+    × In ballot history.activated
+SpeaksTruth world history to from (Superseded ballot) =
+    (given : Given) × (history.given ballot ≡ Some given) × (to ≡ given.primary)
+SpeaksTruth {S} {C} world history to from (Append ballot place command) =
+    (given : Given) × (history.given ballot ≡ Some given) × (from ≡ given.primary)
+    × IsOther given to × In ballot history.activated
+    × ((line : Line C) × (history.line ballot ≡ Some line) × (length line.base ≤ place)
+    × (slice_get line.list place ≡ Some command))
+SpeaksTruth {S} {C} world history to from (Held ballot held) =
+    (given : Given) × (history.given ballot ≡ Some given) × (to ≡ given.primary)
+    × IsOther given from
+    × ((line : Line C) × (history.line ballot ≡ Some line) × (length line.base ≤ held)
+    × (held ≤ length line.list))
+SpeaksTruth world history to from (Commit ballot held) =
+    (given : Given) × (history.given ballot ≡ Some given) × (from ≡ given.primary)
+    × IsOther given to × In ballot history.activated
+    × IsChosenIn world history ballot held

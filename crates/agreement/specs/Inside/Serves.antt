@@ -13,26 +13,27 @@ use Rattle.whole.specs.lists.Lists.{In}
 
 -- the number of a node that there is
 abbrev pub IsNode : ℕ → ℕ → Type 0
-IsNode nodes x = (n : ℕ) × (x ≡ n + 1) × (n < nodes)
+IsNode nodes number = (node : ℕ) × (number ≡ node + 1) × (node < nodes)
 
 -- every sender is the master or a node
 abbrev pub AreSenders : {S C O : Type 0} → GroupWorld S C O → Type 0
-AreSenders {C = C} w = (to : ℕ) (m : Message C) → In (to, m) w.sent →
-    (m.from ≡ 0) ⊎ IsNode (length w.nodes) m.from
+AreSenders {C = C} world = (to : ℕ) (message : Message C) → In (to, message) world.sent →
+    (message.from ≡ 0) ⊎ IsNode (length world.nodes) message.from
 
 -- the primary of a ballot is a node
 abbrev pub IsLedByNode : {C : Type 0} → ℕ → History C → ℕ → Type 0
-IsLedByNode nodes h b = (g : Given) × (h.given b ≡ Some g) × IsNode nodes g.primary
+IsLedByNode nodes history ballot =
+    (given : Given) × (history.given ballot ≡ Some given) × IsNode nodes given.primary
 
 -- its ballots, messages and nodes are as they should be, the primary of its active ballot is a
 -- node, and each ballot's list has its start after its base
-pub record Serves {S C O : Type 0} (rules : Rules S C O) (m : MasterState) (w : GroupWorld S C O)
-    (h : History C) : Type 0 where
-  pub sound : IsSoundWorld rules w h
-  pub master : IsMaster m h
-  pub replays : AreReplays rules w
-  pub serving : IsServing m
-  pub senders : AreSenders w
-  pub led : IsLedByNode (length w.nodes) h m.active
-  pub begun : AreBegun rules.start_of h
-  pub long : AreLong w h
+pub record Serves {S C O : Type 0} (rules : Rules S C O) (state : MasterState)
+    (world : GroupWorld S C O) (history : History C) : Type 0 where
+  pub sound : IsSoundWorld rules world history
+  pub master : IsMaster state history
+  pub replays : AreReplays rules world
+  pub serving : IsServing state
+  pub senders : AreSenders world
+  pub led : IsLedByNode (length world.nodes) history state.active
+  pub begun : AreBegun rules.start_of history
+  pub long : AreLong world history

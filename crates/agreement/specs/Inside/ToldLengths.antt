@@ -32,13 +32,15 @@ max_told node ballot (row ∷ sent) = max (told_in node ballot row.1) (max_told 
 
 -- the primary acknowledges all of its list, another member what it sent
 abbrev pub told_length : {C : Type 0} → List (ℕ × Message C) → ℕ → Given → Line C → ℕ → ℕ
-told_length sent b g l m = if m == g.primary then length l.list else max_told m b sent
+told_length sent ballot given line member =
+    if member == given.primary then length line.list else max_told member ballot sent
 
 -- the least of the members' lengths, and at most a bound
 abbrev pub least_of : ℕ → (ℕ → ℕ) → List ℕ → ℕ
-least_of top f [] = top
-least_of top f (m ∷ members) = min (f m) (least_of top f members)
+least_of top length_of [] = top
+least_of top length_of (member ∷ members) = min (length_of member) (least_of top length_of members)
 
 -- how many places of a ballot's list all members acknowledged
 abbrev pub chosen_length : {C : Type 0} → List (ℕ × Message C) → ℕ → Given → Line C → ℕ
-chosen_length sent b g l = least_of (length l.list) (told_length sent b g l) g.members
+chosen_length sent ballot given line =
+    least_of (length line.list) (told_length sent ballot given line) given.members

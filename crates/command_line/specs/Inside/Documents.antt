@@ -8,14 +8,14 @@ use Rattle.command_line.specs.declared.node_table.NodeTable.{NodeTable}
 
 -- whether a number is at most the greatest of a node
 abbrev pub is_at_most_max_node : ℕ → Bool
-is_at_most_max_node n = nat_le n max_node
+is_at_most_max_node number = nat_le number max_node
 
 -- whether a node's number is such a number
 abbrev pub has_id_at_most_max_node : ListeningNode → Bool
 has_id_at_most_max_node node = is_at_most_max_node node.id
 
 -- no number of a table is above the greatest of a node
-pub record NumbersAreAtMostMaxNode (t : NodeTable) : Type 0 where
-  pub members : list_all is_at_most_max_node t.config.members ≡ true
-  pub primary : is_at_most_max_node t.config.primary ≡ true
-  pub nodes : list_all has_id_at_most_max_node t.nodes.items ≡ true
+pub record NumbersAreAtMostMaxNode (table : NodeTable) : Type 0 where
+  pub members : list_all is_at_most_max_node table.config.members ≡ true
+  pub primary : is_at_most_max_node table.config.primary ≡ true
+  pub nodes : list_all has_id_at_most_max_node table.nodes.items ≡ true

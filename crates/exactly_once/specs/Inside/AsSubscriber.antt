@@ -24,48 +24,49 @@ use Rattle.exactly_once.specs.Inside.Projections.{to_come, to_be_taken, is_curre
 -- the item before these, if its publication has QoS 2
 abbrev pub two_item : Publication → SenderItem Publication → List (SenderItem Publication) →
     List (SenderItem Publication)
-two_item p item items = if is_two p.qos then item ∷ items else items
+two_item publication item items = if is_two publication.qos then item ∷ items else items
 
 -- the QoS 2 entries of a session, as items of the handshake
 abbrev pub items_of_entries : List Entry → List (SenderItem Publication)
-items_of_entries (Entry.Waits made p ∷ entries) =
-    two_item p (SenderItem.Waits p) (items_of_entries entries)
-items_of_entries (Entry.Started made p id start ∷ entries) =
-    two_item p (SenderItem.Sent p id) (items_of_entries entries)
-items_of_entries (Entry.Released made p id start release ∷ entries) =
-    two_item p (SenderItem.Released p id) (items_of_entries entries)
-items_of_entries (Entry.Finished made p id start release finish ∷ entries) =
-    two_item p (SenderItem.Finished p) (items_of_entries entries)
+items_of_entries (Entry.Waits made publication ∷ entries) =
+    two_item publication (SenderItem.Waits publication) (items_of_entries entries)
+items_of_entries (Entry.Started made publication id start ∷ entries) =
+    two_item publication (SenderItem.Sent publication id) (items_of_entries entries)
+items_of_entries (Entry.Released made publication id start release ∷ entries) =
+    two_item publication (SenderItem.Released publication id) (items_of_entries entries)
+items_of_entries (Entry.Finished made publication id start release finish ∷ entries) =
+    two_item publication (SenderItem.Finished publication) (items_of_entries entries)
 items_of_entries [] = []
 
 -- the PUBLISH before these packets, if it has QoS 2
 abbrev pub publish_before : Delivery → Publication → List (Forward Publication) →
     List (Forward Publication)
-publish_before (deliveries.ExactlyOnce dup id) p f = Forward.Publish id p ∷ f
-publish_before _ p f = f
+publish_before (deliveries.ExactlyOnce dup id) publication more =
+    Forward.Publish id publication ∷ more
+publish_before _ publication more = more
 
 -- the part of the broker's packets that belongs to the handshake
 abbrev pub forward_of : List Packet → List (Forward Publication)
-forward_of (packets.Publish p ∷ more) =
-    publish_before p.delivery (publication_of p) (forward_of more)
+forward_of (packets.Publish publish ∷ more) =
+    publish_before publish.delivery (publication_of publish) (forward_of more)
 forward_of (packets.Pubrel id ∷ more) = Forward.Pubrel id ∷ forward_of more
 forward_of (_ ∷ more) = forward_of more
 forward_of [] = []
 
 -- the part of the client's packets that belongs to the handshake
 abbrev pub backward_of : List Written → List Backward
-backward_of (w ∷ more) = by w.packet (backward_of more)
+backward_of (written ∷ more) = by written.packet (backward_of more)
   where
     by : Packet → List Backward → List Backward
-    by (packets.Pubrec id) b = Backward.Pubrec id ∷ b
-    by (packets.Pubcomp id) b = Backward.Pubcomp id ∷ b
-    by _ b = b
+    by (packets.Pubrec id) rest = Backward.Pubrec id ∷ rest
+    by (packets.Pubcomp id) rest = Backward.Pubcomp id ∷ rest
+    by _ rest = rest
 backward_of [] = []
 
 -- the connection, if the list has its Connect
 abbrev pub if_taken : ℕ → ClientConnection → Option ClientConnection
 if_taken zero connection = None
-if_taken (suc n) connection = Some connection
+if_taken (suc more) connection = Some connection
 
 -- the connection that the client holds, if the list has its Connect
 abbrev pub held : Keeper → List ClientConnection → Option ClientConnection
@@ -75,9 +76,9 @@ held keeper [] = None
 
 -- what may still come to the broker on its connection
 abbrev pub left_behind : Option ConnectionName → List ClientConnection → List Backward
-left_behind (Some x) (connection ∷ connections) =
-    if same_connection x connection.name then backward_of (to_be_taken connection)
-    else left_behind (Some x) connections
+left_behind (Some current) (connection ∷ connections) =
+    if same_connection current connection.name then backward_of (to_be_taken connection)
+    else left_behind (Some current) connections
 left_behind _ _ = []
 
 -- what is in transit: both ways if the client's connection is current, otherwise one way
@@ -92,11 +93,12 @@ transit_to limits past current connections None = Transit.Behind (left_behind cu
 
 -- the broker sends, the client accepts
 abbrev pub as_subscriber : Limits → Story → Handshake Publication
-as_subscriber limits s =
+as_subscriber limits story =
     record {
-      items = items_of_entries (entries_of limits s.past s.keeper.client);
-      accepted = accepted_on s.connections;
-      received = λ id. has_id id s.keeper.received;
-      transit = transit_to limits s.past (current_connection s.past s.keeper.client) s.connections
-          (held s.keeper s.connections);
+      items = items_of_entries (entries_of limits story.past story.keeper.client);
+      accepted = accepted_on story.connections;
+      received = λ id. has_id id story.keeper.received;
+      transit = transit_to limits story.past
+          (current_connection story.past story.keeper.client) story.connections
+          (held story.keeper story.connections);
     }

@@ -29,28 +29,29 @@ ConnackFirst (suc taken) (first ∷ put) = (is_connack first ≡ true) × no_con
 
 -- whether a written packet is a CONNECT
 abbrev pub is_connect : Written → Bool
-is_connect w = by w.packet
+is_connect written = by written.packet
   where
     by : Packet → Bool
-    by (packets.Connect c) = true
+    by (packets.Connect connect) = true
     by _ = false
 
 -- a PUBLISH of QoS 2 for which it is not known which publication it carries
 abbrev pub is_two_unnumbered : Packet → Option ℕ → Bool
-is_two_unnumbered (packets.Publish p) None = is_exactly_once p.delivery
+is_two_unnumbered (packets.Publish publish) None = is_exactly_once publish.delivery
 is_two_unnumbered _ _ = false
 
 -- the counts, the order and the first packets of one connection are as they have to be
-pub record ConnectionInShape (limits : Limits) (past : Past) (c : Client)
+pub record ConnectionInShape (limits : Limits) (past : Past) (client : Client)
     (connection : ClientConnection) : Type 0 where
   pub more : List Written
-  pub written : connection.written ≡ opening_connect c ∷ more
-  pub one_connect : Each (λ w. is_connect w ≡ false) more
+  pub written : connection.written ≡ opening_connect client ∷ more
+  pub one_connect : Each (λ one. is_connect one ≡ false) more
   pub silent : connection.confirmed ≡ false → more ≡ []
   pub counted : packet_count connection.name past ≡ connection.taken
   pub within : connection.taken ≤ length connection.written
   pub handled_within : connection.handled ≤ length (put_to limits past connection.name)
-  pub numbers_known : Each (λ w. is_two_unnumbered w.packet w.number ≡ false) connection.written
+  pub numbers_known :
+      Each (λ one. is_two_unnumbered one.packet one.number ≡ false) connection.written
   pub connack_first : ConnackFirst connection.taken (put_to limits past connection.name)
   pub asks_first : connection.taken ≤ 1 → backward_of_own (put_to limits past connection.name) ≡ []
   pub handled_some : connection.confirmed ≡ true → 1 ≤ connection.handled

@@ -31,39 +31,41 @@ to_be_taken connection = drop connection.taken connection.written
 
 -- whether this connection is the current one of its client
 abbrev pub is_current : Option ConnectionName → ConnectionName → Bool
-is_current (Some y) x = same_connection y x
-is_current None x = false
+is_current (Some current) name = same_connection current name
+is_current None name = false
 
--- ---- the client as a publisher: it sends the numbers of its publications, the broker accepts them
-
--- as new
+-- ---- the client as a publisher: the broker accepts the numbers of its publications as new
 
 -- the item before these, if its publication has QoS 2
 abbrev pub own_item : Publication → SenderItem ℕ → List (SenderItem ℕ) → List (SenderItem ℕ)
-own_item p item items = if is_two p.qos then item ∷ items else items
+own_item publication item items = if is_two publication.qos then item ∷ items else items
 
 -- the client's QoS 2 publications, as items of the handshake
 abbrev pub items_of_own : List Own → List (SenderItem ℕ)
-items_of_own (Own.Unsent k p id ∷ own) = own_item p (SenderItem.Waits k) (items_of_own own)
-items_of_own (Own.Sent k p id ∷ own) = own_item p (SenderItem.Sent k id) (items_of_own own)
-items_of_own (Own.Released k p id ∷ own) = own_item p (SenderItem.Released k id) (items_of_own own)
-items_of_own (Own.Done k p ∷ own) = own_item p (SenderItem.Finished k) (items_of_own own)
+items_of_own (Own.Unsent number publication id ∷ own) =
+    own_item publication (SenderItem.Waits number) (items_of_own own)
+items_of_own (Own.Sent number publication id ∷ own) =
+    own_item publication (SenderItem.Sent number id) (items_of_own own)
+items_of_own (Own.Released number publication id ∷ own) =
+    own_item publication (SenderItem.Released number id) (items_of_own own)
+items_of_own (Own.Done number publication ∷ own) =
+    own_item publication (SenderItem.Finished number) (items_of_own own)
 items_of_own [] = []
 
 -- the PUBLISH before these packets, if it has QoS 2 and a number
 abbrev pub carried_by : Delivery → Option ℕ → List (Forward ℕ) → List (Forward ℕ)
-carried_by (deliveries.ExactlyOnce dup id) (Some k) f = Forward.Publish id k ∷ f
-carried_by _ _ f = f
+carried_by (deliveries.ExactlyOnce dup id) (Some number) more = Forward.Publish id number ∷ more
+carried_by _ _ more = more
 
 -- a written packet before these, if it belongs to the handshake
 abbrev pub forward_of_one : Packet → Option ℕ → List (Forward ℕ) → List (Forward ℕ)
-forward_of_one (packets.Publish p) number f = carried_by p.delivery number f
-forward_of_one (packets.Pubrel id) number f = Forward.Pubrel id ∷ f
-forward_of_one _ number f = f
+forward_of_one (packets.Publish publish) number more = carried_by publish.delivery number more
+forward_of_one (packets.Pubrel id) number more = Forward.Pubrel id ∷ more
+forward_of_one _ number more = more
 
 -- the part of what the client wrote that belongs to the handshake
 abbrev pub forward_of_own : List Written → List (Forward ℕ)
-forward_of_own (w ∷ more) = forward_of_one w.packet w.number (forward_of_own more)
+forward_of_own (written ∷ more) = forward_of_one written.packet written.number (forward_of_own more)
 forward_of_own [] = []
 
 -- the part of the broker's answers that belongs to the handshake
@@ -94,27 +96,24 @@ transit_of_own limits past current online None = Transit.Behind []
 
 -- the client sends, the broker accepts
 abbrev pub as_publisher : Limits → Story → Handshake ℕ
-as_publisher limits s =
+as_publisher limits story =
     record {
-      items = items_of_own s.keeper.own;
-      accepted = new_numbers s.connections s.past;
-      received = λ id. has_id id (received_of s.past s.keeper.client);
-      transit = transit_of_own limits s.past
-          (current_connection s.past s.keeper.client) s.keeper.is_online
-          (last_confirmed s.connections);
+      items = items_of_own story.keeper.own;
+      accepted = new_numbers story.connections story.past;
+      received = λ id. has_id id (received_of story.past story.keeper.client);
+      transit = transit_of_own limits story.past (current_connection story.past story.keeper.client)
+          story.keeper.is_online (last_confirmed story.connections);
     }
 
--- ---- the refinement, event by event
-
 -- two handshakes that do not differ in any relevant part
-pub record IsLike {A : Type 0} (h k : Handshake A) : Type 0 where
-  pub items : h.items ≡ k.items
-  pub accepted : h.accepted ≡ k.accepted
-  pub received : (id : ℕ) → h.received id ≡ k.received id
-  pub transit : h.transit ≡ k.transit
+pub record IsLike {A : Type 0} (handshake other : Handshake A) : Type 0 where
+  pub items : handshake.items ≡ other.items
+  pub accepted : handshake.accepted ≡ other.accepted
+  pub received : (id : ℕ) → handshake.received id ≡ other.received id
+  pub transit : handshake.transit ≡ other.transit
 
 -- a run of the first handshake ends in the second, apart from what is not relevant
-pub record GoesTo {A : Type 0} (h k : Handshake A) : Type 0 where
+pub record GoesTo {A : Type 0} (before after : Handshake A) : Type 0 where
   pub between : Handshake A
-  pub run : HandshakeTrace h between
-  pub like : IsLike between k
+  pub run : HandshakeTrace before between
+  pub like : IsLike between after

@@ -19,8 +19,6 @@ use Rattle.exactly_once.specs.Inside.Projections.{items_of_own, last_confirmed, 
 use Rattle.exactly_once.specs.Inside.AsSubscriber.{as_subscriber}
 use Rattle.exactly_once.specs.Inside.ConnectionShape.{ConnectionInShape}
 
--- ---- the client's publications
-
 -- the n-th has number n
 abbrev pub AreNumberedFrom : ℕ → List Own → Type 0
 AreNumberedFrom n (Own.Unsent k p id ∷ own) = (k ≡ n) × AreNumberedFrom (suc n) own
@@ -45,8 +43,6 @@ pub record OwnInShape (keeper : Keeper) : Type 0 where
       has_id id keeper.releases ≡ has_released id (items_of_own keeper.own)
   pub online_sent : keeper.is_online ≡ true → none_unsent keeper.own ≡ true
 
--- ---- all of them
-
 -- no two connections have the same name
 abbrev pub NamesApart : List ClientConnection → Type 0
 NamesApart (connection ∷ connections) =
@@ -56,17 +52,16 @@ NamesApart [] = Unit {0}
 -- a connection that was confirmed, and is not the last one, is not current
 abbrev pub LastIsCurrent : Option ConnectionName → List ClientConnection → Type 0
 LastIsCurrent None connections = Unit {0}
-LastIsCurrent (Some x) connections =
-    (any_named (same_connection x) connections ≡ true)
-    × Each (λ (connection : ClientConnection). same_connection x connection.name ≡ true →
-    connection.confirmed ≡ true →
-    last_confirmed connections ≡ Some connection) connections
+LastIsCurrent (Some name) connections =
+    (any_named (same_connection name) connections ≡ true)
+    × Each (λ (connection : ClientConnection). same_connection name connection.name ≡ true →
+    connection.confirmed ≡ true → last_confirmed connections ≡ Some connection) connections
 
 -- if the newest one's Connect is taken, no other confirmed one is current
 abbrev pub NewestIsServed : Option ConnectionName → List ClientConnection → Type 0
-NewestIsServed (Some x) (connection ∷ connections) =
-    1 ≤ connection.taken → same_connection x connection.name ≡ false →
-    Each (λ (other : ClientConnection). same_connection x other.name ≡ true →
+NewestIsServed (Some name) (connection ∷ connections) =
+    1 ≤ connection.taken → same_connection name connection.name ≡ false →
+    Each (λ (other : ClientConnection). same_connection name other.name ≡ true →
     other.confirmed ≡ false) connections
 NewestIsServed _ _ = Unit {0}
 
@@ -82,37 +77,43 @@ HeldInShape limits past keeper (connection ∷ connections) =
 
 -- a CONNACK 0 among the answers means that the client's session exists, and is not clean
 abbrev pub IsMeant : Client → Past → Packet → Type 0
-IsMeant c past packet =
-    (b : Bool) → packet ≡ packets.Connack (connacks.Accepted b) → session_of past c ≡ Some false
+IsMeant client past packet =
+    (present : Bool) → packet ≡ packets.Connack (connacks.Accepted present) →
+    session_of past client ≡ Some false
 
 -- each that is sent to a connection of this name
 abbrev pub IsWelcomed : Limits → Past → Client → ConnectionName → Type 0
-IsWelcomed limits past c x = Each (IsMeant c past) (put_to limits past x)
+IsWelcomed limits past client name = Each (IsMeant client past) (put_to limits past name)
 
 -- each packet that is sent to one of these connections is meant for the client
 abbrev pub AreWelcomed : Limits → Past → Client → List ClientConnection → Type 0
-AreWelcomed limits past c connections =
-    Each (λ (connection : ClientConnection). IsWelcomed limits past c connection.name) connections
+AreWelcomed limits past client connections =
+    Each (λ (connection : ClientConnection). IsWelcomed limits past client connection.name)
+    connections
 
 -- all that a story keeps besides the two handshakes
-pub record HasShape (limits : Limits) (s : Story) : Type 0 where
-  pub own : OwnInShape s.keeper
-  pub connections : Each (ConnectionInShape limits s.past s.keeper.client) s.connections
-  pub names_apart : NamesApart s.connections
-  pub last_is_current : LastIsCurrent (current_connection s.past s.keeper.client) s.connections
-  pub newest_is_served : NewestIsServed (current_connection s.past s.keeper.client) s.connections
-  pub nobody_else : (d : Client) (x : ConnectionName) → current_connection s.past d ≡ Some x →
-      any_named (same_connection x) s.connections ≡ true →
-      same_client d s.keeper.client ≡ true
-  pub held : HeldInShape limits s.past s.keeper s.connections
+pub record HasShape (limits : Limits) (story : Story) : Type 0 where
+  pub own : OwnInShape story.keeper
+  pub connections : Each (ConnectionInShape limits story.past story.keeper.client) story.connections
+  pub names_apart : NamesApart story.connections
+  pub last_is_current :
+      LastIsCurrent (current_connection story.past story.keeper.client) story.connections
+  pub newest_is_served :
+      NewestIsServed (current_connection story.past story.keeper.client) story.connections
+  pub nobody_else : (client : Client) (name : ConnectionName) →
+      current_connection story.past client ≡ Some name →
+      any_named (same_connection name) story.connections ≡ true →
+      same_client client story.keeper.client ≡ true
+  pub held : HeldInShape limits story.past story.keeper story.connections
   -- a keeper's session is not clean, and exists once it was served; so none of its sessions ends
-  pub session : (session_of s.past s.keeper.client ≡ None)
-      ⊎ (session_of s.past s.keeper.client ≡ Some false)
-  pub welcomed : AreWelcomed limits s.past s.keeper.client s.connections
-  pub served : s.keeper.was_served ≡ true → session_of s.past s.keeper.client ≡ Some false
+  pub session : (session_of story.past story.keeper.client ≡ None)
+      ⊎ (session_of story.past story.keeper.client ≡ Some false)
+  pub welcomed : AreWelcomed limits story.past story.keeper.client story.connections
+  pub served : story.keeper.was_served ≡ true →
+      session_of story.past story.keeper.client ≡ Some false
 
 -- a story has this shape, and both its handshakes are good
-pub record IsSoundStory (limits : Limits) (s : Story) : Type 0 where
-  pub shape : HasShape limits s
-  pub publisher : IsGood (as_publisher limits s)
-  pub subscriber : IsGood (as_subscriber limits s)
+pub record IsSoundStory (limits : Limits) (story : Story) : Type 0 where
+  pub shape : HasShape limits story
+  pub publisher : IsGood (as_publisher limits story)
+  pub subscriber : IsGood (as_subscriber limits story)

@@ -28,9 +28,9 @@ input_of Ticked = Ticks
 
 -- there is no snapshot that has to be read and does not thaw
 abbrev pub IsRead : {S C O : Type 0} → Rules S C O → ReplicaState S C → Input C → Type 0
-IsRead rules r (Receives message) = is_unread rules r message.body ≡ false
-IsRead rules r (Proposes command) = Unit {0}
-IsRead rules r Ticks = Unit {0}
+IsRead rules replica (Receives message) = is_unread rules replica message.body ≡ false
+IsRead rules replica (Proposes command) = Unit {0}
+IsRead rules replica Ticks = Unit {0}
 
 -- a replica took its step exactly, and counted nothing
 abbrev pub TookExactly : {S C O : Type 0} → Rules S C O → CountedReplica S C → Input C →
@@ -77,29 +77,30 @@ pub record Parted {C O : Type 0} (given left parted : List (Effect C O))
 -- a group after a step of one node, or one with losses that was counted; no loss is counted if the
 -- node sends nothing, keeps its log and applies nothing
 pub record GroupNodeStepOrLost {S C O : Type 0} (rules : Rules S C O) (old : GroupState S C O)
-    (t : NodeOutcome S C O) (new : GroupState S C O) : Type 0 where
+    (node : NodeOutcome S C O) (new : GroupState S C O) : Type 0 where
   pub state : ReplicaState S C
   pub given : List (Effect C O)
   pub moment : new.moment
-      ≡ record old.moment { world = moved old.moment.world t.index state given }
-  pub way : ((state ≡ t.outcome.state) × (given ≡ t.outcome.effects) × (new.losses ≡ old.losses))
-      ⊎ (Loses rules t.before t.outcome state given × (new.losses ≡ one_more old.losses))
-  pub quiet : SendsAndAddsNothing t.before t.outcome →
-      (state ≡ t.outcome.state) × (given ≡ t.outcome.effects) × (new.losses ≡ old.losses)
+      ≡ record old.moment { world = moved old.moment.world node.index state given }
+  pub way :
+      ((state ≡ node.outcome.state) × (given ≡ node.outcome.effects) × (new.losses ≡ old.losses))
+      ⊎ (Loses rules node.before node.outcome state given × (new.losses ≡ one_more old.losses))
+  pub quiet : SendsAndAddsNothing node.before node.outcome →
+      (state ≡ node.outcome.state) × (given ≡ node.outcome.effects) × (new.losses ≡ old.losses)
 
 -- a group after a cut of one node's log, or one for which memory ran out, which was counted
 pub record GroupCutOrLost {S C O : Type 0} (rules : Rules S C O) (old : GroupState S C O)
-    (t : NodeOutcome S C O) (new : GroupState S C O) : Type 0 where
-  pub way : ((new.moment ≡ moment_after_event old.moment (Some (by_cut t)))
+    (node : NodeOutcome S C O) (new : GroupState S C O) : Type 0 where
+  pub way : ((new.moment ≡ moment_after_event old.moment (Some (by_cut node)))
       × (new.losses ≡ old.losses)
-      × Freezes rules (Some (by_cut t)))
+      × Freezes rules (Some (by_cut node)))
       ⊎ (new ≡ record old { losses = one_more old.losses })
 
 -- a group after a step of the master, or one whose message was lost, which was counted
-pub record GroupMasterStepOrLost {S C O : Type 0} (old : GroupState S C O) (o : MasterOutcome C)
-    (new : GroupState S C O) : Type 0 where
+pub record GroupMasterStepOrLost {S C O : Type 0} (old : GroupState S C O)
+    (outcome : MasterOutcome C) (new : GroupState S C O) : Type 0 where
   pub way : ((new.moment
-      ≡ record { master = o.state; world = sends_from_master old.moment.world o })
+      ≡ record { master = outcome.state; world = sends_from_master old.moment.world outcome })
       × (new.losses ≡ old.losses))
-      ⊎ ((new.moment ≡ record old.moment { master = o.state })
+      ⊎ ((new.moment ≡ record old.moment { master = outcome.state })
       × (new.losses ≡ one_more old.losses))

@@ -8,9 +8,9 @@ use Rattle.script.specs.declared.script_line.ScriptLine.TheVariants as lines
 
 -- the result with one more value, if there is one
 abbrev pub with : {X Y : Type 0} → Option (X → Y) → Option X → Option Y
-with (Some make) (Some x) = Some (make x)
+with (Some make) (Some value) = Some (make value)
 with (Some make) None = None
-with None x = None
+with None value = None
 
 -- the value of one field, if there is no other
 abbrev pub only : {X : Type 0} → (Text → Option X) → List Text → Option X
@@ -37,11 +37,12 @@ subscription_line client filter qos = lines.Subscribe client filter qos
 -- the three fields of `subscribe`
 abbrev pub parse_subscribe : List Text → Option ScriptLine
 parse_subscribe [] = None
-parse_subscribe (c ∷ []) = None
-parse_subscribe (c ∷ f ∷ []) = None
-parse_subscribe (c ∷ f ∷ q ∷ []) =
-    with (with (with (Some subscription_line) (parse_client c)) (parse_filter f)) (parse_qos q)
-parse_subscribe (c ∷ f ∷ q ∷ d ∷ more) = None
+parse_subscribe (client ∷ []) = None
+parse_subscribe (client ∷ filter ∷ []) = None
+parse_subscribe (client ∷ filter ∷ qos ∷ []) =
+    with (with (with (Some subscription_line) (parse_client client)) (parse_filter filter))
+    (parse_qos qos)
+parse_subscribe (client ∷ filter ∷ qos ∷ other ∷ more) = None
 
 -- a publication of these fields
 abbrev pub publication : Text → QoS → Bool → Text → Publication
@@ -50,9 +51,9 @@ publication topic qos retain payload =
 
 -- the last four fields of `publish`
 unfoldable pub parse_publication : Text → Text → Text → Text → Option Publication
-parse_publication t q r p =
-    with (with (with (with (Some publication) (parse_topic t)) (parse_qos q)) (parse_retain r))
-    (parse_payload p)
+parse_publication topic qos retain payload =
+    with (with (with (with (Some publication) (parse_topic topic)) (parse_qos qos))
+    (parse_retain retain)) (parse_payload payload)
 
 -- the line by which a client publishes
 abbrev pub publication_line : Text → Publication → ScriptLine
@@ -61,13 +62,14 @@ publication_line client sent = lines.Publish client sent
 -- the five fields of `publish`
 abbrev pub parse_publish : List Text → Option ScriptLine
 parse_publish [] = None
-parse_publish (c ∷ []) = None
-parse_publish (c ∷ t ∷ []) = None
-parse_publish (c ∷ t ∷ q ∷ []) = None
-parse_publish (c ∷ t ∷ q ∷ r ∷ []) = None
-parse_publish (c ∷ t ∷ q ∷ r ∷ p ∷ []) =
-    with (with (Some publication_line) (parse_client c)) (parse_publication t q r p)
-parse_publish (c ∷ t ∷ q ∷ r ∷ p ∷ d ∷ more) = None
+parse_publish (client ∷ []) = None
+parse_publish (client ∷ topic ∷ []) = None
+parse_publish (client ∷ topic ∷ qos ∷ []) = None
+parse_publish (client ∷ topic ∷ qos ∷ retain ∷ []) = None
+parse_publish (client ∷ topic ∷ qos ∷ retain ∷ payload ∷ []) =
+    with (with (Some publication_line) (parse_client client))
+    (parse_publication topic qos retain payload)
+parse_publish (client ∷ topic ∷ qos ∷ retain ∷ payload ∷ other ∷ more) = None
 
 -- what the fields after this word say
 unfoldable pub line_by : Text → List Text → Option ScriptLine

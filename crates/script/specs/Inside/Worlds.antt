@@ -15,7 +15,8 @@ pub record Values : Type 0 where
 
 -- the values of the first line: nodes, members, primary, clients
 abbrev pub values : ℕ → List ℕ → ℕ → List Text → Values
-values n m p c = record { nodes = n; members = m; primary = p; clients = c }
+values nodes members primary clients =
+    record { nodes = nodes; members = members; primary = primary; clients = clients }
 
 -- the values of an `Opening`
 abbrev pub values_of : Opening → Values
@@ -24,23 +25,23 @@ values_of opening = values opening.nodes opening.config.members opening.config.p
 
 -- whether a number is at most the greatest of a node
 abbrev pub is_at_most_max_node : ℕ → Bool
-is_at_most_max_node n = nat_le n max_node
+is_at_most_max_node number = nat_le number max_node
 
 -- values with which a world may open
 abbrev pub checked : Option Values → Option Values
 checked None = None
-checked (Some v) =
-    if is_lawful_opening v.nodes v.members v.primary && are_distinct v.clients then Some v else None
+checked (Some opening) =
+    if is_lawful_opening opening.nodes opening.members opening.primary
+    && are_distinct opening.clients then Some opening else None
 
 -- the values of a first line
 abbrev pub parse_world : List Text → Option Values
 parse_world [] = None
-parse_world (w ∷ []) = None
-parse_world (w ∷ n ∷ []) = None
-parse_world (w ∷ n ∷ m ∷ []) = None
-parse_world (w ∷ n ∷ m ∷ p ∷ []) = None
-parse_world (w ∷ n ∷ m ∷ p ∷ c ∷ []) = if bytes_eq w (codes "world")
-    then checked (with (with (with (with (Some values) (parse_number n)) (parse_numbers m))
-    (parse_number p))
-    (parse_clients c)) else None
-parse_world (w ∷ n ∷ m ∷ p ∷ c ∷ d ∷ more) = None
+parse_world (word ∷ []) = None
+parse_world (word ∷ nodes ∷ []) = None
+parse_world (word ∷ nodes ∷ members ∷ []) = None
+parse_world (word ∷ nodes ∷ members ∷ primary ∷ []) = None
+parse_world (word ∷ nodes ∷ members ∷ primary ∷ clients ∷ []) = if bytes_eq word (codes "world")
+    then checked (with (with (with (with (Some values) (parse_number nodes))
+    (parse_numbers members)) (parse_number primary)) (parse_clients clients)) else None
+parse_world (word ∷ nodes ∷ members ∷ primary ∷ clients ∷ other ∷ more) = None

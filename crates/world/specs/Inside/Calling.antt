@@ -10,7 +10,7 @@ use Rattle.world.specs.World.{WorldState}
 
 -- one loss more is counted
 abbrev pub with_one_loss : WorldState → WorldState
-with_one_loss w = record w { losses = one_more w.losses }
+with_one_loss world = record world { losses = one_more world.losses }
 
 -- the result of a call: running out of memory is counted, and any other refusal is idle
 abbrev pub CountsRefusal : Result Sending ClientError → WorldState → Result (Unit {0}) Idle →

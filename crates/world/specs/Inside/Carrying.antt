@@ -29,6 +29,6 @@ CarriesUpOnWhere false number slot count old new =
 
 -- these bytes of a slot cannot reach its node: too few wait, or the node has stopped
 abbrev pub CannotCarryUpOn : ConnectionSlot → ℕ → WorldState → Type 0
-CannotCarryUpOn slot count w =
-    (client : WorldClient) → slice_get w.clients slot.client ≡ Some client →
-    CannotCarryUp slot count w.nodes client.piped
+CannotCarryUpOn slot count world =
+    (client : WorldClient) → slice_get world.clients slot.client ≡ Some client →
+    CannotCarryUp slot count world.nodes client.piped

@@ -14,44 +14,45 @@ use Rattle.world_clients.specs.Opening.{HasNew}
 
 -- the client at this index has a new connection to the node, under the next number, and the node
 -- has taken it
-pub record ConnectsAt (i node : ℕ) (old new : WorldState) : Type 0 where
+pub record ConnectsAt (index node : ℕ) (old new : WorldState) : Type 0 where
   pub client : WorldClient
-  pub found : slice_get old.clients i ≡ Some client
+  pub found : slice_get old.clients index ≡ Some client
   pub between : NodesState
   pub piped : Piped
   pub reaches : HasNew node (port_at_node (next_connection_number old)) old.nodes client.piped
       between piped
-  pub is : new ≡ record (with_piped i client piped old) {
+  pub is : new ≡ record (with_piped index client piped old) {
     nodes = between;
     connections = old.connections
-        ++ record { client = i; at = length client.piped.ways; node = node; is_open = true } ∷ [];
+        ++ record { client = index; at = length client.piped.ways; node = node; is_open = true }
+        ∷ [];
   }
 
--- the client at index i has a new connection, and what its node queued then goes down
-pub record OpensAt (i node : ℕ) (old new : WorldState) : Type 0 where
+-- the client at this index has a new connection, and what its node queued then goes down
+pub record OpensAt (index node : ℕ) (old new : WorldState) : Type 0 where
   pub between : WorldState
-  pub connects : ConnectsAt i node old between
+  pub connects : ConnectsAt index node old between
   pub gathers : Gathers false node between new
   pub uncounted : new.losses ≡ old.losses
 
--- the client at index i has no connection to a node
-pub record OpensNoneAt (i node : ℕ) (old new : WorldState) : Type 0 where
+-- the client at this index has no connection to a node
+pub record OpensNoneAt (index node : ℕ) (old new : WorldState) : Type 0 where
   pub client : WorldClient
-  pub found : slice_get old.clients i ≡ Some client
+  pub found : slice_get old.clients index ≡ Some client
   pub between : NodesState
   pub piped : Piped
   pub none : NoneOpens node (port_at_node (next_connection_number old)) old.nodes client.piped
       between piped
-  pub is : new ≡ record (with_piped i client piped old) { nodes = between }
+  pub is : new ≡ record (with_piped index client piped old) { nodes = between }
 
 -- nothing happened at all, or the client has no connection
 abbrev pub MayOpenNone : ℕ → ℕ → WorldState → WorldState → Type 0
-MayOpenNone i node old new = (new ≡ old) ⊎ OpensNoneAt i node old new
+MayOpenNone index node old new = (new ≡ old) ⊎ OpensNoneAt index node old new
 
 -- it opens one; or it has none, which the nodes counted, or otherwise the world
 abbrev pub OpeningOrLost : ℕ → ℕ → WorldState → WorldState → Type 0
-OpeningOrLost i node old new =
-    OpensAt i node old new
-    ⊎ (MayOpenNone i node old new × (NodesLoseNothing old.nodes new.nodes → ⊥))
-    ⊎ ((none : WorldState) × MayOpenNone i node old none
+OpeningOrLost index node old new =
+    OpensAt index node old new
+    ⊎ (MayOpenNone index node old new × (NodesLoseNothing old.nodes new.nodes → ⊥))
+    ⊎ ((none : WorldState) × MayOpenNone index node old none
     × (new ≡ record none { losses = one_more old.losses }))

@@ -41,8 +41,10 @@ GatheringOrLost number slot old is_open new =
 
 -- its end counts as open, or as closed
 abbrev pub marked : ℕ → ConnectionSlot → Bool → WorldState → WorldState
-marked number slot is_open w =
-    record w { connections = set w.connections (number - 1) (record slot { is_open = is_open }) }
+marked number slot is_open world =
+    record world {
+      connections = set world.connections (number - 1) (record slot { is_open = is_open });
+    }
 
 -- ---- a walk over the connections whose end is open
 
