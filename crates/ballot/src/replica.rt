@@ -48,8 +48,9 @@ pub struct Replica<M: Machine> {
     role: Role,
     // The members of the ballot that it leads.
     members: Members,
-    // The earlier ballot, which that one follows, and its members.
+    // The earlier ballot, which that one follows.
     previous: u64,
+    // The members of that earlier ballot.
     previous_members: Members,
     // The other members that lack the log that is being installed.
     lacking: Vec<u8>,

@@ -15,6 +15,7 @@ pub const MAX_MEMBERS: usize = 7;
 
 /// The numbers of nodes, in the order in which they were given.
 pub struct Members {
+    // A lawful configuration has 1 to `MAX_MEMBERS`, strictly rising, none above `MAX_NODE`.
     numbers: Vec<u8>,
 }
 

@@ -10,8 +10,11 @@ use std::marker::Model;
 /// Commands from a place on, the base, and the frozen machine in place of the places below it.
 /// Places count from 0. At base 0 there is no snapshot.
 pub struct Log<C> {
+    // How many places the snapshot stands for. With those of `rest` they are fewer than 2^64.
     base: u64,
+    // The frozen machine after these places.
     snapshot: Vec<u8>,
+    // The commands from the base on.
     rest: Vec<C>,
 }
 

@@ -14,6 +14,7 @@ use topics::MalformedKind;
 /// A broker after some list of commands. Its value in contracts is its state: the window, the
 /// sessions by client, and what is retained.
 pub struct BrokerMachine {
+    // The state, within its limits; the map of connections and the index agree with the sessions.
     tables: Tables,
 }
 

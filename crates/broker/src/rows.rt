@@ -24,7 +24,9 @@ use std::collections::BTreeMap;
 /// another session has is found without a walk over the sessions.
 #[derive(Drop)]
 pub(crate) struct Rows {
+    /// By client, as many as were read.
     pub(crate) sessions: BTreeMap<ClientId, ClientRow>,
+    /// The client of each connection that a session has, and no other entry.
     pub(crate) owners: BTreeMap<ConnectionName, ClientId>,
 }
 

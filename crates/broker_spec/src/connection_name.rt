@@ -13,7 +13,9 @@ pub const MAX_COUNT: u64 = 0x100_0000_0000;
 /// ordered by ballot, then by number.
 #[derive(Clone, Copy, Debug, PartialEq, Eq, PartialOrd, Ord)]
 pub struct ConnectionName {
+    // From 1 to 2^32.
     ballot: u64,
+    // From 1 to `MAX_COUNT`.
     count: u64,
 }
 

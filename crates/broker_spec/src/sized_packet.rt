@@ -14,6 +14,7 @@ use std::marker::Model;
 /// `MAX_BODY` bytes and none of its lists is empty. Its value in contracts is the packet.
 #[derive(Debug)]
 pub struct SizedPacket {
+    // The packet itself: it has none of the faults of [`Unspellable`].
     packet: Packet,
 }
 

@@ -13,6 +13,7 @@ const NARROW_WINDOW: u8 = 16;
 /// read from form 1, until a ballot begins.
 #[derive(Clone, Copy, Debug, PartialEq, Eq)]
 pub struct Window {
+    // A number of entries: `WIDE_WINDOW` or `NARROW_WINDOW`.
     size: u8,
 }
 

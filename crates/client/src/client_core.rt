@@ -13,23 +13,34 @@ use std::marker::Model;
 /// sessions are never clean. `outgoing` returns the bytes to the server, `on_bytes` takes the bytes
 /// from the server.
 pub struct ClientCore {
-    // The fields up to `accepted` mean what those of `ClientState` (client_base,
-    // `specs/State.antt`) do.
+    /// Its Client Identifier. The fields up to `accepted` are those of `ClientState` (client_base,
+    /// `specs/State.antt`).
     pub(crate) client: ClientId,
+    /// Its keep alive, in seconds; 0 means none (MQTT 3.1.2.10).
     pub(crate) keep_alive: u16,
+    /// The identifiers of those publications that had their PUBREC, in the order of these.
     pub(crate) released: Vec<PacketId>,
+    /// The publications that were sent and are unacknowledged, in the order of their calls.
     pub(crate) sent: Vec<UnacknowledgedPublication>,
+    /// The publications that were published while it was offline, in the order of their calls.
     pub(crate) unsent: Vec<UnacknowledgedPublication>,
+    /// The identifiers of QoS 2 publications that it accepted and has no PUBREL for.
     pub(crate) received: Vec<PacketId>,
+    /// The requests that were not answered yet. They end with the connection.
     pub(crate) requests: Vec<Request>,
+    /// How far its connection is.
     pub(crate) stage: Stage,
+    /// The number of its session, up to 2^64 - 1; 0 before the first CONNACK 0.
     pub(crate) session: u64,
+    /// Session Present of the last CONNACK 0.
     pub(crate) present: bool,
+    /// The publications that it accepted, and that the caller has not yet taken.
     pub(crate) accepted: Vec<Accepted>,
     /// The bytes of the server that were not read yet.
     pub(crate) cutter: Cutter,
     /// The bytes for the server that were not yet handed over.
     pub(crate) out: Vec<u8>,
+    /// The allocator of packets and lists.
     pub(crate) alloc: Global,
 }
 

@@ -20,8 +20,11 @@ use std::sync::Wait;
 /// whole.
 #[derive(Drop)]
 pub struct Outflow<T: Tap, W: Write> {
+    // Fetches the bytes of the connection's port.
     tap: T,
+    // What was handed over by the tap and is not yet written.
     left: Unwritten,
+    // What is written to, with the number of its faults.
     device: Counted<W>,
 }
 

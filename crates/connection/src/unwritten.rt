@@ -20,7 +20,9 @@ const CAPACITY_KEPT: usize = 65_536;
 /// are counted.
 #[derive(Drop)]
 pub struct Unwritten {
+    // The allocator of an empty list, which an outlet gets.
     alloc: Global,
+    // All bytes that were queued last, written or not.
     bytes: Vec<u8>,
     // How many of these bytes were written.
     done: usize,

@@ -14,8 +14,11 @@ use topics::MalformedKind;
 /// The bytes of a stream that came and are not taken yet. How the stream is cut into pieces makes
 /// no difference to the packets that are taken.
 pub struct Cutter {
+    // From the first byte of the next packet on.
     bytes: BytesMut,
+    // Whether the stream had a fault. From then on no bytes come in, and no packet is taken.
     failed: bool,
+    // The allocator of the packets that are taken.
     alloc: Global,
 }
 

@@ -12,6 +12,7 @@ use std::mem;
 
 /// Bytes in order: what came at once, or what waits to be handed over.
 pub struct Piece {
+    // The front is the first of these: new bytes come after the last.
     bytes: Vec<u8>,
 }
 

@@ -18,7 +18,9 @@ pub const PIECE_BYTES: usize = 65_536;
 /// A device together with the number of its calls that failed. The count stays at 2^64 - 1.
 #[derive(Drop)]
 pub struct Counted<D> {
+    // Does the calls.
     device: D,
+    // How many of its calls failed, at most 2^64 - 1.
     faults: u64,
 }
 

@@ -18,8 +18,11 @@ const PAUSE_MILLIS: u64 = 200;
 // Servers at these addresses, one after another.
 #[derive(Drop)]
 struct TcpServers<'a, R> {
+    // Connects to them, and sleeps.
     rt: &'a R,
+    // In the order in which they are tried.
     addresses: &'a [&'a str],
+    // The index of the address that is tried next; 0 after the last.
     next: usize,
 }
 

@@ -7,6 +7,7 @@ use std::alloc::Global;
 /// Adds the numbers that it is given, modulo 2^64.
 #[derive(Debug, Drop, PartialEq, Eq)]
 pub struct Tally {
+    // The sum of all numbers so far, modulo 2^64.
     total: u64,
 }
 

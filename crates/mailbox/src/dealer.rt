@@ -14,11 +14,15 @@ use std::sync::Arc;
 /// A receiver that makes the lanes of its inbox.
 #[derive(Drop)]
 pub(crate) struct Dealer<T: Drop, J: Naming> {
+    /// What waits in the inbox. All its ends share this.
     pub(crate) queue: Arc<Queue<T>, Global>,
+    /// Knows how many lanes were made.
     pub(crate) pass: Knowledge<T>,
+    /// The number of the inbox.
     pub(crate) inbox: u8,
     /// How many items of each lane that it has made were taken: none.
     pub(crate) counts: Vec<u64>,
+    /// Which inbox the number means. The caller chooses it.
     pub(crate) naming: PhantomData<J>,
 }
 

@@ -22,8 +22,11 @@ pub const MAX_LANES: u8 = 64;
 /// other inbox has.
 #[derive(Drop)]
 pub struct Inbox<T: Drop> {
+    // What waits in the inbox, with capacity for [`MAX_ITEMS`]. It is empty.
     queue: Arc<Queue<T>, Global>,
+    // Knows that there are no lanes yet.
     pass: Knowledge<T>,
+    // The allocator of lanes.
     alloc: Global,
 }
 

@@ -17,11 +17,17 @@ pub const MAX_SENT: u64 = 1 << 55;
 /// The right to send through one lane of an inbox. It has one holder, and knows what it sent.
 #[derive(Drop)]
 pub struct Lane<T: Drop, J: Naming> {
+    /// What waits in the inbox. All its ends share this.
     pub(crate) queue: Arc<Queue<T>, Global>,
+    /// Knows what the lane sent, and how many items of it were taken at least.
     pub(crate) pass: Knowledge<T>,
+    /// The number of the inbox.
     pub(crate) inbox: u8,
+    /// The number of the lane in its inbox, from 0.
     pub(crate) lane: u8,
+    /// How many items it sent, at most [`MAX_SENT`].
     pub(crate) count: u64,
+    /// Which inbox the number means. The caller chooses it.
     pub(crate) naming: PhantomData<J>,
 }
 

@@ -9,8 +9,11 @@ use std::marker::{Model, PhantomData};
 /// the code that gets one has to look at the inbox itself.
 #[derive(Drop)]
 pub struct Receipt<T: Drop, J: Naming> {
+    /// Knows what the receipt says.
     pub(crate) pass: Knowledge<T>,
+    /// The number of the inbox.
     pub(crate) inbox: u8,
+    /// Which inbox the number means. The caller chooses it.
     pub(crate) naming: PhantomData<J>,
 }
 

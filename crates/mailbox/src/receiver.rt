@@ -18,11 +18,15 @@ use std::sync::{Arc, Wait};
 /// The right to take what the lanes of an inbox send. It has one holder, and knows what it took.
 #[derive(Drop)]
 pub struct Receiver<T: Drop, J: Naming> {
+    /// What waits in the inbox. All its ends share this.
     pub(crate) queue: Arc<Queue<T>, Global>,
+    /// Knows what was taken.
     pub(crate) pass: Knowledge<T>,
+    /// The number of the inbox.
     pub(crate) inbox: u8,
     /// How many items of each lane were taken. The rule of the inbox keeps each below 2^55.
     pub(crate) counts: Vec<u64>,
+    /// Which inbox the number means. The caller chooses it.
     pub(crate) naming: PhantomData<J>,
 }
 

@@ -35,16 +35,23 @@ mod stepping;
 /// A master and replicas of a machine that communicate only by their messages. All messages ever
 /// sent may arrive at any time, again and in any order, or never.
 pub struct Group<M: Machine> {
+    // The allocator of copies of messages and commands.
     alloc: Global,
+    // Gives ballots their configurations.
     master: Master,
+    // Node n + 1 is at index n.
     nodes: Vec<Replica<M>>,
+    // All messages ever sent, in order, each with the number of its receiver.
     sent: Vec<(u8, Message<M::Command>)>,
+    // The outputs that left, in order. No message is among them.
     left: Vec<Effect<M::Command, M::Output>>,
     // The places below the bases of all logs.
     archive: Vec<M::Command>,
-    // What was acknowledged in the active ballot, and in the one that waits.
+    // What was acknowledged in the active ballot.
     told: Told,
+    // What was acknowledged in the ballot that waits, if one does.
     next: Told,
+    // How many steps lost something, up to 2^64 - 1. No node has counted more.
     losses: u64,
 }
 

@@ -16,9 +16,13 @@ use std::marker::Model;
 /// The active ballot with its members, and at most one ballot that waits to be activated. None of
 /// its calls takes memory.
 pub struct Master {
+    // The active ballot, at first 1.
     active: u64,
+    // Its members.
     members: Members,
+    // The ballot that waits to be activated, with its configuration.
     waiting: Option<(u64, Config)>,
+    // How many ballots were given, at most `MAX_BALLOT`. The last one has this number.
     given: u64,
 }
 

@@ -19,7 +19,9 @@ const NUMBERS: usize = MAX_NODE as usize + 1;
 /// Held or an Installed of the node. Its calls take no memory, except `new`.
 #[derive(Drop)]
 pub struct Told {
+    // The ballot. What is acknowledged in others is not counted.
     ballot: u64,
+    // How many places, at the index of each number. So there are always `NUMBERS`.
     held: Vec<u64>,
 }
 

@@ -24,7 +24,9 @@ use std::sync::Wait;
 /// became by one step for each item that was taken, in order.
 #[derive(Drop)]
 pub struct NodeState<J: NodeNaming> {
+    // Takes the items.
     receiver: Receiver<Item, J>,
+    // The node after one step for each of them.
     core: NodeCore,
     // How many bytes the items brought that were taken since the last cut, at most 2^64 - 1.
     grown: u64,

@@ -17,6 +17,7 @@ const MAX_AT_ONCE: u32 = 16;
 pub struct Permit<'n> {
     // The number of the taking, if there is a gate.
     taking: Option<u64>,
+    // How many items may be taken with it: one if there is a gate, else `MAX_AT_ONCE`.
     most: u32,
     // The gate opened for it, or there is none.
     is_open: bool,

@@ -41,8 +41,11 @@ impl<J: NodeNaming> Stated<J> for NodeState<J> {
 /// thread of its own: whoever sent it an item takes what waits, one thread after another.
 #[derive(Drop)]
 pub struct Node<'g, J: NodeNaming, S: Stated<J>, G: Gate> {
+    // The node with its receiver. One thread at a time takes items.
     state: Mutex<S>,
+    // The number of the node, which is that of its inbox.
     number: u8,
+    // Asked before each taking, if there is one.
     gate: Option<&'g G>,
     // The holder of this asks the gate, takes, and informs the gate.
     passing: Mutex<()>,
@@ -50,6 +53,7 @@ pub struct Node<'g, J: NodeNaming, S: Stated<J>, G: Gate> {
     missed: Mutex<u64>,
     // The allocated report for its end.
     report: Report,
+    // Which node the number means. The caller chooses it.
     naming: PhantomData<J>,
 }
 

@@ -12,7 +12,9 @@ use std::marker::Model;
 /// The bytes of a connection that came and are not read yet. Its stream has had no fault: the
 /// connection is closed at the first one.
 pub struct Unread {
+    // The allocator of the cutter, which is made anew at a fault and to drop all bytes.
     alloc: Global,
+    // Has the bytes. It has not failed: at a fault another one takes its place.
     cutter: Cutter,
 }
 

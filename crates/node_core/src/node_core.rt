@@ -27,7 +27,9 @@ use std::marker::Model;
 /// A replica of the broker with its connections. It takes items, one by one, and hands over the
 /// bytes that it queues for each connection.
 pub struct NodeCore {
+    // The node itself, which does the steps.
     stepping: SteppingNode,
+    // How many of its steps lost something, up to 2^64 - 1.
     losses: u64,
 }
 

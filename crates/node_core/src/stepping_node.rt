@@ -31,12 +31,17 @@ use std::marker::Model;
 
 /// A replica of the broker with its connections, and whether memory ran out in the current step.
 pub struct SteppingNode {
+    /// The allocator of connections, and of what a step gives.
     pub(crate) alloc: Global,
+    /// The replica. It counts its own losses.
     pub(crate) replica: Replica<BrokerMachine>,
-    /// The name of the connection that was accepted last, both 0 before the first.
+    /// The ballot in the name of the connection that was accepted last; 0 before the first.
     pub(crate) last_ballot: u64,
+    /// Its number in that ballot, at most `MAX_COUNT`; 0 before the first.
     pub(crate) last_count: u64,
+    /// In the order in which they were opened.
     pub(crate) connections: Vec<Connection>,
+    /// Whether memory ran out in the current step.
     pub(crate) out_of_memory: bool,
 }
 

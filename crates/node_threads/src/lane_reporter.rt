@@ -15,9 +15,13 @@ use streams::Link;
 /// A connection's lane. What is reported to it is what the lane sent.
 #[derive(Drop)]
 pub(crate) struct LaneReporter<'e, 'a, J: NodeNaming, S: Stated<J>, G: Gate> {
+    /// The node to which the connection is reported.
     pub(crate) served: &'e ServedNode<'a, J, S, G>,
+    /// All nodes of the program. Those for which something was queued have their turns.
     pub(crate) all: &'e [ServedNode<'a, J, S, G>],
+    /// The connection.
     pub(crate) link: &'e Arc<Link, Global>,
+    /// The lane. While the connection lasts, all that it sends is about that.
     pub(crate) lane: Lane<Item, J>,
 }
 

@@ -39,9 +39,13 @@ impl<'a> NodeContexts<'a> {
 /// What a node's threads use: its listener, the node as others see it, and the other nodes.
 #[derive(Clone, Copy)]
 pub(crate) struct NodeContext<'a> {
+    /// All nodes, and their master.
     pub(crate) cluster: &'a Cluster,
+    /// The node as others see it.
     pub(crate) peer: &'a Peer,
+    /// Where its clients connect. It has the number of the node.
     pub(crate) listener: &'a Listener,
+    // When its times begin.
     start: Instant,
 }
 

@@ -13,7 +13,9 @@ use std::marker::Model;
 /// it is, so whoever locks it asks it for its number.
 #[derive(Drop)]
 pub(crate) struct OwnLane<J: NodeNaming> {
+    // The node's number.
     number: u8,
+    /// Whatever it sent was meant for this node.
     pub(crate) lane: Lane<Item, J>,
 }
 

@@ -30,7 +30,9 @@ const SPINS: u32 = 8;
 // When the node got the time last, and how many times, at most 2^64 - 1.
 #[derive(Clone, Copy)]
 struct LastTick {
+    // When it got the time last, in the milliseconds of the node's clock; 0 before the first.
     time: u64,
+    // How many times it got the time, at most 2^64 - 1.
     ticks: u64,
 }
 

@@ -26,6 +26,7 @@ use writer::BlockedLinks;
 pub struct ServedNode<'a, J: NodeNaming, S: Stated<J>, G: Gate> {
     /// The node's number, which is that of its listener.
     pub number: u8,
+    /// What its threads share.
     pub(crate) shared: Shared<'a, J, S, G>,
     /// The lane of everything that does not come from a client. The thread that holds it does the
     /// node's turn with what was queued for the node: its own thread, or one that queued something.

@@ -16,8 +16,11 @@ use writer::{BlockedLinks, Writer};
 /// turn at a gate.
 #[derive(Drop)]
 pub(crate) struct Shared<'a, J: NodeNaming, S: Stated<J>, G: Gate> {
+    /// The allocator of connections and lists.
     pub(crate) alloc: Global,
+    /// The node, under its lock.
     pub(crate) node: Node<'a, J, S, G>,
+    /// Its listener, the other nodes, and its clock.
     pub(crate) context: NodeContext<'a>,
     /// The configuration in which all nodes opened.
     pub(crate) config: &'a Config,

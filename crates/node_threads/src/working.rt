@@ -26,7 +26,9 @@ pub const THREADS: usize = LANES as usize + 1;
 /// thread is under a lock.
 #[derive(Drop)]
 pub(crate) struct LaneSlot<J: NodeNaming> {
+    /// None while its thread uses it, and in slots without a lane.
     pub(crate) lane: Option<Lane<Item, J>>,
+    /// None until the thread returns.
     pub(crate) closed: Option<Closed>,
 }
 
@@ -50,7 +52,9 @@ impl<J: NodeNaming> LaneSlot<J> {
 /// The slots of a node's threads, with capacity in which all its lanes are gathered at the end.
 #[derive(Drop)]
 pub(crate) struct LaneSlots<J: NodeNaming> {
+    /// One for each thread, [`THREADS`] of them.
     pub(crate) slots: Vec<LaneSlot<J>>,
+    /// Empty until the end, with capacity for [`LANES`].
     pub(crate) back: Vec<Lane<Item, J>>,
 }
 

@@ -21,7 +21,9 @@ use std::marker::Model;
 /// It cannot be dropped: it ends in an outbox of its receiver, or is lost if no node has that
 /// number.
 pub struct Answer {
+    // The number of the node that it is for.
     receiver: u8,
+    // What the master gave for that node.
     message: Message<Command>,
 }
 
@@ -72,6 +74,7 @@ impl Answer {
 /// answers lead to.
 #[derive(Drop)]
 pub struct MessagingMaster {
+    // The state to which its own answers led.
     master: Master,
 }
 

@@ -38,7 +38,9 @@ const MAX_HELPED: usize = 16;
 /// other nodes wait at most, and whoever locks it asks it for its number.
 #[derive(Drop)]
 pub struct Outbox {
+    // The number of the node.
     number: u8,
+    // The oldest first; at most `MAX_WAITING` of them are messages of other nodes.
     items: Vec<Item>,
 }
 

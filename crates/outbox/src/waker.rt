@@ -8,7 +8,9 @@ use std::time::Duration;
 /// no call has a clause.
 #[derive(Drop)]
 pub struct Waker {
+    // Whether the thread sleeps or is about to.
     asleep: Mutex<bool>,
+    // What the thread sleeps on.
     parker: Parker,
 }
 

@@ -16,6 +16,7 @@ const MAX_CLIENT_BYTES: usize = 64;
 /// compared and ordered by its bytes, which are its value in contracts.
 #[derive(Debug, PartialEq, Eq, PartialOrd, Ord, Drop)]
 pub struct ClientId {
+    // The text itself: it has no fault that `ClientId::new` looks for.
     text: Text,
 }
 

@@ -8,6 +8,7 @@ use std::marker::Model;
 /// A Packet Identifier: 1 to 65,535 (MQTT 2.3.1). Its value in contracts is its number.
 #[derive(Clone, Copy, Debug, PartialEq, Eq, PartialOrd, Ord, Hash)]
 pub struct PacketId {
+    // Any number but 0, which no identifier is.
     number: u16,
 }
 

@@ -29,6 +29,7 @@ use topics::MalformedKind;
 /// its items. Making it from a vector and getting the vector back take no memory.
 #[derive(Debug)]
 pub struct PacketList<T> {
+    // In the order in which they are spelled. The list may be empty.
     items: Vec<T>,
 }
 

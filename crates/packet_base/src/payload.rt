@@ -13,6 +13,7 @@ use std::sync::ArcSlice;
 /// references can no longer be counted.
 #[derive(Debug)]
 pub struct Payload {
+    // A reference to the bytes, which all copies share.
     bytes: ArcSlice<u8>,
 }
 

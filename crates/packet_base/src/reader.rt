@@ -18,6 +18,7 @@ use topics::{Filter, MalformedKind, TopicName};
 /// not fit into them is `Shape`; after an error the reader must not be used.
 #[derive(Drop)]
 pub struct Reader<'a> {
+    // From the next field on, to the end of the packet.
     rest: &'a [u8],
 }
 

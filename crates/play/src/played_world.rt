@@ -20,15 +20,20 @@ use world::{Accepted, Idle, World};
 /// A client, and how many of the publications that it accepted are written.
 #[derive(Drop)]
 pub(crate) struct Recipient {
+    /// The Client Identifier of the client.
     pub(crate) client: ClientId,
+    /// How many of them the transcript has, the first ones.
     pub(crate) written: usize,
 }
 
 /// A world in which a script is played.
 #[derive(Drop)]
 pub(crate) struct PlayedWorld {
+    // The allocator of events and of lines.
     alloc: Global,
+    /// The world after the lines so far.
     pub(crate) world: World,
+    /// Its clients, in their order.
     pub(crate) recipients: Vec<Recipient>,
 }
 

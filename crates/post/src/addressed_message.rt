@@ -18,7 +18,9 @@ use std::marker::Model;
 /// master. It cannot be dropped: it ends in an outbox of that node, at the master, or is lost if no
 /// node has that number.
 pub struct AddressedMessage {
+    // The number of the node that it is for, or 0.
     receiver: u8,
+    // What the step gave.
     message: Message<Command>,
 }
 

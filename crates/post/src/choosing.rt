@@ -8,7 +8,9 @@ use node::Status;
 /// A node's number, and its status after its last change.
 #[derive(Clone, Copy)]
 pub(crate) struct Shown {
+    /// The node's number.
     pub(crate) number: u8,
+    /// That status. The node may have changed since.
     pub(crate) status: Status,
 }
 

@@ -39,8 +39,11 @@ const STOP_LOOKS: u32 = 40;
 /// what is queued, or what changes.
 #[derive(Drop)]
 pub struct Cluster {
+    // In the order in which their numbers were given.
     nodes: Vec<Peer>,
+    // Answers orders and nodes, one at a time.
     master: Mutex<MessagingMaster>,
+    // The allocator of answers, and of lists of what nodes show.
     alloc: Global,
 }
 
@@ -302,6 +305,7 @@ fn peers_of(alloc: Global, numbers: &[u8]) -> Result<Vec<Peer>, Memory>
 // The nodes and the master, as receivers of messages.
 #[derive(Drop)]
 struct NodesAndMaster<'a> {
+    // Has their outboxes and the master.
     cluster: &'a Cluster,
 }
 

@@ -19,13 +19,16 @@ use std::time::Duration;
 // Whether an item waits that wakes the node, and whether many wait.
 #[derive(Clone, Copy)]
 struct Urgency {
+    // Whether an item waits that wakes the node.
     is_urgent: bool,
+    // Whether so many wait that the node's own thread should take them.
     is_long: bool,
 }
 
 /// Bytes of a client that count as in transit to a node. It cannot be dropped: it ends when they
 /// are counted as taken. So no code forgets to count them.
 pub struct Entering {
+    // How many they are; 0 if there is nothing to count.
     bytes: u64,
 }
 

@@ -15,6 +15,7 @@ use std::sync::Wait;
 ///
 /// [`Cluster::queue_given`]: crate::Cluster::queue_given
 pub struct Given {
+    // Messages and outputs. A step of a node gave each.
     effects: Vec<Effect<Command, Output>>,
 }
 

@@ -25,6 +25,7 @@ pub const MAX_TOPICS: usize = 16_384;
 /// them.
 #[derive(Debug)]
 pub struct RetainedStore {
+    // By topic. An empty payload takes out what its topic has.
     topics: BTreeMap<TopicName, RetainedPublication>,
 }
 

@@ -12,6 +12,7 @@ use std::alloc::{AllocError, Global};
 /// What the nodes reported at their ends.
 #[derive(Drop)]
 pub(crate) struct Outcome {
+    // In the order in which they came.
     reports: Vec<NodeReport>,
     // The first cause why a node was not served.
     failure: Option<ServeError>,

@@ -12,6 +12,7 @@ use std::marker::Model;
 /// Identifiers of publications without a PUBREL, in rising order.
 #[derive(Drop)]
 pub(crate) struct Received {
+    /// Each stays until its PUBREL comes.
     pub(crate) ids: BTreeSet<PacketId>,
 }
 

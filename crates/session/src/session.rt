@@ -34,8 +34,11 @@ pub const MAX_SUBSCRIPTIONS: usize = 64;
 /// One client's session: its subscriptions, the identifiers of QoS 2 publications that were
 /// received, the entries in flight and those that wait.
 pub struct Session {
+    /// Its subscriptions, with the QoS of each.
     pub(crate) subscriptions: Subscriptions,
+    /// The identifiers of QoS 2 publications that came, and whose PUBREL has not come.
     pub(crate) received: Received,
+    /// Its entries. Of those in flight the released ones come first.
     pub(crate) queue: SessionQueue,
 }
 

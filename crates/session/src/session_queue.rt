@@ -26,7 +26,9 @@ use std::marker::Model;
 /// The entries in flight, the released ones first, and the publications that wait, in order.
 #[derive(Drop)]
 pub(crate) struct SessionQueue {
+    /// By identifier what each awaits. Entries that are not released are in the order of sending.
     pub(crate) in_flight: IndexMap<PacketId, Awaits>,
+    /// Those that are not sent yet, the next one first.
     pub(crate) waiting: VecDeque<Publication>,
 }
 

@@ -13,6 +13,7 @@ use topics::{Filter, TopicName, matches};
 /// Filters, each with the QoS that was granted last, in the order of their first granting.
 #[derive(Drop)]
 pub(crate) struct Subscriptions {
+    /// Granted again, a filter keeps its place and gets the new QoS.
     pub(crate) filters: IndexMap<Filter, QoS>,
 }
 

@@ -8,6 +8,7 @@ use std::marker::Model;
 /// The witness that a listener was seen closed. Only a listener's own state makes one.
 #[derive(Drop)]
 pub struct Closed {
+    // The listener's number, which is that of its node.
     number: u8,
 }
 

@@ -16,7 +16,9 @@ use std::sync::{Arc, Mutex, Wait};
 /// for a client, and whether more connections are admitted.
 #[derive(Drop)]
 pub(crate) struct ConnectionTable {
+    // The threads that wait for a client, and whether the table is closed for good.
     waiting: Mutex<Waiting>,
+    // The connections at their indices, under a lock of their own.
     links: Mutex<Links>,
 }
 

@@ -28,14 +28,18 @@ pub struct Link {
     pub index: usize,
     /// When it was accepted, in the milliseconds of the node's clock.
     pub opened: u64,
+    // Its socket. The socket of the write token is the same.
     stream: Arc<TcpStream, Global>,
+    // Keeps the write token while no thread writes.
     slot: Mutex<WriteSlot>,
 }
 
 /// A connection whose socket was full, and its token, kept as its stream.
 #[derive(Drop)]
 pub struct Blocked {
+    // The connection.
     link: Arc<Link, Global>,
+    // The stream of its token, which is of the same port.
     stream: Stream,
     ghost its: { stream.tap.port.0 ≡ (arc_value link).port.0 },
 }

@@ -19,6 +19,7 @@ use std::sync::Arc;
 /// after that.
 #[derive(Drop)]
 pub(crate) struct Links {
+    // Has capacity for all from the beginning. None where the connection is not listed yet.
     slots: Slab<Option<Arc<Link, Global>>>,
     ghost few: { slab_len slots ≤ MAX_CONNECTIONS },
     ghost room: { slots.capacity ≡ MAX_CONNECTIONS },
@@ -27,6 +28,7 @@ pub(crate) struct Links {
 /// The right to an index of the table, for one connection. It cannot be dropped: it ends when the
 /// index is freed.
 pub struct TakenIndex {
+    // The index itself. Nobody else has it until it is freed.
     number: usize,
 }
 

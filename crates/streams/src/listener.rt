@@ -33,6 +33,7 @@ const WAKES: u32 = 10_000;
 pub struct Listener {
     /// The node's number.
     pub number: u8,
+    // Accepts their streams.
     listener: TcpListener,
     // The connections that are served.
     connections: ConnectionTable,

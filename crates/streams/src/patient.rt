@@ -10,6 +10,7 @@ use std::{hint, io};
 /// read does not wait either, and is repeated.
 #[derive(Drop)]
 pub struct Patient<'a> {
+    // What is read. A thread that writes may set it not to wait.
     stream: &'a TcpStream,
 }
 

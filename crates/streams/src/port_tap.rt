@@ -13,6 +13,7 @@ use node::{Handed, Memory, NodeNaming, NodeState, Port};
 /// taken by it alone.
 #[derive(Drop)]
 pub struct PortTap {
+    // The port whose bytes it takes.
     port: Port,
     // How many bytes were handed over by it, at most 2^64 - 1.
     handed: u64,

@@ -9,6 +9,7 @@ use std::sync::Arc;
 /// A connection's socket, on which only the connection's token writes.
 #[derive(Drop)]
 pub struct Socket {
+    // Shared with the connection, which reads from it and ends it.
     stream: Arc<TcpStream, Global>,
 }
 

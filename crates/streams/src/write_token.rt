@@ -18,6 +18,7 @@ pub(crate) type Stream = Outflow<PortTap, Socket>;
 /// at a time writes, and its stream is whole wherever the token is kept. It cannot be dropped: the
 /// thread that has it puts it back, makes a `Blocked` of it, or ends the stream.
 pub struct WriteToken {
+    // The stream that is written on, whole so far.
     stream: Stream,
 }
 

@@ -21,8 +21,11 @@ use topics::split_level;
 /// Nodes in a vector. The numbers of removed nodes are used again.
 #[derive(Debug, Drop)]
 pub(crate) struct Nodes {
+    /// Each node at its number.
     pub(crate) slab: Slab<Node>,
+    /// The node at which the levels of all filters begin. At first there is none.
     pub(crate) root: Option<NodeId>,
+    /// The allocator of what a node holds.
     pub(crate) alloc: Global,
 }
 

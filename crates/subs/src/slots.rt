@@ -16,7 +16,9 @@ use std::alloc::{AllocError, Global};
 /// Where the rows of a filter are: at a node, or at `#` beside it.
 #[derive(Clone, Copy, Debug)]
 pub(crate) struct Slot {
+    /// Where the levels of the filter lead, without a last `#`.
     pub(crate) node: NodeId,
+    /// Whether the filter ends with `#`.
     pub(crate) rest: bool,
 }
 

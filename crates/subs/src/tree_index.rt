@@ -24,7 +24,9 @@ use topics::{Filter, TopicName};
 pub struct TreeIndex {
     // Each client with its filters, which are removed with it.
     clients: ListIndex,
+    /// The same subscriptions by the levels of their filters. No two ways lead to one node.
     pub(crate) nodes: Nodes,
+    // The allocator of what is found for a publication.
     alloc: Global,
 }
 

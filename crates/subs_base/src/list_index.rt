@@ -39,7 +39,9 @@ use topics::{Filter, TopicName, matches};
 /// An index that looks at every filter of every client for each publication.
 #[derive(Debug)]
 pub struct ListIndex {
+    // The filters of each client, each with the QoS that was granted last.
     clients: BTreeMap<ClientId, BTreeMap<Filter, QoS>>,
+    // The allocator of each client's map.
     alloc: Global,
 }
 

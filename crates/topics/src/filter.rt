@@ -18,6 +18,7 @@ use std::marker::Model;
 /// its bytes.
 #[derive(Debug, PartialEq, Eq, PartialOrd, Ord, Hash, Drop)]
 pub struct Filter {
+    // The text itself: it has no fault that `Filter::new` looks for.
     text: Text,
 }
 

@@ -26,6 +26,7 @@ use std::sync::ArcStr;
 /// the references can no longer be counted.
 #[derive(Debug)]
 pub struct Text {
+    // A reference to the bytes, which all copies share.
     text: ArcStr,
 }
 

@@ -15,6 +15,7 @@ use std::marker::Model;
 /// Compared and ordered by its bytes.
 #[derive(Debug, PartialEq, Eq, PartialOrd, Ord, Hash, Drop)]
 pub struct TopicName {
+    // The text itself: it has no fault that `TopicName::new` looks for.
     text: Text,
 }
 

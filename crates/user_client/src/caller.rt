@@ -34,7 +34,9 @@ pub(crate) enum News {
 /// A client, and whether a server has accepted one of its connections.
 #[derive(Drop)]
 pub(crate) struct Caller {
+    /// The client, with keep alive 0.
     pub(crate) core: ClientCore,
+    /// Until it is true, a server that has a session of the client is at fault.
     pub(crate) was_accepted: bool,
 }
 

@@ -28,7 +28,9 @@ use topics::TopicName;
 /// A client that publishes once.
 #[derive(Drop)]
 pub struct Publisher {
+    // The allocator of buffers.
     alloc: Global,
+    // The client. At QoS 1 and 2 it keeps the publication (see `once`).
     caller: Caller,
     // A publication at QoS 0, which is sent on each connection until one has taken it. At QoS 1 and
     // 2 the client keeps it until its handshake has ended.

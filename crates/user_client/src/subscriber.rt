@@ -26,10 +26,15 @@ use topics::Filter;
 /// A client that prints what is published.
 #[derive(Drop)]
 pub struct Subscriber {
+    // The allocator of buffers and lines.
     alloc: Global,
+    // The client. On each connection it subscribes, until something was printed.
     caller: Caller,
+    // What it subscribes to.
     filter: Filter,
+    // At which QoS it subscribes.
     qos: QoS,
+    // How many publications it prints in all.
     count: u32,
     // How many publications are still to be printed. Once one is printed, the server has the
     // subscription.

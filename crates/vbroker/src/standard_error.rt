@@ -6,6 +6,7 @@ use std::{io, str};
 /// Standard error. It takes only texts.
 #[derive(Drop)]
 pub struct StandardError<'a, R> {
+    // What prints the texts.
     rt: &'a R,
 }
 

@@ -26,13 +26,17 @@ use world_nodes::{Idle, Nodes};
 /// bytes each way on every connection. Whatever is in transit arrives late, again or never, as
 /// events say.
 pub struct World {
+    /// The allocator of events and of bytes.
     pub(crate) alloc: Global,
+    /// The nodes, with their master and their messages.
     pub(crate) nodes: Nodes,
+    /// Each with its identifier and all its connections.
     pub(crate) clients: Vec<WorldClient>,
     /// Connection n + 1 is at index n.
     pub(crate) connections: Vec<ConnectionSlot>,
     /// The numbers of the connections whose end at the node is open, rising.
     pub(crate) open_ends: Vec<u64>,
+    /// How many steps lost something, up to 2^64 - 1.
     pub(crate) losses: u64,
 }
 

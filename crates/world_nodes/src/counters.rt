@@ -13,7 +13,9 @@ use std::alloc::Global;
 /// except `new`.
 #[derive(Drop)]
 pub struct Counters {
+    // What was acknowledged in the active ballot.
     told: Told,
+    // What was acknowledged in the ballot that waits, if one does.
     next: Told,
 }
 

@@ -27,12 +27,19 @@ use std::marker::Model;
 /// any may come late, again or never. Nodes are numbered from 1, messages from 0 in the order of
 /// their sending.
 pub struct Nodes {
+    /// The allocator of copies of messages, and of what calls return.
     pub(crate) alloc: Global,
+    /// Gives ballots their configurations.
     pub(crate) master: Master,
+    /// Node n + 1 is at index n.
     pub(crate) nodes: Vec<NodeCore>,
+    /// The messages, each with the number of its receiver.
     pub(crate) sent: Vec<(u8, Message<Command>)>,
+    /// The places below the bases of all logs.
     pub(crate) archive: Vec<Command>,
+    /// What these messages acknowledge.
     pub(crate) counters: Counters,
+    /// How many steps lost something, up to 2^64 - 1.
     pub(crate) losses: u64,
 }
 

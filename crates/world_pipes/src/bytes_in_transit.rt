@@ -10,6 +10,7 @@ use std::mem;
 /// Bytes in transit in one direction, in order.
 #[derive(Drop)]
 pub struct BytesInTransit {
+    // With those at the front that have come, until they are half of all.
     bytes: Vec<u8>,
     // How many bytes at the front have come.
     come: usize,

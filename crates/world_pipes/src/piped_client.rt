@@ -19,8 +19,11 @@ use std::marker::Model;
 /// at most the newest one; what is in transit to nodes on the others still comes up, and the client
 /// receives nothing more on them.
 pub struct PipedClient {
+    /// The allocator of new connections.
     pub(crate) alloc: Global,
+    /// The client. While it holds a connection, all that it wrote on that went up.
     pub(crate) core: ClientCore,
+    /// Its connections, the oldest first.
     pub(crate) ways: Vec<Way>,
     /// Whether it holds the newest connection.
     pub(crate) holds: bool,

@@ -9,6 +9,7 @@ use streams::{Blocked, MAX_CONNECTIONS};
 /// no clause of a call says which there are.
 #[derive(Drop)]
 pub struct BlockedLinks {
+    /// Those connections. There is capacity for all that a node serves.
     pub(crate) links: Mutex<Vec<Blocked>>,
     /// The thread that continues with them sleeps on this.
     pub(crate) waker: Parker,

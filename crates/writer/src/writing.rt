@@ -14,6 +14,7 @@ use streams::{Link, PortTap, WriteToken};
 // The node under its lock, which queued bytes for its connections.
 #[derive(Drop)]
 struct Source<'e, 'a, J: NodeNaming, S: Stated<J>, G: Gate> {
+    // Has the node, and writes to its connections.
     writer: &'e Writer<'e, 'a, J, S, G>,
 }
 
