@@ -8,8 +8,11 @@ use std::alloc::Global;
 /// Nodes 1 and 2, and what their calls handed out.
 #[derive(Drop)]
 pub struct Pair {
+    /// Node 1.
     pub one: Replica<Tally>,
+    /// Node 2.
     pub two: Replica<Tally>,
+    /// The messages and outputs of the last calls, until these are cleared.
     pub out: Vec<Effect<TallyCommand, u64>>,
 }
 

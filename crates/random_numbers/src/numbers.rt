@@ -9,6 +9,7 @@ use std::marker::Model;
 /// state of the rule.
 #[derive(Clone, Copy)]
 pub struct Numbers {
+    // The state of the rule, modulo 2^64.
     state: u64,
 }
 

@@ -27,8 +27,11 @@ pub enum StreamState {
 /// Some bytes, of which 24 are shown: the first ones, or those from an index on.
 #[derive(Clone, Copy, PartialEq, Eq)]
 pub struct Excerpt {
+    // How many bytes there were.
     len: usize,
+    // The index of the first one that is shown.
     from: usize,
+    // The bytes from there on; zeros after the last.
     bytes: [u8; SHOWN],
 }
 

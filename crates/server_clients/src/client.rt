@@ -62,7 +62,9 @@ where
 /// The streams of a subscriber, client `h`, and a publisher, client `s`.
 #[derive(Drop)]
 pub struct Pair {
+    /// The stream of the subscriber.
     pub hearer: TcpStream,
+    /// The stream of the publisher.
     pub speaker: TcpStream,
 }
 

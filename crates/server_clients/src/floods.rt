@@ -9,8 +9,11 @@ use std::net::TcpStream;
 /// What is sent in a flood, what has to be answered, and a buffer for what is.
 #[derive(Drop)]
 pub struct Flood {
+    // The PINGREQ that are sent at a time, 64 KiB of them.
     sent: Vec<u8>,
+    // As many PINGRESP.
     wanted: Vec<u8>,
+    // As long as these.
     buffer: Vec<u8>,
 }
 
@@ -50,7 +53,9 @@ fn packets(alloc: Global, first: u8) -> Result<Vec<u8>, AllocError> {
 /// A PUBLISH of 1 MB, and a buffer for what comes of it.
 #[derive(Drop)]
 pub struct Large {
+    // The PUBLISH. Its last byte tells one from the next.
     sent: Vec<u8>,
+    // As long as the PUBLISH.
     buffer: Vec<u8>,
 }
 

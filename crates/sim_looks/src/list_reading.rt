@@ -11,8 +11,11 @@ use topics::{Filter, TopicName};
 // The last publication with RETAIN of a topic.
 #[derive(Drop)]
 struct Kept {
+    // The QoS at which it was published.
     qos: QoS,
+    // The Topic Name, by which these are ordered.
     topic: TopicName,
+    // What was published with it.
     payload: Payload,
 }
 
@@ -20,7 +23,9 @@ struct Kept {
 /// memory.
 #[derive(Drop)]
 pub struct ListReading {
+    // The allocator of what is read.
     alloc: Global,
+    // Those that last.
     sessions: Vec<Session>,
     // Those that ended, the oldest first.
     ended: Vec<Session>,

@@ -13,21 +13,21 @@ use std::alloc::Global;
 pub struct Seen {
     // How many of those that it accepted were looked at.
     looked: usize,
-    // The number of its session when it accepted the last publication, and where in the accepted
-    // publications that session began.
+    // The number of its session when it accepted the last publication.
     number: u64,
+    // Where in the accepted publications that session began.
     from: usize,
-    // Which of its sessions that is by the agreed list, from 0, and how many it accepted in it at
-    // QoS 2.
+    // Which of its sessions that is by the agreed list, from 0.
     session: usize,
+    // How many it accepted in that session at QoS 2.
     at_two: usize,
     // The last number of each publisher, of those at QoS 2 that were not retained.
     last: Vec<u64>,
     /// The numbers that it published at QoS 1 or 2.
     pub published: Vec<u64>,
-    // Whether it received the CONNACK of its newest connection, and whether there was a connection
-    // whose CONNACK it never received.
+    // Whether it received the CONNACK of its newest connection.
     is_confirmed: bool,
+    // Whether there was a connection whose CONNACK it never received.
     is_hasty: bool,
     /// Whether its session was ended by an administrator.
     pub is_expelled: bool,

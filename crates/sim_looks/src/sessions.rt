@@ -35,6 +35,7 @@ pub struct Session {
     pub is_over: bool,
     /// Its current connection.
     pub connection: Option<ConnectionName>,
+    // Its subscriptions, each with the QoS that was granted last.
     filters: Vec<(Filter, QoS)>,
     // The identifiers of PUBLISHes at QoS 2 whose PUBREL did not come yet.
     received: Vec<PacketId>,

@@ -45,9 +45,13 @@ impl fmt::Display for Broken {
 /// What was seen of a run.
 #[derive(Drop)]
 pub struct Watch {
+    // The allocator of the lists of looks.
     alloc: Global,
+    // What the agreed commands come to.
     reading: ListReading,
+    // How many commands were agreed at the last look.
     length: u64,
+    // What was seen of each client, at its index.
     seen: Vec<Seen>,
 }
 

@@ -9,17 +9,21 @@ use world::{Config, Event, Members, World};
 /// What a run knows about the world that it goes through.
 #[derive(Drop)]
 pub struct Course {
+    // The allocator of events.
     alloc: Global,
+    // Draws the events.
     draw: Draw,
+    // How many nodes there are, numbered from 1.
     nodes: u8,
     // The message that comes next.
     next: u64,
-    // How many subscriptions were drawn, and how many publications; each of these carries its
-    // number.
+    // How many subscriptions were drawn.
     asked: u64,
+    // How many publications were drawn; each carries its number.
     serial: u64,
-    // How many connections were opened, and the last one of each client with the one before.
+    // How many connections were opened.
     opened: u64,
+    // At the index of each client its last connection, and the one before; 0 if there is none.
     last: Vec<(u64, u64)>,
     // The last connection on which bytes could not be carried.
     closed: u64,

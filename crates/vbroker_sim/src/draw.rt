@@ -5,6 +5,7 @@ use random_numbers::Numbers;
 /// A sequence of numbers that depends only on its seed.
 #[derive(Clone, Copy)]
 pub struct Draw {
+    // The numbers by the rule, the first eight left out.
     numbers: Numbers,
 }
 

@@ -20,13 +20,16 @@ pub enum Came {
 /// A row that does not hold, and what the world shows then.
 #[derive(Clone, Copy, Debug, PartialEq, Eq)]
 pub struct Fault {
-    /// The index of the row, and the row. If all rows hold and a step ran out of memory, it is the
-    /// index after the last one, and no row.
+    /// The index of the row. If all rows hold and a step ran out of memory, it is the index after
+    /// the last one.
     pub at: usize,
+    /// The row; none after the last one.
     pub row: Option<&'static Row>,
-    /// How many messages were sent, how many commands are agreed, and which ballot is active.
+    /// How many messages were sent.
     pub messages: u64,
+    /// How many commands are agreed.
     pub agreed: u64,
+    /// Which ballot is active.
     pub ballot: u64,
     /// What came in place of what the row says.
     pub came: Came,
