@@ -77,8 +77,18 @@ class Comments(ToolTest):
             (LOW, "// A letter.", "", f"{LOW}:14: Letter: no comment"),
             (LOW, "/// Returns how many it has.", "", f"{LOW}:17: letters: public, without ///"),
             (LOW, "// Says whether it is long.", "", f"{LOW}:22: is_long: no comment"),
+            (LOW, "// how many letters it has", "", f"{LOW}:6: Word::letters: no comment"),
             (WORDS, "-- a word", "", f"{WORDS}:2: Word: no comment"),
         )
+
+    def test_names_each_field_without_a_comment_except_in_tests_and_benches(self):
+        pair = ("// A pair.\nstruct Pair<T: Drop> {\n    pub one: T,\n    // the other\n"
+            "    pub(crate) other: T,\n    rest: u8,\n    ghost few: { rest < 7 },\n}\n"
+            "// One.\nstruct One(u8);\n// How.\nenum How {\n    Many { count: u8 },\n}\n")
+        self.put({f"crates/{it}/src/pair.rt": pair for it in ("low", "low_tests", "bench")})
+        self.shows(*(f"crates/low/src/pair.rt:{it}" for it in (
+            "3: Pair::one: public, without ///", "5: Pair::other: public, without ///",
+            "6: Pair::rest: no comment")))
 
     def test_names_each_comment_of_another_form(self):
         self.shows_edits(
