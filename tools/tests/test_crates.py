@@ -3,6 +3,7 @@ from small import HIGH, LOW, RIGHT, WORDS, ToolTest
 
 MAILBOX = "crates/mailbox/src/lib.rt"
 LAWS, ROWS = "crates/low/src/laws.rt", "crates/low/src/rows.rt"
+EXAMPLES = "crates/low/src/word_laws.rt"
 
 
 def function(body=0, clauses=0, name="call"):
@@ -65,6 +66,9 @@ class Comments(ToolTest):
     words = ["comments"]
     files = RIGHT | {
         LAWS: "/// States that words are words.\npub fn words_are_words()\n{}\n",
+        EXAMPLES: "ghost use Rattle.low.specs.WordRows.{A, OneWord};\n/// Shows a word.\n"
+            "pub fn one_word()\n    ensures { OneWord }\n{}\n/// States that words stay.\n"
+            "pub fn words_stay()\n    ensures { WordsStay }\n{}\n",
         ROWS: "/// Shows a word.\npub fn one_word()\n{}\n",
         "crates/low_tests/src/lib.rt": "const ONE: usize = 1;\n\nfn helper()\n{}\n",
         "crates/low_tests/src/rows.rt": "/// Returns rows.\npub fn rows()\n{}\n",
@@ -102,4 +106,8 @@ class Comments(ToolTest):
             (LOW, "/// It names", "// It names", f"{LOW}:11: Kind::Noun: a variant without ///"),
             (ROWS, "Shows", "Has",
                 f"{ROWS}:2: one_word: a worked example that does not begin with Shows"),
+            (EXAMPLES, "Shows", "States that there is",
+                f"{EXAMPLES}:3: one_word: a worked example that does not begin with Shows"),
+            (EXAMPLES, "States that words", "Shows that words",
+                f"{EXAMPLES}:7: words_stay: a law that does not begin with States that"),
         )

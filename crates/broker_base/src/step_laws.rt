@@ -61,17 +61,16 @@ pub fn states_stay_sound()
     ensures lists { ListsAreSound }
 {}
 
-/// States that three worked examples come out, computed step by step: a full queue, the order on a
-/// later connection, and a window that grows.
+/// Shows, computed step by step, a full queue, the order on a later connection, and a window that
+/// grows.
 pub fn rows_step_by_step()
     ensures full_queue { StepsRefuseAndGoOn }
     ensures order { StepsKeepTheOrder }
     ensures window { StepsWidenTheWindow }
 {}
 
-/// States that entries start at a Connect, after PUBACK and PUBCOMP, and after each copy that is
-/// queued. They do so also in a state that was read from bytes whose queue could have started
-/// before.
+/// Shows that PUBACK and PUBCOMP start a publication that waits while nothing is in flight, as may
+/// be in a state that was read from bytes. PINGREQ, PUBREC, PUBREL and UNSUBSCRIBE do not start it.
 pub fn entries_start_where_they_are_sent()
     ensures others { OthersStartNothing }
     ensures answers { AnswersStartWhatWaits }

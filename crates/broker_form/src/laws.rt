@@ -46,8 +46,8 @@ pub fn thawed_is_frozen()
     ensures { ThawedIsFrozen }
 {}
 
-/// States that three brokers have these bytes in both forms: without sessions, with client `a` on
-/// connection 1 of ballot 1, and with something in every part.
+/// Shows that three brokers have these bytes in both forms: without sessions, with client `a` on
+/// connection 1 of ballot 1, and with something in every part. Another window or form is refused.
 pub fn rows_are_frozen()
     ensures fresh { FreshIsFrozen }
     ensures one { OneSessionIsFrozen }

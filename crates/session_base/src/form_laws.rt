@@ -21,7 +21,7 @@ pub fn read_is_frozen()
     ensures { ReadIsFrozen }
 {}
 
-/// States that a worked example comes out: the bytes of a session with something in every part.
+/// Shows that a session with something in every part is frozen to bytes that are written by hand.
 pub fn full_session_is_frozen()
     ensures { FullSessionIsFrozen }
 {}
