@@ -1,5 +1,5 @@
-//! Replicas of counting machines, alone and in pairs, and questions that are asked of them; for
-//! tests of `ballot`.
+//! Replicas of machines that add numbers, alone and in pairs, and questions that are asked of
+//! them; for tests of `ballot`.
 #![tactic(auto)]
 
 mod pairs;

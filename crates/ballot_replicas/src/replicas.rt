@@ -1,4 +1,4 @@
-// Replicas of counting machines, and small questions that are asked of them.
+// Replicas of machines that add numbers, and small questions that are asked of them.
 
 use ballot::{Body, Config, Effect, Members, Message, OpeningError, Replica, Role};
 use machine::{Memory, Tally, TallyCommand};

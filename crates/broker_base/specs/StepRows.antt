@@ -1,4 +1,5 @@
--- Worked examples, computed by the step: full queues, identifiers and the window.
+-- Worked examples, computed by the step: a full queue, the order on a later connection, a window
+-- that grows, and which answers start what waits.
 use Rattle.std.specs.Prelude.{◌≡◌, ℕ, true, false, List, [], ◌∷◌, ◌++◌, Some, codes}
 use Rattle.session_base.specs.packet.packet_base.declared.qos.QoS.TheVariants as qualities
 use Rattle.session_base.specs.packet.declared.delivery.Delivery.TheVariants as deliveries
@@ -93,11 +94,11 @@ OthersStartNothing =
     × (step usual_limits 64 o_waits (gets 1 (unsubscribe 3))
     ≡ (o_waits, sends 1 (packets.Unsuback 3) ∷ []))
 
--- after PUBACK and PUBCOMP, whatever they answer, what waits starts and is sent (MQTT 4.6)
+-- b is served, and that publication is in flight
 abbrev pub o_started : State
 o_started = serves_b (record { in_flight = (1, waits_for.Puback waits_o) ∷ []; waiting = [] })
 
--- PUBACK and PUBCOMP start what waits
+-- after PUBACK and PUBCOMP, whatever they answer, what waits starts and is sent (MQTT 4.6)
 abbrev pub AnswersStartWhatWaits : Type 0
 AnswersStartWhatWaits =
     (step usual_limits 64 o_waits (gets 1 (packets.Puback 7))

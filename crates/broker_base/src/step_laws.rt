@@ -1,4 +1,4 @@
-// Laws of the step: functions that do nothing, whose contracts are the laws.
+// Laws of the step, and worked examples: functions that do nothing, whose contracts these are.
 
 ghost use Rattle.broker_base.specs.StepLaws.{
   StepsEachSession,

@@ -1,4 +1,5 @@
-// Laws of states. The calls do nothing; their contracts are the laws.
+// Laws of states and of their bytes, and worked examples. The calls do nothing; their contracts are
+// these.
 
 ghost use Rattle.broker_form.specs.RangeLaws.{StaysInRange, AnswersAreSpelled, ListsAreInRange};
 ghost use Rattle.broker_form.specs.FormRows.{FreshIsFrozen, OneSessionIsFrozen, FormOneIsRead};

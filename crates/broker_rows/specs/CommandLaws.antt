@@ -1,5 +1,5 @@
 -- A command touches one row at most, except a taken publication, an accepted Connect and a Start
--- (MQTT 3.1.4).
+-- (MQTT 3.1.4). A map of connections finds that row.
 use Rattle.std.specs.Prelude.{◌≡◌, ℕ, false, Some, None}
 use Rattle.broker_spec.specs.Connection.{ConnectionName}
 use Rattle.broker_spec.specs.Place.{Client, Limits}

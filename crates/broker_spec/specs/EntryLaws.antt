@@ -1,5 +1,5 @@
--- What readers may want to know about a session's entries: what waits, what starts, identifiers,
--- and how the list grows.
+-- What readers may want to know about a session's entries: what waits, how the list grows, and
+-- which publications enter it.
 use Rattle.std.specs.Prelude.{◌≡◌, ◌≤◌, ℕ, ◌+◌, if◌then◌else◌, true, false, List, [], ◌∷◌, ◌++◌}
 use Rattle.std.specs.Prelude.{length, filter, Some, None, is_some, ◌⊎◌}
 use Rattle.std.specs.List.{AllByRecursion}

@@ -1,4 +1,4 @@
--- More worked examples: full queues, violations, identifiers and the window.
+-- More worked examples: a full queue, PINGREQ and UNSUBSCRIBE, and violations.
 use Rattle.std.specs.Prelude.{◌≡◌, ℕ, Bool, true, false, List, [], ◌∷◌, ◌++◌, map, codes}
 use Rattle.retained.specs.packet_base.declared.qos.QoS.TheVariants as qualities
 use Rattle.packet.specs.declared.delivery.Delivery.TheVariants as deliveries

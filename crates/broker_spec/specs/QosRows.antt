@@ -1,5 +1,5 @@
--- Worked examples: at which QoS a publication is delivered and retained, with which identifier, and
--- with which DUP flag (MQTT 3.3.1, 3.3.5, 3.8.4, 4.3, 4.4).
+-- Worked examples: at which QoS a publication is delivered, with which identifier and DUP flag, and
+-- in which order copies are sent (MQTT 3.3.1, 3.3.5, 3.8.4, 4.3, 4.4).
 use Rattle.std.specs.Prelude.{true, false, List, [], ◌∷◌, ◌++◌, codes}
 use Rattle.retained.specs.packet_base.declared.qos.QoS.{QoS}
 use Rattle.retained.specs.packet_base.declared.qos.QoS.TheVariants as qualities

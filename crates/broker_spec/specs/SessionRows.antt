@@ -1,5 +1,5 @@
--- Worked examples: where a session begins and ends, and the places at which an entry is made,
--- starts, is released and finishes (MQTT 3.1.2.4, 4.1, 4.3).
+-- Worked examples: where a session begins and ends, which PUBLISH at QoS 2 is new in it, and which
+-- connection of a client is live (MQTT 3.1.2.4, 3.1.4, 4.1, 4.3.3).
 use Rattle.std.specs.Prelude.{◌≡◌, ℕ, Bool, true, false, List, [], ◌∷◌, codes, Option, Some, None}
 use Rattle.packet.specs.declared.delivery.Delivery.TheVariants as deliveries
 use Rattle.packet.specs.declared.packet.Packet.TheVariants as packets

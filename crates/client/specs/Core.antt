@@ -1,4 +1,4 @@
--- What a `ClientCore` shows: what it keeps, what it has not yet read, and what it wrote.
+-- What a `ClientCore` shows: what it keeps, has not yet read, and wrote; and what its calls do.
 use Rattle.std.specs.Prelude.{◌≡◌, ℕ, Bool, false, List, [], ◌∷◌, Some, None, Result, Ok, Err}
 use Rattle.cutter.specs.packet.packet_base.declared.qos.QoS.{QoS}
 use Rattle.packet.specs.declared.packet.Packet.{Packet}

@@ -1,5 +1,5 @@
-//! What a replicated state machine is, with its laws, and a small machine that counts and satisfies
-//! them.
+//! What a replicated state machine is, with its laws, and a small machine that satisfies them: it
+//! adds numbers.
 #![tactic(auto)]
 
 mod ballots;

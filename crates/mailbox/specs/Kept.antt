@@ -1,4 +1,4 @@
--- What lanes, receivers, receipts, dealers and inboxes keep of their passes.
+-- What lanes, receivers, receipts, dealers and inboxes keep of their passes, and what was taken.
 use Rattle.std.specs.Prelude.{◌≡◌, ℕ, ◌-◌, ◌*◌, ◌^◌, ◌<◌, ◌≤◌, List, [], ◌++◌, length, slice_index}
 use Rattle.atomic_table.specs.Seated.{TableId}
 use Rattle.crossbeam_queue.specs.Passes.{Pass, view}

@@ -1,4 +1,4 @@
--- The identity of an inbox: that of its queue, which no other queue has.
+-- The identity of no inbox, for numbers that were given to none.
 use Rattle.std.specs.Prelude.{[]}
 use Rattle.atomic_table.specs.Seated.{TableId}
 

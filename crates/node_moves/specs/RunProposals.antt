@@ -1,5 +1,5 @@
 -- What a node proposes in all that it ever does: for each connection a prefix of the packets that
--- its client writes, once and in order.
+-- its client writes, once and in order. What it reads is in its log at once.
 use Rattle.std.specs.Prelude.{◌≡◌, ◌<◌, ℕ, Bool, true, false, List, [], ◌++◌, filter}
 use Rattle.exactly_once.specs.packet.declared.packet.Packet.{Packet}
 use Rattle.exactly_once.specs.broker_spec.Connection.{ConnectionName}

@@ -1,4 +1,4 @@
--- What a lane reports of a connection.
+-- What a lane reports of its connections, and what a node's own lane sends.
 use Rattle.std.specs.Prelude.{◌≡◌, ℕ, ◌+◌, ◌^◌, List, [], ◌∷◌, ◌++◌, length, Option, None, Some}
 use Rattle.node.specs.declared.Item.{Item}
 use Rattle.node.specs.declared.Item.TheVariants.{Bytes, Tick, Cut}

@@ -1,4 +1,4 @@
--- Auxiliary definitions.
+-- What the private calls do with a line of a script, and with what clients accepted.
 use Rattle.std.specs.Prelude.{◌≡◌, ℕ, Bool, true, false, List, [], ◌∷◌, ◌++◌, Some, Result, length, map}
 use Rattle.world.specs.master.declared.event.Idle.{Idle}
 use Rattle.script.specs.session_base.declared.publication.Publication.{Publication}

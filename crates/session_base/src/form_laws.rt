@@ -1,4 +1,4 @@
-// Laws of the form. The calls do nothing; their contracts are the laws.
+// Laws of the form, and a worked example. The calls do nothing; their contracts are the laws.
 
 ghost use Rattle.session_base.specs.FormLaws.{FrozenIsRead, ReadHasForm, ReadIsFrozen};
 ghost use Rattle.session_base.specs.FormRows.{FullSessionIsFrozen};

@@ -1,4 +1,4 @@
-// Laws of a client's queue. The calls do nothing; their contracts are the laws.
+// Laws of a client's queue and session. The calls do nothing; their contracts are the laws.
 
 ghost use Rattle.session_base.specs.Laws.{IsLeastFree, FillKeepsApart, FillIsDone, FillStaysWithin};
 ghost use Rattle.session_base.specs.Laws.{FillKeepsOrder, FillSendsWhatStarts};

@@ -1,5 +1,5 @@
-//! One client's queue on lists: publications, what an entry in flight waits for, and what PUBACK,
-//! PUBREC, PUBCOMP, a fill of the window and a resending make of the queue.
+//! One client's session as lists and as bytes: publications, what an entry in flight waits for, and
+//! laws of the queue; and the reading and writing of the parts of a frozen session, with its laws.
 #![tactic(auto)]
 
 mod awaits;

@@ -1,4 +1,4 @@
--- What nodes that cut their logs agree on, said about their whole logs.
+-- What nodes that cut their logs agree on, what left them, and which is primary: on whole logs.
 use Rattle.std.specs.Prelude.{ℕ, List, map}
 use Rattle.machine.specs.Machine.{Rules}
 use Rattle.agreement.specs.Agreement.{Agrees as AgreesWhole, Holds as HoldsWhole}

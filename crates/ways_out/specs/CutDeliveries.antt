@@ -1,5 +1,5 @@
 -- Messages that come to their receivers one after another, exactly, each named by its number, if
--- nodes cut their logs. The numbers are those of `ways_out`.
+-- nodes cut their logs. Which numbers lead out is in `Deliveries` (`way_out`).
 use Rattle.std.specs.Prelude.{ℕ, ◌+◌, ◌≡◌, false, List, [], ◌∷◌, slice_get, Some}
 use Rattle.machine.specs.Machine.{Rules}
 use Rattle.snapshots.specs.agreement.MasterState.{assigning}

@@ -1,4 +1,4 @@
--- The rows of the protocol between ballots, from NewBallot to Activated, and the ticks of a new
+-- The rows of the protocol between ballots, from NewBallot to Install, and the ticks of a new
 -- primary. A message that a row's condition does not cover changes nothing.
 use Rattle.std.specs.Prelude.{ℕ, List, [], ◌∷◌, length, ◌==◌, ◌&&◌, ◌||◌, nat_lt}
 use Rattle.std.specs.Prelude.{nat_le, if◌then◌else◌}

@@ -1,5 +1,5 @@
--- What a node queued goes down on its connections: exactly, or, if losses are allowed (`whole` is
--- false), perhaps with losses.
+-- What a node queued goes down on its connections, also after it took an item: exactly, or, if
+-- losses are allowed (`whole` is false), perhaps with losses.
 use Rattle.std.specs.Prelude.{◌≡◌, ◌⊎◌, ℕ, zero, suc, ◌-◌, ◌==◌, ◌&&◌, Bool, true, false, ◌++◌, Option, Some, None, length, set}
 use Rattle.headline.specs.node_moves.Moves.NodeCall.{gives}
 use Rattle.node_core.specs.Core.{CountedCore}

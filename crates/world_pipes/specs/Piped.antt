@@ -1,5 +1,5 @@
 -- What a `PipedClient` shows: the client, and its connections with the bytes in transit, the oldest
--- first.
+-- first; and what its calls do.
 use Rattle.std.specs.Prelude.{◌≡◌, ℕ, ◌-◌, Bool, true, false, ◌⊎◌, List, [], ◌∷◌, ◌++◌, length, take, drop, Result, Ok, Err}
 use Rattle.node_core.specs.declared.Port.{Port}
 use Rattle.client.specs.client_base.declared.error.ClientError.{ClientError}

@@ -1,4 +1,4 @@
-// The machine that counts, as worked examples: no clause says that its calls succeed while there is
+// The machine that adds, as worked examples: no clause says that its calls succeed while there is
 // memory.
 
 use machine::{Machine, Tally, TallyCommand, ThawFault};
@@ -60,7 +60,7 @@ fn first_fault(alloc: Global, tally: &mut Tally) -> Option<Fault> {
     None
 }
 
-// Returns the first row whose output of a fresh counting machine differs from the wanted one, and
+// Returns the first row whose output of a fresh machine differs from the wanted one, and
 // what came.
 fn first_fault_of_fresh(alloc: Global) -> Option<Fault> {
     match Tally::fresh(alloc) {

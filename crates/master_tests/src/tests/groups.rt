@@ -1,4 +1,4 @@
-// Groups of counting machines, and small questions that are asked of them.
+// Groups of machines that add numbers, and small questions that are asked of them.
 
 use ballot::{Config, Effect, Members, OpeningError};
 use machine::{Memory, Tally, TallyCommand};
