@@ -7,7 +7,7 @@ use packet::{ClientId, Packet, Step, decode, encode};
 use std::alloc::Global;
 
 /// What comes to a broker. Connections are those of ballot 1, by their number.
-#[derive(Clone, Copy)]
+#[derive(Clone, Copy, Debug, PartialEq, Eq)]
 pub(crate) enum Event<'a> {
     /// A client opens a connection; the flag is CleanSession.
     Connect(u64, &'a str, bool),
@@ -41,10 +41,11 @@ pub(crate) enum Came {
     Sent(usize, u64, [u8; 8]),
 }
 
-/// A row whose answer differs from the wanted one, by its index, and what came.
+/// A row whose answer differs from the wanted one, with its index, and what came.
 #[derive(Clone, Copy, Debug, PartialEq, Eq)]
-pub(crate) struct RowFault {
-    row: usize,
+pub(crate) struct RowFault<'a> {
+    at: usize,
+    row: Row<'a>,
     came: Came,
 }
 
@@ -55,14 +56,19 @@ pub(crate) const CLOSED: &[u8] = &[];
 pub(crate) const NOTHING: &[Answer<'static>] = &[];
 
 /// Returns the first row whose answer differs from the wanted one, and what came.
-pub(crate) fn first_fault_of_rows(
+pub(crate) fn first_fault_of_rows<'a>(
     alloc: Global,
     broker: &mut BrokerMachine,
-    rows: &[Row<'_>],
-) -> Option<RowFault> {
-    for (row, (event, wanted)) in rows.iter().enumerate() {
-        if let Some(came) = came_instead(alloc, broker, *event, wanted) {
-            return Some(RowFault { row, came });
+    rows: &[Row<'a>],
+) -> Option<RowFault<'a>> {
+    for (at, row) in rows.iter().enumerate() {
+        let (event, wanted) = *row;
+        if let Some(came) = came_instead(alloc, broker, event, wanted) {
+            return Some(RowFault {
+                at,
+                row: *row,
+                came,
+            });
         }
     }
     None

@@ -1,7 +1,7 @@
 // Runs: what a broker goes through. Each is made in one place, and lent from there.
 
 use crate::row::{Came, Row, RowFault, first_fault_of_rows};
-use crate::tests::forms::{Form, Step, is_built};
+use crate::tests::forms::{ByteFault, Form, Step, is_built};
 use crate::tests::queues::{Part, first_fault_of_parts};
 use crate::tests::{forms, windows};
 use broker::BrokerMachine;
@@ -33,21 +33,20 @@ pub(crate) enum Run<'a> {
 
 /// Why a run fails.
 #[derive(Clone, Copy, Debug, PartialEq, Eq)]
-pub(crate) enum Fault {
+pub(crate) enum Fault<'a> {
     /// There was no broker: memory ran out, or its bytes were not read.
     Start,
     /// This row had another answer.
-    Row(RowFault),
-    /// At this step this came.
-    Step(usize, Came),
+    Row(RowFault<'a>),
+    /// The step of this index has this row, and this came.
+    Step(usize, Row<'a>, Came),
     /// When the part of this index came once more, after this many times, this row had another
     /// answer.
-    Part(usize, u32, RowFault),
-    /// For the publication with this identifier this came.
-    Publication(u8, Came),
-    /// After this many steps the bytes of a frozen broker were others, from this index on; none if
-    /// memory ran out.
-    Bytes(usize, Option<usize>),
+    Part(usize, u32, RowFault<'a>),
+    /// The publication with this identifier was to be sent at once, or not, and this came.
+    Publication(u8, bool, Came),
+    /// After this many steps this byte of a frozen broker was another; none if memory ran out.
+    Bytes(usize, Option<ByteFault>),
 }
 
 // Returns the broker that is thawed from the bytes of a form.
@@ -69,7 +68,11 @@ fn started(alloc: Global, start: Start<'_>) -> Option<BrokerMachine> {
 }
 
 // Returns the first row whose answer differs from the wanted one.
-fn fault_in_rows(alloc: Global, broker: &mut BrokerMachine, rows: &[Row<'_>]) -> Option<Fault> {
+fn fault_in_rows<'a>(
+    alloc: Global,
+    broker: &mut BrokerMachine,
+    rows: &[Row<'a>],
+) -> Option<Fault<'a>> {
     match first_fault_of_rows(alloc, broker, rows) {
         Some(fault) => Some(Fault::Row(fault)),
         None => None,
@@ -77,7 +80,7 @@ fn fault_in_rows(alloc: Global, broker: &mut BrokerMachine, rows: &[Row<'_>]) ->
 }
 
 // Returns the first step of a run whose outcome differs from the wanted one.
-fn fault_of(alloc: Global, broker: &mut BrokerMachine, run: Run<'_>) -> Option<Fault> {
+fn fault_of<'a>(alloc: Global, broker: &mut BrokerMachine, run: Run<'a>) -> Option<Fault<'a>> {
     match run {
         Run::Rows(rows) => fault_in_rows(alloc, broker, rows),
         Run::HasBytes(form) => forms::first_fault_of_form(alloc, broker, form, 0),
@@ -88,7 +91,7 @@ fn fault_of(alloc: Global, broker: &mut BrokerMachine, run: Run<'_>) -> Option<F
 }
 
 /// Returns the first step of a run whose outcome differs from the wanted one, and what came.
-pub(crate) fn first_fault(alloc: Global, start: Start<'_>, run: Run<'_>) -> Option<Fault> {
+pub(crate) fn first_fault<'a>(alloc: Global, start: Start<'_>, run: Run<'a>) -> Option<Fault<'a>> {
     match started(alloc, start) {
         Some(mut broker) => fault_of(alloc, &mut broker, run),
         None => Some(Fault::Start),

@@ -171,18 +171,36 @@ pub(crate) fn is_built(form: Form<'_>, bytes: &mut Vec<u8>) -> bool {
     true
 }
 
-// Returns the index from which on these bytes are not those that are wanted.
-fn first_fault_of_bytes(bytes: &[u8], wanted: &[u8]) -> Option<usize> {
-    for (index, byte) in bytes.iter().enumerate() {
-        if !wanted.get(index).is_some_and(|one| *one == *byte) {
-            return Some(index);
+/// A byte of a frozen broker that is not the wanted one: its index, the wanted one, and what came;
+/// none of either where the bytes have ended.
+#[derive(Clone, Copy, Debug, PartialEq, Eq)]
+pub(crate) struct ByteFault {
+    index: usize,
+    wanted: Option<u8>,
+    came: Option<u8>,
+}
+
+// Returns the byte at an index, if there is one.
+fn byte_at(bytes: &[u8], index: usize) -> Option<u8> {
+    match bytes.get(index) {
+        Some(byte) => Some(*byte),
+        None => None,
+    }
+}
+
+// Returns the first of these bytes that is not the wanted one.
+fn first_fault_of_bytes(bytes: &[u8], wanted: &[u8]) -> Option<ByteFault> {
+    for index in 0..bytes.len().max(wanted.len()) {
+        let (one, other) = (byte_at(wanted, index), byte_at(bytes, index));
+        if one != other {
+            return Some(ByteFault {
+                index,
+                wanted: one,
+                came: other,
+            });
         }
     }
-    if bytes.len() == wanted.len() {
-        None
-    } else {
-        Some(bytes.len())
-    }
+    None
 }
 
 /// Returns the first byte that differs if a broker is frozen after these steps to the bytes of this
@@ -192,14 +210,14 @@ pub(crate) fn first_fault_of_form(
     broker: &BrokerMachine,
     wanted: Form<'_>,
     steps: usize,
-) -> Option<Fault> {
+) -> Option<Fault<'static>> {
     let mut built = Vec::new(alloc);
     let mut bytes = Vec::new(alloc);
     if !is_built(wanted, &mut built) || !is_frozen(broker, &mut bytes) {
         return Some(Fault::Bytes(steps, None));
     }
     match first_fault_of_bytes(bytes.as_slice(), built.as_slice()) {
-        Some(index) => Some(Fault::Bytes(steps, Some(index))),
+        Some(byte) => Some(Fault::Bytes(steps, Some(byte))),
         None => None,
     }
 }
@@ -227,15 +245,15 @@ const STEPS: &[Step<'static>] = &[
 ];
 
 // Returns what differs at the step of this index: what comes, or the form, if one is asked for.
-fn first_fault_of_step(
+fn first_fault_of_step<'a>(
     alloc: Global,
     broker: &mut BrokerMachine,
     index: usize,
-    step: Step<'_>,
-) -> Option<Fault> {
+    step: Step<'a>,
+) -> Option<Fault<'a>> {
     let (event, wanted, form) = step;
     if let Some(came) = came_instead(alloc, broker, event, wanted) {
-        return Some(Fault::Step(index, came));
+        return Some(Fault::Step(index, (event, wanted), came));
     }
     match form {
         Some(form) => first_fault_of_form(alloc, broker, form, index.saturating_add(1)),
@@ -245,12 +263,12 @@ fn first_fault_of_step(
 
 /// Returns the first step at which the bytes of a broker, or its answers, differ from the wanted
 /// ones.
-pub(crate) fn first_fault_of_forms(
+pub(crate) fn first_fault_of_forms<'a>(
     alloc: Global,
     broker: &mut BrokerMachine,
     first: Form<'_>,
-    steps: &[Step<'_>],
-) -> Option<Fault> {
+    steps: &[Step<'a>],
+) -> Option<Fault<'a>> {
     let mut fault = first_fault_of_form(alloc, broker, first, 0);
     for (index, step) in steps.iter().enumerate() {
         if fault.is_some() {
@@ -263,7 +281,7 @@ pub(crate) fn first_fault_of_forms(
 
 // Returns the first byte that differs if the broker that is thawed from form 2 with these fields is
 // frozen again.
-fn first_fault_again(alloc: Global, fields: &[&[u8]]) -> Option<Fault> {
+fn first_fault_again<'a>(alloc: Global, fields: &'a [&'a [u8]]) -> Option<Fault<'a>> {
     let form = (WIDE, fields);
     first_fault(alloc, Start::Thawed(form), Run::HasBytes(form))
 }
@@ -285,7 +303,7 @@ fn first_fault_from_form_1<'a>(
     alloc: Global,
     fields: &'a [&'a [u8]],
     steps: &'a [Step<'a>],
-) -> Option<Fault> {
+) -> Option<Fault<'a>> {
     first_fault(
         alloc,
         Start::Thawed((BEFORE, fields)),

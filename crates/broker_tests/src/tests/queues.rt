@@ -161,12 +161,12 @@ const FULL: &[Part<'static>] = &[
 
 // Returns the first row of the part at an index whose answer differs from the wanted one, and after
 // how many times it does.
-fn first_fault_of_part(
+fn first_fault_of_part<'a>(
     alloc: Global,
     broker: &mut BrokerMachine,
     index: usize,
-    part: Part<'_>,
-) -> Option<Fault> {
+    part: Part<'a>,
+) -> Option<Fault<'a>> {
     let (times, rows) = part;
     for time in 0..times {
         if let Some(fault) = first_fault_of_rows(alloc, broker, rows) {
@@ -177,11 +177,11 @@ fn first_fault_of_part(
 }
 
 /// Returns the first part that has a row whose answer differs from the wanted one.
-pub(crate) fn first_fault_of_parts(
+pub(crate) fn first_fault_of_parts<'a>(
     alloc: Global,
     broker: &mut BrokerMachine,
-    parts: &[Part<'_>],
-) -> Option<Fault> {
+    parts: &[Part<'a>],
+) -> Option<Fault<'a>> {
     for (index, part) in parts.iter().enumerate() {
         let fault = first_fault_of_part(alloc, broker, index, *part);
         if fault.is_some() {

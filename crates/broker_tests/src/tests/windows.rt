@@ -105,25 +105,39 @@ fn came_for(alloc: Global, broker: &mut BrokerMachine, id: u8, sent: bool) -> Op
 
 // Has `a` publish seventeen times: the first `sent` are sent at once, and no others. Returns the
 // first publication that fails.
-fn first_fault_of_seventeen(alloc: Global, broker: &mut BrokerMachine, sent: u8) -> Option<Fault> {
+fn first_fault_of_seventeen(
+    alloc: Global,
+    broker: &mut BrokerMachine,
+    sent: u8,
+) -> Option<Fault<'static>> {
     for id in 1..=17 {
-        if let Some(came) = came_for(alloc, broker, id, id <= sent) {
-            return Some(Fault::Publication(id, came));
+        let is_sent = id <= sent;
+        if let Some(came) = came_for(alloc, broker, id, is_sent) {
+            return Some(Fault::Publication(id, is_sent, came));
         }
     }
     None
 }
 
+// Returns the first of the rows before that differs, as one of part 0.
+fn fault_before(alloc: Global, broker: &mut BrokerMachine) -> Option<Fault<'static>> {
+    match first_fault_of_rows(alloc, broker, BEFORE) {
+        Some(fault) => Some(Fault::Part(0, 0, fault)),
+        None => None,
+    }
+}
+
 /// Has a broker send this many of seventeen publications at once, and then answer these rows, which
 /// are part 1. Part 0 are the rows before. Returns the first row that differs.
-pub(crate) fn first_fault_of_sending(
+pub(crate) fn first_fault_of_sending<'a>(
     alloc: Global,
     broker: &mut BrokerMachine,
     sent: u8,
-    rows: &[Row<'_>],
-) -> Option<Fault> {
-    if let Some(fault) = first_fault_of_rows(alloc, broker, BEFORE) {
-        return Some(Fault::Part(0, 0, fault));
+    rows: &[Row<'a>],
+) -> Option<Fault<'a>> {
+    let before = fault_before(alloc, broker);
+    if before.is_some() {
+        return before;
     }
     let routed = first_fault_of_seventeen(alloc, broker, sent);
     if routed.is_some() {
