@@ -37,55 +37,97 @@ fn take(cutter: &mut Cutter, out: &mut Vec<u8>) -> Taken {
     }
 }
 
-// Takes all packets that are there, at most three, and appends their spellings.
-fn drain(cutter: &mut Cutter, out: &mut Vec<u8>) -> bool {
-    for _ in 0..4 {
-        match take(cutter, out) {
-            Taken::One => {}
-            Taken::NoMore => return true,
-            Taken::Fault(_) | Taken::Unspelled => return false,
+// Takes all packets that are there, at most three, and appends their spellings. Returns what comes
+// after them.
+fn drain(cutter: &mut Cutter, out: &mut Vec<u8>) -> Taken {
+    for _ in 0..3 {
+        let taken = take(cutter, out);
+        if taken != Taken::One {
+            return taken;
         }
     }
-    true
+    take(cutter, out)
 }
 
-// Feeds a piece and takes what is there.
-fn is_cut(cutter: &mut Cutter, piece: &[u8], out: &mut Vec<u8>) -> bool {
-    cutter.feed(piece).is_ok() && drain(cutter, out)
+// Feeds a piece and takes what is there. Returns what comes after the packets, or why the piece is
+// refused.
+fn cut(cutter: &mut Cutter, piece: &[u8], out: &mut Vec<u8>) -> Taken {
+    match cutter.feed(piece) {
+        Ok(()) => drain(cutter, out),
+        Err(fault) => Taken::Fault(fault),
+    }
 }
 
-// Says whether these pieces are fed and all packets of them given.
-fn are_cut(cutter: &mut Cutter, pieces: &[&[u8]], out: &mut Vec<u8>) -> bool {
+// Feeds pieces and takes what is there. Returns what comes after the packets of the last piece, or
+// of the first one after which it is not that there are no more.
+fn cut_all(cutter: &mut Cutter, pieces: &[&[u8]], out: &mut Vec<u8>) -> Taken {
     for piece in pieces {
-        if !is_cut(cutter, piece, out) {
-            return false;
+        let taken = cut(cutter, piece, out);
+        if taken != Taken::NoMore {
+            return taken;
         }
     }
-    true
+    Taken::NoMore
 }
 
-// Returns how many bytes of packets come of the stream in these pieces, if it is not cut into its
-// packets.
-fn came_instead(alloc: Global, pieces: &[&[u8]]) -> Option<usize> {
+// What came of a stream: what was taken last, how many bytes of packets came, and these bytes
+// (zeros after the last).
+#[derive(Clone, Copy, Debug, PartialEq, Eq)]
+struct Came {
+    taken: Taken,
+    count: usize,
+    bytes: [u8; 27],
+}
+
+// A stream that does not give its packets: at which index it was cut in two, or which byte was fed
+// last, which bytes of packets were to come, and what came.
+#[derive(Clone, Copy, Debug, PartialEq, Eq)]
+struct Fault {
+    at: usize,
+    wanted: [u8; 27],
+    came: Came,
+}
+
+// Returns the first of these bytes that are shown, and zeros after the last.
+fn front_of(bytes: &[u8]) -> [u8; 27] {
+    let mut front = [0; 27];
+    for (to, byte) in front.iter_mut().zip(bytes) {
+        *to = *byte;
+    }
+    front
+}
+
+// Returns what came of the stream once this was taken last, if that is not all of its packets and
+// no more.
+fn came_instead(taken: Taken, out: &[u8]) -> Option<Came> {
+    if taken == Taken::NoMore && out == STREAM.as_slice() {
+        return None;
+    }
+    Some(Came {
+        taken,
+        count: out.len(),
+        bytes: front_of(out),
+    })
+}
+
+// Returns what comes of the stream in these pieces, if it is not cut into its packets.
+fn came_of_pieces(alloc: Global, pieces: &[&[u8]]) -> Option<Came> {
     let mut cutter = Cutter::new(alloc);
     let mut out = Vec::new(alloc);
-    let is_taken = are_cut(&mut cutter, pieces, &mut out);
-    if is_taken && out.as_slice() == STREAM.as_slice() {
-        None
-    } else {
-        Some(out.len())
-    }
+    let taken = cut_all(&mut cutter, pieces, &mut out);
+    came_instead(taken, out.as_slice())
 }
-
-// An index at which a stream is cut in two, and how many bytes of packets come then.
-type Fault = (usize, usize);
 
 // Returns the first index at which the stream cut in two does not give its packets, and what comes
 // then.
 fn first_fault_of_cuts(alloc: Global, stream: &[u8]) -> Option<Fault> {
     for at in 0..=stream.len() {
-        if let Some(count) = came_instead(alloc, &[&stream[..at], &stream[at..]]) {
-            return Some((at, count));
+        if let Some(came) = came_of_pieces(alloc, &[&stream[..at], &stream[at..]]) {
+            return Some(Fault {
+                at,
+                wanted: STREAM,
+                came,
+            });
         }
     }
     None
@@ -96,32 +138,39 @@ fn a_stream_cut_in_two_gives_its_packets(rt: HostRuntime) {
     assert_eq!(rt; first_fault_of_cuts(rt.alloc(), &STREAM), None);
 }
 
-// Returns the first byte of a stream, fed byte by byte, that is not taken.
-fn first_fault_of_bytes(cutter: &mut Cutter, stream: &[u8], out: &mut Vec<u8>) -> Option<usize> {
+// Feeds a stream byte by byte and takes what is there. Returns the index of the last byte that is
+// fed, and what comes after the packets then.
+fn cut_bytes(cutter: &mut Cutter, stream: &[u8], out: &mut Vec<u8>) -> (usize, Taken) {
+    let mut last: usize = 0;
     for (at, byte) in stream.iter().enumerate() {
-        if !is_cut(cutter, &[*byte], out) {
-            return Some(at);
+        last = at;
+        let taken = cut(cutter, &[*byte], out);
+        if taken != Taken::NoMore {
+            return (at, taken);
         }
     }
-    None
+    (last, Taken::NoMore)
 }
 
-// Returns the first byte of the stream that is not taken; the one after the last if other packets
-// are given than those of the stream.
-fn first_fault_of_stream(alloc: Global) -> Option<usize> {
+// Returns after which byte the stream, fed byte by byte, does not give its packets, and what comes
+// then.
+fn first_fault_of_bytes(alloc: Global) -> Option<Fault> {
     let mut cutter = Cutter::new(alloc);
     let mut out = Vec::new(alloc);
-    let fault = first_fault_of_bytes(&mut cutter, &STREAM, &mut out);
-    if out.as_slice() == STREAM.as_slice() {
-        fault
-    } else {
-        fault.or(Some(STREAM.len()))
+    let (at, taken) = cut_bytes(&mut cutter, &STREAM, &mut out);
+    match came_instead(taken, out.as_slice()) {
+        Some(came) => Some(Fault {
+            at,
+            wanted: STREAM,
+            came,
+        }),
+        None => None,
     }
 }
 
 #[test]
 fn a_stream_byte_by_byte_gives_its_packets(rt: HostRuntime) {
-    assert_eq!(rt; first_fault_of_stream(rt.alloc()), None);
+    assert_eq!(rt; first_fault_of_bytes(rt.alloc()), None);
 }
 
 // Packet type 15 is reserved (MQTT 2.2.1).
