@@ -1,6 +1,8 @@
 // The handshakes of a client, as tables of bytes.
 
-use super::row::*;
+use super::row::{
+    ACCEPTED, Act, CONNECT, NOTHING, PUBLISH, PUBREC, Row, SHOWN, first_fault, front_of, play,
+};
 use client::{Accepted, ClientCore};
 use packet::QoS;
 use std::test::*;
@@ -129,6 +131,19 @@ const SENT: &[Row<'static>] = &[
 // What an accepted publication shows besides its session: QoS, RETAIN, topic and payload.
 type Shown<'a> = (QoS, bool, &'a str, &'a [u8]);
 
+// An accepted publication as it came: its session, QoS and RETAIN, and the first bytes of its topic
+// and of its payload (zeros after the last).
+type Came = (u64, QoS, bool, [u8; SHOWN], [u8; SHOWN]);
+
+// Why what was accepted is not what was sent: the index, what was to be accepted there, and what
+// was accepted; none of either if there was to be no other, or came no other.
+#[derive(Clone, Copy, Debug, PartialEq, Eq)]
+struct AcceptedFault<'a> {
+    at: usize,
+    wanted: Option<Shown<'a>>,
+    came: Option<Came>,
+}
+
 // Says whether a publication of the first session shows these fields.
 fn shows(one: &Accepted, shown: Shown<'_>) -> bool {
     let (qos, retain, topic, payload) = shown;
@@ -139,25 +154,50 @@ fn shows(one: &Accepted, shown: Shown<'_>) -> bool {
         && one.payload.as_slice() == payload
 }
 
-// Returns the first of these that was not accepted, in this order; the one after the last if there
-// are more.
-fn first_fault_of_accepted(accepted: &[Accepted], wanted: &[Shown<'_>]) -> Option<usize> {
+// Returns the publication at an index among those that were accepted, as it came.
+fn came_at(accepted: &[Accepted], at: usize) -> Option<Came> {
+    match accepted.get(at) {
+        Some(one) => Some((
+            one.session,
+            one.qos,
+            one.retain,
+            front_of(one.topic.as_str().as_bytes()),
+            front_of(one.payload.as_slice()),
+        )),
+        None => None,
+    }
+}
+
+// Returns the first of these that was not accepted, in this order, or the one that was accepted
+// after them.
+fn first_fault_of_accepted<'a>(
+    accepted: &[Accepted],
+    wanted: &[Shown<'a>],
+) -> Option<AcceptedFault<'a>> {
     for (at, shown) in wanted.iter().enumerate() {
         if !accepted.get(at).is_some_and(|one| shows(one, *shown)) {
-            return Some(at);
+            return Some(AcceptedFault {
+                at,
+                wanted: Some(*shown),
+                came: came_at(accepted, at),
+            });
         }
     }
-    if accepted.len() == wanted.len() {
-        None
-    } else {
-        Some(wanted.len())
+    let came = came_at(accepted, wanted.len());
+    if came.is_none() {
+        return None;
     }
+    Some(AcceptedFault {
+        at: wanted.len(),
+        wanted: None,
+        came,
+    })
 }
 
 // What was accepted shows the five fields of its PUBLISH.
 #[test]
 fn an_accepted_publication_shows_what_was_sent(rt: HostRuntime) {
-    let wanted: [Shown<'_>; 3] = [
+    let wanted: [Shown<'static>; 3] = [
         (QoS::ExactlyOnce, true, "t/1", b"x"),
         (QoS::AtLeastOnce, false, "t/2", b"y"),
         (QoS::AtMostOnce, true, "t/1", b""),

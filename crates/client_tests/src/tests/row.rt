@@ -25,8 +25,8 @@ pub enum Act<'a> {
 /// were accepted.
 pub type Row<'a> = (Act<'a>, Option<ClientError>, &'a [u8], usize, usize);
 
-/// How many bytes are shown at most of what was written instead.
-const SHOWN: usize = 24;
+/// How many bytes are shown at most of what came instead.
+pub const SHOWN: usize = 24;
 
 /// What came of a row: the refusal, how many bytes were written (none if memory ran out) and the
 /// first of them (zeros after the last), and how many publications are kept and were accepted.
@@ -185,8 +185,8 @@ pub fn counts(client: &ClientCore) -> (usize, usize) {
     (client.kept(), client.accepted().len())
 }
 
-// Returns the first of these bytes that are shown, and zeros after the last.
-fn front_of(bytes: &[u8]) -> [u8; SHOWN] {
+/// Returns the first of these bytes that are shown, and zeros after the last.
+pub fn front_of(bytes: &[u8]) -> [u8; SHOWN] {
     let mut front = [0; SHOWN];
     for (to, byte) in front.iter_mut().zip(bytes) {
         *to = *byte;
