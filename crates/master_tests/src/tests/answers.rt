@@ -71,6 +71,32 @@ fn an_answer_waits_for_all_members(rt: HostRuntime) {
     assert_eq!(rt; first_fault(rt.alloc(), 2, &[1, 2], Run::WaitsForAll), None);
 }
 
+const APPENDED: &[Row] = &[(Arrives(0), Sent(2), Left(0), Agreed(1))];
+
+/// Checks that of two commands the first alone is agreed, since node 2 does not hold the second.
+/// Returns the first step that fails.
+pub fn agrees_on_one(group: &mut Group<Tally>) -> Option<&'static str> {
+    if !propose(group, 1, 2) {
+        Some("node 1 takes the command")
+    } else if !let_all_come(group, APPENDED) {
+        Some("its Append comes")
+    } else if !propose(group, 1, 3) {
+        Some("node 1 takes another command")
+    } else if counts(group) != (Sent(3), Left(0), Agreed(1)) {
+        Some("its Append is sent, and one place is agreed")
+    } else if !agrees(group, &[TallyCommand::Add(2)]) {
+        Some("the first command alone is agreed")
+    } else {
+        None
+    }
+}
+
+// What only the primary holds is not agreed.
+#[test]
+fn the_primarys_last_command_is_not_agreed(rt: HostRuntime) {
+    assert_eq!(rt; first_fault(rt.alloc(), 2, &[1, 2], Run::AgreesOnOne), None);
+}
+
 const ALONE: &[TallyCommand] = &[
     TallyCommand::Add(2),
     TallyCommand::Start(2),

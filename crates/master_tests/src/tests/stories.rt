@@ -10,6 +10,7 @@ use std::alloc::Global;
 #[derive(Clone, Copy)]
 pub enum Run {
     WaitsForAll,
+    AgreesOnOne,
     CountsAlone,
     Changes,
     IsSuperseded,
@@ -46,6 +47,7 @@ pub enum Fault {
 fn step_of(alloc: Global, group: &mut Group<Tally>, run: Run) -> Option<&'static str> {
     match run {
         Run::WaitsForAll => answers::waits_for_all(group),
+        Run::AgreesOnOne => answers::agrees_on_one(group),
         Run::CountsAlone => answers::counts_alone(group),
         Run::Changes => changes::is_changed(group, alloc),
         Run::IsSuperseded => changes::is_superseded(group, alloc),
