@@ -7,6 +7,8 @@ mod indexes;
 mod readings;
 #[cfg(test)]
 mod retaining;
+#[cfg(test)]
+mod shown;
 
 pub use readings::{
     answers_fit_the_qos, expels_of_nobody_are_nothing, live_connections_are_current,

@@ -4,7 +4,7 @@ mod memory;
 mod row;
 
 use crate::retaining::row::Row::{Finds, Has, IsFull, Put};
-use crate::retaining::row::{Row, is_right, put};
+use crate::retaining::row::{Came, Row, came_instead, first_fault};
 use packet::QoS;
 use retained::{RetainedError, RetainedStore};
 use std::alloc::Global;
@@ -38,28 +38,20 @@ const AT_THE_LIMIT: &[Row<'static>] = &[
     Has(16_384),
 ];
 
-// The index of a row that a store does not do as it says, and how many topics it keeps then.
-type Fault = (usize, usize);
-
-// Returns the first row that a store does not do as it says, and how many topics it keeps then.
-fn first_fault(alloc: Global, store: &mut RetainedStore, rows: &[Row<'_>]) -> Option<Fault> {
-    for (index, row) in rows.iter().enumerate() {
-        if !is_right(alloc, store, *row) {
-            return Some((index, store.len()));
-        }
+// Keeps a publication of the topic of a number. Returns what came, if it is not kept.
+fn came_of_topic(alloc: Global, store: &mut RetainedStore, number: u32) -> Option<Came> {
+    match format!(in alloc; "t/{number}") {
+        Ok(text) => came_instead(alloc, store, Put(text.as_str(), QoS::AtMostOnce, "x")),
+        Err(_) => Some(Came::Nothing),
     }
-    None
 }
 
-// Keeps a publication of each of as many topics as a store may have. Returns the first of them that
-// is not kept.
-fn first_fault_of_filling(alloc: Global, store: &mut RetainedStore) -> Option<u32> {
+// Keeps a publication of each of as many topics as a store may have. Returns the number of the
+// first topic that is not kept, and what came.
+fn first_fault_of_filling(alloc: Global, store: &mut RetainedStore) -> Option<(u32, Came)> {
     for number in 0..16_384u32 {
-        let Ok(text) = format!(in alloc; "t/{number}") else {
-            return Some(number);
-        };
-        if put(alloc, store, text.as_str(), QoS::AtMostOnce, "x") != Some(Ok(())) {
-            return Some(number);
+        if let Some(came) = came_of_topic(alloc, store, number) {
+            return Some((number, came));
         }
     }
     None

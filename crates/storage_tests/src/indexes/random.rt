@@ -1,5 +1,6 @@
 // A long list of calls by a fixed rule, of both indexes.
 
+use crate::indexes::calls::{Shown, shown};
 use packet::{ClientId, QoS};
 use random_numbers::Numbers;
 use std::alloc::Global;
@@ -30,6 +31,30 @@ struct Both {
     tree: TreeIndex,
 }
 
+// What came of a call that both do not answer alike.
+#[derive(Clone, Copy, Debug, PartialEq, Eq)]
+enum Came {
+    // Nothing: memory ran out.
+    Nothing,
+    // The list had a subscription to remove and the tree none, or the other way round.
+    Cleared(bool),
+    // The list grants so many rows, and the tree so many; those that both grant are alike.
+    Counts(usize, usize),
+    // At this index the list grants the first of these, and the tree the second.
+    Granted(usize, Shown, Shown),
+}
+
+// A client, a filter and a topic.
+type Names = (&'static str, &'static str, &'static str);
+
+// A call that both do not answer alike, by its number, what it names, and what came.
+#[derive(Clone, Copy, Debug, PartialEq, Eq)]
+struct Fault {
+    number: u32,
+    names: Names,
+    came: Came,
+}
+
 fn set_alike(both: &mut Both, client: &ClientId, filter: &Filter, number: u64) -> bool {
     let qos = match number % 3 {
         0 => QoS::AtMostOnce,
@@ -39,27 +64,42 @@ fn set_alike(both: &mut Both, client: &ClientId, filter: &Filter, number: u64) -
     both.list.set(client, filter, qos).is_ok() && both.tree.set(client, filter, qos).is_ok()
 }
 
-// Returns how many rows both grant alike; none if they differ.
-fn granted_alike(alloc: Global, both: &Both, topic: &str) -> Option<usize> {
+// Returns how many rows both grant alike, or how they differ.
+fn rows_alike(list: &[(ClientId, QoS)], tree: &[(ClientId, QoS)]) -> Result<usize, Came> {
+    let mut index: usize = 0;
+    for ((client, qos), (other, level)) in list.iter().zip(tree) {
+        if client.as_str() != other.as_str() || *qos != *level {
+            return Err(Came::Granted(index, shown(client, *qos), shown(other, *level)));
+        }
+        index = index.saturating_add(1);
+    }
+    if list.len() == tree.len() {
+        Ok(list.len())
+    } else {
+        Err(Came::Counts(list.len(), tree.len()))
+    }
+}
+
+// Returns the same of the rows at a topic.
+fn granted_alike(alloc: Global, both: &Both, topic: &str) -> Result<usize, Came> {
     let mut list = Vec::new(alloc);
     let mut tree = Vec::new(alloc);
-    let is_alike = match TopicName::new(alloc, topic) {
+    let is_granted = match TopicName::new(alloc, topic) {
         Ok(topic) => {
             both.list.granted(&topic, &mut list).is_ok()
                 && both.tree.granted(&topic, &mut tree).is_ok()
-                && list.as_slice() == tree.as_slice()
         }
         Err(_) => false,
     };
-    if is_alike { Some(list.len()) } else { None }
+    if is_granted {
+        rows_alike(list.as_slice(), tree.as_slice())
+    } else {
+        Err(Came::Nothing)
+    }
 }
 
-fn none_granted(is_alike: bool) -> Option<usize> {
-    if is_alike { Some(0) } else { None }
-}
-
-// Makes the call of the next number for this client, filter and topic: how many rows were granted,
-// none if the answers differ.
+// Makes the call of the next number for this client, filter and topic. Returns how many rows were
+// granted, or how the answers differ.
 fn called_with(
     alloc: Global,
     both: &mut Both,
@@ -67,44 +107,77 @@ fn called_with(
     client: &ClientId,
     filter: &Filter,
     topic: &str,
-) -> Option<usize> {
+) -> Result<usize, Came> {
     match numbers.next() % 64 {
         0 => {
             both.list.drop_client(client);
             both.tree.drop_client(client);
-            Some(0)
+            Ok(0)
         }
         1..=23 => {
             let listed = both.list.clear(client, filter);
-            none_granted(listed == both.tree.clear(client, filter))
+            let is_alike = listed == both.tree.clear(client, filter);
+            if is_alike {
+                Ok(0)
+            } else {
+                Err(Came::Cleared(listed))
+            }
         }
         24..=31 => granted_alike(alloc, both, topic),
-        _ => none_granted(set_alike(both, client, filter, numbers.next())),
+        _ => {
+            let is_alike = set_alike(both, client, filter, numbers.next());
+            if is_alike { Ok(0) } else { Err(Came::Nothing) }
+        }
     }
 }
 
-// Makes the call of the next numbers: how many rows were granted, none if the answers differ.
-fn called_alike(alloc: Global, both: &mut Both, numbers: &mut Numbers) -> Option<usize> {
-    let client = ClientId::new(alloc, CLIENTS[(numbers.next() % 8) as usize]).ok()?;
-    let filter = Filter::new(alloc, FILTERS[(numbers.next() % 32) as usize]).ok()?;
-    let topic = TOPICS[(numbers.next() % 16) as usize];
+// Makes the call of the next number for what is named so, in the same way.
+fn called_alike(
+    alloc: Global,
+    both: &mut Both,
+    numbers: &mut Numbers,
+    names: Names,
+) -> Result<usize, Came> {
+    let (client, filter, topic) = names;
+    let Ok(client) = ClientId::new(alloc, client) else {
+        return Err(Came::Nothing);
+    };
+    let Ok(filter) = Filter::new(alloc, filter) else {
+        return Err(Came::Nothing);
+    };
     called_with(alloc, both, numbers, &client, &filter, topic)
 }
 
-// Returns the first call that both do not answer alike. How many rows were granted is added up.
-fn first_fault(alloc: Global, both: &mut Both, rows: &mut usize) -> Option<u32> {
+// Returns the client, the filter and the topic of the next numbers.
+fn next_names(numbers: &mut Numbers) -> Names {
+    let client = CLIENTS[(numbers.next() % 8) as usize];
+    let filter = FILTERS[(numbers.next() % 32) as usize];
+    let topic = TOPICS[(numbers.next() % 16) as usize];
+    (client, filter, topic)
+}
+
+// Returns the first call that both do not answer alike, and what came. How many rows were granted
+// is added up.
+fn first_fault(alloc: Global, both: &mut Both, rows: &mut usize) -> Option<Fault> {
     let mut numbers = Numbers::new(23);
     for number in 0..CALLS {
-        match called_alike(alloc, both, &mut numbers) {
-            Some(found) => *rows = rows.saturating_add(found),
-            None => return Some(number),
+        let names = next_names(&mut numbers);
+        match called_alike(alloc, both, &mut numbers, names) {
+            Ok(found) => *rows = rows.saturating_add(found),
+            Err(came) => {
+                return Some(Fault {
+                    number,
+                    names,
+                    came,
+                });
+            }
         }
     }
     None
 }
 
 // Returns the first call that the two indexes do not answer alike, and how many rows were granted.
-fn called_in_turn(alloc: Global) -> (Option<u32>, usize) {
+fn called_in_turn(alloc: Global) -> (Option<Fault>, usize) {
     let mut rows: usize = 0;
     let mut both = Both {
         list: ListIndex::new(alloc),

@@ -1,7 +1,7 @@
 // Tables of examples: who is granted what (MQTT 3.3.5, 3.8.4, 3.10.4, 4.7).
 
 use crate::indexes::calls::Call::{self, Clear, DropClient, Granted, Set};
-use crate::indexes::calls::first_fault;
+use crate::indexes::calls::{Fault, first_fault};
 use packet::QoS::{AtLeastOnce, AtMostOnce, ExactlyOnce};
 use std::alloc::Global;
 use subs::{ListIndex, SubIndex, TreeIndex};
@@ -119,11 +119,15 @@ const ROWS: &[&[Call<'static>]] = &[
     EMPTY_LEVELS,
 ];
 
-// Returns the first row that has a call whose answer differs from the wanted one, and that call.
-fn first_fault_of_rows<I: SubIndex>(alloc: Global, rows: &[&[Call<'_>]]) -> Option<(usize, usize)> {
+// Returns the first row that has a call whose answer differs from the wanted one, that call, and
+// what came.
+fn first_fault_of_rows<I: SubIndex>(
+    alloc: Global,
+    rows: &[&[Call<'static>]],
+) -> Option<(usize, Fault)> {
     for (number, row) in rows.iter().enumerate() {
-        if let Some(call) = first_fault::<I>(alloc, row) {
-            return Some((number, call));
+        if let Some(fault) = first_fault::<I>(alloc, row) {
+            return Some((number, fault));
         }
     }
     None
