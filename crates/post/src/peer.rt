@@ -21,7 +21,7 @@ use std::time::Duration;
 struct Urgency {
     // Whether an item waits that wakes the node.
     is_urgent: bool,
-    // Whether so many wait that the node's own thread should take them.
+    // Whether enough items wait that the node's own thread should take them.
     is_long: bool,
 }
 

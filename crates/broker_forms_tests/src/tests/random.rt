@@ -28,8 +28,8 @@ type Shown = (u64, [u8; SHOWN]);
 enum Came {
     // No answer of one of them: memory ran out.
     Nothing,
-    // The whole one gives so many answers, and the thawed one so many; those that both give are
-    // alike.
+    // The numbers of answers of the whole broker and of the thawed one. They differ; the answers
+    // that both give are equal.
     Counts(usize, usize),
     // At this index the whole one gives the first of these, and the thawed one the second.
     Answers(usize, Shown, Shown),

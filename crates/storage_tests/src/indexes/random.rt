@@ -38,7 +38,8 @@ enum Came {
     Nothing,
     // The list had a subscription to remove and the tree none, or the other way round.
     Cleared(bool),
-    // The list grants so many rows, and the tree so many; those that both grant are alike.
+    // The numbers of rows that the list and the tree grant. They differ; the rows that both grant
+    // are equal.
     Counts(usize, usize),
     // At this index the list grants the first of these, and the tree the second.
     Granted(usize, Shown, Shown),
