@@ -10,6 +10,8 @@ mod scripts;
 mod serving_table;
 mod talking;
 mod word_fault;
+mod words;
+mod writing;
 
 pub use job_error::JobError;
 pub use performing::{perform, print_fault};

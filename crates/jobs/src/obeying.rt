@@ -1,20 +1,18 @@
 // Orders to the nodes of a server: lines of its input.
 
-ghost use Rattle.std.specs.Prelude.{◌≡◌, Some, None, IfErr, IfOk, OnOk};
+ghost use Rattle.std.specs.Prelude.{◌≡◌, None, IfErr, IfOk, OnOk};
 ghost use Rattle.command_line.specs.packet_base.ClientId.{client_fault};
-ghost use Rattle.std.specs.Char.{is_ascii_digit};
-ghost use Rattle.std.specs.List.{list_all};
-ghost use Rattle.script.specs.Fields.{is_decimal, texts};
-ghost use Rattle.jobs.specs.Orders.{AreNumbers, IsNoOrder, IsOrder, IsWordRefused, LacksNumber, OrderNothing, Orders, RefusesLine, no_order, named_node, role_of};
+ghost use Rattle.script.specs.Fields.{texts};
+ghost use Rattle.jobs.specs.Orders.{IsNoOrder, IsOrder, IsWordRefused, OrderNothing, Orders, RefusesLine, role_of};
 ghost use Rattle.jobs.specs.declared.obeying.Order.TheVariants as orders;
 
 use crate::job_error::JobError;
-use crate::scripts::client_of;
 use crate::word_fault::WordFault;
+use crate::words::{client_of, members_of, named_node, no_order};
 use command_line::ListeningNode;
 use packet::ClientId;
-use script::{fields_of, parts_of};
-use server::{Cluster, Config, Idle, MAX_NODE, Members, ProposeError, Status};
+use script::fields_of;
+use server::{Cluster, Config, Idle, MAX_NODE, ProposeError, Status};
 use std::alloc::Global;
 use std::io::{BufRead, ErrorKind, Write};
 use std::sync::Wait;
@@ -113,13 +111,6 @@ fn order_of_words(alloc: Global, words: &[&str]) -> Result<Order, WordFault>
     }
 }
 
-// Returns the refusal of a line that is no order.
-fn no_order() -> WordFault
-    ensures { result ≡ no_order }
-{
-    WordFault::Refused(Idle.number())
-}
-
 // Returns the order to end the session of the client with this identifier, or why the identifier is
 // refused.
 fn expel_of(alloc: Global, client: &str) -> Result<Order, WordFault>
@@ -128,53 +119,6 @@ fn expel_of(alloc: Global, client: &str) -> Result<Order, WordFault>
     ensures refused { IfErr result (IsWordRefused client.now) }
 {
     Ok(Order::Expel(client_of(alloc, client)?))
-}
-
-// Returns the number of a word of digits alone, or 255, which no node has, in place of more.
-fn named_node(word: &str) -> Result<u8, WordFault>
-    ensures number { IfOk result (λ number. named_node word.now ≡ Some number) }
-    ensures refused { IfErr result (IsNoOrder (named_node word.now ≡ None)) }
-{
-    if !is_decimal(word) {
-        return Err(no_order());
-    }
-    Ok(word.parse::<u8>().unwrap_or(u8::MAX))
-}
-
-// Says whether a word is one decimal digit or more.
-fn is_decimal(word: &str) -> bool
-    ensures { result ≡ is_decimal word.now }
-{
-    !word.is_empty() && are_digits(word.as_bytes())
-}
-
-// Says whether each byte is a decimal digit.
-fn are_digits(bytes: &[u8]) -> bool
-    ensures { result ≡ list_all is_ascii_digit bytes.now }
-{
-    bytes.iter().all(|byte| byte.is_ascii_digit())
-}
-
-/// Returns the numbers of a word, with commas between them, or why it is refused.
-pub(crate) fn members_of(alloc: Global, word: &str) -> Result<Members, WordFault>
-    ensures members { IfOk result (AreNumbers word.now) }
-    ensures refused { IfErr result (IsNoOrder (LacksNumber word.now)) }
-{
-    let Ok(parts) = parts_of(alloc, word) else {
-        return Err(WordFault::Memory);
-    };
-    let parts = parts.as_slice();
-    let mut numbers = Vec::new(alloc);
-    for part in parts {
-        let number = named_node(part)?;
-        if numbers.push(number).is_err() {
-            return Err(WordFault::Memory);
-        }
-    }
-    match Members::from_slice(alloc, numbers.as_slice()) {
-        Ok(members) => Ok(members),
-        Err(_) => Err(WordFault::Memory),
-    }
 }
 
 // Does an order and prints the result. Clients are served also if nothing can be printed.

@@ -1,18 +1,16 @@
 // Scripts of nodes and clients, and their transcripts.
 
-ghost use Rattle.std.specs.Prelude.{◌≡◌, ◌<◌, ℕ, None, IfErr, IfOk, OnOk, OnErr, IsErrOf};
-ghost use Rattle.std.specs.Io.KnownBytes.{Appends};
+ghost use Rattle.std.specs.Prelude.{◌≡◌, ◌<◌, ℕ, IfOk, OnOk, IsErrOf};
 ghost use Rattle.script.specs.Scripts.{Refuses, lines_of};
 ghost use Rattle.script.specs.declared.error.ScriptFault.TheVariants.{Line};
-ghost use Rattle.command_line.specs.packet_base.ClientId.{client_fault};
 ghost use Rattle.play.specs.Ways.{HasNoWay};
-ghost use Rattle.jobs.specs.Orders.{IsWordRefused};
 ghost use Rattle.jobs.specs.Transcripts.{IsScriptText, PlaysScript, Prints, PrintsWay, PrintsWayOf};
 
 use crate::job_error::JobError;
-use crate::obeying::members_of;
 use crate::reading::{bytes_of, rest_of};
 use crate::word_fault::WordFault;
+use crate::words::{client_of, members_of};
+use crate::writing::write;
 use command_line::{Escape, Play};
 use packet::ClientId;
 use play::{PlayError, escape, play};
@@ -82,18 +80,6 @@ fn print_way<O: Write>(
     escape_text(alloc, text, members.as_slice(), &client, output)
 }
 
-/// Returns the client with this identifier, or why it is refused.
-pub(crate) fn client_of(alloc: Global, word: &str) -> Result<ClientId, WordFault>
-    ensures value { IfOk result (λ client. client ≡ word.now) }
-    ensures sound { OnOk result (client_fault word.now ≡ None) }
-    ensures refused { IfErr result (IsWordRefused word.now) }
-{
-    match ClientId::new(alloc, word) {
-        Ok(client) => Ok(client),
-        Err(kind) => Err(WordFault::from(kind)),
-    }
-}
-
 /// Plays a script, and writes a way out of the world in which it ends, as lines that may follow it.
 pub fn escape_text<O: Write>(
     alloc: Global,
@@ -147,14 +133,4 @@ pub fn play_text<O: Write>(alloc: Global, text: &[u8], output: &mut O) -> Result
             Err(JobError::from(error))
         }
     }
-}
-
-/// Writes all of the bytes.
-pub(crate) fn write<O: Write>(bytes: &[u8], output: &mut O) -> Result<(), JobError>
-    ensures whole { OnOk result
-        (Appends (O.contents output.old) (O.contents output.new) bytes.now) }
-    ensures fault { OnErr result (IsErrOf result JobError.Output) }
-{
-    output.write_all(bytes).ok().ok_or(JobError::Output)?;
-    output.flush().ok().ok_or(JobError::Output)
 }

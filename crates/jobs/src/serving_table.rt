@@ -7,7 +7,7 @@ ghost use Rattle.jobs.specs.Failing.{FailsToServe, IsTable};
 use crate::job_error::JobError;
 use crate::obeying::obey;
 use crate::reading::bytes_of;
-use crate::scripts::write;
+use crate::writing::write;
 use command_line::{ListeningNode, NodeTable, Serve, table};
 use server::{Listener, MAX_CONNECTIONS, serve_while};
 use std::fs::File;

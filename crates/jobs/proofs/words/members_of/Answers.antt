@@ -2,7 +2,7 @@ use Rattle.std.proofs.Common.{ap, sym, ◌∙◌}
 use Rattle.script.specs.Fields.{texts}
 use Rattle.jobs.specs.Orders.{LacksNumber}
 use Rattle.jobs.proofs.NumbersSaid.{lacks_number, one_more, passed, pushed}
-use Rattle.jobs.proofs.obeying.members_of.Goals as goal
+use Rattle.jobs.proofs.words.members_of.Goals as goal
 
 pub returns-in_err-number-clause-refused : goal.returns-in_err-number-clause-refused
 returns-in_err-number-clause-refused c =

@@ -1,6 +1,6 @@
 use Rattle.std.proofs.Common.{inl, sym, ◌∙◌}
 use Rattle.jobs.proofs.NumbersSaid.{no_number, number_said}
-use Rattle.jobs.proofs.obeying.named_node.Goals as goal
+use Rattle.jobs.proofs.words.named_node.Goals as goal
 
 pub returns-then-not-is_decimal-clause-refused : goal.returns-then-not-is_decimal-clause-refused
 returns-then-not-is_decimal-clause-refused c = inl (c.no_order.ensures, no_number c.args.word.now (sym c.is_decimal.ensures ∙ c.if-not-is_decimal.true))
