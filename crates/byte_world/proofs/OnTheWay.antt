@@ -8,7 +8,7 @@ use Rattle.node_group.specs.client_base.Keeper.{Written}
 use Rattle.node_group.specs.cutter.Stream.{GoesOnWith, Stream}
 use Rattle.node_group.specs.lists.Lists.{Each}
 use Rattle.node_group.proofs.of_lists.OfEach.{each_append}
-use Rattle.node_group.specs.cutter.Pipe.{Joins}
+use Rattle.node_group.specs.node_moves.Pipe.{Joins}
 use Rattle.node_group.specs.node_moves.Puts.{spelled}
 use Rattle.node_group.specs.exactly_once.Sides.{ClientConnection}
 use Rattle.byte_world.specs.World.{newly_written, packets_of}

@@ -11,7 +11,7 @@ use Rattle.node_group.proofs.of_broker_spec.ConnectionNames.{same_name}
 use Rattle.node_group.specs.lists.Lists.{Each, In}
 use Rattle.node_group.specs.lists.Lists.In.{here, there}
 use Rattle.node_group.proofs.of_lists.Tests.{eq_is, eq_same}
-use Rattle.node_group.specs.cutter.Pipe.{Joins}
+use Rattle.node_group.specs.node_moves.Pipe.{Joins}
 use Rattle.node_group.specs.exactly_once.Sides.{ClientConnection}
 use Rattle.node_group.proofs.of_exactly_once.Takes.{same_name_self}
 use Rattle.node_group.specs.node_core.declared.Connection.{Connection as NodesEnd}

@@ -12,7 +12,7 @@ use Rattle.node_group.specs.lists.Lists.{In}
 use Rattle.node_group.specs.lists.Lists.In.{here, there}
 use Rattle.node_group.proofs.of_lists.Places.{get_set, get_set_other}
 use Rattle.node_group.proofs.of_packet_world.Lists.{same_or_other, set_get}
-use Rattle.node_group.specs.cutter.Pipe.{Joins}
+use Rattle.node_group.specs.node_moves.Pipe.{Joins}
 use Rattle.node_group.specs.exactly_once.Sides.{ClientConnection}
 use Rattle.node_group.proofs.of_exactly_once.Takes.{same_name_self}
 use Rattle.node_group.specs.node_core.declared.Connection.{Connection as NodesEnd}

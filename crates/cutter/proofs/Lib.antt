@@ -1,6 +1,5 @@
 pub mod OneWay
 pub mod Taking
 pub mod EveryStream
-pub mod PacketsComeOut
 mod Spelled
 pub use Rattle.packet.proofs.of_packet_base as of_packet_base

@@ -18,7 +18,7 @@ use Rattle.client_base.specs.Keeper.{Written}
 use Rattle.client_base.specs.Written.{writes_first}
 use Rattle.lists.specs.Lists.{Each, In, IsPrefixOf}
 use Rattle.lists.proofs.Places.{get_set, get_set_other}
-use Rattle.byte_world.specs.cutter.Pipe.{Joins}
+use Rattle.byte_world.specs.node_moves.Pipe.{Joins}
 use Rattle.exactly_once.specs.Sends.{put_to}
 use Rattle.exactly_once.specs.Sides.{ClientConnection, Side}
 use Rattle.exactly_once.specs.Story.{StoryStep, Story}

@@ -13,7 +13,7 @@ use Rattle.packet_world.specs.lists.Lists.{Each, In, IsPrefixOf}
 use Rattle.packet_world.specs.lists.Lists.In.{here}
 use Rattle.packet_world.proofs.of_lists.Prefixes.{prefix_then}
 use Rattle.packet_world.proofs.of_lists.OfEach.{each_append}
-use Rattle.node_moves.specs.cutter.Pipe.{Joins}
+use Rattle.node_moves.specs.Pipe.{Joins}
 use Rattle.packet_world.specs.agreement.MasterState.{AssignRefusal, master_after, refusal}
 use Rattle.packet_world.specs.snapshots.Moments.{IsAgreed, Moment, Moments}
 use Rattle.packet_world.specs.agreement.Proposals.{commands_of as commands_in}

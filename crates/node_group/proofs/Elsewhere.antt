@@ -9,7 +9,7 @@ use Rattle.packet_world.proofs.of_packet.PacketReads.{verdict_again}
 use Rattle.packet_world.specs.broker_spec.declared.command.Command.{Command}
 use Rattle.packet_world.specs.broker_spec.declared.command.Command.TheVariants as commands
 use Rattle.packet_world.specs.broker_spec.Connection.{ConnectionName, same_connection}
-use Rattle.node_moves.specs.cutter.Pipe.{Joins}
+use Rattle.node_moves.specs.Pipe.{Joins}
 use Rattle.packet_world.specs.exactly_once.StoryCommands.{is_packet_of}
 use Rattle.node_moves.specs.node_core.declared.Port.{Port}
 use Rattle.node_moves.specs.node_core.declared.Connection.{Connection}

@@ -17,7 +17,7 @@ use Rattle.packet_world.specs.agreement.Proposals.{commands_of as commands_in}
 use Rattle.packet_world.specs.snapshots.World.{outputs}
 use Rattle.packet_world.proofs.of_snapshots.PastsAgree.{one_primary_a_ballot}
 use Rattle.packet_world.specs.snapshots.Agreeing.{IsPrimary}
-use Rattle.node_moves.specs.cutter.Pipe.{IsPiped}
+use Rattle.node_moves.specs.Pipe.{IsPiped}
 use Rattle.packet_world.specs.exactly_once.Sends.{sends_to}
 use Rattle.packet_world.proofs.Answers.{counted_in, nothing_put}
 use Rattle.packet_world.proofs.Lists.{same_or_other}

@@ -11,7 +11,7 @@ use Rattle.packet_world.specs.broker_base.State.{State}
 use Rattle.packet_world.proofs.of_broker_spec.ConnectionNames.{same_name}
 use Rattle.packet_world.specs.lists.Lists.{In}
 use Rattle.packet_world.specs.lists.Lists.In.{here}
-use Rattle.node_moves.specs.cutter.Pipe.{IsPiped}
+use Rattle.node_moves.specs.Pipe.{IsPiped}
 use Rattle.packet_world.specs.exactly_once.StoryCommands.{is_packet_of}
 use Rattle.packet_world.specs.snapshots.Moments.{Moment}
 use Rattle.packet_world.specs.snapshots.Agreeing.{IsPrimary}

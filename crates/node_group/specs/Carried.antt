@@ -7,7 +7,7 @@ use Rattle.packet_world.specs.broker_spec.declared.command.Command.{Command}
 use Rattle.packet_world.specs.broker_spec.Commands.{past_of, usual_limits}
 use Rattle.packet_world.specs.broker_spec.Connection.{ConnectionName}
 use Rattle.packet_world.specs.lists.Lists.{IsPrefixOf}
-use Rattle.node_moves.specs.cutter.Pipe.{Joins}
+use Rattle.node_moves.specs.Pipe.{Joins}
 use Rattle.packet_world.specs.exactly_once.Sends.{put_to}
 use Rattle.packet_world.specs.snapshots.Moments.{IsAgreed}
 use Rattle.node_moves.specs.Ends.{packet_commands_from}

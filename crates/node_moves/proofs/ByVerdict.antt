@@ -6,7 +6,7 @@ use Rattle.exactly_once.specs.packet.declared.packet.Packet.{Packet}
 use Rattle.exactly_once.specs.packet.Verdict.{verdict}
 use Rattle.exactly_once.proofs.of_packet.PacketReads.{verdict_again}
 use Rattle.exactly_once.proofs.of_packet.MoreBytes.{verdict_grows}
-use Rattle.node_core.specs.cutter.Pipe.{Joins, IsPiped}
+use Rattle.node_moves.specs.Pipe.{Joins, IsPiped}
 use Rattle.node_moves.specs.Ends.{stream_of}
 
 no_packet : (p : Packet) (rest : List ℕ) → verdict [] ≡ Ok (p, rest) → ⊥

@@ -3,6 +3,7 @@ pub mod StepsMove
 pub mod NamesInOrder
 pub mod JoinedGrows
 pub mod Views
+pub mod PacketsComeOut
 pub mod ByVerdict
 pub mod Kept
 pub mod ReadsInOrder

@@ -7,7 +7,7 @@ use Rattle.exactly_once.specs.broker_spec.Connection.{ConnectionName, same_conne
 use Rattle.exactly_once.proofs.of_broker_spec.ConnectionNames.{same_name, same_itself}
 use Rattle.exactly_once.specs.lists.Lists.{Each}
 use Rattle.exactly_once.proofs.of_lists.OfEach.{each_then, each_append}
-use Rattle.node_core.specs.cutter.Pipe.{IsPiped}
+use Rattle.node_moves.specs.Pipe.{IsPiped}
 use Rattle.node_core.specs.declared.Port.{Port}
 use Rattle.node_core.specs.declared.Connection.{Connection}
 use Rattle.node_core.specs.node_connections.Connections.{is_at, fresh}

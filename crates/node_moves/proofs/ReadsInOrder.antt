@@ -10,7 +10,7 @@ use Rattle.exactly_once.specs.broker_spec.declared.command.Command.{Command}
 use Rattle.exactly_once.specs.broker_spec.declared.command.Command.TheVariants as commands
 use Rattle.exactly_once.specs.broker_spec.Connection.{ConnectionName}
 use Rattle.exactly_once.proofs.of_broker_spec.ConnectionNames.{same_name}
-use Rattle.node_core.specs.cutter.Pipe.{Joins, IsPiped}
+use Rattle.node_moves.specs.Pipe.{Joins, IsPiped}
 use Rattle.exactly_once.specs.StoryCommands.{is_packet_of}
 use Rattle.node_core.specs.declared.Port.{Port}
 use Rattle.node_core.specs.declared.Connection.{Connection}

@@ -7,7 +7,7 @@ use Rattle.exactly_once.specs.broker_spec.declared.command.Command.{Command}
 use Rattle.exactly_once.specs.broker_spec.declared.command.Command.TheVariants as commands
 use Rattle.exactly_once.specs.lists.Lists.{Each, IsPrefixOf}
 use Rattle.node_core.specs.cutter.Stream.{Stream}
-use Rattle.node_core.specs.cutter.Pipe.{IsPiped}
+use Rattle.node_moves.specs.Pipe.{IsPiped}
 use Rattle.exactly_once.specs.StoryCommands.{command_of}
 use Rattle.node_core.specs.declared.Connection.{Connection}
 use Rattle.node_core.specs.node_connections.Connections.{is_first, is_open_named}

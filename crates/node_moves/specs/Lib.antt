@@ -1,4 +1,5 @@
 pub mod Moves
+pub mod Pipe
 pub mod Ends
 pub mod ReadsInOrder
 pub mod RunProposals

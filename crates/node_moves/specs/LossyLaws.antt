@@ -5,7 +5,7 @@ use Rattle.exactly_once.specs.packet.declared.packet.Packet.{Packet}
 use Rattle.node_core.specs.ballot_base.declared.config.Config.{Config}
 use Rattle.exactly_once.specs.broker_spec.Connection.{ConnectionName}
 use Rattle.exactly_once.specs.lists.Lists.{IsPrefixOf}
-use Rattle.node_core.specs.cutter.Pipe.{Joins}
+use Rattle.node_moves.specs.Pipe.{Joins}
 use Rattle.exactly_once.specs.Sends.{sends_to}
 use Rattle.exactly_once.specs.StoryCommands.{is_packet_of}
 use Rattle.node_core.specs.declared.Connection.{Connection}

@@ -1,10 +1,10 @@
 -- A pipe into which packets are written, and the cutter at its other end.
 use Rattle.std.specs.Prelude.{◌≡◌, ℕ, false, List, [], ◌∷◌, ◌++◌, length, slice_get, Some, Ok, Err}
-use Rattle.packet.specs.declared.packet.Packet.{Packet}
-use Rattle.packet.specs.Spelling.{Spells, IsPacket}
-use Rattle.cutter.specs.Stream.{Stream, Takes}
-use Rattle.cutter.specs.declared.error.CutError.{CutError}
-use Rattle.cutter.specs.declared.error.CutError.TheVariants as errors
+use Rattle.exactly_once.specs.packet.declared.packet.Packet.{Packet}
+use Rattle.exactly_once.specs.packet.Spelling.{Spells, IsPacket}
+use Rattle.node_core.specs.cutter.Stream.{Stream, Takes}
+use Rattle.node_core.specs.cutter.declared.error.CutError.{CutError}
+use Rattle.node_core.specs.cutter.declared.error.CutError.TheVariants as errors
 
 -- the bytes are the spellings of the packets, joined
 abbrev pub Joins : List Packet → List ℕ → Type 0

@@ -3,19 +3,19 @@ use Rattle.std.proofs.Common.{◌≡◌, ℕ, List, [], ◌∷◌, ◌++◌, len
 use Rattle.std.specs.Prelude.{slice_get}
 use Rattle.std.proofs.lemmas.List.{append-nil, append_cancel_left}
 use Rattle.std.proofs.lemmas.Bool.{both_ways}
-use Rattle.packet.specs.packet_base.declared.stop.Stop.{Stop}
-use Rattle.packet.specs.packet_base.declared.stop.Stop.TheVariants as stops
-use Rattle.packet.specs.declared.packet.Packet.{Packet}
-use Rattle.packet.specs.declared.error.DecodeFault.{DecodeFault}
-use Rattle.packet.specs.declared.error.DecodeFault.TheVariants as faults
-use Rattle.packet.specs.Spelling.{Spells, IsPacket}
-use Rattle.packet.specs.Verdict.{verdict}
-use Rattle.packet.proofs.PacketReads.{verdict_again}
-use Rattle.packet.proofs.MoreBytes.{faults_stay_so}
-use Rattle.packet.proofs.OneSpelling.{none_begins}
-use Rattle.cutter.specs.Stream.{GoesOnWith, IsFault}
-use Rattle.cutter.specs.declared.error.CutError.TheVariants as errors
-use Rattle.cutter.specs.Pipe.{Joins, IsPiped, PipeGrows, PipeCarries, PipeGives, PipeGivesNext, PipeHasNoFault, PipeOpens}
+use Rattle.exactly_once.specs.packet_base.declared.stop.Stop.{Stop}
+use Rattle.exactly_once.specs.packet_base.declared.stop.Stop.TheVariants as stops
+use Rattle.exactly_once.specs.packet.declared.packet.Packet.{Packet}
+use Rattle.exactly_once.specs.packet.declared.error.DecodeFault.{DecodeFault}
+use Rattle.exactly_once.specs.packet.declared.error.DecodeFault.TheVariants as faults
+use Rattle.exactly_once.specs.packet.Spelling.{Spells, IsPacket}
+use Rattle.exactly_once.specs.packet.Verdict.{verdict}
+use Rattle.exactly_once.proofs.of_packet.PacketReads.{verdict_again}
+use Rattle.exactly_once.proofs.of_packet.MoreBytes.{faults_stay_so}
+use Rattle.exactly_once.proofs.of_packet.OneSpelling.{none_begins}
+use Rattle.node_core.specs.cutter.Stream.{GoesOnWith, IsFault}
+use Rattle.node_core.specs.cutter.declared.error.CutError.TheVariants as errors
+use Rattle.node_moves.specs.Pipe.{Joins, IsPiped, PipeGrows, PipeCarries, PipeGives, PipeGivesNext, PipeHasNoFault, PipeOpens}
 
 -- ---- opening
 

@@ -1,7 +1,7 @@
 // The law of a pipe. The call does nothing; its contract is the law.
 
-ghost use Rattle.cutter.specs.Pipe.{PipeCarries, PipeGives, PipeGivesNext, PipeGrows};
-ghost use Rattle.cutter.specs.Pipe.{PipeHasNoFault, PipeOpens};
+ghost use Rattle.node_moves.specs.Pipe.{PipeCarries, PipeGives, PipeGivesNext, PipeGrows};
+ghost use Rattle.node_moves.specs.Pipe.{PipeHasNoFault, PipeOpens};
 
 /// States that packets that are written into a pipe come out of the cutter at its other end in
 /// order, however the bytes in between are cut. None is lost, changed or twice; and the cutter
