@@ -3,11 +3,8 @@
 
 mod cutting;
 mod error;
-mod holding;
 mod laws;
 
 pub use cutting::Cutter;
 pub use error::CutError;
-pub use holding::Piece;
 pub use laws::{every_stream_is_cut, no_packet_is_left, one_cut, packets_of_the_stream};
-pub use machine::Memory;

@@ -11,11 +11,12 @@ ghost use Rattle.node_connections.specs.Refusing.{connect_refused};
 
 use crate::front::Front;
 use crate::handed::Handed;
+use crate::piece::Piece;
 use crate::port::Port;
 use crate::standing::Standing;
 use crate::unread::Unread;
 use broker_spec::ConnectionName;
-use cutter::{Memory, Piece};
+use machine::Memory;
 use packet::{Connack, Packet, RefusalCode};
 use std::alloc::Global;
 

@@ -6,15 +6,17 @@ mod connection;
 mod front;
 mod handed;
 mod listing;
+mod piece;
 mod port;
 mod standing;
 mod unread;
 
 pub use connection::{Connection, ConnectionStage};
-pub use cutter::{Memory, Piece};
 pub use front::Front;
 pub use handed::Handed;
 pub use listing::{close_each, has_port, keep_listed, lowest_silent, push, push_idle};
+pub use machine::Memory;
+pub use piece::Piece;
 pub use port::Port;
 pub use standing::Standing;
 pub use unread::Unread;

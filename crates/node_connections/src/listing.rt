@@ -11,7 +11,7 @@ ghost use Rattle.node_connections.specs.Silent.{lower, lowest_silent};
 
 use crate::connection::Connection;
 use crate::port::Port;
-use cutter::Memory;
+use machine::Memory;
 
 /// Says whether a connection of this port is listed.
 pub fn has_port(connections: &[Connection], port: Port) -> bool

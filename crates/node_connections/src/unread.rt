@@ -4,7 +4,9 @@ ghost use Rattle.std.specs.Prelude.{◌≡◌, ◌++◌, [], length, OnErr, OnOk
 ghost use Rattle.node_connections.specs.Fronts.{ReadsFront};
 
 use crate::front::Front;
-use cutter::{CutError, Cutter, Memory, Piece};
+use crate::piece::Piece;
+use cutter::{CutError, Cutter};
+use machine::Memory;
 use packet::DecodeFault;
 use std::alloc::Global;
 use std::marker::Model;

@@ -1,6 +1,6 @@
 use Rattle.std.proofs.Common.{sym, ◌∙◌}
-use Rattle.cutter.proofs.Spelled.{appends_spelling, when_ok}
-use Rattle.cutter.proofs.holding.Piece.put.Goals as goal
+use Rattle.node_connections.proofs.Spelled.{appends_spelling, when_ok}
+use Rattle.node_connections.proofs.piece.Piece.put.Goals as goal
 
 pub returns-clause-whole : goal.returns-clause-whole
 returns-clause-whole c = λ is.
