@@ -12,7 +12,7 @@ ghost use Rattle.client_base.specs.Publishing.{next_id, has_free_id};
 use crate::client_core::ClientCore;
 use client_base::{Request, UnacknowledgedPublication};
 use packet::{PacketId, QoS};
-use session_base::fill_takes_what_waits;
+use session_base::least_identifier_is_free;
 
 impl ClientCore {
     /// Returns the least identifier that no publication and no request has; none if all 65,535 are
@@ -21,7 +21,7 @@ impl ClientCore {
         ensures least { IfSome result (λ id. id ≡ next_id self.now.state) }
         ensures found { IsSome result ↔ IsTrue (has_free_id self.now.state) }
     {
-        fill_takes_what_waits();
+        least_identifier_is_free();
         for number in 1..u16::MAX {
             let id = PacketId::new(number);
             if !self.is_used(id) {

@@ -5,7 +5,7 @@ ghost use Rattle.client_base.specs.IdentifierLaws.{UsedIdentifiersAreDistinct, R
 ghost use Rattle.client_base.specs.OrderLaws.{GoesOutInOrder, NumbersStay};
 ghost use Rattle.client_base.specs.Laws.{AcceptsUnlessKept, StaysKept};
 
-use session_base::fill_takes_what_waits;
+use session_base::least_identifier_is_free;
 
 /// States that a publication at QoS 2 is accepted once for each identifier kept. An identifier that
 /// is kept accepts nothing more until its PUBREL, or until the session is lost (MQTT 4.3.3).
@@ -20,7 +20,7 @@ pub fn accepted_once_an_identifier()
 pub fn history_is_followed()
     ensures { CallsFollow }
 {
-    fill_takes_what_waits();
+    least_identifier_is_free();
 }
 
 /// States that no identifier is in flight twice, and none is a publication's and a request's at
@@ -29,7 +29,7 @@ pub fn used_identifiers_are_distinct()
     ensures distinct { UsedIdentifiersAreDistinct }
     ensures apart { RequestsAreApart }
 {
-    fill_takes_what_waits();
+    least_identifier_is_free();
 }
 
 /// States that publications keep the numbers of their calls, and after each CONNACK 0 those that

@@ -18,7 +18,7 @@ use crate::sending::{
 };
 use indexmap::IndexMap;
 use packet::{Packet, PacketId};
-use session_base::{Awaits, Publication, fill_takes_what_waits, resend_keeps_the_order};
+use session_base::{Awaits, Publication, least_identifier_is_free, resend_keeps_the_order};
 use std::alloc::{AllocError, AllocFailed, Global};
 use std::collections::VecDeque;
 use std::marker::Model;
@@ -141,7 +141,7 @@ impl SessionQueue {
     {
         if let Some(publication) = self.waiting.get(index) {
             let id = free_id(&self.in_flight);
-            fill_takes_what_waits();
+            least_identifier_is_free();
             resend_keeps_the_order();
             send_publish(publication, id, out)?;
             put_last(&mut self.in_flight, id, awaits_of(publication.clone()?))?;

@@ -1,4 +1,5 @@
-// Laws of a client's queue and session. The calls do nothing; their contracts are the laws.
+// Laws of identifiers, and of a client's queue and session. The calls do nothing; their contracts
+// are the laws.
 
 ghost use Rattle.session_base.specs.Laws.{IsLeastFree, FillKeepsApart, FillIsDone, FillStaysWithin};
 ghost use Rattle.session_base.specs.Laws.{FillKeepsOrder, FillSendsWhatStarts};
@@ -10,6 +11,12 @@ ghost use Rattle.session_base.specs.OrderLaws.{KeepsReleasedFirst, ResendsInOrde
 ghost use Rattle.session_base.specs.KeepingLaws.{FiltersStayApart, FiltersKeepTheirOrder};
 ghost use Rattle.session_base.specs.KeepingLaws.{ReceivedStayRising};
 
+/// States that the least free identifier is from 1 to one more than how many are busy, is not busy,
+/// and each lower one is.
+pub fn least_identifier_is_free()
+    ensures { IsLeastFree }
+{}
+
 /// States that a fill starts what waits in order, with free identifiers, until nothing waits or the
 /// window is full; and it sends what it starts.
 pub fn fill_takes_what_waits()
@@ -17,7 +24,6 @@ pub fn fill_takes_what_waits()
     ensures within { FillStaysWithin }
     ensures order { FillKeepsOrder }
     ensures sends { FillSendsWhatStarts }
-    ensures least { IsLeastFree }
     ensures apart { FillKeepsApart }
 {}
 

@@ -14,7 +14,8 @@ pub use awaits::Awaits;
 pub use form_laws::{frozen_is_read, full_session_is_frozen, read_has_form, read_is_frozen};
 pub use laws::{
     answers_fit_the_qos, answers_keep_identifiers_apart, fill_takes_what_waits, fills_join,
-    other_answers_change_nothing, resend_keeps_the_order, sessions_keep_their_form,
+    least_identifier_is_free, other_answers_change_nothing, resend_keeps_the_order,
+    sessions_keep_their_form,
 };
 pub use publication::{Publication, delivery};
 pub use reading::{

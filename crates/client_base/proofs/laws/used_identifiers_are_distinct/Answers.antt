@@ -4,6 +4,6 @@ use Rattle.client_base.proofs.laws.used_identifiers_are_distinct.Goals as goal
 pub returns : goal.returns
 returns c =
     record {
-      distinct = identifiers_distinct c.fill_takes_what_waits.ensures.least;
-      apart = requests_apart c.fill_takes_what_waits.ensures.least;
+      distinct = identifiers_distinct c.least_identifier_is_free.ensures;
+      apart = requests_apart c.least_identifier_is_free.ensures;
     }
