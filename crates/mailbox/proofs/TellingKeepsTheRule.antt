@@ -11,7 +11,7 @@ use Rattle.crossbeam_queue.proofs.Lists.{at_set}
 use Rattle.mailbox.specs.declared.view.Bounds.{Bounds}
 use Rattle.mailbox.specs.declared.view.View.{View}
 use Rattle.mailbox.specs.Delivery.{items_of_lane, FitsLane, FitsReceiver, FitsBounds, FitsRule, Knew}
-use Rattle.mailbox.specs.declared.inbox.TheConstants.{MAX_ITEMS}
+use Rattle.mailbox.specs.declared.limits.TheConstants.{MAX_ITEMS}
 use Rattle.mailbox.specs.Ends.{HasArrived, IsFullByReceipt, ReceiptView, LaneView, ReceiverView}
 use Rattle.mailbox.specs.Inside.{ended, heard, lane_knows, nobody, receiver_knows}
 use Rattle.mailbox.proofs.EachView.{each_set, each_snoc}

@@ -1,7 +1,7 @@
 -- What the two ends of an inbox show: its lanes, which send, and its receiver, which takes.
 use Rattle.std.specs.Prelude.{◌≡◌, ℕ, zero, suc, ◌+◌, ◌-◌, ◌≤◌, List, [], ◌∷◌, ◌++◌, length, map, take, slice_index}
 use Rattle.crossbeam_queue.specs.Fifo.{Held}
-use Rattle.mailbox.specs.declared.inbox.TheConstants.{MAX_ITEMS, MAX_LANES}
+use Rattle.mailbox.specs.declared.limits.TheConstants.{MAX_ITEMS, MAX_LANES}
 use Rattle.mailbox.specs.declared.lane.TheConstants.{MAX_SENT}
 use Rattle.mailbox.specs.declared.view.Bounds.{Bounds}
 use Rattle.mailbox.specs.Delivery.{items_of_lane, lane_view, taker_view, Knew}

@@ -2,8 +2,8 @@
 
 ghost use Rattle.std.specs.Prelude.{◌≡◌, ◌+◌, ◌<◌, [], IfOk, OnOk};
 
-use crate::inbox::MAX_LANES;
 use crate::lane::Lane;
+use crate::limits::MAX_LANES;
 use crate::moves::{Deals, Knowledge, Queue, Seals};
 use crate::naming::Naming;
 use crate::receiver::Receiver;

@@ -5,18 +5,13 @@ ghost use Rattle.mailbox.specs.Ends.{fresh_lanes, max_items};
 
 use crate::dealer::Dealer;
 use crate::lane::Lane;
+use crate::limits::{MAX_ITEMS, MAX_LANES};
 use crate::moves::{Knowledge, Queue};
 use crate::naming::Naming;
 use crate::receiver::Receiver;
 use std::alloc::{AllocError, Global};
 use std::marker::{Model, PhantomData};
 use std::sync::Arc;
-
-/// How many items an inbox holds.
-pub const MAX_ITEMS: usize = 1_024;
-
-/// The most lanes of an inbox.
-pub const MAX_LANES: u8 = 64;
 
 /// An empty inbox that has no number and no lanes yet. In contracts it is its identity, which no
 /// other inbox has.

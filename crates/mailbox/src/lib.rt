@@ -6,14 +6,16 @@
 mod dealer;
 mod inbox;
 mod lane;
+mod limits;
 mod moves;
 mod naming;
 mod receipt;
 mod receiver;
 mod view;
 
-pub use inbox::{Inbox, MAX_ITEMS, MAX_LANES};
+pub use inbox::Inbox;
 pub use lane::{Lane, MAX_SENT};
+pub use limits::{MAX_ITEMS, MAX_LANES};
 pub use naming::Naming;
 pub use receipt::Receipt;
 pub use receiver::Receiver;

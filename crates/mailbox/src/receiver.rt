@@ -6,8 +6,8 @@ ghost use Rattle.mailbox.specs.Ends.{ReceiverView, LaneView, WasEmpty, HasArrive
 ghost use Rattle.mailbox.specs.Kept.{TakesMore, IsDrained};
 ghost use Rattle.mailbox.specs.declared.lane.TheConstants.{MAX_SENT};
 
-use crate::inbox::MAX_ITEMS;
 use crate::lane::Lane;
+use crate::limits::MAX_ITEMS;
 use crate::moves::{Hears, Knowledge, Lends, Meets, Queue, ReceiverKnows, Takes};
 use crate::naming::Naming;
 use crate::receipt::Receipt;
