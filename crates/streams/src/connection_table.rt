@@ -6,9 +6,9 @@ ghost use Rattle.streams.specs.Listing.{AddsBusy};
 
 use crate::closing::{Closed, Waiting};
 use crate::idle_lanes::IdleLanes;
+use crate::limits::MAX_CONNECTIONS;
 use crate::link::Link;
 use crate::links::{Links, TakenIndex};
-use crate::listener::MAX_CONNECTIONS;
 use std::alloc::{AllocError, Global};
 use std::sync::{Arc, Mutex, Wait};
 

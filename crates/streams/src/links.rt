@@ -4,11 +4,11 @@ ghost use Rattle.std.specs.Prelude.{◌≡◌, ℕ, ◌<◌, ◌≤◌, ◌-◌,
 ghost use Rattle.std.specs.Prelude.{IfNone, IfOk, IfSome};
 ghost use Rattle.std.specs.Arc.{arc_value};
 ghost use Rattle.slab.specs.Slab.{ContainsKey, Updates, get, slab_len};
-ghost use Rattle.streams.specs.declared.listener.TheConstants.{MAX_CONNECTIONS};
+ghost use Rattle.streams.specs.declared.limits.TheConstants.{MAX_CONNECTIONS};
 
 use crate::idle_lanes::IdleLanes;
+use crate::limits::MAX_CONNECTIONS;
 use crate::link::Link;
-use crate::listener::MAX_CONNECTIONS;
 use slab::Slab;
 use std::alloc::{AllocError, Global};
 use std::marker::Model;

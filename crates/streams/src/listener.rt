@@ -7,6 +7,7 @@ ghost use Rattle.streams.specs.Listing.{AddsBusy};
 use crate::closing::Closed;
 use crate::connection_table::ConnectionTable;
 use crate::idle_lanes::IdleLanes;
+use crate::limits::MAX_CONNECTIONS;
 use crate::link::Link;
 use crate::links::TakenIndex;
 use node::Memory;
@@ -15,9 +16,6 @@ use std::net::{Net, SocketAddr, TcpListener, TcpStream};
 use std::sync::{Arc, Wait};
 use std::time::{Clock, Duration};
 use std::{io, thread};
-
-/// How many connections a node serves at once.
-pub const MAX_CONNECTIONS: u8 = 60;
 
 /// How long a thread sleeps before it tries again to accept, or to wake those that do, in
 /// milliseconds.
