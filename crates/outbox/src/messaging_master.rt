@@ -10,7 +10,6 @@ ghost use Rattle.outbox.specs.Queued.{WasAnswered, WasGivenToMaster};
 ghost use Rattle.outbox.specs.Mastering.{MayGet, answer_to, master_after_outcome, message_if, message_of};
 
 use crate::order_error::OrderError;
-use crate::outbox::Outbox;
 use ballot::MASTER;
 use master::{AssignError, Master, activation_answer};
 use node::{Body, Command, Config, Members, Message};
@@ -44,17 +43,6 @@ impl Answer {
         ensures { result ≡ self.now.receiver }
     {
         self.receiver
-    }
-
-    /// Loses the answer: `outbox` is not of its receiver.
-    pub fn lose_at(self, outbox: &Outbox)
-        requires { outbox.now.number ≡ self.receiver → ⊥ }
-    {
-        let _ = outbox;
-        let Answer {
-            receiver: _receiver,
-            message: _message,
-        } = self;
     }
 
     /// Returns the message, for an outbox, or to lose it where no node has the receiver's number.

@@ -218,6 +218,16 @@ impl Outbox {
     }
 }
 
+impl Answer {
+    /// Loses the answer: `outbox` is not of its receiver.
+    pub fn lose_at(self, outbox: &Outbox)
+        requires { outbox.now.number ≡ self.receiver → ⊥ }
+    {
+        let _ = outbox;
+        let _lost = self.into_message();
+    }
+}
+
 // Says whether an item is a message of another node.
 fn is_of_node(item: &Item) -> bool
     ensures { result ≡ is_of_node item.now }
