@@ -7,7 +7,6 @@ OUR_CODE, THEIR_CODE = "crates/low/src/twins.rt", "crates/high/src/twins.rt"
 # Twins may differ in layout, bound names, comments and contracts.
 PAIR = "pub Pair : Type 0\nPair = ℕ × {}\n"
 DOUBLE = "pub {0} : ℕ → ℕ\n{0} {1} = {1} + {1}\n"
-KEPT = "pub record {} : Type 0 where\n  pub taken : List ℕ\n  pub given : {}\n"
 CODE = "const MOST: usize = 7;\nfn keep()\n    ensures {{ {} }}\n{{\n    rest();\n}}\n"
 SCRIPTS = "crates/example_scripts/src/scripts.rt"
 SCRIPT, TRANSCRIPT = "examples/greeting.script", "examples/greeting.transcript"
@@ -16,16 +15,14 @@ REFUSING, HELP = "crates/low/src/refusal.rt", "crates/command_line/src/commands.
 
 
 class Twins(ToolTest):
-    words, count = ["twins"], "5 pairs, {} differ"
+    words, count = ["twins"], "4 pairs, {} differ"
     tables = {
         "SPECS": {("low", "high"): "Pair"}, "EQUATIONS": {("low", "high"): "twice=double"},
         "CONSTANTS": {("low", "high"): "MOST"}, "BODIES": {("low", "high"): "keep"},
-        "FIELDS": {(("low", "Kept"), ("high", "Held")): "taken"},
     }
     files = {
-        OURS: PAIR.format("ℕ") + DOUBLE.format("twice", "number") + KEPT.format("Kept", "ℕ"),
-        THEIRS: "-- a comment\n" + PAIR.format("\n  ℕ") + DOUBLE.format("double", "n")
-            + KEPT.format("Held", "Pair"),
+        OURS: PAIR.format("ℕ") + DOUBLE.format("twice", "number"),
+        THEIRS: "-- a comment\n" + PAIR.format("\n  ℕ") + DOUBLE.format("double", "n"),
         OUR_CODE: CODE.format("true"),
         THEIR_CODE: "// a comment\npub(crate) " + CODE.format("result ≡ 1"),
     }
@@ -36,7 +33,6 @@ class Twins(ToolTest):
             (THEIRS, "n + n", "n + 2", f"{THEIRS}:6: twice differs from {OURS}:4"),
             (THEIR_CODE, "= 7", "= 8", f"{THEIR_CODE}:2: MOST differs from {OUR_CODE}:1"),
             (THEIR_CODE, "rest()", "all()", f"{THEIR_CODE}:6: keep differs from {OUR_CODE}:4"),
-            (THEIRS, "taken : List ℕ", "taken : ℕ", f"{THEIRS}:8: taken differs from {OURS}:6"),
         )
 
     def test_names_a_text_that_is_missing_and_one_that_comes_twice(self):

@@ -5,12 +5,10 @@ use Rattle.broker_spec.specs.NobodyLaws.{IsSteady}
 use Rattle.exactly_once.specs.Story.{Story}
 use Rattle.exactly_once.specs.StoryTrace.{StoryTrace}
 use Rattle.exactly_once.specs.Headline.{PublishedOnce, ExactlyOnce}
-use Rattle.exactly_once.proofs.Entering.{entering, entering_as}
 use Rattle.exactly_once.proofs.Ends.{numbers_in_order}
 use Rattle.exactly_once.proofs.keeping.StoryTrace.{told_stories_are_sound, told_stories_accept}
 use Rattle.exactly_once.proofs.carrying.KeepsPlaces.{told_carried}
-use Rattle.exactly_once.proofs.carrying.Answered.{answered_is_new, acknowledged_is_taken, new_taken, carried_is_own}
-use Rattle.exactly_once.proofs.carrying.EntersOnce.{publication_enters_once}
+use Rattle.exactly_once.proofs.carrying.EachPublished.{each_published}
 use Rattle.exactly_once.proofs.carrying.Distinct.{published_apart}
 use Rattle.exactly_once.specs.Carried.{new_numbers}
 use Rattle.lists.specs.Lists.{IsDistinct}
@@ -22,16 +20,10 @@ told_stories_publish_once limits steady c s told =
     let carried = told_carried limits steady c s told in
     let in_order = numbers_in_order limits s sound.publisher in
     record {
-      carried = carried_is_own limits s carried;
-      in_order = in_order;
-      taken = new_taken limits s carried;
-      answered = answered_is_new limits s carried;
-      enters_once = publication_enters_once limits s carried
+      each = each_published limits s carried
           (distinct_front (new_numbers s.connections s.past) in_order.rest
           (subst IsDistinct in_order.is (published_apart (length s.keeper.earlier) s.keeper.own carried.numbers.1)));
-      enters = entering limits s;
-      enters_as = λ place below x p d stands. entering_as limits s.keeper.client place below x p d;
-      acknowledged = acknowledged_is_taken limits s carried;
+      in_order = in_order;
     }
 
 pub told_stories_are_exact : (limits : Limits) → IsSteady limits → (c : Client) (s : Story) → StoryTrace limits c s → ExactlyOnce limits s

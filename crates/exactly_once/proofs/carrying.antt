@@ -9,4 +9,5 @@ pub mod Acknowledging
 pub mod Answered
 pub mod Distinct
 pub mod EntersOnce
+pub mod EachPublished
 pub mod NumbersGoOn

@@ -47,8 +47,8 @@ pub record IsTakenAt (story : Story) (number : ℕ) (place : Place) (below : Pas
   pub carried : carries story.connections place.command below ≡ Some number
   pub taken : place.mark ≡ Mark.Taken story.keeper.client
 
--- the publisher's publications
-pub record PublishedOnce (limits : Limits) (story : Story) : Type 0 where
+-- each of the publisher's publications, in one session or several
+pub record EachPublished (limits : Limits) (story : Story) : Type 0 where
   -- a place that carries one has its PUBLISH
   pub carried : (place : Place) (below : Past) (connection : ConnectionName) (publish : Publish)
       (number : ℕ) →
@@ -56,9 +56,6 @@ pub record PublishedOnce (limits : Limits) (story : Story) : Type 0 where
       carries story.connections place.command below ≡ Some number →
       place.command ≡ commands.Packet connection (packets.Publish publish) →
       slice_get (own_publications (all_own story.keeper)) number ≡ Some (publication_of publish)
-  -- those at QoS 2 are new in the list in the order of the calls, each at most once
-  pub in_order : IsPrefixOf (new_numbers story.connections story.past)
-      (own_qos2_numbers story.keeper.own)
   -- each that is new is taken at a place
   pub taken : (number : ℕ) → In number (new_numbers story.connections story.past) →
       (place : Place) × (below : Past) × IsTakenAt story number place below
@@ -98,6 +95,13 @@ pub record PublishedOnce (limits : Limits) (story : Story) : Type 0 where
       carries story.connections place.command below ≡ Some number →
       IsAnsweredBy limits place below connection (packets.Puback id) →
       IsTakenAt story number place below
+
+-- the publisher's publications
+pub record PublishedOnce (limits : Limits) (story : Story) : Type 0 where
+  pub each : EachPublished limits story
+  -- those at QoS 2 are new in the list in the order of the calls, each at most once
+  pub in_order : IsPrefixOf (new_numbers story.connections story.past)
+      (own_qos2_numbers story.keeper.own)
 
 -- ---- the whole
 

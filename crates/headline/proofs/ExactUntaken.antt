@@ -12,7 +12,7 @@ use Rattle.broker_spec.specs.Received.{is_new}
 use Rattle.broker_spec.specs.Times.{entries_of}
 use Rattle.client_base.specs.Keeper.{Keeper, all_own}
 use Rattle.exactly_once.specs.Carried.{carries, connection_named, more_by, new_numbers, written_number_at, own_qos2_numbers, is_this}
-use Rattle.exactly_once.specs.Headline.{IsTakenAt, made_by}
+use Rattle.exactly_once.specs.Headline.{EachPublished, IsTakenAt, made_by}
 use Rattle.exactly_once.specs.Acceptance.{accepted_on}
 use Rattle.exactly_once.specs.InStep.{AreWelcome, IsFirstSession, IsInStep, WasWelcome, accepted_in, opened_in, starts_of}
 use Rattle.exactly_once.specs.Lives.{AcceptedInSession, NumbersRise, PublishedOverSessions}
@@ -113,12 +113,10 @@ module _ (limits : Limits) (past : Past) (keeper : Keeper) (connections others :
   same_taken {place = place} {below = below} at =
       record { stands = at.stands; carried = sym (same_carries place.command below) ∙ at.carried; taken = at.taken }
 
-  publishers : PublishedOverSessions limits before → PublishedOverSessions limits after
-  publishers once =
+  each_published : EachPublished limits before → EachPublished limits after
+  each_published once =
       record {
         carried = λ place below x p k stands is command. once.carried place below x p k stands (same_carries place.command below ∙ is) command;
-        rises = subst NumbersRise same_numbers once.rises;
-        in_order = λ one. subst (λ (l : List ℕ). IsPrefixOf l (own_qos2_numbers (all_own keeper))) same_numbers (once.in_order one);
         taken = λ k new.
             let at = once.taken k (subst (λ (l : List ℕ). In k l) (sym same_numbers) new) in
             (at.0, at.1, same_taken at.2);
@@ -129,6 +127,14 @@ module _ (limits : Limits) (past : Past) (keeper : Keeper) (connections others :
         enters = once.enters;
         enters_as = once.enters_as;
         acknowledged = λ place below x id k stands is by. same_taken (once.acknowledged place below x id k stands (same_carries place.command below ∙ is) by);
+      }
+
+  publishers : PublishedOverSessions limits before → PublishedOverSessions limits after
+  publishers once =
+      record {
+        each = each_published once.each;
+        rises = subst NumbersRise same_numbers once.rises;
+        in_order = λ one. subst (λ (l : List ℕ). IsPrefixOf l (own_qos2_numbers (all_own keeper))) same_numbers (once.in_order one);
       }
 
   same_accepted : (start : ℕ) → accepted_in past keeper.client start connections ≡ accepted_in past keeper.client start others

@@ -18,11 +18,9 @@ use Rattle.exactly_once.specs.InStep.{IsInStep, AreWelcome, IsFirstSession, has_
 use Rattle.exactly_once.specs.Lives.{Lived, PublishedOverSessions}
 use Rattle.exactly_once.specs.LivesAreExact.{LivesAreExact}
 use Rattle.exactly_once.specs.Lives.Lived.{opens, goes_on, is_expelled}
-use Rattle.exactly_once.proofs.Entering.{entering, entering_as}
 use Rattle.exactly_once.proofs.publishing.Last.{each_there}
 use Rattle.exactly_once.proofs.publishing.events.Receives.{each_at}
-use Rattle.exactly_once.proofs.carrying.Answered.{answered_is_new, acknowledged_is_taken, new_taken, carried_is_own}
-use Rattle.exactly_once.proofs.carrying.EntersOnce.{publication_enters_once}
+use Rattle.exactly_once.proofs.carrying.EachPublished.{each_published}
 use Rattle.exactly_once.proofs.carrying.KeepsPlaces.{IsCarried, SaysNext, keeps_carried, place_carried}
 use Rattle.exactly_once.proofs.carrying.Publications.{IsOfOwn}
 use Rattle.exactly_once.proofs.sessions.StepsBefore.{in_step_before, in_step_expelled}
@@ -199,15 +197,9 @@ lives_publish limits steady c s lived step =
     let w = all_well limits steady c s lived step in
     let r = stage_rises limits steady c s w.life w.stage in
     record {
-      carried = carried_is_own limits s w.carried;
+      each = each_published limits s w.carried (rising_apart (new_numbers s.connections s.past) r.rising);
       rises = r.rising;
       in_order = λ one. r.first (subst (λ (d : Client). sessions_begun s.past d ≤ 1) w.life.keeper.client one);
-      taken = new_taken limits s w.carried;
-      answered = answered_is_new limits s w.carried;
-      enters_once = publication_enters_once limits s w.carried (rising_apart (new_numbers s.connections s.past) r.rising);
-      enters = entering limits s;
-      enters_as = λ place below x p d stands. entering_as limits s.keeper.client place below x p d;
-      acknowledged = acknowledged_is_taken limits s w.carried;
     }
 
 lives_in_turn : (limits : Limits) → IsSteady limits → (c : Client) (s : Story) → Lived limits c s → IsInStep s → IsInTurn s.past s.keeper.client s.connections
