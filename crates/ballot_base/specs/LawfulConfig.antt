@@ -1,14 +1,15 @@
 -- Which members and primary a ballot may have.
 use Rattle.std.specs.Prelude.{ℕ, Bool, true, List, [], ◌∷◌, length, ◌&&◌, ◌==◌, nat_lt, nat_le}
 use Rattle.std.specs.List.{list_any}
+use Rattle.ballot_base.specs.declared.config.TheConstants.{MAX_MEMBERS, MAX_NODE}
 
 -- the greatest number that a node may have
 abbrev pub max_node : ℕ
-max_node = 15
+max_node = MAX_NODE
 
 -- how many members a ballot has at most
 abbrev pub max_members : ℕ
-max_members = 7
+max_members = MAX_MEMBERS
 
 -- the numbers rise strictly from above `last`, up to the greatest
 abbrev pub are_rising : ℕ → List ℕ → Bool

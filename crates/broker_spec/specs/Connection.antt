@@ -1,6 +1,7 @@
 -- Names of Network Connections.
 pub use Rattle.machine.specs.Ballots.{max_ballot}
-use Rattle.std.specs.Prelude.{◌≡◌, ℕ, nat_lt, nat_le, ◌^◌, Bool, true, ◌==◌, ◌&&◌}
+use Rattle.std.specs.Prelude.{◌≡◌, ℕ, nat_lt, nat_le, Bool, true, ◌==◌, ◌&&◌}
+use Rattle.broker_spec.specs.declared.connection_name.TheConstants.{MAX_COUNT}
 
 -- a connection's name: the ballot in which it was accepted, and its number there
 pub record ConnectionName : Type 0 where
@@ -9,7 +10,7 @@ pub record ConnectionName : Type 0 where
 
 -- the greatest number of a connection in its ballot
 abbrev pub max_count : ℕ
-max_count = 2 ^ 40
+max_count = MAX_COUNT
 
 -- ballots are 1 to 2^32, and the connections of a ballot are numbered 1 to 2^40
 abbrev pub is_connection_name : ConnectionName → Bool

@@ -1,13 +1,14 @@
 -- The possible windows: how many entries of a session are in flight at most (MQTT 4.6).
 use Rattle.std.specs.Prelude.{ℕ, ◌==◌, ◌||◌, Bool, IsTrue, if◌then◌else◌, Option, Some, None}
+use Rattle.broker_spec.specs.declared.window.TheConstants.{NARROW_WINDOW, WIDE_WINDOW}
 
 -- the window of a new broker, and of each from a Start on
 abbrev pub wide_window : ℕ
-wide_window = 64
+wide_window = WIDE_WINDOW
 
 -- the window of a broker that was read from form 1, until a Start
 abbrev pub narrow_window : ℕ
-narrow_window = 16
+narrow_window = NARROW_WINDOW
 
 -- whether a number is the narrow window or the wide one
 abbrev pub is_window_size : ℕ → Bool

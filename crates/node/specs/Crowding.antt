@@ -2,6 +2,7 @@
 use Rattle.std.specs.Prelude.{ℕ, ◌+◌, ◌-◌, ◌≤◌, Bool, ◌&&◌, nat_le, min, if◌then◌else◌, Option, Some, None}
 use Rattle.node_core.specs.declared.Status.{Status}
 use Rattle.node_core.specs.ballot_base.Replica.{is_active}
+use Rattle.node.specs.declared.intake.TheConstants.{MAX_ENTERING, MAX_OPEN, MAX_OPEN_BYTES}
 
 -- What a node takes from its clients. `entering` bytes are in transit to it. Of those that it took,
 -- `earlier` are in the first `earlier_end` places of its log, and `later` in places after these.
@@ -21,15 +22,15 @@ open_places (Some status) = if is_active status.role then status.held - status.c
 
 -- how many places may be open when more bytes are taken
 abbrev pub max_open : ℕ
-max_open = 4096
+max_open = MAX_OPEN
 
 -- how many bytes that were taken may be not known to be agreed then: 64 MiB
 abbrev pub max_open_bytes : ℕ
-max_open_bytes = 67108864
+max_open_bytes = MAX_OPEN_BYTES
 
 -- how many bytes may be in transit then: 256 KiB
 abbrev pub max_entering : ℕ
-max_entering = 262144
+max_entering = MAX_ENTERING
 
 -- whether a node takes more bytes from its clients
 abbrev pub admits : IntakeView → Bool

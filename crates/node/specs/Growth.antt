@@ -11,6 +11,7 @@ use Rattle.node_core.specs.declared.Body.{Body}
 use Rattle.node_core.specs.declared.Body.TheVariants.{Append, State, Install}
 use Rattle.node_core.specs.declared.item.Item.{Item}
 use Rattle.node_core.specs.declared.item.Item.TheVariants.{Peer, Bytes, Cut}
+use Rattle.node.specs.declared.growth.TheConstants.{COMMAND_BYTES, MAX_UNCUT_BYTES}
 
 -- the size of a packet apart from its fixed part: topic and payload, or filters
 abbrev pub bytes_of_packet : Packet → ℕ
@@ -56,11 +57,11 @@ can_drop core =
 
 -- how many bytes a command to drop counts, in addition to those that were taken
 abbrev pub command_bytes : ℕ
-command_bytes = 128
+command_bytes = COMMAND_BYTES
 
 -- up to this size a log is not cut because of it: 16 MiB
 abbrev pub max_uncut_bytes : ℕ
-max_uncut_bytes = 16777216
+max_uncut_bytes = MAX_UNCUT_BYTES
 
 -- Whether the log of a node that took these items is to be cut because of its size. It is if there
 -- are commands to drop, and what was taken since the last cut counts more than 16 MiB and more than

@@ -2,10 +2,11 @@
 use Rattle.std.specs.Prelude.{ℕ, ◌+◌, Bool, false, nat_lt}
 use Rattle.node_core.specs.declared.Standing.{Standing}
 use Rattle.node_core.specs.declared.Standing.TheVariants.{Awaits, Proposed, Closed}
+use Rattle.node.specs.declared.overdue.TheConstants.{FIRST_PACKET_MILLIS}
 
 -- the first packet of a connection is awaited, more than ten seconds after it was accepted; times
 -- count milliseconds
 abbrev pub is_overdue : Standing → ℕ → ℕ → Bool
-is_overdue Awaits opened now = nat_lt (opened + 10000) now
+is_overdue Awaits opened now = nat_lt (opened + FIRST_PACKET_MILLIS) now
 is_overdue Proposed opened now = false
 is_overdue Closed opened now = false

@@ -2,6 +2,7 @@
 use Rattle.std.specs.Prelude.{ℕ, ◌+◌, Bool, nat_le, if◌then◌else◌, List, [], ◌∷◌, ◌++◌, length}
 use Rattle.node_connections.specs.declared.connection.ConnectionStage.TheVariants.{Proposed, Closed, Failed}
 use Rattle.node_connections.specs.declared.connection.Connection.{Connection}
+use Rattle.node_connections.specs.declared.connection.TheConstants.{MAX_PENDING}
 use Rattle.node_connections.specs.Connections.{is_proposed}
 
 -- bytes that came are held until they are read
@@ -28,7 +29,7 @@ putting bytes connection = record connection { pending = connection.pending ++ b
 
 -- how many bytes may wait to be handed over on one connection
 abbrev pub max_pending : ℕ
-max_pending = 134217728
+max_pending = MAX_PENDING
 
 -- closed as lost: the loss is to be reported to the broker, if its CONNECT was proposed
 abbrev pub failing : Connection → Connection

@@ -1,5 +1,5 @@
 -- What a lane reports of its connections, and what a node's own lane sends.
-use Rattle.std.specs.Prelude.{◌≡◌, ℕ, ◌+◌, ◌^◌, List, [], ◌∷◌, ◌++◌, length, Option, None, Some}
+use Rattle.std.specs.Prelude.{◌≡◌, ℕ, ◌+◌, List, [], ◌∷◌, ◌++◌, length, Option, None, Some}
 use Rattle.node.specs.declared.Item.{Item}
 use Rattle.node.specs.declared.Item.TheVariants.{Bytes, Tick, Cut}
 use Rattle.node.specs.declared.Port.{Port}
@@ -8,6 +8,7 @@ use Rattle.connection.specs.declared.ending.Ending.{Ending}
 use Rattle.connection.specs.Hearing.{Hears}
 use Rattle.streams.specs.Ports.{port_of}
 use Rattle.post.specs.outbox.Queued.{IsQueued}
+use Rattle.node_threads.specs.declared.serving.TheConstants.{MAX_CONNECTIONS_OF_LANE}
 
 -- A lane that had sent these items sent the whole report of one connection, and nothing else. Of a
 -- socket no bytes are known except those that came.
@@ -47,7 +48,7 @@ pub record SendsRow (lane : ℕ) (before after : List Item) : Type 0 where
 -- there is none, and the lane served one connection at each of its ports.
 abbrev pub EndsBy : (node lane : ℕ) → Option ℕ → (before after : List Item) → Type 0
 EndsBy node lane (Some closed) before after = closed ≡ node
-EndsBy node lane None before after = ReportsEach lane before (2 ^ 56) after
+EndsBy node lane None before after = ReportsEach lane before MAX_CONNECTIONS_OF_LANE after
 
 -- a node's own lane, by which everything is sent to it that does not come from its clients, and the
 -- node's number

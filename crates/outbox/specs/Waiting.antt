@@ -5,6 +5,7 @@ use Rattle.node.specs.lists.Lists.{Each}
 use Rattle.node.specs.declared.Item.{Item}
 use Rattle.node.specs.declared.Item.TheVariants.{Peer}
 use Rattle.outbox.specs.Queued.{IsQueued}
+use Rattle.outbox.specs.declared.outbox.TheConstants.{MAX_WAITING}
 
 -- the number of the node, and the items that were queued for it and not yet taken, the oldest first
 pub record OutboxView : Type 0 where
@@ -28,7 +29,7 @@ of_nodes (item ∷ items) = (if is_of_node item then 1 else 0) + of_nodes items
 
 -- how many items may wait, so that one more of another node is queued
 abbrev pub max_waiting : ℕ
-max_waiting = 524288
+max_waiting = MAX_WAITING
 
 -- Whether an item may be queued after these: a message of another node while fewer than
 -- `max_waiting` items wait, and a message of the master or an order whatever waits.

@@ -5,6 +5,7 @@ use Rattle.node.specs.declared.Body.{Body}
 use Rattle.node.specs.declared.Body.TheVariants.{Commit}
 use Rattle.node.specs.declared.Item.{Item}
 use Rattle.node.specs.declared.Item.TheVariants.{Peer}
+use Rattle.outbox.specs.declared.outbox.TheConstants.{MAX_HELPED}
 
 -- whether a message tells a backup how many places are committed
 abbrev pub is_commit : Body Command → Bool
@@ -18,7 +19,7 @@ wakes _ = true
 
 -- how many items a thread that queued one of them takes, in place of the node's own thread
 abbrev pub max_helped : ℕ
-max_helped = 16
+max_helped = MAX_HELPED
 
 -- more items than a thread that queued one of them takes in place of the node's own thread
 abbrev pub is_long : List Item → Bool

@@ -6,6 +6,7 @@ use Rattle.packet_base.specs.Header.{first_byte}
 use Rattle.packet_base.specs.Spelling.{IsLength, IsId, number, remaining_length, length_bytes}
 use Rattle.packet.specs.declared.packet.Packet.{Packet}
 use Rattle.packet.specs.declared.packet.Packet.TheVariants as packets
+use Rattle.packet.specs.declared.packet.TheConstants.{MAX_BODY}
 use Rattle.packet.specs.Connect.{connect_body, FitsConnect}
 use Rattle.packet.specs.Connack.{connack_body}
 use Rattle.packet.specs.Delivery.{delivery_flags}
@@ -89,7 +90,7 @@ IsListed _ = Unit {0}
 
 -- the most bytes after the Remaining Length, this broker's own limit
 abbrev pub max_body : ℕ
-max_body = 1048572
+max_body = MAX_BODY
 
 -- a packet over the limit
 abbrev pub IsTooLarge : Packet → Type 0

@@ -1,8 +1,8 @@
 -- Texts that are Client Identifiers.
-use Rattle.std.proofs.Common.{◌≡◌, ℕ, ◌<◌, ◌^◌, Bool, true, false, cond, ltb, List, length, Some, None, refl, arith}
+use Rattle.std.proofs.Common.{◌≡◌, ℕ, ◌<◌, ◌≤◌, ◌^◌, Bool, true, false, cond, leb, ltb, List, length, Some, None, refl, arith}
 use Rattle.std.specs.Prelude.{not, ◌&&◌, is_none}
 use Rattle.std.specs.Str.{IsUtf8, is_utf8}
-use Rattle.std.proofs.lemmas.Bool.{ltb-true}
+use Rattle.std.proofs.lemmas.Bool.{leb-true}
 use Rattle.std.proofs.lemmas.Str.{is_utf8-from_IsUtf8}
 use Rattle.topics.specs.Text.{contains_byte}
 use Rattle.topics.specs.declared.malformed.MalformedKind.{MalformedKind}
@@ -42,5 +42,5 @@ both_true false b t = absurd cc
 -- so its length fits two bytes
 pub client_short : (text : List ℕ) → is_client text ≡ true → length text < 2 ^ 16
 client_short text good =
-    let few : length text < 65 = ltb-true (length text) 65 (both_true (ltb 0 (length text)) (ltb (length text) 65) (client_parts text good).1) in
+    let few : length text ≤ 64 = leb-true (length text) 64 (both_true (ltb 0 (length text)) (leb (length text) 64) (client_parts text good).1) in
     omega (arith, few)

@@ -9,6 +9,7 @@ use Rattle.std.specs.Ordering.{nat_cmp}
 use Rattle.topics.specs.Matching.{is_match}
 use Rattle.packet_base.specs.declared.qos.QoS.{QoS}
 use Rattle.retained.specs.declared.retained_publication.RetainedPublication.{RetainedPublication}
+use Rattle.retained.specs.declared.retained_store.TheConstants.{MAX_TOPICS}
 
 -- each topic once, with what is kept of its publication, in rising order of the topics' bytes
 abbrev pub RetainedTopics : Type 0
@@ -42,7 +43,7 @@ is_empty payload = length payload == 0
 
 -- how many topics are kept at most, this broker's own limit
 abbrev pub max_topics : ℕ
-max_topics = 16384
+max_topics = MAX_TOPICS
 
 -- the topic would be one too many
 abbrev pub is_full_for : RetainedTopics → List ℕ → Bool

@@ -2,7 +2,7 @@
 use Rattle.std.proofs.Common.{◌≡◌, ◌==◌, ◌&&◌, ◌<◌, ◌≤◌, ℕ, Bool, true, false, List, [], ◌∷◌, nat_le, length, refl, sym, subst, ◌∙◌, inl, inr, arith}
 use Rattle.std.proofs.lemmas.Bool.{and_parts, cases_Bool, eqb-true, false≢true, le-leb, leb-true}
 use Rattle.std.specs.List.{list_all, list_any}
-use Rattle.ballot_base.specs.LawfulConfig.{are_rising, is_lawful}
+use Rattle.ballot_base.specs.LawfulConfig.{are_rising, is_lawful, max_node}
 use Rattle.script.specs.Scripts.{are_members, is_lawful_opening}
 use Rattle.script.specs.Inside.Worlds.{is_at_most_max_node}
 
@@ -10,7 +10,7 @@ pub nodes_are_at_most : (count : ℕ) (ms : List ℕ) (b : Bool) → count ≤ 1
 nodes_are_at_most count [] b few is all = refl
 nodes_are_at_most count (m ∷ ms) b few is all =
     let (here, more) = and_parts (nat_le m count) (are_members count ms) (sym is ∙ all) in
-    rw (le-leb m 15 (omega (arith, leb-true m count here)), nodes_are_at_most count ms true few (sym more) refl) refl
+    rw (le-leb m max_node (omega (arith, leb-true m count here)), nodes_are_at_most count ms true few (sym more) refl) refl
 
 one_is_at_most : (p : ℕ) (ms : List ℕ) → list_all is_at_most_max_node ms ≡ true → list_any (λ member. member == p) ms ≡ true
     → is_at_most_max_node p ≡ true

@@ -1,10 +1,11 @@
 -- The ports of connections, which tell their lanes.
 use Rattle.std.specs.Prelude.{ℕ, ◌+◌, ◌*◌, ◌%◌, ◌==◌, Bool}
 use Rattle.node.specs.declared.Port.{Port}
+use Rattle.streams.specs.declared.ports.TheConstants.{PORTS_APART}
 
 -- the port of a lane's connection that comes after this many others
 abbrev pub port_of : ℕ → ℕ → Port
-port_of lane count = record { 0 = 256 * count + lane }
+port_of lane count = record { 0 = PORTS_APART * count + lane }
 
 -- whether two ports are of one lane
 abbrev pub is_of_lane : Port → Port → Bool

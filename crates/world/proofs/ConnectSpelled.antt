@@ -1,7 +1,7 @@
 -- The bytes of a client's CONNECT, and of the CONNACK that answers it.
-use Rattle.std.proofs.Common.{◌≡◌, ◌+◌, ◌<◌, ℕ, true, false, IsTrue, List, [], ◌∷◌, length, Result, Ok, refl, sym, ap, ◌∙◌, subst, arith}
-use Rattle.std.specs.Prelude.{nat_lt}
-use Rattle.std.proofs.lemmas.Bool.{and_parts, lt-ltb, ltb-true}
+use Rattle.std.proofs.Common.{◌≡◌, ◌+◌, ◌≤◌, ℕ, true, false, IsTrue, List, [], ◌∷◌, length, Result, Ok, refl, sym, ap, ◌∙◌, subst, arith}
+use Rattle.std.specs.Prelude.{nat_lt, nat_le}
+use Rattle.std.proofs.lemmas.Bool.{and_parts, lt-ltb, leb-true}
 use Rattle.std.proofs.lemmas.List.{append-nil}
 use Rattle.packet.specs.declared.connect.Connect.{Connect}
 use Rattle.packet.specs.declared.packet.Packet.{Packet}
@@ -36,8 +36,8 @@ module _ (client : List ℕ) (fits : IsTrue (is_client client)) where
   is_packet : IsPacket p
   is_packet = ((omega arith, fits), tt, (let short = client_short client fits in omega (arith, short)))
 
-  short : length client < 65
-  short = ltb-true (length client) 65 (and_parts (nat_lt 0 (length client)) (nat_lt (length client) 65) (client_parts client fits).1).1
+  short : length client ≤ 64
+  short = leb-true (length client) 64 (and_parts (nat_lt 0 (length client)) (nat_le (length client) 64) (client_parts client fits).1).1
 
   long : length (body p) ≡ 12 + length client
   long = omega arith

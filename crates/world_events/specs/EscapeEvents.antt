@@ -3,14 +3,15 @@ use Rattle.std.specs.Prelude.{ℕ, Bool, true, false, List, [], ◌∷◌, ◌++
 use Rattle.ways_out.specs.Deliveries.{asked_and_answered}
 use Rattle.world_events.specs.declared.event.Event.{Event}
 use Rattle.world_events.specs.declared.event.Event.TheVariants as events
+use Rattle.world_events.specs.declared.scheduling.TheConstants.{CONNACK_BYTES, CONNECT_BYTES}
 
 -- how many bytes a client's CONNECT has besides its identifier
 abbrev pub connect_bytes : ℕ
-connect_bytes = 14
+connect_bytes = CONNECT_BYTES
 
 -- how many bytes a CONNACK has
 abbrev pub connack_bytes : ℕ
-connack_bytes = 4
+connack_bytes = CONNACK_BYTES
 
 -- a client that holds a connection loses it
 abbrev pub leaving : Bool → List ℕ → List Event
