@@ -17,17 +17,13 @@ use Rattle.ballot_base.specs.Losses.{SendsAndAddsNothing, halted, one_more}
 use Rattle.ballot_base.specs.Sending.{Outcome, message_to_followed}
 use Rattle.ballot_base.specs.Applying.{applied_to}
 use Rattle.ballot_base.specs.Serving.{commit, commit_at, least, max_places, added}
-use Rattle.ballot_base.specs.Activating.{on_activated}
+use Rattle.ballot_base.specs.Activating.{may_begin, on_activated}
 use Rattle.ballot_base.proofs.ChangeRows.{on_activated-adds}
 use Rattle.ballot_base.proofs.StepRows.{added-commits, added-log, commit-stopped}
 use Rattle.ballot_base.specs.Sends.{Sends}
 use Rattle.ballot.specs.Inside.{ActivationOrLost, PlainStepOrLost}
 use Rattle.ballot.proofs.MessagesTaken.{went_sent, went_ignored, went_halted}
 use Rattle.ballot_base.proofs.SendsJoin.{Sends-then}
-
--- a ballot may begin at a replica
-abbrev pub may_begin : {S C : Type 0} → ReplicaState S C → ℕ → Bool
-may_begin r b = (r.joined == b && is_installing r.role) && (nat_le (length r.lacking) 0 && nat_lt (places r.log) max_places)
 
 -- a replica that becomes active, before its start is added, and then
 abbrev pub active_of : {S C O : Type 0} → Rules S C O → ReplicaState S C → ReplicaState S C

@@ -8,11 +8,11 @@ use Rattle.ballot_base.specs.declared.message.Body.TheVariants.{Superseded, Appe
 use Rattle.ballot_base.specs.declared.status.Progress.{Progress}
 use Rattle.ballot_base.specs.declared.status.Role.{Role}
 use Rattle.ballot_base.specs.declared.status.Role.TheVariants.{Backup, Fetching, Installing, Active}
-use Rattle.ballot_base.specs.Activating.{is_installing_in}
+use Rattle.ballot_base.specs.Activating.{is_installing_in, may_begin}
 use Rattle.ballot_base.specs.Changing.{waits_for, lacks}
 use Rattle.ballot_base.specs.Logs.{places}
 use Rattle.ballot_base.specs.Replica.{ReplicaState}
-use Rattle.ballot_base.specs.Serving.{least, raised, max_places, follows, leads}
+use Rattle.ballot_base.specs.Serving.{least, raised, follows, leads}
 
 -- whether a member is known to hold less than this
 abbrev pub rises : ℕ → ℕ → List Progress → Bool
@@ -31,9 +31,7 @@ is_heeded replica from (Install ballot log) =
 is_heeded replica from (Installed ballot held) =
     is_installing_in replica ballot && list_any (λ member. member == from) replica.lacking
 is_heeded replica from (Activate ballot) = false
-is_heeded replica from (Activated ballot) =
-    is_installing_in replica ballot
-    && (nat_le (length replica.lacking) 0 && nat_lt (places replica.log) max_places)
+is_heeded replica from (Activated ballot) = may_begin replica ballot
 is_heeded replica from (Superseded ballot) = is_installing_in replica ballot
 is_heeded replica from (Append ballot place command) =
     follows replica ballot && nat_le place (places replica.log)

@@ -31,6 +31,12 @@ on_installed O replica from ballot =
     then record { state = fewer; effects = activates O fewer fewer.lacking }
     else nothing_done O replica
 
+-- whether a ballot may begin at its new primary: no member lacks the log, and a place is left
+abbrev pub may_begin : {S C : Type 0} → ReplicaState S C → ℕ → Bool
+may_begin replica ballot =
+    is_installing_in replica ballot
+    && (nat_le (length replica.lacking) 0 && nat_lt (places replica.log) max_places)
+
 -- Activated(ballot), if no member lacks the log: its places are applied, their outputs dropped, and
 -- the start of the ballot is appended
 unfoldable pub on_activated : {S C O : Type 0} → Rules S C O → ReplicaState S C → ℕ → Outcome S C O
@@ -39,8 +45,7 @@ on_activated {O = O} rules replica ballot =
       role = Active;
       progress = progress_at (places replica.log) (others replica.id replica.members);
     } in
-    if is_installing_in replica ballot
-    && (nat_le (length replica.lacking) 0 && nat_lt (places replica.log) max_places)
+    if may_begin replica ballot
     then added rules active (rules.start_of ballot)
     else nothing_done O replica
 

@@ -1,13 +1,13 @@
 // What a replica does when its ballot becomes active.
 
-ghost use Rattle.std.specs.Prelude.{◌≡◌, ◌++◌, ◌&&◌, nat_lt, nat_le, true, false, ◌-◌, ◌<◌};
+ghost use Rattle.std.specs.Prelude.{◌≡◌, ◌++◌, true, false, ◌-◌, ◌<◌};
 ghost use Rattle.std.specs.Prelude.{◌≤◌, length, IfOk, OnOk, OnErr, MatchResult};
 ghost use Rattle.ballot_base.specs.Sends.{Sends};
 ghost use Rattle.ballot.specs.Inside.{ActivationOrLost, PlainStepOrLost};
-ghost use Rattle.ballot_base.specs.Activating.{is_installing_in, on_activated};
+ghost use Rattle.ballot_base.specs.Activating.{may_begin, on_activated};
 ghost use Rattle.ballot_base.specs.Logs.{Log, places, popped, pushed};
 ghost use Rattle.ballot_base.specs.Replica.{others, progress_at};
-ghost use Rattle.ballot_base.specs.Serving.{commit, max_places};
+ghost use Rattle.ballot_base.specs.Serving.{commit};
 ghost use Rattle.ballot_base.specs.Sending.{message_to_followed};
 ghost use Rattle.ballot_base.specs.Losses.{halted, one_more};
 ghost use Rattle.ballot_base.specs.Applying.{applied_to};
@@ -203,9 +203,7 @@ impl<M: Machine> Replica<M> {
     /// Says whether an activated ballot begins here: all members hold its log, and there is a place
     /// left.
     pub(super) fn may_begin(&self, ballot: u64) -> bool
-        ensures { result ≡ (is_installing_in self.now.state ballot
-            && (nat_le (length self.now.state.lacking) 0
-            && nat_lt (places self.now.state.log) max_places)) }
+        ensures { result ≡ may_begin self.now.state ballot }
     {
         self.installs(ballot) && (self.lacking.is_empty() && self.log.places() < MAX_PLACES)
     }
