@@ -1,4 +1,4 @@
--- What holds for every past of a group whose master answers each Assign.
+-- What holds for all moments of a group whose master answers each Assign.
 use Rattle.std.specs.Prelude.{ℕ, Bool, ◌≤◌, ◌≡◌, List, [], ◌∷◌, ◌++◌, filter, length}
 use Rattle.std.specs.Prelude.{slice_get, Some}
 use Rattle.machine.specs.Machine.{Rules}
@@ -21,37 +21,38 @@ use Rattle.agreement.specs.World.{GroupWorld, log_of, outputs}
 -- there is an agreed list at each moment
 abbrev pub HasAgreed : {S C O : Type 0} → Rules S C O → Type 0
 HasAgreed {S} {C} {O} rules =
-    (config : Config) (moment : Moment S C O) (past : List (Moment S C O)) →
-    Moments rules config (moment ∷ past) →
-    (agreed : List C) × IsAgreed config (moment ∷ past) agreed
+    (config : Config) (moment : Moment S C O) (moments : List (Moment S C O)) →
+    Moments rules config (moment ∷ moments) →
+    (agreed : List C) × IsAgreed config (moment ∷ moments) agreed
 
 -- the nodes agree on each agreed list, a member of the active ballot holds it, and what left is its
 -- answers in order
 abbrev pub NodesAgree : {S C O : Type 0} → Rules S C O → Type 0
 NodesAgree {S} {C} {O} rules =
-    (config : Config) (moment : Moment S C O) (past : List (Moment S C O)) (agreed : List C) →
-    Moments rules config (moment ∷ past) → IsAgreed config (moment ∷ past) agreed →
+    (config : Config) (moment : Moment S C O) (moments : List (Moment S C O)) (agreed : List C) →
+    Moments rules config (moment ∷ moments) → IsAgreed config (moment ∷ moments) agreed →
     Agrees rules moment.master moment.world agreed × Holds moment.master moment.world agreed
-    × LeftInOrder rules (moment ∷ past) moment.world agreed
+    × LeftInOrder rules (moment ∷ moments) moment.world agreed
 
 -- what is agreed begins what is agreed at the next moment
 abbrev pub AgreedGrows : {S C O : Type 0} → Rules S C O → Type 0
 AgreedGrows {S} {C} {O} rules =
-    (config : Config) (moment : Moment S C O) (past : List (Moment S C O)) (agreed later : List C) →
-    IsAgreed config past agreed → IsAgreed config (moment ∷ past) later → IsPrefixOf agreed later
+    (config : Config) (moment : Moment S C O) (moments : List (Moment S C O))
+    (agreed later : List C) → IsAgreed config moments agreed →
+    IsAgreed config (moment ∷ moments) later → IsPrefixOf agreed later
 
 -- the machine of each node that runs is the replay of the places that it applied
 abbrev pub MachinesReplay : {S C O : Type 0} → Rules S C O → Type 0
 MachinesReplay {S} {C} {O} rules =
-    (config : Config) (moment : Moment S C O) (past : List (Moment S C O)) →
-    Moments rules config (moment ∷ past) → AreReplays rules moment.world
+    (config : Config) (moment : Moment S C O) (moments : List (Moment S C O)) →
+    Moments rules config (moment ∷ moments) → AreReplays rules moment.world
 
 -- of the commands that were taken only in one ballot, each log has a prefix in the order of
 -- proposing
 abbrev pub KeepsTheOrder : {S C O : Type 0} → Rules S C O → Type 0
 KeepsTheOrder {S} {C} {O} rules =
-    (config : Config) (moment : Moment S C O) (past : List (Moment S C O)) →
-    (came : Moments rules config (moment ∷ past)) →
+    (config : Config) (moment : Moment S C O) (moments : List (Moment S C O)) →
+    (came : Moments rules config (moment ∷ moments)) →
     IsPartOf (taken_of came) (proposals_of came)
     × ((names : C → Bool) (ballot : ℕ) → IsOfBallot rules.start_of names ballot (taken_of came) →
     (node : ℕ) (replica : ReplicaState S C) → slice_get moment.world.nodes node ≡ Some replica →
@@ -75,29 +76,30 @@ TakenStandAtOnce {S} {C} {O} rules =
     (next_master : MasterState) (next_world : GroupWorld S C O) →
     (step : MayHappen rules master world next_master next_world) → StandsAtOnce step
 
--- a ballot has one active primary at most, over all moments of a past
+-- a ballot has one active primary at most, over all moments of a group
 abbrev pub OnePrimaryABallot : {S C O : Type 0} → Rules S C O → Type 0
 OnePrimaryABallot {S} {C} {O} rules =
-    (config : Config) (moment : Moment S C O) (past : List (Moment S C O)) →
-    Moments rules config (moment ∷ past) →
+    (config : Config) (moment : Moment S C O) (moments : List (Moment S C O)) →
+    Moments rules config (moment ∷ moments) →
     (first second : Moment S C O) (node other ballot : ℕ) →
-    In first (moment ∷ past) → In second (moment ∷ past) →
+    In first (moment ∷ moments) → In second (moment ∷ moments) →
     IsPrimary first.world node ballot → IsPrimary second.world other ballot → node ≡ other
 
 -- what was taken in a ballot was taken by the one node that was its active primary
 abbrev pub OneNodeTakesABallot : {S C O : Type 0} → Rules S C O → Type 0
 OneNodeTakesABallot {S} {C} {O} rules =
-    (config : Config) (moment : Moment S C O) (past : List (Moment S C O)) →
-    (came : Moments rules config (moment ∷ past)) →
-    (earlier : Moment S C O) (node ballot : ℕ) → In earlier (moment ∷ past) →
+    (config : Config) (moment : Moment S C O) (moments : List (Moment S C O)) →
+    (came : Moments rules config (moment ∷ moments)) →
+    (earlier : Moment S C O) (node ballot : ℕ) → In earlier (moment ∷ moments) →
     IsPrimary earlier.world node ballot →
     rows_in ballot (taken_of came) ≡ rows_in ballot (taken_at node came)
 
 -- the outputs of a node in a step are the answers at the next places of the agreed list
 abbrev pub AnswersAtTheNextPlaces : {S C O : Type 0} → Rules S C O → Type 0
 AnswersAtTheNextPlaces {S} {C} {O} rules =
-    (config : Config) (moment next : Moment S C O) (past : List (Moment S C O)) (agreed : List C) →
-    Moments rules config (moment ∷ past) → IsAgreed config (next ∷ moment ∷ past) agreed →
+    (config : Config) (moment next : Moment S C O) (moments : List (Moment S C O))
+    (agreed : List C) → Moments rules config (moment ∷ moments) →
+    IsAgreed config (next ∷ moment ∷ moments) agreed →
     (step : MayHappen rules moment.master moment.world next.master next.world) →
     (node : ℕ) (old new : ReplicaState S C) → slice_get moment.world.nodes node ≡ Some old →
     slice_get next.world.nodes node ≡ Some new → GivesNext rules old new agreed (given_in node step)
@@ -106,9 +108,9 @@ AnswersAtTheNextPlaces {S} {C} {O} rules =
 -- agreed list that it applied between them: none is left out, and none comes twice.
 abbrev pub AnswersWhileItLeads : {S C O : Type 0} → Rules S C O → Type 0
 AnswersWhileItLeads {S} {C} {O} rules =
-    (config : Config) (first last : Moment S C O) (past later : List (Moment S C O))
+    (config : Config) (first last : Moment S C O) (moments later : List (Moment S C O))
     (agreed : List C) →
-    (came : Moments rules config (first ∷ past)) (more : Moments rules config (last ∷ later)) →
+    (came : Moments rules config (first ∷ moments)) (more : Moments rules config (last ∷ later)) →
     IsAgreed config (last ∷ later) agreed → (node ballot : ℕ) →
     LeadsOn node ballot came last later more →
     (old new : ReplicaState S C) → slice_get first.world.nodes node ≡ Some old →

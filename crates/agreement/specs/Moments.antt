@@ -1,5 +1,4 @@
--- The moments of a group from its opening on, and what its members have acknowledged (told) in each
--- ballot.
+-- The moments of a group from its opening on, and what its members acknowledged in each ballot.
 use Rattle.std.specs.Prelude.{ℕ, true, false, ◌+◌, ◌≤◌, ◌≡◌, ◌⊎◌, List, [], ◌∷◌, length, slice_get}
 use Rattle.std.specs.Prelude.{take, Some}
 use Rattle.whole.specs.lists.Lists.{In, IsPrefixOf}
@@ -25,7 +24,7 @@ opening_moment rules nodes config =
 -- A node that is no active primary applies places of its log that some node had applied at an
 -- earlier moment, and has no output for them. At that moment the other node was in no higher ballot
 -- than this node is in now. To take over a snapshot in place of the commands is such a step.
-pub record Learns {S C O : Type 0} (rules : Rules S C O) (past : List (Moment S C O))
+pub record Learns {S C O : Type 0} (rules : Rules S C O) (moments : List (Moment S C O))
     (moment next : Moment S C O) : Type 0 where
   pub node : ℕ
   pub replica : ReplicaState S C
@@ -38,7 +37,7 @@ pub record Learns {S C O : Type 0} (rules : Rules S C O) (past : List (Moment S 
   pub within : places ≤ length replica.log
   -- as the other had applied it
   pub earlier : Moment S C O
-  pub was : In earlier past
+  pub was : In earlier moments
   pub other : ℕ
   pub teacher : ReplicaState S C
   pub stood : slice_get earlier.world.nodes other ≡ Some teacher
@@ -55,30 +54,30 @@ pub data Moments {S C O : Type 0} (rules : Rules S C O) (config : Config) :
   began : {moment : Moment S C O} (nodes : ℕ) → can_open nodes config ≡ true →
       moment ≡ opening_moment rules nodes config → Moments rules config (moment ∷ [])
   -- one more step
-  went_on : {moment next : Moment S C O} {past : List (Moment S C O)} →
-      Moments rules config (moment ∷ past) →
+  went_on : {moment next : Moment S C O} {moments : List (Moment S C O)} →
+      Moments rules config (moment ∷ moments) →
       MayHappen rules moment.master moment.world next.master next.world →
-      Moments rules config (next ∷ moment ∷ past)
+      Moments rules config (next ∷ moment ∷ moments)
   -- a node learns something without a step of its own
-  learned : {moment next : Moment S C O} {past : List (Moment S C O)} →
-      Moments rules config (moment ∷ past) → Learns rules (moment ∷ past) moment next →
-      Moments rules config (next ∷ moment ∷ past)
+  learned : {moment next : Moment S C O} {moments : List (Moment S C O)} →
+      Moments rules config (moment ∷ moments) → Learns rules (moment ∷ moments) moment next →
+      Moments rules config (next ∷ moment ∷ moments)
 
 -- the configuration of a ballot: that of the opening for ballot 1, and otherwise the one with which
 -- the master let the ballot wait
-pub data HasConfig {S C O : Type 0} (config : Config) (past : List (Moment S C O)) (ballot : ℕ)
+pub data HasConfig {S C O : Type 0} (config : Config) (moments : List (Moment S C O)) (ballot : ℕ)
     (configuration : Config) : Type 0 where
   -- ballot 1 has the first configuration
-  opened_with : ballot ≡ 1 → configuration ≡ config → HasConfig config past ballot configuration
+  opened_with : ballot ≡ 1 → configuration ≡ config → HasConfig config moments ballot configuration
   -- the master gave the ballot to this configuration
-  was_assigned : (moment : Moment S C O) → In moment past →
+  was_assigned : (moment : Moment S C O) → In moment moments →
       moment.master.waiting ≡ Some (ballot, configuration) →
-      HasConfig config past ballot configuration
+      HasConfig config moments ballot configuration
 
 -- a ballot was the active one
 abbrev pub WasActive : {S C O : Type 0} → List (Moment S C O) → ℕ → Type 0
-WasActive {S} {C} {O} past ballot =
-    (moment : Moment S C O) × In moment past × (moment.master.active ≡ ballot)
+WasActive {S} {C} {O} moments ballot =
+    (moment : Moment S C O) × In moment moments × (moment.master.active ≡ ballot)
 
 -- a member acknowledged a length in a ballot
 abbrev pub ToldLength : {S C O : Type 0} → GroupWorld S C O → ℕ → ℕ → ℕ → Type 0
@@ -90,31 +89,32 @@ ToldLength world member ballot held =
 -- The node at this index has acknowledged a list in a ballot: the primary by holding it as its log
 -- there, another member by a message with its length, from a log of which it is a prefix. While a
 -- node holds its log in one ballot the log only grows, so it had that prefix when it sent that.
-pub data HasTold {S C O : Type 0} (config : Config) (past : List (Moment S C O)) (ballot node : ℕ)
-    (list : List C) : Type 0 where
+pub data HasTold {S C O : Type 0} (config : Config) (moments : List (Moment S C O))
+    (ballot node : ℕ) (list : List C) : Type 0 where
   -- the primary holds the list as its log
   told_as_log : (moment : Moment S C O) (replica : ReplicaState S C) (configuration : Config) →
-      In moment past → slice_get moment.world.nodes node ≡ Some replica →
-      replica.held_in ≡ ballot → HasConfig config past ballot configuration →
-      configuration.primary ≡ node + 1 → replica.log ≡ list → HasTold config past ballot node list
+      In moment moments → slice_get moment.world.nodes node ≡ Some replica →
+      replica.held_in ≡ ballot → HasConfig config moments ballot configuration →
+      configuration.primary ≡ node + 1 → replica.log ≡ list →
+      HasTold config moments ballot node list
   -- a member said how much of its log it holds
-  told_by_message : (moment : Moment S C O) (replica : ReplicaState S C) → In moment past →
+  told_by_message : (moment : Moment S C O) (replica : ReplicaState S C) → In moment moments →
       slice_get moment.world.nodes node ≡ Some replica → replica.held_in ≡ ballot →
       ToldLength moment.world (node + 1) ballot (length list) → IsPrefixOf list replica.log →
-      HasTold config past ballot node list
+      HasTold config moments ballot node list
 
 -- each member of a ballot has acknowledged the list, or a list of which it is a prefix; a member
 -- that acknowledged nothing has not acknowledged the empty list
 abbrev pub IsChosen : {S C O : Type 0} → Config → List (Moment S C O) → ℕ → List C → Type 0
-IsChosen {S} {C} {O} config past ballot list =
-    (configuration : Config) × HasConfig config past ballot configuration
+IsChosen {S} {C} {O} config moments ballot list =
+    (configuration : Config) × HasConfig config moments ballot configuration
     × ((node : ℕ) → In (node + 1) configuration.members →
-    (told : List C) × HasTold config past ballot node told × IsPrefixOf list told)
+    (told : List C) × HasTold config moments ballot node told × IsPrefixOf list told)
 
 -- the agreed list: the longest that is chosen in a ballot that was active, or empty if none is
-pub record IsAgreed {S C O : Type 0} (config : Config) (past : List (Moment S C O))
+pub record IsAgreed {S C O : Type 0} (config : Config) (moments : List (Moment S C O))
     (list : List C) : Type 0 where
   pub chosen : (list ≡ [])
-      ⊎ ((ballot : ℕ) × WasActive past ballot × IsChosen config past ballot list)
-  pub longest : (ballot : ℕ) (other : List C) → WasActive past ballot →
-      IsChosen config past ballot other → IsPrefixOf other list
+      ⊎ ((ballot : ℕ) × WasActive moments ballot × IsChosen config moments ballot list)
+  pub longest : (ballot : ℕ) (other : List C) → WasActive moments ballot →
+      IsChosen config moments ballot other → IsPrefixOf other list

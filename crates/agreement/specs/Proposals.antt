@@ -33,9 +33,9 @@ proposal_of (master_hears from ballot sent) = []
 proposal_of (assignment_lost config) = []
 proposal_of (answer_lost from ballot sent) = []
 
--- all proposals of a past, in order
+-- all proposals between moments, in order
 abbrev pub proposals_of : {S C O : Type 0} {rules : Rules S C O} {config : Config}
-    {past : List (Moment S C O)} → Moments rules config past → List (ℕ × C)
+    {moments : List (Moment S C O)} → Moments rules config moments → List (ℕ × C)
 proposals_of (began nodes lawful is) = []
 proposals_of (went_on came step) = proposals_of came ++ proposal_of step
 proposals_of (learned came learns) = proposals_of came
@@ -57,9 +57,9 @@ taken_in (master_hears from ballot sent) = []
 taken_in (assignment_lost config) = []
 taken_in (answer_lost from ballot sent) = []
 
--- all that was taken in a past, in order
+-- all that was taken between moments, in order
 abbrev pub taken_of : {S C O : Type 0} {rules : Rules S C O} {config : Config}
-    {past : List (Moment S C O)} → Moments rules config past → List (ℕ × C)
+    {moments : List (Moment S C O)} → Moments rules config moments → List (ℕ × C)
 taken_of (began nodes lawful is) = []
 taken_of (went_on came step) = taken_of came ++ taken_in step
 taken_of (learned came learns) = taken_of came
@@ -76,9 +76,9 @@ takes_at node (master_hears from ballot sent) = []
 takes_at node (assignment_lost config) = []
 takes_at node (answer_lost from ballot sent) = []
 
--- what the node at this index took in a past
+-- what the node at this index took between moments
 abbrev pub taken_at : {S C O : Type 0} {rules : Rules S C O} {config : Config}
-    {past : List (Moment S C O)} → ℕ → Moments rules config past → List (ℕ × C)
+    {moments : List (Moment S C O)} → ℕ → Moments rules config moments → List (ℕ × C)
 taken_at node (began nodes lawful is) = []
 taken_at node (went_on came step) = taken_at node came ++ takes_at node step
 taken_at node (learned came learns) = taken_at node came

@@ -43,7 +43,7 @@ pub fn machines_replay<M: Machine>()
 {}
 
 /// States that each log has, of the commands that were taken only in one ballot, a prefix in the
-/// order of proposing. The past says which were taken: those by which a log grew.
+/// order of proposing. The moments say which were taken: those by which a log grew.
 pub fn keeps_the_order<M: Machine>()
     ensures { KeepsTheOrder M.rules }
 {}

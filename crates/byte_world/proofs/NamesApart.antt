@@ -12,7 +12,7 @@ use Rattle.node_group.specs.broker_spec.declared.command.Output.{Output}
 use Rattle.node_group.specs.broker_spec.Connection.{ConnectionName}
 use Rattle.node_group.specs.agreement.MasterState.{refusal}
 use Rattle.node_group.specs.snapshots.Moments.{Moment, Moments}
-use Rattle.node_group.proofs.of_snapshots.PastsAgree.{one_primary_a_ballot}
+use Rattle.node_group.proofs.of_snapshots.MomentsAgree.{one_primary_a_ballot}
 use Rattle.node_group.specs.node_core.declared.Connection.{Connection}
 use Rattle.node_group.specs.node_core.Core.{CoreState, StepOutcome, rules}
 use Rattle.node_group.specs.node_core.Effects.{without_messages}
@@ -33,7 +33,7 @@ use Rattle.node_group.specs.Steps.{GroupStep, GroupTrace, groups_on_trace, with_
 use Rattle.node_group.specs.Losing.{WereSent, all_given, put_in_move, put_in_run, recorded_by, recorded_in}
 use Rattle.node_group.specs.Steps.GroupStep.{node_acts, node_loses, master_assigns as assigns, master_hears as hears_master, assigns_unheard, answers_unheard}
 use Rattle.node_group.specs.Steps.GroupTrace.{opened, then_went}
-use Rattle.node_group.proofs.GroupsArePasts.{goes_on as step_goes_on, groups_are_pasts}
+use Rattle.node_group.proofs.GroupsHaveMoments.{goes_on as step_goes_on, groups_have_moments}
 use Rattle.node_group.proofs.LosingNone.{frozen_losing, losing_none, same_given, same_put, same_recorded, sent_losing}
 use Rattle.node_group.proofs.LossesHappen.{losses_happen}
 use Rattle.node_group.proofs.MovesHappen.{Further, unchanged}
@@ -89,9 +89,9 @@ run_led g n core outcome (goes_on {first = first} {next = next} m run) kept o at
     let one : StepOutcome = with_messages k.front first in
     let step = move_led g n core first m k.front at s.0 frozen.0 k.first o came in
     let after : Group = group_after_outcome (with_record g (recorded_by g.archive m)) n one (move_effects m) in
-    let rest = subst (λ (h : Group). LedOn after step.further.past h (put_in_run run)) (kept_turns (with_record g (recorded_in (recorded_by g.archive m) run)) n first next (move_effects m) (all_given run) kept k)
+    let rest = subst (λ (h : Group). LedOn after step.further.moments h (put_in_run run)) (kept_turns (with_record g (recorded_in (recorded_by g.archive m) run)) n first next (move_effects m) (all_given run) kept k)
     (run_led after n first.core next run k.rest (losses_read_in_order core first m o).0 (get_of_set g.nodes n core first.core at)
-    (were_still g (recorded_by g.archive m) n one (move_effects m) (all_inputs run) s.1) frozen.1 k.next step.further.past) in
+    (were_still g (recorded_by g.archive m) n one (move_effects m) (all_inputs run) s.1) frozen.1 k.next step.further.moments) in
     record { further = both came (put_in_move m) (put_in_run run) step.further rest.further; led = λ before. rest.led (step.led before) }
 
 -- ---- groups
@@ -124,17 +124,17 @@ step_led {config = config} g h went (answers_unheard from ballot sent) {earlier 
     let f = step_goes_on config g h (answers_unheard from ballot sent) earlier came in
     record { further = f; led = nodes_led g h refl f.kept }
 
--- a past of the group, and in it each earlier group's nodes led the ballots of their names
+-- the moments of the group, and at them each earlier group's nodes led the ballots of their names
 record SoFar {nodes : ℕ} {config : Config} {g : Group} (went : GroupTrace nodes config g) : Type 0 where
   earlier : List (Moment State Command Output)
-  past : Moments rules config (moment_of_nodes g ∷ earlier)
+  moments : Moments rules config (moment_of_nodes g ∷ earlier)
   now : AreLed g (moment_of_nodes g ∷ earlier)
   ever : (e : Group) → In e (groups_on_trace went) → AreLed e (moment_of_nodes g ∷ earlier)
 
 names_so_far : {nodes : ℕ} {config : Config} {g : Group} (went : GroupTrace nodes config g) → SoFar went
 names_so_far {nodes = nodes} {config = config} {g = g} (opened can) =
-    let of = groups_are_pasts nodes config g (opened can) in
-    record { earlier = of.earlier; past = of.past; now = none (moment_of_nodes g ∷ of.earlier); ever = λ e i. only e i (moment_of_nodes g ∷ of.earlier) }
+    let of = groups_have_moments nodes config g (opened can) in
+    record { earlier = of.earlier; moments = of.moments; now = none (moment_of_nodes g ∷ of.earlier); ever = λ e i. only e i (moment_of_nodes g ∷ of.earlier) }
   where
     none : (moments : List (Moment State Command Output)) → AreLed g moments
     none moments x n has =
@@ -146,9 +146,9 @@ names_so_far {nodes = nodes} {config = config} {g = g} (opened can) =
     only e (there i) moments = elim i [ ]
 names_so_far {g = h} (then_went {group = g} went step) =
     let before = names_so_far went in
-    let s = step_led g h went step before.past in
+    let s = step_led g h went step before.moments in
     let now = s.led before.now in
-    record { earlier = s.further.before; past = s.further.past; now = now; ever = λ e i. by e i now (λ j x n has. led_later s.further.kept (before.ever e j x n has)) }
+    record { earlier = s.further.before; moments = s.further.moments; now = now; ever = λ e i. by e i now (λ j x n has. led_later s.further.kept (before.ever e j x n has)) }
   where
     by : (e : Group) → In e (h ∷ groups_on_trace went) → {moments : List (Moment State Command Output)} → AreLed h moments → (In e (groups_on_trace went) → AreLed e moments) → AreLed e moments
     by e here now before = now
@@ -159,4 +159,4 @@ names_stay_apart nodes config g went x e h m n i j first other =
     let s = names_so_far went in
     let a = s.ever e i x m first in
     let b = s.ever h j x n other in
-    one_primary_a_ballot rules config (moment_of_nodes g) s.earlier s.past a.moment b.moment m n x.ballot a.among b.among a.primary b.primary
+    one_primary_a_ballot rules config (moment_of_nodes g) s.earlier s.moments a.moment b.moment m n x.ballot a.among b.among a.primary b.primary

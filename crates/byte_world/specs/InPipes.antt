@@ -14,7 +14,7 @@ use Rattle.node_group.specs.node_moves.Puts.{spelled}
 use Rattle.node_group.specs.Group.{moment_of_nodes}
 use Rattle.node_group.specs.Steps.{all_proposed, groups_on_trace}
 use Rattle.node_group.specs.Order.{packet_commands as packets_in_list}
-use Rattle.node_group.specs.Pasts.{HasPast}
+use Rattle.node_group.specs.GroupMoments.{HasMoments}
 use Rattle.node_group.specs.Carried.{answers_to}
 use Rattle.byte_world.specs.Carried.{trace_of}
 use Rattle.byte_world.specs.World.{ClientPipes, HasPipe, Pipe, ByteWorld, packets_of}
@@ -38,7 +38,7 @@ pub record IsInOrder (agreed : List Command) (connection : ClientConnection)
 -- the group's steps on the way to the world
 pub record PipesAreInOrder {nodes : ℕ} {config : Config} {clients : List Client} {world : ByteWorld}
     (trail : Reached nodes config clients world) : Type 0 where
-  pub of : HasPast config world.group (groups_on_trace (trace_of trail))
+  pub of : HasMoments config world.group (groups_on_trace (trace_of trail))
       (all_proposed (trace_of trail))
   pub each : (agreed : List Command) →
       IsAgreed config (moment_of_nodes world.group ∷ of.earlier) agreed →

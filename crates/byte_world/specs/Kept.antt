@@ -12,7 +12,7 @@ use Rattle.node_group.specs.broker_spec.Place.{Client}
 use Rattle.node_group.specs.snapshots.Moments.{IsAgreed}
 use Rattle.node_group.specs.Group.{moment_of_nodes}
 use Rattle.node_group.specs.Steps.{all_proposed, groups_on_trace}
-use Rattle.node_group.specs.Pasts.{HasPast}
+use Rattle.node_group.specs.GroupMoments.{HasMoments}
 use Rattle.byte_world.specs.Carried.{trace_of}
 use Rattle.byte_world.specs.Steps.{Reached}
 use Rattle.byte_world.specs.World.{ByteWorld}
@@ -28,7 +28,7 @@ NoneIsClean list =
 -- asks for a clean session
 pub record AsksForNoneClean {nodes : ℕ} {config : Config} {clients : List Client}
     {world : ByteWorld} (trail : Reached nodes config clients world) : Type 0 where
-  pub of : HasPast config world.group (groups_on_trace (trace_of trail))
+  pub of : HasMoments config world.group (groups_on_trace (trace_of trail))
       (all_proposed (trace_of trail))
   pub none : (agreed : List Command) →
       IsAgreed config (moment_of_nodes world.group ∷ of.earlier) agreed →

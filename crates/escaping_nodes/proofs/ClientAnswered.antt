@@ -43,7 +43,7 @@ use Rattle.escaping.specs.node_core.Step.{node_step}
 use Rattle.escaping.specs.node_core.Effects.{has_room}
 use Rattle.escaping.proofs.of_node_moves.LossesReported.{each_loss_is_reported}
 use Rattle.ways_out.proofs.of_snapshots.Fronts.{whole_long}
-use Rattle.ways_out.proofs.of_snapshots.PastsKept.{StandsFor, past_stands}
+use Rattle.ways_out.proofs.of_snapshots.MomentsKept.{StandsFor, moments_stand}
 use Rattle.escaping.proofs.AnswerAlone.{answer_alone_is_put_out}
 use Rattle.escaping.proofs.AnswerAwaited.{asked_awaits_answer, handing_keeps_it_waiting, messages_keep_it_waiting}
 use Rattle.escaping.proofs.AnswerPutOut.{answer_is_put_out}
@@ -166,7 +166,7 @@ short_spelled : length (spelling session_present) ≤ max_pending
 unfolding spelling
 short_spelled = omega arith
 
-module _ (config : Config) (a : Moment State Command Output) (past : List (Moment State Command Output)) (came : Moments rules config (a ∷ past)) (n : NodesState) (ballot index : ℕ) (node : CountedCore)
+module _ (config : Config) (a : Moment State Command Output) (moments : List (Moment State Command Output)) (came : Moments rules config (a ∷ moments)) (n : NodesState) (ballot index : ℕ) (node : CountedCore)
     (os : List ℕ) (port : Port) (x : ConnectionName) (list : List Command) (start now : ℕ) (piece : List ℕ) (connect : Connect)
     (can : CanAsk a n ballot index node os port x list start piece connect) where
   abbrev core : CoreState
@@ -184,8 +184,8 @@ module _ (config : Config) (a : Moment State Command Output) (past : List (Momen
   abbrev connection : Connection
   connection = can.awaits.waits.connection
 
-  q : StandsFor rules config a past
-  q = past_stands rules config a past came
+  q : StandsFor rules config a moments
+  q = moments_stand rules config a moments came
 
   stands : slice_get a.world.nodes index ≡ Some r
   stands = replica_at a n can.seen index node can.stands
@@ -306,27 +306,27 @@ module _ (config : Config) (a : Moment State Command Output) (past : List (Momen
               }
 
 pub sole_member_answers_the_client : SoleMemberAnswersTheClient
-sole_member_answers_the_client config a past came n ballot index node port x list start now piece connect can =
-    alone config a past came n ballot index node [] port x list start now piece connect can
-    ((cut_groups_answer rules config a past came ballot index (replica_of node.core) (begun_log list start) [] (commands.Connect x connect.client false)
+sole_member_answers_the_client config a moments came n ballot index node port x list start now piece connect can =
+    alone config a moments came n ballot index node [] port x list start now piece connect can
+    ((cut_groups_answer rules config a moments came ballot index (replica_of node.core) (begun_log list start) [] (commands.Connect x connect.client false)
     (replica_at a n can.seen index node can.stands) can.serves can.room).0 refl)
 
 pub others_let_the_client_be_answered : OthersLetTheClientBeAnswered
-others_let_the_client_be_answered config a past came n new ballot index node front last port x list start now piece connect can apart out each comes =
+others_let_the_client_be_answered config a moments came n new ballot index node front last port x list start now piece connect can apart out each comes =
     let h =
-    (cut_groups_answer rules config a past came ballot index (replica_of node.core) (begun_log list start) (front ++ last ∷ []) (commands.Connect x connect.client false)
+    (cut_groups_answer rules config a moments came ballot index (replica_of node.core) (begun_log list start) (front ++ last ∷ []) (commands.Connect x connect.client false)
     (replica_at a n can.seen index node can.stands) can.serves can.room).1 front last refl apart out each in
-    with_others config a past came n ballot index node (front ++ last ∷ []) port x list start now piece connect can front last h new comes
+    with_others config a moments came n ballot index node (front ++ last ∷ []) port x list start now piece connect can front last h new comes
 
 -- and meanwhile the connection waits
-pub others_are_awaited : (config : Config) (a : Moment State Command Output) (past : List (Moment State Command Output)) → Moments rules config (a ∷ past) → (n : NodesState) (ballot index : ℕ)
+pub others_are_awaited : (config : Config) (a : Moment State Command Output) (moments : List (Moment State Command Output)) → Moments rules config (a ∷ moments) → (n : NodesState) (ballot index : ℕ)
     (node : CountedCore) (front : List ℕ) (last : ℕ) (port : Port) (x : ConnectionName) (list : List Command) (start now : ℕ) (piece : List ℕ) (connect : Connect) →
     CanAsk a n ballot index node (front ++ last ∷ []) port x list start piece connect → NumbersAreApart (front ++ last ∷ []) → (In (index + 1) (front ++ last ∷ []) → ⊥) →
     ((m : ℕ) → In m (front ++ last ∷ []) → NodeIs (Follows ballot (begun_log list start)) (whole_moment a).world.nodes m) →
     AwaitsOthers ballot index port x (numbers_from (length n.sent) (length front + 1) ++ numbers_from (length n.sent + (length front + 1)) (length front))
     (after_node_call index node (takes (Bytes port piece now)) n)
-others_are_awaited config a past came n ballot index node front last port x list start now piece connect can apart out each =
+others_are_awaited config a moments came n ballot index node front last port x list start now piece connect can apart out each =
     let h =
-    (cut_groups_answer rules config a past came ballot index (replica_of node.core) (begun_log list start) (front ++ last ∷ []) (commands.Connect x connect.client false)
+    (cut_groups_answer rules config a moments came ballot index (replica_of node.core) (begun_log list start) (front ++ last ∷ []) (commands.Connect x connect.client false)
     (replica_at a n can.seen index node can.stands) can.serves can.room).1 front last refl apart out each in
-    awaits_others config a past came n ballot index node (front ++ last ∷ []) port x list start now piece connect can front last h
+    awaits_others config a moments came n ballot index node (front ++ last ∷ []) port x list start now piece connect can front last h

@@ -12,7 +12,7 @@ use Rattle.ways_out.specs.snapshots.Masters.{assigned}
 use Rattle.ways_out.specs.snapshots.Moments.{Moment, Moments, whole_moment}
 use Rattle.ways_out.specs.snapshots.Whole.{whole}
 use Rattle.escaping.specs.node_core.Core.{CountedCore, rules}
-use Rattle.ways_out.proofs.of_snapshots.PastsKept.{StandsFor, past_stands}
+use Rattle.ways_out.proofs.of_snapshots.MomentsKept.{StandsFor, moments_stand}
 use Rattle.ways_out.proofs.of_snapshots.Views.{get_whole}
 use Rattle.world_nodes.specs.ExactSteps.{after_giving}
 use Rattle.world_nodes.specs.Nodes.{NodesState}
@@ -41,32 +41,32 @@ assigned_seen a n new s =
     }
 
 -- no node has joined a ballot that is given next
-pub low_before : (config : Config) (a : Moment State Command Output) (past : List (Moment State Command Output)) → Moments rules config (a ∷ past) → (n : NodesState) → IsSeen a n →
+pub low_before : (config : Config) (a : Moment State Command Output) (moments : List (Moment State Command Output)) → Moments rules config (a ∷ moments) → (n : NodesState) → IsSeen a n →
     (at : ℕ) (node : CountedCore) → slice_get n.nodes at ≡ Some node → node.core.replica.state.joined < a.master.given + 1
-low_before config a past came n s at node there =
+low_before config a moments came n s at node there =
     joined_below rules config (whole_moment a) stands.earlier stands.kept.came at (whole a.world.archive (replica_of node.core))
     (get_whole (whole a.world.archive) a.world.nodes at (replica_of node.core) (replica_at a n s at node there))
   where
-    stands : StandsFor rules config a past
-    stands = past_stands rules config a past came
+    stands : StandsFor rules config a moments
+    stands = moments_stand rules config a moments came
 
 -- and there is a way out
-pub way_of : (config : Config) (a : Moment State Command Output) (past : List (Moment State Command Output)) → Moments rules config (a ∷ past) → (new : Config) (index source : ℕ)
-    (log : List Command) → CanBeLed (whole_moment a) new index source log → LeadsOut rules config (a ∷ past) a new index log
-way_of config a past came new index source log can = cut_groups_have_ways_out rules starts_give_nothing config a past came new index source log can
+pub way_of : (config : Config) (a : Moment State Command Output) (moments : List (Moment State Command Output)) → Moments rules config (a ∷ moments) → (new : Config) (index source : ℕ)
+    (log : List Command) → CanBeLed (whole_moment a) new index source log → LeadsOut rules config (a ∷ moments) a new index log
+way_of config a moments came new index source log can = cut_groups_have_ways_out rules starts_give_nothing config a moments came new index source log can
 
 pub nodes_are_led_out : NodesAreLedOut
-nodes_are_led_out config a past came new index source log can n end s comes = by (way_of config a past came new index source log can)
+nodes_are_led_out config a moments came new index source log can n end s comes = by (way_of config a moments came new index source log can)
   where
     fresh : AreCalm (a.master.given + 1) (after_giving new n)
-    fresh at node there = inr (low_before config a past came n s at node there)
+    fresh at node there = inr (low_before config a moments came n s at node there)
 
     same : way_out (length n.sent) (length n.master.members) index (length new.members - 1)
         ≡ way_out (length a.world.sent) (length a.master.members) index (length new.members - 1)
     same = ap (λ (l : List (ℕ × Message Command)). way_out (length l) (length n.master.members) index (length new.members - 1)) (sym s.sent)
         ∙ ap (λ (m : MasterState). way_out (length a.world.sent) (length m.members) index (length new.members - 1)) (sym s.master)
 
-    by : LeadsOut rules config (a ∷ past) a new index log → AreLedOut config (a ∷ past) a new index log n end
+    by : LeadsOut rules config (a ∷ moments) a new index log → AreLedOut config (a ∷ moments) a new index log n end
     by way =
         let z = deliveries_are_followed (a.master.given + 1) (assigned_moment new a) way.last _ way.delivered (after_giving new n) end
         (subst (λ ks. Come (after_giving new n) ks end) same comes) (assigned_seen a n new s) fresh in

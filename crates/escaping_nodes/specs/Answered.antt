@@ -64,7 +64,7 @@ pub record CanAsk (moment : Moment State Command Output) (state : NodesState) (b
 abbrev pub SoleMemberAnswersTheClient : Type 0
 SoleMemberAnswersTheClient =
     (config : Config) (moment : Moment State Command Output)
-    (past : List (Moment State Command Output)) → Moments rules config (moment ∷ past) →
+    (moments : List (Moment State Command Output)) → Moments rules config (moment ∷ moments) →
     (state : NodesState) (ballot index : ℕ) (node : CountedCore) (port : Port)
     (name : ConnectionName) (list : List Command) (start now : ℕ) (piece : List ℕ)
     (connect : Connect) →
@@ -90,7 +90,7 @@ pub record PutsOutAtLast (index number : ℕ) (port : Port) (message : Message C
 abbrev pub OthersLetTheClientBeAnswered : Type 0
 OthersLetTheClientBeAnswered =
     (config : Config) (moment : Moment State Command Output)
-    (past : List (Moment State Command Output)) → Moments rules config (moment ∷ past) →
+    (moments : List (Moment State Command Output)) → Moments rules config (moment ∷ moments) →
     (state new : NodesState) (ballot index : ℕ) (node : CountedCore) (front : List ℕ) (last : ℕ)
     (port : Port) (name : ConnectionName) (list : List Command) (start now : ℕ) (piece : List ℕ)
     (connect : Connect) →

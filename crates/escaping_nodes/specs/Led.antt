@@ -15,10 +15,10 @@ use Rattle.escaping_nodes.specs.Coming.{AreCalm, Come, IsSeen, KeepNames}
 
 -- the moment to which the way out leads is seen then, each node is calm or has not joined the new
 -- ballot, and none has given a name
-pub record AreLedOut (config : Config) (past : List (Moment State Command Output))
+pub record AreLedOut (config : Config) (moments : List (Moment State Command Output))
     (moment : Moment State Command Output) (new : Config) (index : ℕ)
     (log : List Command) (state end : NodesState) : Type 0 where
-  pub way : LeadsOut rules config past moment new index log
+  pub way : LeadsOut rules config moments moment new index log
   pub seen : IsSeen way.last end
   pub calm : AreCalm (moment.master.given + 1) end
   pub names : KeepNames state end
@@ -28,10 +28,10 @@ pub record AreLedOut (config : Config) (past : List (Moment State Command Output
 abbrev pub NodesAreLedOut : Type 0
 NodesAreLedOut =
     (config : Config) (moment : Moment State Command Output)
-    (past : List (Moment State Command Output)) → Moments rules config (moment ∷ past) →
+    (moments : List (Moment State Command Output)) → Moments rules config (moment ∷ moments) →
     (new : Config) (index source : ℕ) (log : List Command) →
     CanBeLed (whole_moment moment) new index source log → (state end : NodesState) →
     IsSeen moment state →
     Come (after_giving new state)
     (way_out (length state.sent) (length state.master.members) index (length new.members - 1)) end →
-    AreLedOut config (moment ∷ past) moment new index log state end
+    AreLedOut config (moment ∷ moments) moment new index log state end

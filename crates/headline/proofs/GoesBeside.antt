@@ -7,7 +7,7 @@ use Rattle.ballot_base.specs.declared.config.Config.{Config}
 use Rattle.broker_spec.specs.declared.command.Command.{Command}
 use Rattle.broker_spec.specs.Place.{Client}
 use Rattle.lists.specs.Lists.{Each}
-use Rattle.snapshots.proofs.PastsAgree.{has_agreed}
+use Rattle.snapshots.proofs.MomentsAgree.{has_agreed}
 use Rattle.packet_world.specs.World.{ClientsAreApart}
 use Rattle.packet_world.proofs.Lists.{each_get, each_set}
 use Rattle.packet_world.proofs.TakenOn.{map_set}
@@ -35,7 +35,7 @@ pub group_beside : {nodes : ℕ} {config : Config} {cs : List Client} → Client
     → GoesBeside nodes config cs w (then_went went step)
 group_beside {config = config} {cs = cs} apart w g went so step beside holds piped =
     let on = carried_on g w.group went so step in
-    let xs = has_agreed rules config (moment_of_nodes g) so.of.earlier so.of.past in
+    let xs = has_agreed rules config (moment_of_nodes g) so.of.earlier so.of.moments in
     record {
       holds = holds;
       piped = piped;

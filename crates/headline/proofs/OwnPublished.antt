@@ -8,7 +8,7 @@ use Rattle.session_base.specs.Identifiers.{least_free}
 use Rattle.session_base.specs.Publication.{is_answered}
 use Rattle.session_base.specs.declared.publication.Publication.{Publication}
 use Rattle.ballot_base.specs.declared.config.Config.{Config}
-use Rattle.snapshots.proofs.PastsAgree.{has_agreed}
+use Rattle.snapshots.proofs.MomentsAgree.{has_agreed}
 use Rattle.broker_spec.specs.Commands.{usual_limits}
 use Rattle.broker_spec.specs.Place.{Client}
 use Rattle.client_base.specs.Called.{adds_own}
@@ -98,7 +98,7 @@ packet_says : {nodes : ℕ} {config : Config} {cs : List Client} → ClientsAreA
     (c : ClientPipes) (κ : ClientConnection) (packet : Packet) → slice_get v.clients i ≡ Some c
     → own_publications (all_own (packet_handled packet (let side : Side = record { keeper = c.keeper; connection = κ } in side)).keeper) ≡ own_publications (all_own c.keeper)
 packet_says {config = config} apart v went s i c κ packet at =
-    let list = has_agreed rules config (moment_of_nodes v.group) s.so.of.earlier s.so.of.past in
+    let list = has_agreed rules config (moment_of_nodes v.group) s.so.of.earlier s.so.of.moments in
     let h = lived_beside apart v went s list.0 list.1 i c at in
     let life = lived_is_life usual_limits h.story.keeper.client h.story h.lived in
     (handles_kept c.keeper κ packet (subst (λ (k : Keeper). AreNumbered (length k.earlier) k.own) h.keeper life.keeper.numbers.1)).said

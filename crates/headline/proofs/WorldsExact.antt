@@ -13,7 +13,7 @@ use Rattle.client_base.specs.State.{ClientState}
 use Rattle.exactly_once.specs.Carried.{own_publications}
 use Rattle.exactly_once.specs.Unexpelled.{IsUnexpelled}
 use Rattle.exactly_once.proofs.sessions.FirstSession.{unexpelled_in_step}
-use Rattle.snapshots.proofs.PastsAgree.{has_agreed}
+use Rattle.snapshots.proofs.MomentsAgree.{has_agreed}
 use Rattle.packet_world.specs.Exact.{IsExactInStep as IsExactBeside}
 use Rattle.packet_world.specs.World.{ClientsAreApart, ClientEnds, story_of as story_beside}
 use Rattle.packet_world.proofs.Lists.{each_by, each_get}
@@ -101,7 +101,7 @@ promised apart w went s agreed is published i c state at said shown =
 pub worlds_are_exact : WorldsAreExact
 worlds_are_exact nodes config cs w apart trail =
     let s = goes_beside apart w trail in
-    let list = has_agreed rules config (moment_of_nodes w.group) s.so.of.earlier s.so.of.past in
+    let list = has_agreed rules config (moment_of_nodes w.group) s.so.of.earlier s.so.of.moments in
     record {
       of = s.so.of;
       agreed = list.0;

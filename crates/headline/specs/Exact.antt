@@ -20,7 +20,7 @@ use Rattle.snapshots.specs.Moments.{IsAgreed}
 use Rattle.packet_world.specs.World.{ClientsAreApart}
 use Rattle.node_group.specs.Group.{moment_of_nodes}
 use Rattle.node_group.specs.Steps.{all_proposed, groups_on_trace}
-use Rattle.node_group.specs.Pasts.{HasPast}
+use Rattle.node_group.specs.GroupMoments.{HasMoments}
 use Rattle.byte_world.specs.World.{ClientPipes, HasPipe, Pipe, ByteWorld}
 use Rattle.byte_world.specs.Carried.{trace_of}
 use Rattle.byte_world.specs.Accepted.{accepted_once}
@@ -72,7 +72,7 @@ pub record IsExactBy (agreed : List Command) (world : ByteWorld) : Type 0 where
 -- which the nodes agree at its end, and the world is exact by that list.
 pub record IsExact {nodes : ℕ} {config : Config} {clients : List Client} {world : ByteWorld}
     (trail : Reached nodes config clients world) : Type 0 where
-  pub of : HasPast config world.group (groups_on_trace (trace_of trail))
+  pub of : HasMoments config world.group (groups_on_trace (trace_of trail))
       (all_proposed (trace_of trail))
   pub agreed : List Command
   pub is_agreed : IsAgreed config (moment_of_nodes world.group ∷ of.earlier) agreed

@@ -25,15 +25,15 @@ use Rattle.snapshots.specs.agreement.Inside.Saying.{SpeaksTruth}
 use Rattle.snapshots.specs.agreement.Inside.ToldLengths.{chosen_length, least_of, max_told, told_by, told_in, told_length}
 use Rattle.snapshots.proofs.of_agreement.Agreed.AgreedExists.{least_each, least_most, least_top, newest_agreed}
 use Rattle.snapshots.proofs.of_agreement.Agreed.MaxTold.{one_given, told_whole}
-use Rattle.snapshots.proofs.of_agreement.Agreed.PastAgrees.{agreed_known, has_agreed, nodes_agree}
-use Rattle.snapshots.proofs.of_agreement.Agreed.PastKnown.{past_known}
+use Rattle.snapshots.proofs.of_agreement.Agreed.MomentsAgree.{agreed_known, has_agreed, nodes_agree}
+use Rattle.snapshots.proofs.of_agreement.Agreed.MomentsKnown.{moments_known}
 use Rattle.snapshots.proofs.of_agreement.Frame.Bases.{chosen_told, one_line}
 use Rattle.snapshots.proofs.of_agreement.Frame.Framing.{within_of}
 use Rattle.snapshots.proofs.of_agreement.Frame.SaysLater.{told_less}
 use Rattle.snapshots.proofs.of_agreement.Masters.Assigned.{at_most_newest}
 use Rattle.master.specs.Inside.{ToldIn, least_but_one, next_least}
 use Rattle.master.proofs.Untold.{told_none}
-use Rattle.master.proofs.Lawful.{AreLawful, past_lawful, rising_above}
+use Rattle.master.proofs.Lawful.{AreLawful, moments_lawful, rising_above}
 
 -- the least with a lower bound
 least_lower : (top x : ℕ) (f : ℕ → ℕ) (ms : List ℕ) → least_of (min top x) f ms ≡ min x (least_of top f ms)
@@ -207,16 +207,16 @@ prefix_both {X = X} {xs = xs} {ys = ys} p q =
     whole [] = refl
     whole (x ∷ us) = ap (λ vs. x ∷ vs) (whole us)
 
-agreed_front : {S C O : Type 0} (rules : Rules S C O) (config : Config) (a : Moment S C O) (past : List (Moment S C O)) (xs : List C) →
-    Moments rules config (a ∷ past) → IsAgreed config (a ∷ past) xs → IsFront rules a xs
-agreed_front {S = S} {C = C} {O = O} rules config a past xs came agreed =
-    let q = past_known rules config a past came in
+agreed_front : {S C O : Type 0} (rules : Rules S C O) (config : Config) (a : Moment S C O) (moments : List (Moment S C O)) (xs : List C) →
+    Moments rules config (a ∷ moments) → IsAgreed config (a ∷ moments) xs → IsFront rules a xs
+agreed_front {S = S} {C = C} {O = O} rules config a moments xs came agreed =
+    let q = moments_known rules config a moments came in
     let s = q.serves.sound in
     let k = q.serves.master in
     let active : In a.master.active q.history.activated = subst (λ bs. In a.master.active bs) (sym k.newest) here in
     let t = s.lines.told a.master.active active in
     let g = k.active_members in
-    let one = agreed_known rules config a past q xs agreed in
+    let one = agreed_known rules config a moments q xs agreed in
     let two = newest_agreed rules a.world q.history a.master.active k.older g.0 t.0 s k.newest g.1 t.1 in
     record {
       history = q.history;
@@ -268,20 +268,20 @@ told_within rules a xs f m i =
     (told_whole w h m b f.given f.line f.is_given f.lined told)
 
 -- with two members and more, the agreed list is as long as what all but the primary acknowledged
-pub counted_length : {S C O : Type 0} (rules : Rules S C O) (config : Config) (a : Moment S C O) (past : List (Moment S C O)) (xs : List C) (told : ToldIn) (top : ℕ) →
-    Moments rules config (a ∷ past) → IsAgreed config (a ∷ past) xs → told.ballot ≡ a.master.active → ((m : ℕ) → m < 16 → get_or told.held m 0 ≡ max_told m told.ballot a.world.sent) →
+pub counted_length : {S C O : Type 0} (rules : Rules S C O) (config : Config) (a : Moment S C O) (moments : List (Moment S C O)) (xs : List C) (told : ToldIn) (top : ℕ) →
+    Moments rules config (a ∷ moments) → IsAgreed config (a ∷ moments) xs → told.ballot ≡ a.master.active → ((m : ℕ) → m < 16 → get_or told.held m 0 ≡ max_told m told.ballot a.world.sent) →
     ((m : ℕ) → get_or told.held m 0 ≤ top) → (length a.master.members ≡ 1 → ⊥) →
     least_but_one told.held top top a.master.members ≡ length xs
-counted_length {S = S} {C = C} {O = O} rules config a past xs told top came agreed active counted bound several =
+counted_length {S = S} {C = C} {O = O} rules config a moments xs told top came agreed active counted bound several =
     second_is told.held f.given.primary top 0 top top a.master.members lawful.active led none (omega arith) (omega arith)
     ∙ (let x = up in let y = down in let z : least_of top (told_or top f.given.primary told.held) a.master.members ≡ chosen_length a.world.sent a.master.active f.given f.line = omega (arith, x, y) in z)
     ∙ sym (front_length rules a xs f)
   where
     f : IsFront rules a xs
-    f = agreed_front rules config a past xs came agreed
+    f = agreed_front rules config a moments xs came agreed
 
     lawful : AreLawful a.master
-    lawful = past_lawful rules config a past came
+    lawful = moments_lawful rules config a moments came
 
     led : In f.given.primary a.master.members
     led = subst (λ ms. In f.given.primary ms) f.members (f.serves.sound.ballots.led a.master.active f.given f.is_given)
@@ -416,16 +416,16 @@ only_one k m here = refl
 only_one k m (there j) = elim j [ ]
 
 -- with a sole member, the agreed list is its log
-pub sole_length : {S C O : Type 0} (rules : Rules S C O) (config : Config) (a : Moment S C O) (past : List (Moment S C O)) (xs : List C) →
-    Moments rules config (a ∷ past) → IsAgreed config (a ∷ past) xs → (m : ℕ) → a.master.members ≡ m ∷ [] →
+pub sole_length : {S C O : Type 0} (rules : Rules S C O) (config : Config) (a : Moment S C O) (moments : List (Moment S C O)) (xs : List C) →
+    Moments rules config (a ∷ moments) → IsAgreed config (a ∷ moments) xs → (m : ℕ) → a.master.members ≡ m ∷ [] →
     length (log_of (slice_get a.world.nodes (m - 1))) ≡ length xs
-sole_length {S = S} {C = C} {O = O} rules config a past xs came agreed m sole = by_node holds
+sole_length {S = S} {C = C} {O = O} rules config a moments xs came agreed m sole = by_node holds
   where
     f : IsFront rules a xs
-    f = agreed_front rules config a past xs came agreed
+    f = agreed_front rules config a moments xs came agreed
 
     holds : Holds a.master a.world xs
-    holds = (nodes_agree rules config a past xs came agreed).1
+    holds = (nodes_agree rules config a moments xs came agreed).1
 
     only : (k : ℕ) → In k a.master.members → k ≡ m
     only k i = only_one k m (subst (λ ms. In k ms) sole i)
@@ -450,16 +450,16 @@ sole_length {S = S} {C = C} {O = O} rules config a past xs came agreed m sole = 
         ∙ (let d = whole in let y : length z.replica.log ≡ length xs = omega (arith, up, down, d) in y)
 
 -- the front of a member's log, if it is long enough
-pub member_front : {S C O : Type 0} (rules : Rules S C O) (config : Config) (a : Moment S C O) (past : List (Moment S C O)) (k m : ℕ) →
-    Moments rules config (a ∷ past) → ((xs : List C) → IsAgreed config (a ∷ past) xs → k ≡ length xs) → In m a.master.members →
-    k ≤ length (log_of (slice_get a.world.nodes (m - 1))) → IsAgreed config (a ∷ past) (take k (log_of (slice_get a.world.nodes (m - 1))))
-member_front {S = S} {C = C} {O = O} rules config a past k m came is i within = by_node (slice_get a.world.nodes (m - 1)) refl within
+pub member_front : {S C O : Type 0} (rules : Rules S C O) (config : Config) (a : Moment S C O) (moments : List (Moment S C O)) (k m : ℕ) →
+    Moments rules config (a ∷ moments) → ((xs : List C) → IsAgreed config (a ∷ moments) xs → k ≡ length xs) → In m a.master.members →
+    k ≤ length (log_of (slice_get a.world.nodes (m - 1))) → IsAgreed config (a ∷ moments) (take k (log_of (slice_get a.world.nodes (m - 1))))
+member_front {S = S} {C = C} {O = O} rules config a moments k m came is i within = by_node (slice_get a.world.nodes (m - 1)) refl within
   where
-    there_is : (xs : List C) × IsAgreed config (a ∷ past) xs
-    there_is = has_agreed rules config a past came
+    there_is : (xs : List C) × IsAgreed config (a ∷ moments) xs
+    there_is = has_agreed rules config a moments came
 
     positive : 0 < m
-    positive = (rising_above 0 a.master.members m (past_lawful rules config a past came).active i).0
+    positive = (rising_above 0 a.master.members m (moments_lawful rules config a moments came).active i).0
 
     all_of : (us : List C) → take (length us) us ≡ us
     all_of [] = refl
@@ -469,27 +469,27 @@ member_front {S = S} {C = C} {O = O} rules config a past k m came is i within = 
     nothing [] e = refl
     nothing (x ∷ us) e = absurd (omega (arith, e))
 
-    by_node : (o : Option (ReplicaState S C)) → slice_get a.world.nodes (m - 1) ≡ o → k ≤ length (log_of o) → IsAgreed config (a ∷ past) (take k (log_of o))
+    by_node : (o : Option (ReplicaState S C)) → slice_get a.world.nodes (m - 1) ≡ o → k ≤ length (log_of o) → IsAgreed config (a ∷ moments) (take k (log_of o))
     by_node None e low =
         let z : k ≡ 0 = omega (arith, low) in
         let y = is there_is.0 there_is.1 in
-        subst (λ (us : List C). IsAgreed config (a ∷ past) us)
+        subst (λ (us : List C). IsAgreed config (a ∷ moments) us)
         (nothing there_is.0 (sym y ∙ z) ∙ sym (ap (λ j. take {A = C} j []) z)) there_is.1
     by_node (Some r) e low =
-        let agrees = (nodes_agree rules config a past there_is.0 came there_is.1).0 in
+        let agrees = (nodes_agree rules config a moments there_is.0 came there_is.1).0 in
         let number : m - 1 + 1 ≡ m = (let p = positive in omega (arith, p)) in
         let front = agrees.held (m - 1) r e (subst (λ j. In j a.master.members) (sym number) i) in
         let y = is there_is.0 there_is.1 in
-        subst (λ (us : List C). IsAgreed config (a ∷ past) us)
+        subst (λ (us : List C). IsAgreed config (a ∷ moments) us)
         (sym (ap (λ j. take j r.log) y ∙ take_prefix (length there_is.0) front (omega arith) ∙ all_of there_is.0)) there_is.1
 
 -- some member's log is long enough
-pub some_long : {S C O : Type 0} (rules : Rules S C O) (config : Config) (a : Moment S C O) (past : List (Moment S C O)) (k : ℕ) →
-    Moments rules config (a ∷ past) → ((xs : List C) → IsAgreed config (a ∷ past) xs → k ≡ length xs) →
+pub some_long : {S C O : Type 0} (rules : Rules S C O) (config : Config) (a : Moment S C O) (moments : List (Moment S C O)) (k : ℕ) →
+    Moments rules config (a ∷ moments) → ((xs : List C) → IsAgreed config (a ∷ moments) xs → k ≡ length xs) →
     ((m : ℕ) → In m a.master.members → (r : ReplicaState S C) → slice_get a.world.nodes (m - 1) ≡ Some r → length r.log < k) → ⊥
-some_long rules config a past k came is short =
-    let xs = has_agreed rules config a past came in
-    let z = (nodes_agree rules config a past xs.0 came xs.1).1 in
+some_long rules config a moments k came is short =
+    let xs = has_agreed rules config a moments came in
+    let z = (nodes_agree rules config a moments xs.0 came xs.1).1 in
     let at : z.node + 1 - 1 ≡ z.node = omega arith in
     let low = short (z.node + 1) z.member z.replica (ap (slice_get a.world.nodes) at ∙ z.stands) in
     let up = prefix_length z.held in

@@ -211,9 +211,9 @@ get_there (y ∷ xs) zero x below read = ap Some (sym read)
 get_there (y ∷ xs) (suc k) x below read = get_there xs k x (omega arith) read
 
 pub get_past : {X : Type 0} (xs : List X) (k : ℕ) → length xs ≤ k → slice_get xs k ≡ None
-get_past [] k past = refl
-get_past (y ∷ xs) zero past = absurd (omega arith)
-get_past (y ∷ xs) (suc k) past = get_past xs k (omega arith)
+get_past [] k moments = refl
+get_past (y ∷ xs) zero moments = absurd (omega arith)
+get_past (y ∷ xs) (suc k) moments = get_past xs k (omega arith)
 
 -- whether a proposal is taken, by the status
 pub proposal_refused : {S C : Type 0} (r : ReplicaState S C) (status : Status) (active : Bool) (command : C) → status ≡ status_of r → active ≡ is_active status.role →

@@ -27,10 +27,10 @@ use Rattle.snapshots.specs.agreement.Inside.Saying.{IsOf, SpeaksTruth}
 use Rattle.snapshots.specs.agreement.Moments.{Moment as WholeMoment, Moments as WholeMoments}
 use Rattle.snapshots.specs.agreement.World.{GroupWorld as WholeWorld}
 use Rattle.snapshots.specs.whole.Messages.Body.{NewBallot as whole_new_ballot}
-use Rattle.snapshots.proofs.of_agreement.Agreed.PastKnown.{past_known}
+use Rattle.snapshots.proofs.of_agreement.Agreed.MomentsKnown.{moments_known}
 use Rattle.snapshots.specs.Moments.{Moment, Moments, whole_moment}
 use Rattle.snapshots.specs.World.{whole_sent}
-use Rattle.snapshots.proofs.PastsKept.{past_stands}
+use Rattle.snapshots.proofs.MomentsKept.{moments_stand}
 use Rattle.snapshots.proofs.Views.{in_whole}
 use Rattle.master.specs.Copying.{has_numbers_alone}
 
@@ -48,11 +48,11 @@ said_some w h to from b p members old led (g, is_of, master, primary, own, befor
     some_in earlier.members (led p earlier given) (sym same ∙ none)
 
 -- on whole logs
-whole_some : {S C O : Type 0} (rules : Rules S C O) (config : Config) (a : WholeMoment S C O) (past : List (WholeMoment S C O)) →
-    WholeMoments rules config (a ∷ past) → (to from b p : ℕ) (members old : List ℕ) →
+whole_some : {S C O : Type 0} (rules : Rules S C O) (config : Config) (a : WholeMoment S C O) (moments : List (WholeMoment S C O)) →
+    WholeMoments rules config (a ∷ moments) → (to from b p : ℕ) (members old : List ℕ) →
     In (to, record { from = from; body = whole_new_ballot b members p old }) a.world.sent → old ≡ [] → ⊥
-whole_some rules config a past came to from b p members old sent =
-    let k = past_known rules config a past came in
+whole_some rules config a moments came to from b p members old sent =
+    let k = moments_known rules config a moments came in
     let s = k.serves.sound in
     said_some a.world k.history to from b p members old s.ballots.led (s.said to _ sent)
 
@@ -71,13 +71,13 @@ NamesSome (Held b held) = Unit {0}
 NamesSome (Commit b held) = Unit {0}
 
 -- each that was sent does
-pub names_some : {S C O : Type 0} (rules : Rules S C O) (config : Config) (a : Moment S C O) (past : List (Moment S C O)) → Moments rules config (a ∷ past) →
+pub names_some : {S C O : Type 0} (rules : Rules S C O) (config : Config) (a : Moment S C O) (moments : List (Moment S C O)) → Moments rules config (a ∷ moments) →
     (to : ℕ) (message : Message C) → In (to, message) a.world.sent → NamesSome message.body
-names_some {S = S} {C = C} {O = O} rules config a past came to message sent = by_body message.from message.body sent
+names_some {S = S} {C = C} {O = O} rules config a moments came to message sent = by_body message.from message.body sent
   where
     by_body : (from : ℕ) (body : Body C) → In (to, record { from = from; body = body }) a.world.sent → NamesSome body
     by_body from (NewBallot b members p old) i =
-        let q = past_stands rules config a past came in
+        let q = moments_stand rules config a moments came in
         whole_some rules config (whole_moment a) q.earlier q.kept.came to from b p members old (in_whole (whole_sent a.world.archive) i)
     by_body from (Join b p) i = tt
     by_body from (State b log) i = tt

@@ -25,7 +25,7 @@ use Rattle.master.specs.ToldLengths.{max_told, told_by, told_in}
 use Rattle.master.proofs.Untold.{whole_untold}
 use Rattle.master.proofs.WholeTold.{max_told_whole}
 use Rattle.snapshots.specs.Moments.{whole_moment}
-use Rattle.snapshots.proofs.PastsKept.{past_stands}
+use Rattle.snapshots.proofs.MomentsKept.{moments_stand}
 use Rattle.std.specs.Bool.{OnTrue, OnFalse}
 use Rattle.ballot.specs.ballot_base.Losses.{Loses, Thinned, halted, one_more}
 use Rattle.ballot.specs.ballot_base.Sending.{Outcome}
@@ -90,10 +90,10 @@ answer_silent C from ballot true m b = silent {C = C} m b from (Activated ballot
 answer_silent C from ballot false m b = silent {C = C} m b from (Superseded ballot) refl
 
 -- nothing was acknowledged in the ballot that comes next
-pub untold_next : {S C O : Type 0} (rules : Rules S C O) (config : Config) (a : Moment S C O) (past : List (Moment S C O)) → Moments rules config (a ∷ past) →
+pub untold_next : {S C O : Type 0} (rules : Rules S C O) (config : Config) (a : Moment S C O) (moments : List (Moment S C O)) → Moments rules config (a ∷ moments) →
     (m : ℕ) → max_told m (a.master.given + 1) a.world.sent ≡ 0
-untold_next {S = S} {C = C} {O = O} rules config a past came m =
-    let q = past_stands rules config a past came in
+untold_next {S = S} {C = C} {O = O} rules config a moments came m =
+    let q = moments_stand rules config a moments came in
     max_told_whole m (a.master.given + 1) a.world.archive a.world.sent ∙ whole_untold rules config (whole_moment a) q.earlier q.kept.came m
 
 -- a group opens
@@ -104,7 +104,7 @@ group_opens {S = S} {C = C} {O = O} rules nodes config a told next lawful is one
     subst (λ (v : Moment S C O). IsGroup rules v told next) (sym is)
     (record {
       config = config;
-      past = [];
+      moments = [];
       came = began nodes lawful refl;
       active = one;
       counted = λ m low. none m;
@@ -119,7 +119,7 @@ pub group_goes : {S C O : Type 0} (rules : Rules S C O) (a v : Moment S C O) (to
 group_goes {S = S} {C = C} {O = O} rules a v told next told' next' g may same one counted two counted_next =
     record {
       config = g.config;
-      past = a ∷ g.past;
+      moments = a ∷ g.moments;
       came = went_on g.came may;
       active = one ∙ g.active ∙ sym (ap (λ (m : MasterState). m.active) same);
       counted = counted;
@@ -149,14 +149,14 @@ group_gives {S = S} {C = C} {O = O} rules a v config told next next' g granted m
         ballot ∙ ap (λ (y : ℕ × Config). y.0) both
 
     empty : HasCounted a.world.sent next'
-    empty m low = none m ∙ sym (untold_next rules g.config a g.past g.came m) ∙ ap (λ b. max_told m b a.world.sent) (sym ballot)
+    empty m low = none m ∙ sym (untold_next rules g.config a g.moments g.came m) ∙ ap (λ b. max_told m b a.world.sent) (sym ballot)
 
     made : (w : CutGroupWorld S C O) → MayGo rules a (record { master = assigning a.master config; world = w }) → v.world ≡ w →
         HasCounted w.sent told → HasCounted w.sent next' → IsGroup rules v told next'
     made w may is counted counted_next =
         record {
           config = g.config;
-          past = a ∷ g.past;
+          moments = a ∷ g.moments;
           came = went_on g.came (subst (λ (u : Moment S C O). MayGo rules a u) (sym (whole is)) may);
           active = g.active ∙ sym (ap (λ (m : MasterState). m.active) master);
           counted = subst (λ (u : CutGroupWorld S C O). HasCounted u.sent told) (sym is) counted;
@@ -248,7 +248,7 @@ group_answers {S = S} {C = C} {O = O} rules a v from b told next told' next' g s
         let z = both (λ t. HasCounted w.sent t) (keeps told g.counted) (keeps next g.counted_next) in
         record {
           config = g.config;
-          past = a ∷ g.past;
+          moments = a ∷ g.moments;
           came = went_on g.came (subst (λ (u : Moment S C O). MayGo rules a u) (sym (whole is)) may);
           active = active;
           counted = subst (λ (u : CutGroupWorld S C O). HasCounted u.sent told') (sym is) z.0;
@@ -280,7 +280,7 @@ counted_next {C = C} sent i x t u below read ballot heard h m low =
 
 -- all of them were received
 pub counted_all : {C : Type 0} (sent : List (ℕ × Message C)) (i : ℕ) (t : ToldIn) → length sent ≤ i → HasCounted (take i sent) t → HasCounted sent t
-counted_all {C = C} sent i t past h = subst (λ us. HasCounted us t) (take_all i sent past) h
+counted_all {C = C} sent i t moments h = subst (λ us. HasCounted us t) (take_all i sent moments) h
 
 -- an item of a list
 pub in_item : {X : Type 0} (xs : List X) (i : ℕ) (d : X) → i < length xs → In (get_or xs i d) xs
@@ -468,7 +468,7 @@ in_taken xs i P below before now m j = by_place (in_append (take i xs) (get_or x
     by_place (inr k) = last k
 
 pub in_whole : (xs : List ℕ) (i m : ℕ) → length xs ≤ i → In m xs → In m (take i xs)
-in_whole xs i m past j = subst (λ us. In m us) (sym (take_all i xs past)) j
+in_whole xs i m moments j = subst (λ us. In m us) (sym (take_all i xs moments)) j
 
 -- a node cut its log, or memory ran out for that
 pub group_cuts : {S C O : Type 0} (rules : Rules S C O) (a v : Moment S C O) (told next : ToldIn) (old new : GroupState S C O)

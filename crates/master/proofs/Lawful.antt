@@ -54,16 +54,16 @@ lawful_step {C = C} rules m w k v (answer_lost from b sent) s = lawful_activated
 lawful_step rules m w k v (master_assigns config) s = lawful_assigned m config (refusal m config) refl s
 lawful_step rules m w k v (assignment_lost config) s = lawful_assigned m config (refusal m config) refl s
 
--- of every past
-pub past_lawful : {S C O : Type 0} (rules : Rules S C O) (config : Config) (a : Moment S C O) (past : List (Moment S C O)) →
-    Moments rules config (a ∷ past) → AreLawful a.master
-past_lawful {S = S} {C = C} {O = O} rules config a past (began nodes lawful is) =
+-- of all moments
+pub moments_lawful : {S C O : Type 0} (rules : Rules S C O) (config : Config) (a : Moment S C O) (moments : List (Moment S C O)) →
+    Moments rules config (a ∷ moments) → AreLawful a.master
+moments_lawful {S = S} {C = C} {O = O} rules config a moments (began nodes lawful is) =
     subst (λ (u : Moment S C O). AreLawful u.master) (sym is)
     (record { active = rises config (can_open_is nodes config lawful).0; waiting = λ b c f. cc })
-past_lawful rules config v (a ∷ past) (went_on came step) =
-    lawful_step rules a.master a.world v.master v.world step (past_lawful rules config a past came)
-past_lawful {S = S} {C = C} {O = O} rules config v (a ∷ past) (learned came learns) =
-    subst (λ (u : Moment S C O). AreLawful u.master) (sym learns.becomes) (past_lawful rules config a past came)
+moments_lawful rules config v (a ∷ moments) (went_on came step) =
+    lawful_step rules a.master a.world v.master v.world step (moments_lawful rules config a moments came)
+moments_lawful {S = S} {C = C} {O = O} rules config v (a ∷ moments) (learned came learns) =
+    subst (λ (u : Moment S C O). AreLawful u.master) (sym learns.becomes) (moments_lawful rules config a moments came)
 
 -- members that rise lie above what they rise from, are at most 15, and each occurs once
 pub rising_above : (last : ℕ) (members : List ℕ) (m : ℕ) → are_rising last members ≡ true → In m members → (last < m) × (m < 16)

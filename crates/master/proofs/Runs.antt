@@ -10,7 +10,7 @@ use Rattle.snapshots.specs.Moments.{Moment, Moments, whole_moment}
 use Rattle.snapshots.specs.agreement.Moments.{IsAgreed, IsChosen, WasActive}
 use Rattle.snapshots.specs.agreement.Moments.{Moment as WholeMoment}
 use Rattle.snapshots.specs.Moments.Moments.{went_on}
-use Rattle.snapshots.proofs.PastsAgree.{agreed_grows, has_agreed, nodes_agree}
+use Rattle.snapshots.proofs.MomentsAgree.{agreed_grows, has_agreed, nodes_agree}
 use Rattle.master.specs.declared.event.Event.{Event}
 use Rattle.master.specs.Group.{GroupState}
 use Rattle.master.specs.Exact.{group_step, group_run}
@@ -76,43 +76,43 @@ ran_next {S = S} {C = C} rules old now new events i e below read r s =
     exact (same, few) (a, b) (inr f) =
         let g : new.losses ≡ min (now.losses + 1) (2 ^ 64 - 1) = f in absurd (omega (arith, same, few, a, b, g))
 
--- the past that a run leaves, in which what was agreed begins what is agreed
-pub record Went {S C O : Type 0} (rules : Rules S C O) (config : Config) (past : List (Moment S C O)) (a : Moment S C O) : Type 0 where
+-- the moments that a run leaves, in which what was agreed begins what is agreed
+pub record Went {S C O : Type 0} (rules : Rules S C O) (config : Config) (moments : List (Moment S C O)) (a : Moment S C O) : Type 0 where
   pub earlier : List (Moment S C O)
   pub between : List (Moment S C O)
-  pub goes_on : a ∷ earlier ≡ between ++ past
+  pub goes_on : a ∷ earlier ≡ between ++ moments
   pub came : Moments rules config (a ∷ earlier)
-  pub grown : (xs ys : List C) → IsAgreed config (map whole_moment past) xs → IsAgreed config (map whole_moment (a ∷ earlier)) ys → IsPrefixOf xs ys
+  pub grown : (xs ys : List C) → IsAgreed config (map whole_moment moments) xs → IsAgreed config (map whole_moment (a ∷ earlier)) ys → IsPrefixOf xs ys
 
 -- the agreed list is the longest, so there is one
-one_agreed : {S C O : Type 0} (config : Config) (past : List (WholeMoment S C O)) (xs ys : List C) → IsAgreed config past xs → IsAgreed config past ys → IsPrefixOf xs ys
-one_agreed {S = S} {C = C} {O = O} config past xs ys x y = by_chosen x.chosen
+one_agreed : {S C O : Type 0} (config : Config) (moments : List (WholeMoment S C O)) (xs ys : List C) → IsAgreed config moments xs → IsAgreed config moments ys → IsPrefixOf xs ys
+one_agreed {S = S} {C = C} {O = O} config moments xs ys x y = by_chosen x.chosen
   where
-    by_chosen : (xs ≡ []) ⊎ ((b : ℕ) × WasActive past b × IsChosen config past b xs) → IsPrefixOf xs ys
+    by_chosen : (xs ≡ []) ⊎ ((b : ℕ) × WasActive moments b × IsChosen config moments b xs) → IsPrefixOf xs ys
     by_chosen (inl none) = subst (λ (us : List C). IsPrefixOf us ys) (sym none) (record { rest = ys; is = refl })
     by_chosen (inr (b, active, chosen)) = y.longest b xs active chosen
 
-went : {S C O : Type 0} (rules : Rules S C O) (config : Config) (w v : GroupState S C O) (past : List (Moment S C O)) (events : List (Event C)) →
-    Moments rules config (w.moment ∷ past) → GroupTraceOrLost rules w events v → Went rules config (w.moment ∷ past) v.moment
-went rules config w v past events came ends =
-    record { earlier = past; between = []; goes_on = refl; came = came; grown = λ xs ys before after. one_agreed config (map whole_moment (w.moment ∷ past)) xs ys before after }
-went {S = S} {C = C} {O = O} rules config w v past events came (goes_on {next = u} {event = e} {events = rest} s r) =
-    let now : Moments rules config (u.moment ∷ (w.moment ∷ past)) = went_on came (step_may rules w u e s) in
-    let q = went rules config u v (w.moment ∷ past) rest now r in
-    let mid = has_agreed rules config u.moment (w.moment ∷ past) now in
+went : {S C O : Type 0} (rules : Rules S C O) (config : Config) (w v : GroupState S C O) (moments : List (Moment S C O)) (events : List (Event C)) →
+    Moments rules config (w.moment ∷ moments) → GroupTraceOrLost rules w events v → Went rules config (w.moment ∷ moments) v.moment
+went rules config w v moments events came ends =
+    record { earlier = moments; between = []; goes_on = refl; came = came; grown = λ xs ys before after. one_agreed config (map whole_moment (w.moment ∷ moments)) xs ys before after }
+went {S = S} {C = C} {O = O} rules config w v moments events came (goes_on {next = u} {event = e} {events = rest} s r) =
+    let now : Moments rules config (u.moment ∷ (w.moment ∷ moments)) = went_on came (step_may rules w u e s) in
+    let q = went rules config u v (w.moment ∷ moments) rest now r in
+    let mid = has_agreed rules config u.moment (w.moment ∷ moments) now in
     record {
       earlier = q.earlier;
       between = q.between ++ u.moment ∷ [];
-      goes_on = q.goes_on ∙ sym (append_assoc q.between (u.moment ∷ []) (w.moment ∷ past));
+      goes_on = q.goes_on ∙ sym (append_assoc q.between (u.moment ∷ []) (w.moment ∷ moments));
       came = q.came;
-      grown = λ xs ys before after. prefix_then (agreed_grows rules config u.moment (w.moment ∷ past) xs mid.0 before mid.1) (q.grown mid.0 ys mid.1 after);
+      grown = λ xs ys before after. prefix_then (agreed_grows rules config u.moment (w.moment ∷ moments) xs mid.0 before mid.1) (q.grown mid.0 ys mid.1 after);
     }
 
 -- so the nodes agree after a run
-pub agrees_after : {S C O : Type 0} (rules : Rules S C O) (config : Config) (first last : GroupState S C O) (past : List (Moment S C O)) (events : List (Event C)) →
-    Moments rules config (first.moment ∷ past) → GroupTraceOrLost rules first events last → AgreesAfter rules config (first.moment ∷ past) last.moment
-agrees_after {S = S} {C = C} rules config first last past events came r =
-    let q = went rules config first last past events came r in
+pub agrees_after : {S C O : Type 0} (rules : Rules S C O) (config : Config) (first last : GroupState S C O) (moments : List (Moment S C O)) (events : List (Event C)) →
+    Moments rules config (first.moment ∷ moments) → GroupTraceOrLost rules first events last → AgreesAfter rules config (first.moment ∷ moments) last.moment
+agrees_after {S = S} {C = C} rules config first last moments events came r =
+    let q = went rules config first last moments events came r in
     let xs = has_agreed rules config last.moment q.earlier q.came in
     let z = nodes_agree rules config last.moment q.earlier xs.0 q.came xs.1 in
     record {
@@ -130,6 +130,6 @@ agrees_after {S = S} {C = C} rules config first last past events came r =
     }
 
 -- and after one event
-pub agrees_next : {S C O : Type 0} (rules : Rules S C O) (config : Config) (first last : GroupState S C O) (past : List (Moment S C O)) (event : Event C) →
-    Moments rules config (first.moment ∷ past) → GroupEventOrLost rules first event last → AgreesAfter rules config (first.moment ∷ past) last.moment
-agrees_next rules config first last past event came s = agrees_after rules config first last past (event ∷ []) came (goes_on s ends)
+pub agrees_next : {S C O : Type 0} (rules : Rules S C O) (config : Config) (first last : GroupState S C O) (moments : List (Moment S C O)) (event : Event C) →
+    Moments rules config (first.moment ∷ moments) → GroupEventOrLost rules first event last → AgreesAfter rules config (first.moment ∷ moments) last.moment
+agrees_next rules config first last moments event came s = agrees_after rules config first last moments (event ∷ []) came (goes_on s ends)

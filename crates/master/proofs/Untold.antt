@@ -13,7 +13,7 @@ use Rattle.snapshots.specs.agreement.Inside.Saying.{SpeaksTruth}
 use Rattle.snapshots.specs.agreement.Inside.ToldLengths.{max_told, told_by, told_in}
 use Rattle.snapshots.specs.agreement.Moments.{Moment, Moments}
 use Rattle.snapshots.specs.agreement.World.{GroupWorld}
-use Rattle.snapshots.proofs.of_agreement.Agreed.PastKnown.{past_known}
+use Rattle.snapshots.proofs.of_agreement.Agreed.MomentsKnown.{moments_known}
 
 -- messages that say nothing
 pub told_none : {C : Type 0} (m b : ℕ) (sent : List (ℕ × Message C)) → ((x : ℕ × Message C) → In x sent → told_in m b x.1 ≡ 0) →
@@ -48,10 +48,10 @@ untold_body w h given to from (Held b held) says low =
     ap (λ k. cond k held 0) (ne_eqb b (given + 1) (λ e. omega (arith, e, z)))
 untold_body w h given to from (Commit b held) says low = refl
 
-pub whole_untold : {S C O : Type 0} (rules : Rules S C O) (config : Config) (a : Moment S C O) (past : List (Moment S C O)) → Moments rules config (a ∷ past) →
+pub whole_untold : {S C O : Type 0} (rules : Rules S C O) (config : Config) (a : Moment S C O) (moments : List (Moment S C O)) → Moments rules config (a ∷ moments) →
     (m : ℕ) → max_told m (a.master.given + 1) a.world.sent ≡ 0
-whole_untold {S = S} {C = C} {O = O} rules config a past came m =
-    let q = past_known rules config a past came in
+whole_untold {S = S} {C = C} {O = O} rules config a moments came m =
+    let q = moments_known rules config a moments came in
     told_none m (a.master.given + 1) a.world.sent
     (λ x i. silent m (a.master.given + 1) x.1.from x.1.body
     (untold_body a.world q.history a.master.given x.0 x.1.from x.1.body (q.serves.sound.said x.0 x.1 i) q.serves.master.numbered))

@@ -6,14 +6,14 @@ use Rattle.ballot.specs.ballot_base.declared.config.Config.{Config}
 use Rattle.snapshots.specs.Agreeing.{Agrees, Holds, LeftInOrder}
 use Rattle.snapshots.specs.Moments.{IsAgreed, Moment, Moments}
 
--- the past has continued up to a moment in which the nodes agree on the list that is agreed there.
+-- the moments have continued up to one in which the nodes agree on the list that is agreed there.
 -- The outputs that left are its answers in order, and what was agreed before is a prefix of it. A
 -- log is meant as a whole one, by the record of places, which is a prefix of the agreed list, too.
 pub record AgreesAfter {S C O : Type 0} (rules : Rules S C O) (config : Config)
-    (past : List (Moment S C O)) (moment : Moment S C O) : Type 0 where
+    (moments : List (Moment S C O)) (moment : Moment S C O) : Type 0 where
   pub earlier : List (Moment S C O)
   pub between : List (Moment S C O)
-  pub goes_on : moment ∷ earlier ≡ between ++ past
+  pub goes_on : moment ∷ earlier ≡ between ++ moments
   pub came : Moments rules config (moment ∷ earlier)
   pub list : List C
   pub agreed : IsAgreed config (moment ∷ earlier) list
@@ -21,4 +21,4 @@ pub record AgreesAfter {S C O : Type 0} (rules : Rules S C O) (config : Config)
   pub holds : Holds moment.master moment.world list
   pub leaves : LeftInOrder rules (moment ∷ earlier) moment.world list
   pub recorded : IsPrefixOf moment.world.archive list
-  pub only_grown : (before : List C) → IsAgreed config past before → IsPrefixOf before list
+  pub only_grown : (before : List C) → IsAgreed config moments before → IsPrefixOf before list

@@ -87,8 +87,8 @@ HasCounted sent told =
 pub record IsGroup {S C O : Type 0} (rules : Rules S C O) (moment : Moment S C O)
     (told next : ToldIn) : Type 0 where
   pub config : Config
-  pub past : List (Moment S C O)
-  pub came : Moments rules config (moment ∷ past)
+  pub moments : List (Moment S C O)
+  pub came : Moments rules config (moment ∷ moments)
   pub active : told.ballot ≡ moment.master.active
   pub counted : HasCounted moment.world.sent told
   pub waits : (ballot : ℕ) (configuration : Config) →

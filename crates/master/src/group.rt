@@ -86,7 +86,7 @@ impl<M: Machine> Model for Group<M> {
           losses = group.losses;
         } };
 
-    // Some past led to this group, and each loss of a replica was counted.
+    // Moments led to this group, and each loss of a replica was counted.
     ghost invariant = { λ group.
         (messages group.left.items ≡ []) ×
         IsGroup M.rules (moment_of group.archive.items group.master group.nodes.items
@@ -145,9 +145,9 @@ impl<M: Machine> Group<M> {
             self.new ≡ done_exactly M.rules self.old event.now }
         // Whatever led to this group, the nodes agree after the event, the outputs that left are in
         // order, and what is agreed has only grown.
-        ensures agreement { (config : Config) (past : List (Moment M M.Command M.Output)) →
-            Moments M.rules config (self.old.moment ∷ past) →
-            AgreesAfter M.rules config (self.old.moment ∷ past) self.new.moment }
+        ensures agreement { (config : Config) (moments : List (Moment M M.Command M.Output)) →
+            Moments M.rules config (self.old.moment ∷ moments) →
+            AgreesAfter M.rules config (self.old.moment ∷ moments) self.new.moment }
     {
         match event {
             Event::Propose(node, command) => self.propose(*node, command),
@@ -167,9 +167,9 @@ impl<M: Machine> Group<M> {
             self.new.moment ≡ group_run M.rules events.now self.old.moment }
         // Whatever led to this group, the nodes agree after the events, the outputs that left are
         // in order, and what is agreed has only grown.
-        ensures agreement { (config : Config) (past : List (Moment M M.Command M.Output)) →
-            Moments M.rules config (self.old.moment ∷ past) →
-            AgreesAfter M.rules config (self.old.moment ∷ past) self.new.moment }
+        ensures agreement { (config : Config) (moments : List (Moment M M.Command M.Output)) →
+            Moments M.rules config (self.old.moment ∷ moments) →
+            AgreesAfter M.rules config (self.old.moment ∷ moments) self.new.moment }
     {
         for event in events {
             let _ = self.step(event);
@@ -179,9 +179,9 @@ impl<M: Machine> Group<M> {
     /// Returns the agreed list, the longest that is chosen in a ballot that was active, in two
     /// parts: the second continues where the first ends.
     pub fn agreed(&self) -> (&[M::Command], &[M::Command])
-        ensures { (config : Config) (past : List (Moment M M.Command M.Output)) →
-            Moments M.rules config (self.now.moment ∷ past) →
-            IsAgreed config (self.now.moment ∷ past)
+        ensures { (config : Config) (moments : List (Moment M M.Command M.Output)) →
+            Moments M.rules config (self.now.moment ∷ moments) →
+            IsAgreed config (self.now.moment ∷ moments)
             (result.0.now ++ result.1.now) }
     {
         let held = self.agreed_len();
@@ -202,10 +202,10 @@ impl<M: Machine> Group<M> {
     /// Returns the length of the agreed list. It takes no longer, however much was sent, which no
     /// clause says.
     pub fn agreed_len(&self) -> u64
-        ensures { (config : Config) (past : List (Moment M M.Command M.Output))
+        ensures { (config : Config) (moments : List (Moment M M.Command M.Output))
             (agreed : List M.Command) →
-            Moments M.rules config (self.now.moment ∷ past) →
-            IsAgreed config (self.now.moment ∷ past) agreed → result ≡ length agreed }
+            Moments M.rules config (self.now.moment ∷ moments) →
+            IsAgreed config (self.now.moment ∷ moments) agreed → result ≡ length agreed }
     {
         let (_, members) = self.master.active();
         if members.len() == 1 {

@@ -18,7 +18,7 @@ use Rattle.packet_world.specs.agreement.MasterState.{AssignRefusal, master_after
 use Rattle.packet_world.specs.snapshots.Moments.{IsAgreed, Moment, Moments}
 use Rattle.packet_world.specs.agreement.Proposals.{commands_of as commands_in}
 use Rattle.packet_world.specs.agreement.World.{can_open}
-use Rattle.packet_world.proofs.of_snapshots.PastsAgree.{has_agreed}
+use Rattle.packet_world.proofs.of_snapshots.MomentsAgree.{has_agreed}
 use Rattle.node_moves.specs.node_core.Core.{CoreState, opening_core, rules}
 use Rattle.node_moves.specs.Ends.{packet_commands_from}
 use Rattle.node_moves.specs.RunProposals.{bytes_on}
@@ -34,8 +34,8 @@ use Rattle.node_group.specs.Losing.{WereSent}
 use Rattle.node_group.specs.Losing.{all_given as given_losing, put_in_run as put_losing}
 use Rattle.node_group.specs.Putting.{recorded_in}
 use Rattle.node_group.specs.Order.{packet_commands}
-use Rattle.node_group.specs.Pasts.{HasPast}
-use Rattle.node_group.proofs.GroupsArePasts.{goes_on, groups_are_pasts, seen_still}
+use Rattle.node_group.specs.GroupMoments.{HasMoments}
+use Rattle.node_group.proofs.GroupsHaveMoments.{goes_on, groups_have_moments, seen_still}
 use Rattle.node_group.proofs.LosingNone.{first_still, frozen_losing, losing_none, same_bytes, same_given, same_put, same_recorded, sent_losing}
 use Rattle.node_group.proofs.MovesHappen.{Further}
 use Rattle.node_group.proofs.NamesInGroups.{IsWell, all_well, each_got}
@@ -121,9 +121,9 @@ no_connections zero config = tt
 no_connections (suc n) config =
     each_append (λ (core : CoreState). core.connections ≡ []) (opening_cores n config) (opening_core (n + 1) config ∷ []) (no_connections n config) (refl, tt)
 
--- a past of the group, and the state of each connection by what is agreed at its end
+-- the moments of the group, and the state of each connection by what is agreed at its end
 pub record CarriedSo {nodes : ℕ} {config : Config} {g : Group} (went : GroupTrace nodes config g) : Type 0 where
-  pub of : HasPast config g (groups_on_trace went) (all_proposed went)
+  pub of : HasMoments config g (groups_on_trace went) (all_proposed went)
   pub good : (x : ConnectionName) (written : List Packet) (later : List ℕ) → Joins written (came_up x went ++ later)
       → Good config x written later g (moment_of_nodes g ∷ of.earlier) (all_proposed went) (went_down x went)
 
@@ -139,7 +139,7 @@ pub record CarriedOn {nodes : ℕ} {config : Config} {g h : Group} {went : Group
 pub carried_at_first : (nodes : ℕ) (config : Config) (can : can_open nodes config ≡ true) → CarriedSo (let went : GroupTrace nodes config (opening_group nodes config) = opened can in went)
 carried_at_first nodes config can =
     record {
-      of = groups_are_pasts nodes config (opening_group nodes config) (opened can);
+      of = groups_have_moments nodes config (opening_group nodes config) (opened can);
       good = λ x written later joined agreed is.
           inl (record {
             nowhere = λ n core at. ap (find (named x)) (each_got (λ (c : CoreState). c.connections ≡ []) (opening_cores nodes config) n core (no_connections nodes config) at);
@@ -151,14 +151,14 @@ carried_at_first nodes config can =
 
 pub carried_on : {nodes : ℕ} {config : Config} (g h : Group) (went : GroupTrace nodes config g) (before : CarriedSo went) (step : GroupStep g h) → CarriedOn before step
 carried_on {nodes = nodes} {config = config} g h went before step =
-    let is : IsPut before.of.past (all_proposed went) = record { proposed = before.of.proposed; taken = before.of.taken } in
-    let s = group_steps g h step before.of.past (all_well nodes config g went).0 in
+    let is : IsPut before.of.moments (all_proposed went) = record { proposed = before.of.proposed; taken = before.of.taken } in
+    let s = group_steps g h step before.of.moments (all_well nodes config g went).0 in
     let now = put_further (all_proposed went) s.further is in
     record {
       now = record {
         of = record {
           earlier = s.further.before;
-          past = s.further.past;
+          moments = s.further.moments;
           proposed = now.proposed;
           taken = now.taken;
           seen = (here, seen_still (groups_on_trace went) s.further.kept before.of.seen);

@@ -7,7 +7,7 @@ pub mod MovesHappen
 pub mod LossesHappen
 pub mod Recorded
 pub mod RunsHappen
-pub mod GroupsArePasts
+pub mod GroupsHaveMoments
 pub mod PutsInBallot
 pub mod NamesInGroups
 pub mod Ordered

@@ -27,7 +27,7 @@ use Rattle.packet_world.specs.snapshots.Giving.{given_in as gives_in}
 use Rattle.packet_world.specs.agreement.World.{outputs as whole_outputs}
 use Rattle.packet_world.specs.snapshots.Moments.{Moment, Moments, IsAgreed, whole_moment}
 use Rattle.packet_world.specs.snapshots.Whole.{whole, whole_log}
-use Rattle.packet_world.proofs.of_snapshots.PastsKept.{past_stands}
+use Rattle.packet_world.proofs.of_snapshots.MomentsKept.{moments_stand}
 use Rattle.packet_world.proofs.of_snapshots.Views.{get_whole}
 use Rattle.packet_world.specs.agreement.Moments.{IsChosen, WasActive}
 use Rattle.packet_world.specs.snapshots.Moments.Moments.{went_on}
@@ -38,9 +38,9 @@ use Rattle.packet_world.specs.snapshots.Steps.MayHappen.{node_goes}
 use Rattle.packet_world.specs.snapshots.World.{NodeGoes as goes}
 use Rattle.packet_world.specs.snapshots.World.{CutGroupWorld, messages, outputs}
 use Rattle.packet_world.specs.snapshots.World.{moved as moved_world}
-use Rattle.packet_world.proofs.of_snapshots.PastsAgree.{nodes_agree}
-use Rattle.packet_world.proofs.of_snapshots.PastsAgree.{agreed_grows}
-use Rattle.packet_world.proofs.of_agreement.Agreed.PastKnown.{past_known}
+use Rattle.packet_world.proofs.of_snapshots.MomentsAgree.{nodes_agree}
+use Rattle.packet_world.proofs.of_snapshots.MomentsAgree.{agreed_grows}
+use Rattle.packet_world.proofs.of_agreement.Agreed.MomentsKnown.{moments_known}
 use Rattle.packet_world.proofs.of_snapshots.NextPlaces.{answers_at_the_next_places}
 use Rattle.packet_world.proofs.of_agreement.Given.Places.{none_between}
 use Rattle.packet_world.proofs.of_agreement.Given.StepGives.{from_active}
@@ -63,21 +63,21 @@ use Rattle.std.specs.Prelude.{not}
 use Rattle.std.proofs.lemmas.Bool.{and_parts, ltb-true}
 use Rattle.node_group.specs.Group.{Group, group_after_outcome, moment_of_nodes, replica_of, with_record}
 use Rattle.node_group.specs.Steps.{InputWasSent, WasSent, with_messages, put_in_move}
-use Rattle.node_group.specs.Pasts.{packets_in}
+use Rattle.node_group.specs.GroupMoments.{packets_in}
 use Rattle.node_group.specs.Putting.{recorded_by}
 use Rattle.node_group.proofs.Packets.{AreTaken, HasRoomFor, none_taken, packets_join, proposal_taken}
 use Rattle.node_group.proofs.Placed.{get_mapped, set_mapped, set_same}
 use Rattle.node_group.proofs.Thinning.{Given, KeptOf, kept_of_all, nothing_kept}
 use Rattle.node_group.proofs.Replicas.{changes_keep, hands_keeps, moved_replica, opens_keeps, room_serves, serving_runs, settles_keeps}
 
--- A past continues to this moment, by events in which these commands were proposed; what is agreed
+-- Moments continue to this moment, by events in which these commands were proposed; what is agreed
 -- grows.
 pub record Further {config : Config} {a : Moment State Command Output} {earlier : List (Moment State Command Output)} (came : Moments rules config (a ∷ earlier))
     (b : Moment State Command Output) (put : List (ℕ × Command)) : Type 0 where
   pub before : List (Moment State Command Output)
-  pub past : Moments rules config (b ∷ before)
-  pub proposed : proposals_of past ≡ proposals_of came ++ put
-  pub taken : (x : ConnectionName) → packets_in x (taken_of past) ≡ packets_in x (taken_of came) ++ packets_in x put
+  pub moments : Moments rules config (b ∷ before)
+  pub proposed : proposals_of moments ≡ proposals_of came ++ put
+  pub taken : (x : ConnectionName) → packets_in x (taken_of moments) ≡ packets_in x (taken_of came) ++ packets_in x put
   pub kept : (z : Moment State Command Output) → In z (a ∷ earlier) → In z (b ∷ before)
   pub grows : (xs ys : List Command) → IsAgreed config (a ∷ earlier) xs → IsAgreed config (b ∷ before) ys → IsPrefixOf xs ys
 
@@ -96,7 +96,7 @@ by_event {config = config} {a = a} {earlier = earlier} came b step put n given p
     record {
       further = record {
         before = a ∷ earlier;
-        past = went_on came step;
+        moments = went_on came step;
         proposed = ap (λ l. proposals_of came ++ l) proposed;
         taken = λ x. packets_join x (taken_of came) (taken_in step) ∙ ap (λ l. packets_in x (taken_of came) ++ l) (taken x);
         kept = λ z i. there i;
@@ -140,10 +140,10 @@ stays_as_it_is g n core outcome given at same none_sent none_left =
     (sym (ap (λ l. g.sent ++ l) none_sent ∙ append-nil g.sent)) (sym (ap (λ l. g.left ++ l) none_left ∙ append-nil g.left)))
 
 -- what is agreed at one moment is one list
-pub one_agreed : (config : Config) (past : List (Moment State Command Output)) (xs ys : List Command) → IsAgreed config past xs → IsAgreed config past ys → IsPrefixOf xs ys
-one_agreed config past xs ys first other = by first.chosen
+pub one_agreed : (config : Config) (moments : List (Moment State Command Output)) (xs ys : List Command) → IsAgreed config moments xs → IsAgreed config moments ys → IsPrefixOf xs ys
+one_agreed config moments xs ys first other = by first.chosen
   where
-    by : (xs ≡ []) ⊎ ((b : ℕ) × WasActive (map whole_moment past) b × IsChosen config (map whole_moment past) b xs) → IsPrefixOf xs ys
+    by : (xs ≡ []) ⊎ ((b : ℕ) × WasActive (map whole_moment moments) b × IsChosen config (map whole_moment moments) b xs) → IsPrefixOf xs ys
     by (inl empty) = record { rest = ys; is = ap (λ l. l ++ ys) (sym empty) }
     by (inr (b, active, chosen)) = other.longest b xs active chosen
 
@@ -151,9 +151,9 @@ one_agreed config past xs ys first other = by first.chosen
 gives_none : (config : Config) (a : Moment State Command Output) (earlier : List (Moment State Command Output)) → Moments rules config (a ∷ earlier) → (xs : List Command)
     → IsAgreed config (a ∷ earlier) xs → (n : ℕ) (r : ReplicaState State Command) → slice_get a.world.nodes n ≡ Some r → GivesNext rules (whole a.world.archive r) (whole a.world.archive r) xs []
 gives_none config a earlier came xs is n r stands =
-    let q = past_stands rules config a earlier came in
+    let q = moments_stand rules config a earlier came in
     let there' = get_whole (whole a.world.archive) a.world.nodes n r stands in
-    let within = ((past_known rules config (whole_moment a) q.earlier q.kept.came).serves.sound.nodes n (whole a.world.archive r) there').within in
+    let within = ((moments_known rules config (whole_moment a) q.earlier q.kept.came).serves.sound.nodes n (whole a.world.archive r) there').within in
     let short = prefix_length ((nodes_agree rules config a earlier xs came is).0.applied n (whole a.world.archive r) there') in
     let long = length-take-le r.committed (whole_log a.world.archive r.log) within in
     record {
@@ -168,7 +168,7 @@ abbrev pub unchanged : {config : Config} {a : Moment State Command Output} {earl
 unchanged {config = config} {a = a} {earlier = earlier} came =
     record {
       before = earlier;
-      past = came;
+      moments = came;
       proposed = sym (append-nil (proposals_of came));
       taken = λ x. sym (append-nil (packets_in x (taken_of came)));
       kept = λ z i. i;

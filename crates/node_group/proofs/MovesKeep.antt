@@ -15,7 +15,7 @@ use Rattle.packet_world.proofs.of_lists.Prefixes.{prefix_take}
 use Rattle.packet_world.specs.snapshots.Moments.{Moment, Moments, IsAgreed}
 use Rattle.packet_world.specs.agreement.Proposals.{commands_of as commands_in}
 use Rattle.packet_world.specs.snapshots.World.{outputs}
-use Rattle.packet_world.proofs.of_snapshots.PastsAgree.{one_primary_a_ballot}
+use Rattle.packet_world.proofs.of_snapshots.MomentsAgree.{one_primary_a_ballot}
 use Rattle.packet_world.specs.snapshots.Agreeing.{IsPrimary}
 use Rattle.node_moves.specs.Pipe.{IsPiped}
 use Rattle.packet_world.specs.exactly_once.Sends.{sends_to}

@@ -14,7 +14,7 @@ use Rattle.packet_world.specs.snapshots.Moments.{IsAgreed}
 use Rattle.packet_world.specs.agreement.Proposals.{IsOfBallot, IsPartOf, commands_of}
 use Rattle.packet_world.specs.snapshots.Proposals.{proposals_of, taken_of}
 use Rattle.packet_world.specs.agreement.Proposals.IsPartOf.{nothing_left, with_one, without_one}
-use Rattle.packet_world.proofs.of_snapshots.PastsAgree.{nodes_agree}
+use Rattle.packet_world.proofs.of_snapshots.MomentsAgree.{nodes_agree}
 use Rattle.packet_world.specs.whole.Replica.{ReplicaState as WholeState}
 use Rattle.packet_world.specs.snapshots.Whole.{whole, whole_log}
 use Rattle.packet_world.proofs.of_snapshots.Orders.{keeps_the_order, node_at}
@@ -24,8 +24,8 @@ use Rattle.node_group.specs.Ballots.{IsInItsBallot}
 use Rattle.node_group.specs.Group.{Group, moment_of_nodes, replica_of}
 use Rattle.node_group.specs.Steps.{all_proposed, groups_on_trace}
 use Rattle.node_group.specs.Order.{GroupsKeepTheOrder, packet_commands}
-use Rattle.node_group.specs.Pasts.{HasPast, packets_in}
-use Rattle.node_group.proofs.GroupsArePasts.{groups_are_pasts}
+use Rattle.node_group.specs.GroupMoments.{HasMoments, packets_in}
+use Rattle.node_group.proofs.GroupsHaveMoments.{groups_have_moments}
 use Rattle.node_group.proofs.NamesInGroups.{puts_in_the_ballot_of_the_name}
 use Rattle.node_group.proofs.Placed.{get_mapped}
 
@@ -51,28 +51,28 @@ packets_of_rows x (row ∷ rows) = by (is_packet_of row.1 x) (packets_of_rows x 
     by true same = ap (λ l. row.1 ∷ l) same
     by false same = same
 
-in_log : (config : Config) (g : Group) (groups : List Group) (put : List (ℕ × Command)) → HasPast config g groups put → Each IsInItsBallot put → (x : ConnectionName) (n : ℕ)
+in_log : (config : Config) (g : Group) (groups : List Group) (put : List (ℕ × Command)) → HasMoments config g groups put → Each IsInItsBallot put → (x : ConnectionName) (n : ℕ)
     (r : ReplicaState State Command) → slice_get (moment_of_nodes g).world.nodes n ≡ Some r → IsPrefixOf (packet_commands x (whole_log g.archive r.log)) (packet_commands x (commands_of put))
 in_log config g groups put of each x n r stands =
     subst (IsPrefixOf (packet_commands x (whole_log g.archive r.log))) ordered
-    ((keeps_the_order rules config (moment_of_nodes g) of.earlier of.past).1 (λ (command : Command). is_packet_of command x) x.ballot own n r stands)
+    ((keeps_the_order rules config (moment_of_nodes g) of.earlier of.moments).1 (λ (command : Command). is_packet_of command x) x.ballot own n r stands)
   where
-    ordered : packet_commands x (commands_of (taken_of of.past)) ≡ packet_commands x (commands_of put)
-    ordered = packets_of_rows x (taken_of of.past) ∙ ap commands_of (of.taken x) ∙ sym (packets_of_rows x put)
+    ordered : packet_commands x (commands_of (taken_of of.moments)) ≡ packet_commands x (commands_of put)
+    ordered = packets_of_rows x (taken_of of.moments) ∙ ap commands_of (of.taken x) ∙ sym (packets_of_rows x put)
 
-    own : IsOfBallot rules.start_of (λ (command : Command). is_packet_of command x) x.ballot (taken_of of.past)
+    own : IsOfBallot rules.start_of (λ (command : Command). is_packet_of command x) x.ballot (taken_of of.moments)
     own =
         record {
           starts = λ b. refl;
           only = λ row i named.
               sym (of_each put row each
-              (subst (In row) of.proposed (part_in row (taken_of of.past) (proposals_of of.past) (keeps_the_order rules config (moment_of_nodes g) of.earlier of.past).0 i)) x named);
+              (subst (In row) of.proposed (part_in row (taken_of of.moments) (proposals_of of.moments) (keeps_the_order rules config (moment_of_nodes g) of.earlier of.moments).0 i)) x named);
         }
 
-pub in_agreed : (config : Config) (g : Group) (groups : List Group) (put : List (ℕ × Command)) (of : HasPast config g groups put) → Each IsInItsBallot put → (x : ConnectionName)
+pub in_agreed : (config : Config) (g : Group) (groups : List Group) (put : List (ℕ × Command)) (of : HasMoments config g groups put) → Each IsInItsBallot put → (x : ConnectionName)
     (xs : List Command) → IsAgreed config (moment_of_nodes g ∷ of.earlier) xs → IsPrefixOf (packet_commands x xs) (packet_commands x (commands_of put))
 in_agreed config g groups put of each x xs is =
-    let holds = (nodes_agree rules config (moment_of_nodes g) of.earlier xs of.past is).1 in
+    let holds = (nodes_agree rules config (moment_of_nodes g) of.earlier xs of.moments is).1 in
     let at = node_at (whole g.archive) (moment_of_nodes g).world.nodes holds.node holds.replica holds.stands in
     prefix_then (filter_prefix (λ (command : Command). is_packet_of command x) xs holds.replica.log holds.held)
     (subst (λ (l : List Command). IsPrefixOf (packet_commands x l) (packet_commands x (commands_of put))) (ap (λ (w : WholeState State Command). w.log) at.2)
@@ -80,7 +80,7 @@ in_agreed config g groups put of each x xs is =
 
 pub groups_keep_the_order : GroupsKeepTheOrder
 groups_keep_the_order nodes config g went =
-    let of = groups_are_pasts nodes config g went in
+    let of = groups_have_moments nodes config g went in
     let each = puts_in_the_ballot_of_the_name nodes config g went in
     record {
       of = of;

@@ -19,7 +19,7 @@ use Rattle.node_moves.specs.Moves.{is_proposal}
 use Rattle.node_moves.proofs.Kept.{left_true}
 use Rattle.node_moves.proofs.Taken.{proposed_log}
 use Rattle.node_group.specs.Group.{replica_of}
-use Rattle.node_group.specs.Pasts.{packets_in}
+use Rattle.node_group.specs.GroupMoments.{packets_in}
 
 pub packets_join : (x : ConnectionName) (rows more : List (ℕ × Command)) → packets_in x (rows ++ more) ≡ packets_in x rows ++ packets_in x more
 packets_join x rows more = filter-append (λ (row : ℕ × Command). is_packet_of row.1 x) rows more

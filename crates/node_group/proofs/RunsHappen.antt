@@ -23,12 +23,12 @@ use Rattle.node_group.specs.Losing.{WereSent, all_given, put_in_move, put_in_run
 use Rattle.node_group.proofs.LossesHappen.{losses_happen}
 use Rattle.node_group.proofs.MovesHappen.{Further, happens_without_messages}
 use Rattle.node_group.proofs.Thinning.{Given, KeptOfBoth, kept_of_both}
-use Rattle.node_group.specs.Pasts.{packets_in}
+use Rattle.node_group.specs.GroupMoments.{packets_in}
 use Rattle.node_group.proofs.Packets.{packets_join}
 use Rattle.node_group.proofs.Placed.{get_of_set, set_twice}
 use Rattle.packet_world.proofs.of_lists.Prefixes.{prefix_then}
 use Rattle.packet_world.proofs.of_lists.Members.{in_left}
-use Rattle.packet_world.proofs.of_snapshots.PastsAgree.{has_agreed}
+use Rattle.packet_world.proofs.of_snapshots.MomentsAgree.{has_agreed}
 use Rattle.packet_world.proofs.of_snapshots.Effects.{messages-append, outputs-append}
 
 -- ---- what was sent stays sent
@@ -65,18 +65,18 @@ two_turns g n first next given more =
 -- ---- runs
 
 abbrev pub both : {config : Config} {a b c : Moment State Command Output} {earlier : List (Moment State Command Output)} (came : Moments rules config (a ∷ earlier)) (put more : List (ℕ × Command))
-    → (first : Further came b put) → Further first.past c more → Further came c (put ++ more)
+    → (first : Further came b put) → Further first.moments c more → Further came c (put ++ more)
 both {config = config} {b = b} came put more first next =
     record {
       before = next.before;
-      past = next.past;
+      moments = next.moments;
       proposed = next.proposed ∙ ap (λ l. l ++ more) first.proposed ∙ append_assoc (proposals_of came) put more;
       taken = λ x.
           next.taken x ∙ ap (λ l. l ++ packets_in x more) (first.taken x) ∙ append_assoc (packets_in x (taken_of came)) (packets_in x put) (packets_in x more)
           ∙ ap (λ l. packets_in x (taken_of came) ++ l) (sym (packets_join x put more));
       kept = λ z i. next.kept z (first.kept z i);
       grows = λ xs ys before after.
-          let mid = has_agreed rules config b first.before first.past in
+          let mid = has_agreed rules config b first.before first.moments in
           prefix_then (first.grows xs mid.0 before mid.1) (next.grows mid.0 ys mid.1 after);
     }
 
@@ -98,7 +98,7 @@ runs_happen g n core outcome (goes_on {first = first} {next = next} m run) kept 
     let one : StepOutcome = with_messages k.front first in
     let after : Group = group_after_outcome (with_record g (recorded_by g.archive m)) n one (move_effects m) in
     let rest = runs_happen after n first.core next run k.rest (get_of_set g.nodes n core first.core at)
-    (were_still g (recorded_by g.archive m) n one (move_effects m) (all_inputs run) s.1) frozen.1 k.next config step.before step.past in
+    (were_still g (recorded_by g.archive m) n one (move_effects m) (all_inputs run) s.1) frozen.1 k.next config step.before step.moments in
     both came (put_in_move m) (put_in_run run) step
-    (subst (λ (h : Group). Further step.past (moment_of_nodes h) (put_in_run run))
+    (subst (λ (h : Group). Further step.moments (moment_of_nodes h) (put_in_run run))
     (kept_turns (with_record g (recorded_in (recorded_by g.archive m) run)) n first next (move_effects m) (all_given run) kept k) rest)

@@ -14,7 +14,7 @@ use Rattle.packet_world.proofs.of_lists.OfEach.{each_left}
 use Rattle.packet_world.specs.snapshots.Moments.{Moment, Moments, IsAgreed}
 use Rattle.packet_world.specs.agreement.Proposals.{commands_of as commands_in}
 use Rattle.packet_world.specs.snapshots.Proposals.{proposals_of, taken_of}
-use Rattle.packet_world.proofs.of_snapshots.PastsAgree.{has_agreed}
+use Rattle.packet_world.proofs.of_snapshots.MomentsAgree.{has_agreed}
 use Rattle.node_moves.specs.node_connections.Connections.{is_closed}
 use Rattle.node_moves.specs.node_core.Core.{CoreState, StepOutcome, rules}
 use Rattle.node_moves.specs.node_core.Effects.{without_messages}
@@ -33,7 +33,7 @@ use Rattle.node_group.specs.Group.{Group, group_after_outcome, moment_of_nodes, 
 use Rattle.node_group.specs.Steps.{with_messages}
 use Rattle.node_group.specs.Losing.{WereSent, all_given, put_in_move, put_in_run, recorded_by, recorded_in}
 use Rattle.node_group.specs.Order.{packet_commands}
-use Rattle.node_group.specs.Pasts.{packets_in}
+use Rattle.node_group.specs.GroupMoments.{packets_in}
 use Rattle.node_group.proofs.LossesHappen.{losses_happen}
 use Rattle.node_group.proofs.MovesHappen.{Further, unchanged}
 use Rattle.node_group.proofs.Ordered.{in_agreed}
@@ -50,12 +50,12 @@ use Rattle.node_group.proofs.States.{Stands}
 abbrev pub Good : Config → ConnectionName → List Packet → List ℕ → Group → List (Moment State Command Output) → List (ℕ × Command) → List ℕ → Type 0
 Good config x written later g moments put sent = (agreed : List Command) → IsAgreed config moments agreed → Stands x written later g moments put sent agreed
 
--- what was put in a past
-pub record IsPut {config : Config} {past : List (Moment State Command Output)} (came : Moments rules config past) (put : List (ℕ × Command)) : Type 0 where
+-- what was put between moments
+pub record IsPut {config : Config} {moments : List (Moment State Command Output)} (came : Moments rules config moments) (put : List (ℕ × Command)) : Type 0 where
   pub proposed : proposals_of came ≡ put
   pub taken : (x : ConnectionName) → packets_in x (taken_of came) ≡ packets_in x put
 
--- A past continues to a group, while these commands were put, and of each connection these bytes
+-- Moments continue to a group, while these commands were put, and of each connection these bytes
 -- came up and these went down.
 pub record Steps {config : Config} (g : Group) {earlier : List (Moment State Command Output)} (came : Moments rules config (moment_of_nodes g ∷ earlier)) (h : Group)
     (more : List (ℕ × Command)) (up down : ConnectionName → List ℕ) : Type 0 where
@@ -65,7 +65,7 @@ pub record Steps {config : Config} (g : Group) {earlier : List (Moment State Com
       → Good config x written later h (moment_of_nodes h ∷ further.before) (put ++ more) (sent ++ down x)
 
 pub put_further : {config : Config} {a b : Moment State Command Output} {earlier : List (Moment State Command Output)} {came : Moments rules config (a ∷ earlier)} {more : List (ℕ × Command)}
-    (put : List (ℕ × Command)) (f : Further came b more) → IsPut came put → IsPut f.past (put ++ more)
+    (put : List (ℕ × Command)) (f : Further came b more) → IsPut came put → IsPut f.moments (put ++ more)
 put_further {more = more} put f is =
     record {
       proposed = f.proposed ∙ ap (λ l. l ++ more) is.proposed;
@@ -95,7 +95,7 @@ said_first : {config : Config} {a : Moment State Command Output} {earlier : List
     → IsAgreed config (moment_of_nodes h ∷ f.before) ys → IsPrefixOf (packet_commands x ys) (packet_commands x (commands_in (put ++ more)))
 said_first {config = config} h {more = more} f x put is each ys after =
     let now = put_further put f is in
-    in_agreed config h [] (put ++ more) (record { earlier = f.before; past = f.past; proposed = now.proposed; taken = now.taken; seen = tt }) each x ys after
+    in_agreed config h [] (put ++ more) (record { earlier = f.before; moments = f.moments; proposed = now.proposed; taken = now.taken; seen = tt }) each x ys after
 
 move_steps : {config : Config} (g : Group) (n : ℕ) (core : CoreState) (outcome : StepOutcome) (m : NodeMoveOrLost core outcome) (kept : Given) → slice_get g.nodes n ≡ Some core → WereSent g n (inputs_in m)
     → CutsThaw m → Thinned kept outcome.messages → IsOrderly core → LeadsStill core outcome → {earlier : List (Moment State Command Output)} (came : Moments rules config (moment_of_nodes g ∷ earlier))
@@ -113,7 +113,7 @@ move_steps {config = config} g n core outcome m kept at sent_so frozen t o leads
 -- ---- one after another
 
 both_steps : {config : Config} {g h k : Group} {earlier : List (Moment State Command Output)} (came : Moments rules config (moment_of_nodes g ∷ earlier)) (put more : List (ℕ × Command))
-    (up next_up down next_down : ConnectionName → List ℕ) → (first : Steps g came h put up down) → Steps h first.further.past k more next_up next_down
+    (up next_up down next_down : ConnectionName → List ℕ) → (first : Steps g came h put up down) → Steps h first.further.moments k more next_up next_down
     → Steps g came k (put ++ more) (λ x. up x ++ next_up x) (λ x. down x ++ next_down x)
 both_steps {config = config} {g = g} {h = h} {k = k} {earlier = earlier} came put more up next_up down next_down first next =
     record {
@@ -155,14 +155,14 @@ first_leads core outcome of x c there lives e = left_true (is_active (replica_of
 move_and_run : {config : Config} (g : Group) (n : ℕ) (core : CoreState) (first next : StepOutcome) (m : NodeMoveOrLost core first) (run : MoveTraceOrLost first.core next) (kept : Given)
     (k : KeptOfBoth kept first.messages next.messages) {earlier : List (Moment State Command Output)} (came : Moments rules config (moment_of_nodes g ∷ earlier))
     → (step : Steps g came (group_after_outcome (with_record g (recorded_by g.archive m)) n (with_messages k.front first) (move_effects m)) (put_in_move m) (λ x. came_on x m) (λ x. handed_on x m))
-    → Steps (group_after_outcome (with_record g (recorded_by g.archive m)) n (with_messages k.front first) (move_effects m)) step.further.past
+    → Steps (group_after_outcome (with_record g (recorded_by g.archive m)) n (with_messages k.front first) (move_effects m)) step.further.moments
     (group_after_outcome (with_record (group_after_outcome (with_record g (recorded_by g.archive m)) n (with_messages k.front first) (move_effects m)) (recorded_in (recorded_by g.archive m) run)) n
     (with_messages k.rest next) (all_given run)) (put_in_run run) (λ x. bytes_on x run) (λ x. handed_losing x run)
     → Steps g came (group_after_outcome (with_record g (recorded_in (recorded_by g.archive m) run)) n (with_messages kept (and_then first next)) (move_effects m ++ all_given run))
     (put_in_move m ++ put_in_run run) (λ x. came_on x m ++ bytes_on x run) (λ x. handed_on x m ++ handed_losing x run)
 move_and_run g n core first next m run kept k came step rest =
     both_steps came (put_in_move m) (put_in_run run) (λ x. came_on x m) (λ x. bytes_on x run) (λ x. handed_on x m) (λ x. handed_losing x run) step
-    (subst (λ (h : Group). Steps (group_after_outcome (with_record g (recorded_by g.archive m)) n (with_messages k.front first) (move_effects m)) step.further.past h (put_in_run run)
+    (subst (λ (h : Group). Steps (group_after_outcome (with_record g (recorded_by g.archive m)) n (with_messages k.front first) (move_effects m)) step.further.moments h (put_in_run run)
     (λ x. bytes_on x run) (λ x. handed_losing x run))
     (kept_turns (with_record g (recorded_in (recorded_by g.archive m) run)) n first next (move_effects m) (all_given run) kept k) rest)
 
@@ -184,7 +184,7 @@ calm_steps g n core outcome (goes_on {first = first} {next = next} m run) kept c
     let step = move_steps g n core first m k.front at s.0 frozen.0 k.first o (calm_leads core first m calm.0) came in
     move_and_run g n core first next m run kept k came step
     (calm_steps (group_after_outcome (with_record g (recorded_by g.archive m)) n one (move_effects m)) n first.core next run k.rest calm.1 (losses_read_in_order core first m o).0 (get_of_set g.nodes n core first.core at)
-    (were_still g (recorded_by g.archive m) n one (move_effects m) (all_inputs run) s.1) frozen.1 k.next step.further.past)
+    (were_still g (recorded_by g.archive m) n one (move_effects m) (all_inputs run) s.1) frozen.1 k.next step.further.moments)
 
 pub run_steps : {config : Config} (g : Group) (n : ℕ) (core : CoreState) (outcome : StepOutcome) (run : MoveTraceOrLost core outcome) (kept : Given) → HearsAtFirst run → IsOrderly core → AreOfTheBallot core
     → slice_get g.nodes n ≡ Some core → WereSent g n (all_inputs run) → AllFreeze run → Thinned kept outcome.messages
@@ -198,4 +198,4 @@ run_steps g n core outcome (goes_on {first = first} {next = next} m run) kept ca
     let step = move_steps g n core first m k.front at s.0 frozen.0 k.first o (first_leads core first of) came in
     move_and_run g n core first next m run kept k came step
     (calm_steps (group_after_outcome (with_record g (recorded_by g.archive m)) n one (move_effects m)) n first.core next run k.rest calm (losses_read_in_order core first m o).0 (get_of_set g.nodes n core first.core at)
-    (were_still g (recorded_by g.archive m) n one (move_effects m) (all_inputs run) s.1) frozen.1 k.next step.further.past)
+    (were_still g (recorded_by g.archive m) n one (move_effects m) (all_inputs run) s.1) frozen.1 k.next step.further.moments)

@@ -15,7 +15,7 @@ use Rattle.node_moves.specs.Puts.{spelled}
 use Rattle.node_group.specs.Group.{Group, moment_of_nodes}
 use Rattle.node_group.specs.Steps.{GroupTrace, all_proposed, groups_on_trace}
 use Rattle.node_group.specs.Order.{packet_commands}
-use Rattle.node_group.specs.Pasts.{HasPast}
+use Rattle.node_group.specs.GroupMoments.{HasMoments}
 use Rattle.node_group.specs.Streams.{came_up, went_down}
 
 -- the answers to a list of commands that name a connection, spelled
@@ -35,7 +35,7 @@ pub record IsCarried (connection : ConnectionName) (written : List Packet) (hand
 -- prefix of their bytes arrived on it.
 pub record Carries {nodes : ℕ} {config : Config} {group : Group}
     (went : GroupTrace nodes config group) : Type 0 where
-  pub of : HasPast config group (groups_on_trace went) (all_proposed went)
+  pub of : HasMoments config group (groups_on_trace went) (all_proposed went)
   pub each : (agreed : List Command) → IsAgreed config (moment_of_nodes group ∷ of.earlier) agreed →
       (connection : ConnectionName) → (written : List Packet) (later : List ℕ) →
       Joins written (came_up connection went ++ later) →

@@ -2,7 +2,7 @@ pub mod Group
 pub mod Putting
 pub mod Losing
 pub mod Steps
-pub mod Pasts
+pub mod GroupMoments
 pub mod Ballots
 pub mod Order
 pub mod Streams

@@ -11,7 +11,7 @@ use Rattle.packet_world.specs.agreement.Proposals.{commands_of}
 use Rattle.node_moves.specs.node_core.Core.{CoreState}
 use Rattle.node_group.specs.Group.{Group, moment_of_nodes, replica_of}
 use Rattle.node_group.specs.Steps.{GroupTrace, all_proposed, groups_on_trace}
-use Rattle.node_group.specs.Pasts.{HasPast}
+use Rattle.node_group.specs.GroupMoments.{HasMoments}
 
 -- the packets of a connection among commands
 abbrev pub packet_commands : ConnectionName → List Command → List Command
@@ -22,7 +22,7 @@ packet_commands connection commands =
 -- that were proposed for it, in order
 pub record KeepsOrder (config : Config) (group : Group) (groups : List Group)
     (put : List (ℕ × Command)) : Type 0 where
-  pub of : HasPast config group groups put
+  pub of : HasMoments config group groups put
   pub logs : (connection : ConnectionName) (node : ℕ) (core : CoreState) →
       slice_get group.nodes node ≡ Some core →
       IsPrefixOf (packet_commands connection (whole_log group.archive (replica_of core).log))

@@ -2,14 +2,14 @@
 
 ghost use Rattle.node_group.specs.Ballots.{PutsInTheBallotOfTheName};
 ghost use Rattle.node_group.specs.Order.{GroupsKeepTheOrder};
-ghost use Rattle.node_group.specs.Pasts.{GroupsArePasts};
+ghost use Rattle.node_group.specs.GroupMoments.{GroupsHaveMoments};
 
 /// States that, whatever the nodes of a group, its master and its clients do, the steps of its
-/// replicas are a past for which all that is proved for agreement holds. What was proposed there is
-/// what the nodes proposed to their replicas, in order, and of that all packets of connections were
-/// taken.
-pub fn groups_are_pasts()
-    ensures { GroupsArePasts }
+/// replicas go through moments for which all that is proved for agreement holds. What was proposed
+/// there is what the nodes proposed to their replicas, in order, and of that all packets of
+/// connections were taken.
+pub fn groups_have_moments()
+    ensures { GroupsHaveMoments }
 {}
 
 /// States that, whatever happens in a group, a node proposes the packets of a connection, including

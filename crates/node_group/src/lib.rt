@@ -6,4 +6,4 @@ mod connection_laws;
 mod laws;
 
 pub use connection_laws::groups_carry_in_order;
-pub use laws::{groups_are_pasts, groups_keep_the_order, puts_in_the_ballot_of_the_name};
+pub use laws::{groups_have_moments, groups_keep_the_order, puts_in_the_ballot_of_the_name};

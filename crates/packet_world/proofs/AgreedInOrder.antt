@@ -17,9 +17,9 @@ filter_front : {X : Type 0} (test : X → Bool) (xs ys : List X) → IsPrefixOf 
 filter_front test xs ys front = record { rest = filter test front.rest; is = ap (filter test) front.is ∙ filter_joined test xs front.rest }
 
 pub agreed_in_order : {S C O : Type 0} (rules : Rules S C O) → KeepsTheOrder rules → NodesAgree rules → AgreedKeepsTheOrder rules
-agreed_in_order {S = S} {C = C} rules keeps agree config a past agreed came is =
-    let order = keeps config a past came in
-    let holds = (agree config a past agreed came is).1 in
+agreed_in_order {S = S} {C = C} rules keeps agree config a moments agreed came is =
+    let order = keeps config a moments came in
+    let holds = (agree config a moments agreed came is).1 in
     let at = node_at (whole a.world.archive) a.world.nodes holds.node holds.replica holds.stands in (
       order.0,
       λ names ballot own.

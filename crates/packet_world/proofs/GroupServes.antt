@@ -11,8 +11,8 @@ use Rattle.snapshots.proofs.of_lists.Members.{in_left}
 use Rattle.snapshots.specs.agreement.Proposals.{IsOfBallot, commands_of, rows_in}
 use Rattle.snapshots.specs.Proposals.{taken_at, taken_of}
 use Rattle.snapshots.proofs.Orders.{one_node_takes_a_ballot}
-use Rattle.snapshots.proofs.PastsAgree.{nodes_agree}
-use Rattle.snapshots.proofs.PastsAgree.{agreed_grows}
+use Rattle.snapshots.proofs.MomentsAgree.{nodes_agree}
+use Rattle.snapshots.proofs.MomentsAgree.{agreed_grows}
 use Rattle.snapshots.proofs.Orders.{keeps_the_order}
 use Rattle.snapshots.proofs.Orders.{taken_at_in}
 use Rattle.exactly_once.specs.Sides.{ClientConnection}
@@ -85,9 +85,9 @@ named_in names ballot (row ∷ rows) only = by (row.0 == ballot) refl (names row
 -- ---- the law
 
 pub groups_serve : GroupsServe
-groups_serve rules starts config a past w later came before after takes =
+groups_serve rules starts config a moments w later came before after takes =
     record {
-      grows = agreed_grows rules config a past w.agreed later before after;
+      grows = agreed_grows rules config a moments w.agreed later before after;
       order = λ i j c κ e pipe. order κ e (takes.ends i j c κ e pipe);
       known = λ command among own. known command among own (name_of command own);
     }
@@ -96,13 +96,13 @@ groups_serve rules starts config a past w later came before after takes =
     of_ballot x = record { starts = λ ballot. no_packet (rules.start_of ballot) x (starts ballot); only = λ row j is. takes.ballots row j x is }
 
     in_order : (x : ConnectionName) → IsPrefixOf (filter (of_name x) later) (filter (of_name x) (commands_of (taken_of came)))
-    in_order x = (agreed_in_order rules (keeps_the_order rules) (nodes_agree rules) config a past later came after).1 (of_name x) x.ballot (of_ballot x)
+    in_order x = (agreed_in_order rules (keeps_the_order rules) (nodes_agree rules) config a moments later came after).1 (of_name x) x.ballot (of_ballot x)
 
     order : (κ : ClientConnection) (e : End) → ReadsAt came κ e → IsPrefixOf (filter (of_name κ.name) later) (commands_from κ.name 0 (take e.read κ.written))
     order κ e r =
         let whole = named_in (of_name κ.name) κ.name.ballot (taken_of came) (λ row j is. takes.ballots row j κ.name is) in
-        let own = named_in (of_name κ.name) κ.name.ballot (taken_at r.node came) (λ row j is. takes.ballots row (taken_at_in rules config a past came r.node row j) κ.name is) in
-        let one = one_node_takes_a_ballot rules config a past came r.moment r.node κ.name.ballot r.among r.primary in
+        let own = named_in (of_name κ.name) κ.name.ballot (taken_at r.node came) (λ row j is. takes.ballots row (taken_at_in rules config a moments came r.node row j) κ.name is) in
+        let one = one_node_takes_a_ballot rules config a moments came r.moment r.node κ.name.ballot r.among r.primary in
         subst (λ (l : List Command). IsPrefixOf (filter (of_name κ.name) later) l)
         (whole ∙ ap (λ (rows : List (ℕ × Command)). filter (of_name κ.name) (commands_of rows)) one ∙ sym own ∙ r.taken) (in_order κ.name)
 

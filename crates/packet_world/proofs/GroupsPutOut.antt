@@ -19,8 +19,8 @@ same_rest (x ∷ xs) ys zs e = same_rest xs ys zs (tail e)
     tail e = cc
 
 pub groups_put_out : GroupsPutOut
-groups_put_out config a b past later came more n ballot leads old new stood stands given is cs w reached agreed i j c κ e pipe is_open seen =
-    let z = answers_while_it_leads broker_rules config a b past later w.agreed came more agreed n ballot leads old new stood stands in
+groups_put_out config a b moments later came more n ballot leads old new stood stands given is cs w reached agreed i j c κ e pipe is_open seen =
+    let z = answers_while_it_leads broker_rules config a b moments later w.agreed came more agreed n ballot leads old new stood stands in
     let low = z.0 in
     let same : outputs (outputs_between broker_rules w.agreed e.seen new.committed) ≡ given =
     ap (λ k. outputs (outputs_between broker_rules w.agreed k new.committed)) seen

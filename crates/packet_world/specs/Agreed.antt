@@ -12,8 +12,8 @@ use Rattle.snapshots.specs.Proposals.{proposals_of, taken_of}
 -- list has a prefix in the order of proposing.
 abbrev pub AgreedKeepsTheOrder : {S C O : Type 0} → Rules S C O → Type 0
 AgreedKeepsTheOrder {S} {C} {O} rules =
-    (config : Config) (moment : Moment S C O) (past : List (Moment S C O)) (agreed : List C) →
-    (came : Moments rules config (moment ∷ past)) → IsAgreed config (moment ∷ past) agreed →
+    (config : Config) (moment : Moment S C O) (moments : List (Moment S C O)) (agreed : List C) →
+    (came : Moments rules config (moment ∷ moments)) → IsAgreed config (moment ∷ moments) agreed →
     IsPartOf (taken_of came) (proposals_of came)
     × ((names : C → Bool) (ballot : ℕ) → IsOfBallot rules.start_of names ballot (taken_of came) →
     IsPrefixOf (filter names agreed) (filter names (commands_of (taken_of came))))

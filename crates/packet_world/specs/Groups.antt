@@ -22,11 +22,11 @@ use Rattle.packet_world.specs.Served.{IsOfPipe, ServesWorld}
 -- A node that was the active primary of a connection's ballot, and took of its packets those that
 -- its end has read.
 pub record ReadsAt {rules : Rules State Command Output} {config : Config}
-    {past : List (Moment State Command Output)} (came : Moments rules config past)
+    {moments : List (Moment State Command Output)} (came : Moments rules config moments)
     (connection : ClientConnection) (end : End) : Type 0 where
   pub node : ℕ
   pub moment : Moment State Command Output
-  pub among : In moment past
+  pub among : In moment moments
   pub primary : IsPrimary moment.world node connection.name.ballot
   pub taken : filter (λ command. is_packet_of command connection.name)
       (commands_of (taken_at node came))
@@ -35,7 +35,7 @@ pub record ReadsAt {rules : Rules State Command Output} {config : Config}
 -- The premise about the nodes: they take commands of a connection only in the ballot of its name,
 -- for each connection the packets that its end has read, in order, and nothing of others.
 pub record TakesAsRead {rules : Rules State Command Output} {config : Config}
-    {past : List (Moment State Command Output)} (came : Moments rules config past)
+    {moments : List (Moment State Command Output)} (came : Moments rules config moments)
     (world : PacketWorld) : Type 0 where
   pub ballots : (row : ℕ × Command) → In row (taken_of came) → (name : ConnectionName) →
       is_packet_of row.1 name ≡ true → row.0 ≡ name.ballot
@@ -53,6 +53,6 @@ GroupsServe =
     (rules : Rules State Command Output) →
     ((ballot : ℕ) → is_of_connection (rules.start_of ballot) ≡ false) →
     (config : Config) (moment : Moment State Command Output)
-    (past : List (Moment State Command Output)) (world : PacketWorld) (later : List Command) →
-    (came : Moments rules config (moment ∷ past)) → IsAgreed config past world.agreed →
-    IsAgreed config (moment ∷ past) later → TakesAsRead came world → ServesWorld world later
+    (moments : List (Moment State Command Output)) (world : PacketWorld) (later : List Command) →
+    (came : Moments rules config (moment ∷ moments)) → IsAgreed config moments world.agreed →
+    IsAgreed config (moment ∷ moments) later → TakesAsRead came world → ServesWorld world later

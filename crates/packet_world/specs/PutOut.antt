@@ -24,22 +24,22 @@ outputs_alone given = map (λ (row : ℕ × Output). row.1) given
 -- the end of a connection whose node has applied the list up to a place and output this, of which
 -- it sent what is for the connection
 abbrev pub end_given : ConnectionName → ℕ → List (ℕ × Output) → End → End
-end_given name past given end =
-    record end { seen = past; put = end.put ++ sends_to name (outputs_alone given) }
+end_given name places given end =
+    record end { seen = places; put = end.put ++ sends_to name (outputs_alone given) }
 
 -- The outputs of the machine at the next places of the agreed list, none left out, may be sent on
 -- an open end: the world reaches a state that has them.
 abbrev pub GivenIsPutOut : Type 0
 GivenIsPutOut =
     (clients : List Client) (world : PacketWorld) (index nth : ℕ) (client : ClientEnds)
-    (connection : ClientConnection) (end : End) (past : ℕ) →
+    (connection : ClientConnection) (end : End) (places : ℕ) →
     Reached clients world → HasPipe world index client nth connection end →
-    end.is_open ≡ true → end.seen ≤ past → past ≤ length world.agreed →
+    end.is_open ≡ true → end.seen ≤ places → places ≤ length world.agreed →
     Reached clients (with_client index
     (record client {
       ends = set client.ends nth
-          (end_given connection.name past
-          (outputs (outputs_between broker_rules world.agreed end.seen past)) end);
+          (end_given connection.name places
+          (outputs (outputs_between broker_rules world.agreed end.seen places)) end);
     }) world)
 
 -- All outputs of a node of a group between two moments of a ballot that it leads may be sent on an
@@ -47,8 +47,8 @@ GivenIsPutOut =
 abbrev pub GroupsPutOut : Type 0
 GroupsPutOut =
     (config : Config) (first last : Moment State Command Output)
-    (past later : List (Moment State Command Output))
-    (came : Moments broker_rules config (first ∷ past))
+    (moments later : List (Moment State Command Output))
+    (came : Moments broker_rules config (first ∷ moments))
     (more : Moments broker_rules config (last ∷ later))
     (node ballot : ℕ) → LeadsOn node ballot came last later more →
     (old new : ReplicaState State Command) → slice_get first.world.nodes node ≡ Some old →

@@ -1,4 +1,4 @@
--- Adds.antt: what a step adds to what was proposed, taken and given in a past, on whole logs and in
+-- Adds.antt: what a step adds to what was proposed, taken and given between moments, on whole logs and in
 -- the terms of a group that cuts its logs.
 use Rattle.std.proofs.Common.{◌≡◌, ℕ, ◌≤◌, cond, List, [], ◌∷◌, ◌++◌, length, refl, ap, ap₂, sym, ◌∙◌, subst}
 use Rattle.std.specs.Prelude.{nat_lt, ◌==◌}
@@ -47,7 +47,7 @@ pub record AddsBy {S C O : Type 0} {rules : Rules S C O} {m : MasterState} {w : 
 abbrev pub StepAdds : {S C O : Type 0} → Rules S C O → MasterState → WholeWorld S C O → MasterState → WholeWorld S C O → Added C O → Type 0
 StepAdds rules m w k v d = (step : WholeMayHappen rules m w k v) × AddsBy step d
 
--- to a past
+-- to moments
 pub record Adds {S C O : Type 0} {rules : Rules S C O} {config : Config} {xs ys : List (WholeMoment S C O)}
     (before : WholeMoments rules config xs) (after : WholeMoments rules config ys) (d : Added C O) : Type 0 where
   pub proposes : whole_proposals_of after ≡ whole_proposals_of before ++ d.proposed
@@ -128,7 +128,7 @@ adds_as before after d e p t u g q =
       gives = λ n. q.gives n ∙ ap (λ us. whole_given_of n before ++ us) (g n);
     }
 
--- nothing was proposed, taken or given in a past
+-- nothing was proposed, taken or given between moments
 pub record SaysNothing {S C O : Type 0} {rules : Rules S C O} {config : Config} {xs : List (WholeMoment S C O)} (came : WholeMoments rules config xs) : Type 0 where
   pub proposes : whole_proposals_of came ≡ []
   pub takes : whole_taken_of came ≡ []

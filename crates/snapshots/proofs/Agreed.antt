@@ -21,8 +21,8 @@ use Rattle.agreement.specs.Moments.Moments.{went_on, learned}
 use Rattle.agreement.specs.Steps.{MayHappen, MayTake as WholeMayTake}
 use Rattle.agreement.specs.Steps.MayHappen.{node_takes}
 use Rattle.agreement.specs.World.{GroupWorld as WholeWorld, moved as whole_moved, messages as whole_messages, outputs as whole_outputs}
-use Rattle.agreement.proofs.Agreed.PastAgrees.{has_agreed, nodes_agree}
-use Rattle.agreement.proofs.Agreed.PastGrows.{agreed_grows}
+use Rattle.agreement.proofs.Agreed.MomentsAgree.{has_agreed, nodes_agree}
+use Rattle.agreement.proofs.Agreed.MomentsGrow.{agreed_grows}
 use Rattle.snapshots.proofs.Adds.{Adds, added_at}
 use Rattle.snapshots.proofs.Serving.{thinned_same}
 
@@ -72,9 +72,9 @@ moved_twice {S = S} {C = C} {O = O} w n x y given =
     (append-nil (w.sent ++ whole_messages given)) (append-nil (w.left ++ whole_outputs given))
 
 -- who applied these places at an earlier moment, and had joined no higher ballot
-pub record WasApplied {S C O : Type 0} (past : List (Moment S C O)) (ballot k : ℕ) (front : List C) : Type 0 where
+pub record WasApplied {S C O : Type 0} (moments : List (Moment S C O)) (ballot k : ℕ) (front : List C) : Type 0 where
   pub earlier : Moment S C O
-  pub was : In earlier past
+  pub was : In earlier moments
   pub other : ℕ
   pub teacher : WholeState S C
   pub stood : slice_get earlier.world.nodes other ≡ Some teacher
@@ -90,8 +90,8 @@ pub learns_after : {S C O : Type 0} (rules : Rules S C O) (config : Config) (a :
     k ≤ length (whole_step rules r input).state.log →
     WasApplied (a ∷ earlier) (whole_step rules r input).state.joined k (take k (whole_step rules r input).state.log) →
     new ≡ whole_applied_to rules (whole_step rules r input).state k →
-    (past : Moments rules config (record a { world = whole_moved a.world n new given } ∷ record a { world = whole_moved a.world n (whole_step rules r input).state given } ∷ a ∷ earlier))
-    × Adds came past (added_at n r input (whole_step rules r input).state given)
+    (moments : Moments rules config (record a { world = whole_moved a.world n new given } ∷ record a { world = whole_moved a.world n (whole_step rules r input).state given } ∷ a ∷ earlier))
+    × Adds came moments (added_at n r input (whole_step rules r input).state given)
 learns_after {S = S} {C = C} {O = O} rules config a earlier n r new input given k came stands runs may thin going passive low high was is =
     (learned (went_on came (node_takes n r input stands runs may (inl (refl, thin)))) learns, record { proposes = refl; takes = refl; takes_at = λ i. refl; gives = λ i. refl })
   where

@@ -16,7 +16,7 @@ use Rattle.agreement.specs.MasterState.{MasterState}
 use Rattle.agreement.specs.Moments.{Moment, Moments, IsAgreed}
 use Rattle.agreement.specs.Steps.MayHappen.{node_stops}
 use Rattle.agreement.specs.World.{GroupWorld as WholeWorld}
-use Rattle.agreement.proofs.Agreed.PastAgrees.{has_agreed, machines_replay, nodes_agree}
+use Rattle.agreement.proofs.Agreed.MomentsAgree.{has_agreed, machines_replay, nodes_agree}
 use Rattle.agreement.specs.ballot_base.Logs.{Log, places}
 use Rattle.snapshots.specs.Whole.{whole_log, whole}
 use Rattle.agreement.specs.ballot_base.declared.message.Body.{Body}
@@ -54,35 +54,35 @@ snapshot_longer rules archive more log p s =
       bytes = λ up. s.bytes up ∙ ap (λ us. rules.frozen (replay rules us)) (sym (take_prefix log.base p s.within));
     }
 
-carries_longer : {S C O : Type 0} (rules : Rules S C O) (past : List (Moment S C O)) (archive more : List C) (body : Body C) → IsPrefixOf archive more →
-    Carries rules past archive body → Carries rules past more body
-carries_longer {C = C} rules past archive more (State b log) p (s, was) =
-    (snapshot_longer rules archive more log p s, λ up. subst (λ (us : List C). WasApplied past b log.base us) (sym (take_prefix log.base p s.within)) (was up))
-carries_longer {C = C} rules past archive more (Install b log) p (s, was) =
-    (snapshot_longer rules archive more log p s, λ up. subst (λ (us : List C). WasApplied past b log.base us) (sym (take_prefix log.base p s.within)) (was up))
-carries_longer rules past archive more (NewBallot b members a old) p x = tt
-carries_longer rules past archive more (Join b a) p x = tt
-carries_longer rules past archive more (Installed b held) p x = tt
-carries_longer rules past archive more (Activate b) p x = tt
-carries_longer rules past archive more (Activated b) p x = tt
-carries_longer rules past archive more (Superseded b) p x = tt
-carries_longer rules past archive more (Append b place c) p x = tt
-carries_longer rules past archive more (Held b held) p x = tt
-carries_longer rules past archive more (Commit b held) p x = tt
+carries_longer : {S C O : Type 0} (rules : Rules S C O) (moments : List (Moment S C O)) (archive more : List C) (body : Body C) → IsPrefixOf archive more →
+    Carries rules moments archive body → Carries rules moments more body
+carries_longer {C = C} rules moments archive more (State b log) p (s, was) =
+    (snapshot_longer rules archive more log p s, λ up. subst (λ (us : List C). WasApplied moments b log.base us) (sym (take_prefix log.base p s.within)) (was up))
+carries_longer {C = C} rules moments archive more (Install b log) p (s, was) =
+    (snapshot_longer rules archive more log p s, λ up. subst (λ (us : List C). WasApplied moments b log.base us) (sym (take_prefix log.base p s.within)) (was up))
+carries_longer rules moments archive more (NewBallot b members a old) p x = tt
+carries_longer rules moments archive more (Join b a) p x = tt
+carries_longer rules moments archive more (Installed b held) p x = tt
+carries_longer rules moments archive more (Activate b) p x = tt
+carries_longer rules moments archive more (Activated b) p x = tt
+carries_longer rules moments archive more (Superseded b) p x = tt
+carries_longer rules moments archive more (Append b place c) p x = tt
+carries_longer rules moments archive more (Held b held) p x = tt
+carries_longer rules moments archive more (Commit b held) p x = tt
 
-carries_within : {S C O : Type 0} (rules : Rules S C O) (past : List (Moment S C O)) (archive : List C) (body : Body C) →
-    Carries rules past archive body → IsWithin (length archive) body
-carries_within rules past archive (State b log) x = x.0.within
-carries_within rules past archive (Install b log) x = x.0.within
-carries_within rules past archive (NewBallot b members a old) x = tt
-carries_within rules past archive (Join b a) x = tt
-carries_within rules past archive (Installed b held) x = tt
-carries_within rules past archive (Activate b) x = tt
-carries_within rules past archive (Activated b) x = tt
-carries_within rules past archive (Superseded b) x = tt
-carries_within rules past archive (Append b place c) x = tt
-carries_within rules past archive (Held b held) x = tt
-carries_within rules past archive (Commit b held) x = tt
+carries_within : {S C O : Type 0} (rules : Rules S C O) (moments : List (Moment S C O)) (archive : List C) (body : Body C) →
+    Carries rules moments archive body → IsWithin (length archive) body
+carries_within rules moments archive (State b log) x = x.0.within
+carries_within rules moments archive (Install b log) x = x.0.within
+carries_within rules moments archive (NewBallot b members a old) x = tt
+carries_within rules moments archive (Join b a) x = tt
+carries_within rules moments archive (Installed b held) x = tt
+carries_within rules moments archive (Activate b) x = tt
+carries_within rules moments archive (Activated b) x = tt
+carries_within rules moments archive (Superseded b) x = tt
+carries_within rules moments archive (Append b place c) x = tt
+carries_within rules moments archive (Held b held) x = tt
+carries_within rules moments archive (Commit b held) x = tt
 
 -- a cut
 pub cuts_on : {S C O : Type 0} (rules : Rules S C O) (config : Config) (m : MasterState) (w : CutGroupWorld S C O) (earlier : List (Moment S C O)) (n : ℕ)
@@ -93,13 +93,13 @@ cuts_on {S = S} {C = C} {O = O} rules config m w earlier n r k stands runs faith
   same,
   record {
     kept = record {
-      came = past.0;
+      came = moments.0;
       nodes = λ i x e. by_place i x e (cases_eq i n);
       each_sent = λ to x i. subst (λ (u : Moment S C O). Carries rules (u ∷ earlier) rec x.body) (sym same)
           (carries_longer rules (moment m w ∷ earlier) w.archive rec x.body longer (k.each_sent to x (subst (λ us. In (to, x) us) (append-nil w.sent) i)));
       begins = λ us agreed. (recorded_by us (subst (λ (u : Moment S C O). IsAgreed config (u ∷ earlier) us) same agreed)).begins;
     };
-    adds = past.1;
+    adds = moments.1;
   },
 )
   where
@@ -180,8 +180,8 @@ cuts_on {S = S} {C = C} {O = O} rules config m w earlier n r k stands runs faith
     by_place i x e (inr other) =
         let a = k.nodes i x (sym (get_set_other w.nodes n i (cut rules r) other) ∙ e) in (snapshot_longer rules w.archive rec x.log longer a.0, a.1)
 
-    past : (came : Moments rules config (moment m v ∷ earlier)) × Adds k.came came (nothing_added C O)
-    past = subst (λ (u : Moment S C O). (came : Moments rules config (u ∷ earlier)) × Adds k.came came (nothing_added C O)) (sym same) (k.came, adds_nothing k.came)
+    moments : (came : Moments rules config (moment m v ∷ earlier)) × Adds k.came came (nothing_added C O)
+    moments = subst (λ (u : Moment S C O). (came : Moments rules config (u ∷ earlier)) × Adds k.came came (nothing_added C O)) (sym same) (k.came, adds_nothing k.came)
 
 -- what it adds
 abbrev pub added_of_node : {S C O : Type 0} {rules : Rules S C O} {w v : CutGroupWorld S C O} → NodeGoes rules w v → Added C O

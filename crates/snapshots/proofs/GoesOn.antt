@@ -12,7 +12,7 @@ use Rattle.agreement.specs.ballot_base.declared.status.Role.TheVariants.{Backup,
 use Rattle.agreement.specs.MasterState.{MasterState}
 use Rattle.agreement.specs.Moments.{Moment, Moments}
 use Rattle.agreement.specs.Moments.Moments.{went_on}
-use Rattle.agreement.proofs.Agreed.PastKnown.{past_known}
+use Rattle.agreement.proofs.Agreed.MomentsKnown.{moments_known}
 use Rattle.agreement.specs.ballot_base.Logs.{Log, places}
 use Rattle.snapshots.specs.Whole.{whole, whole_effects, whole_input}
 use Rattle.snapshots.specs.Matches.{IsBased}
@@ -73,7 +73,7 @@ on_by_one rules config m v before came d q = record { more = before; kept = q.ke
 pub held_within : {S C O : Type 0} (rules : Rules S C O) (config : Config) (m : MasterState) (w : CutGroupWorld S C O) (earlier : List (Moment S C O)) (n : ℕ)
     (r : ReplicaState S C) → Kept rules config m w earlier → slice_get w.nodes n ≡ Some r → r.committed ≤ places r.log
 held_within rules config m w earlier n r k stands =
-    let a = ((past_known rules config (moment m w) earlier k.came).serves.sound.nodes n (whole w.archive r) (get_whole (whole w.archive) w.nodes n r stands)).within in
+    let a = ((moments_known rules config (moment m w) earlier k.came).serves.sound.nodes n (whole w.archive r) (get_whole (whole w.archive) w.nodes n r stands)).within in
     let b = whole_long w.archive r.log (k.nodes n r stands).0.within in omega (arith, a, b)
 
 done : {S C O : Type 0} (rules : Rules S C O) (config : Config) (m : MasterState) (w : CutGroupWorld S C O) (earlier : List (Moment S C O)) (n : ℕ)

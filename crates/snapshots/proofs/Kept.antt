@@ -1,4 +1,4 @@
--- Kept.antt: what holds for a world whose logs are cut, in addition to the past of its whole logs,
+-- Kept.antt: what holds for a world whose logs are cut, in addition to the moments of its whole logs,
 -- and that a step keeps it.
 use Rattle.std.proofs.Common.{◌≡◌, ℕ, ◌<◌, ◌≤◌, ◌⊎◌, inl, inr, false, List, ◌∷◌, length, take, set, Some, refl, ap, sym, ◌∙◌, subst, arith}
 use Rattle.std.specs.Prelude.{slice_get}
@@ -15,8 +15,8 @@ use Rattle.agreement.specs.ballot_base.Replica.{ReplicaState}
 use Rattle.agreement.specs.MasterState.{MasterState}
 use Rattle.agreement.specs.Moments.{Moment, Moments, IsAgreed}
 use Rattle.agreement.specs.Moments.Moments.{went_on}
-use Rattle.agreement.proofs.Agreed.PastAgrees.{has_agreed}
-use Rattle.agreement.proofs.Agreed.PastKnown.{past_known}
+use Rattle.agreement.proofs.Agreed.MomentsAgree.{has_agreed}
+use Rattle.agreement.proofs.Agreed.MomentsKnown.{moments_known}
 use Rattle.agreement.specs.ballot_base.Logs.{Log, places}
 use Rattle.snapshots.specs.Whole.{whole, whole_input}
 use Rattle.snapshots.specs.Matches.{OutcomeMatches}
@@ -47,9 +47,9 @@ pub record IsSnapshot {S C O : Type 0} (rules : Rules S C O) (archive : List C) 
 
 -- .. in a message, too; and these places were applied where it was sent
 abbrev pub Carries : {S C O : Type 0} → Rules S C O → List (Moment S C O) → List C → Body C → Type 0
-Carries rules past archive (State b log) = IsSnapshot rules archive log × (0 < log.base → WasApplied past b log.base (take log.base archive))
-Carries rules past archive (Install b log) = IsSnapshot rules archive log × (0 < log.base → WasApplied past b log.base (take log.base archive))
-Carries rules past archive _ = Unit {0}
+Carries rules moments archive (State b log) = IsSnapshot rules archive log × (0 < log.base → WasApplied moments b log.base (take log.base archive))
+Carries rules moments archive (Install b log) = IsSnapshot rules archive log × (0 < log.base → WasApplied moments b log.base (take log.base archive))
+Carries rules moments archive _ = Unit {0}
 
 pub record Kept {S C O : Type 0} (rules : Rules S C O) (config : Config) (m : MasterState) (w : CutGroupWorld S C O)
     (earlier : List (Moment S C O)) : Type 0 where
@@ -58,13 +58,13 @@ pub record Kept {S C O : Type 0} (rules : Rules S C O) (config : Config) (m : Ma
   pub each_sent : (to : ℕ) (x : Message C) → In (to, x) w.sent → Carries rules (moment m w ∷ earlier) w.archive x.body
   pub begins : (xs : List C) → IsAgreed config (moment m w ∷ earlier) xs → IsPrefixOf w.archive xs
 
--- .. and of the past on whole logs, over an earlier one, what it has more
+-- .. and of the moments on whole logs, over an earlier one, what it has more
 pub record KeptWith {S C O : Type 0} (rules : Rules S C O) (config : Config) (m : MasterState) (w : CutGroupWorld S C O) (earlier : List (Moment S C O))
     {before : List (Moment S C O)} (came : Moments rules config before) (d : Added C O) : Type 0 where
   pub kept : Kept rules config m w earlier
   pub adds : Adds came kept.came d
 
--- the past on whole logs has continued
+-- the moments on whole logs have continued
 pub record GoesOn {S C O : Type 0} (rules : Rules S C O) (config : Config) (m : MasterState) (w : CutGroupWorld S C O) {before : List (Moment S C O)}
     (came : Moments rules config before) (d : Added C O) : Type 0 where
   pub more : List (Moment S C O)
@@ -72,43 +72,43 @@ pub record GoesOn {S C O : Type 0} (rules : Rules S C O) (config : Config) (m : 
   pub continues : Continues before (moment m w) more
   pub adds : Adds came kept.came d
 
-applied_in : {S C O : Type 0} (past more : List (Moment S C O)) (b k : ℕ) (front : List C) → ((c : Moment S C O) → In c past → In c more) →
-    WasApplied past b k front → WasApplied more b k front
-applied_in past more b k front inc w =
+applied_in : {S C O : Type 0} (moments more : List (Moment S C O)) (b k : ℕ) (front : List C) → ((c : Moment S C O) → In c moments → In c more) →
+    WasApplied moments b k front → WasApplied more b k front
+applied_in moments more b k front inc w =
     record { earlier = w.earlier; was = inc w.earlier w.was; other = w.other; teacher = w.teacher; stood = w.stood; joined = w.joined; applied = w.applied; same = w.same }
 
-pub carries_in : {S C O : Type 0} (rules : Rules S C O) (past more : List (Moment S C O)) (archive : List C) (body : Body C) →
-    ((c : Moment S C O) → In c past → In c more) → Carries rules past archive body → Carries rules more archive body
-carries_in rules past more archive (State b log) inc (is, was) = (is, λ up. applied_in past more b log.base (take log.base archive) inc (was up))
-carries_in rules past more archive (Install b log) inc (is, was) = (is, λ up. applied_in past more b log.base (take log.base archive) inc (was up))
-carries_in rules past more archive (NewBallot b members a old) inc x = tt
-carries_in rules past more archive (Join b a) inc x = tt
-carries_in rules past more archive (Installed b held) inc x = tt
-carries_in rules past more archive (Activate b) inc x = tt
-carries_in rules past more archive (Activated b) inc x = tt
-carries_in rules past more archive (Superseded b) inc x = tt
-carries_in rules past more archive (Append b place c) inc x = tt
-carries_in rules past more archive (Held b held) inc x = tt
-carries_in rules past more archive (Commit b held) inc x = tt
+pub carries_in : {S C O : Type 0} (rules : Rules S C O) (moments more : List (Moment S C O)) (archive : List C) (body : Body C) →
+    ((c : Moment S C O) → In c moments → In c more) → Carries rules moments archive body → Carries rules more archive body
+carries_in rules moments more archive (State b log) inc (is, was) = (is, λ up. applied_in moments more b log.base (take log.base archive) inc (was up))
+carries_in rules moments more archive (Install b log) inc (is, was) = (is, λ up. applied_in moments more b log.base (take log.base archive) inc (was up))
+carries_in rules moments more archive (NewBallot b members a old) inc x = tt
+carries_in rules moments more archive (Join b a) inc x = tt
+carries_in rules moments more archive (Installed b held) inc x = tt
+carries_in rules moments more archive (Activate b) inc x = tt
+carries_in rules moments more archive (Activated b) inc x = tt
+carries_in rules moments more archive (Superseded b) inc x = tt
+carries_in rules moments more archive (Append b place c) inc x = tt
+carries_in rules moments more archive (Held b held) inc x = tt
+carries_in rules moments more archive (Commit b held) inc x = tt
 
 -- what a node sends of its own log
-own_carries : {S C O : Type 0} (rules : Rules S C O) (past : List (Moment S C O)) (archive : List C) (s : ReplicaState S C) (body : Body C) →
-    IsSnapshot rules archive s.log → WasApplied past s.joined s.log.base (take s.log.base archive) → IsOwn s body → Carries rules past archive body
-own_carries {S = S} {C = C} {O = O} rules past archive s (State b log) snap was (at, is) =
-    subst (λ (l : Log C). IsSnapshot rules archive l × (0 < l.base → WasApplied past b l.base (take l.base archive))) (sym is)
-    (snap, λ up. subst (λ j. WasApplied past j s.log.base (take s.log.base archive)) (sym at) was)
-own_carries {S = S} {C = C} {O = O} rules past archive s (Install b log) snap was (at, is) =
-    subst (λ (l : Log C). IsSnapshot rules archive l × (0 < l.base → WasApplied past b l.base (take l.base archive))) (sym is)
-    (snap, λ up. subst (λ j. WasApplied past j s.log.base (take s.log.base archive)) (sym at) was)
-own_carries rules past archive s (NewBallot b members a old) snap was own = tt
-own_carries rules past archive s (Join b a) snap was own = tt
-own_carries rules past archive s (Installed b held) snap was own = tt
-own_carries rules past archive s (Activate b) snap was own = tt
-own_carries rules past archive s (Activated b) snap was own = tt
-own_carries rules past archive s (Superseded b) snap was own = tt
-own_carries rules past archive s (Append b place c) snap was own = tt
-own_carries rules past archive s (Held b held) snap was own = tt
-own_carries rules past archive s (Commit b held) snap was own = tt
+own_carries : {S C O : Type 0} (rules : Rules S C O) (moments : List (Moment S C O)) (archive : List C) (s : ReplicaState S C) (body : Body C) →
+    IsSnapshot rules archive s.log → WasApplied moments s.joined s.log.base (take s.log.base archive) → IsOwn s body → Carries rules moments archive body
+own_carries {S = S} {C = C} {O = O} rules moments archive s (State b log) snap was (at, is) =
+    subst (λ (l : Log C). IsSnapshot rules archive l × (0 < l.base → WasApplied moments b l.base (take l.base archive))) (sym is)
+    (snap, λ up. subst (λ j. WasApplied moments j s.log.base (take s.log.base archive)) (sym at) was)
+own_carries {S = S} {C = C} {O = O} rules moments archive s (Install b log) snap was (at, is) =
+    subst (λ (l : Log C). IsSnapshot rules archive l × (0 < l.base → WasApplied moments b l.base (take l.base archive))) (sym is)
+    (snap, λ up. subst (λ j. WasApplied moments j s.log.base (take s.log.base archive)) (sym at) was)
+own_carries rules moments archive s (NewBallot b members a old) snap was own = tt
+own_carries rules moments archive s (Join b a) snap was own = tt
+own_carries rules moments archive s (Installed b held) snap was own = tt
+own_carries rules moments archive s (Activate b) snap was own = tt
+own_carries rules moments archive s (Activated b) snap was own = tt
+own_carries rules moments archive s (Superseded b) snap was own = tt
+own_carries rules moments archive s (Append b place c) snap was own = tt
+own_carries rules moments archive s (Held b held) snap was own = tt
+own_carries rules moments archive s (Commit b held) snap was own = tt
 
 -- ---- after a move of a node
 
@@ -214,7 +214,7 @@ kept_taking {S = S} {C = C} {O = O} rules config m w earlier n r input ballot lo
 
     held : r.committed ≤ places r.log
     held =
-        let a = ((past_known rules config (moment m w) earlier k.came).serves.sound.nodes n (whole w.archive r) (get_whole (whole w.archive) w.nodes n r stands)).within in
+        let a = ((moments_known rules config (moment m w) earlier k.came).serves.sound.nodes n (whole w.archive r) (get_whole (whole w.archive) w.nodes n r stands)).within in
         let b = whole_long w.archive r.log old.0.within in omega (arith, a, b)
 
     z : LogWent rules config m w earlier n r input new given k.came
@@ -227,7 +227,7 @@ kept_taking {S = S} {C = C} {O = O} rules config m w earlier n r input ballot lo
     by_took took e snaps low =
         let b = after took e in
         let x : new.log ≡ took.log = ap (λ (s : ReplicaState S C). s.log) is ∙ b.0 in
-        kept_moved rules config m w earlier z.more n r new given (added_whole w.archive n r input new given) k stands z.past z.all
+        kept_moved rules config m w earlier z.more n r new given (added_whole w.archive n r input new given) k stands z.moments z.all
         (subst (λ (l : Log C). IsSnapshot rules w.archive l) (sym x) snaps)
         (let y = ap (λ (l : Log C). l.base) x in let c = ap (λ (s : ReplicaState S C). s.committed) is in let d = b.1 in omega (arith, low, y, c, d))
         (subst (λ (s : ReplicaState S C). SaysOwn s given) (sym is) (own_thinned (replica_step rules r input).state thin b.2)) z.adds

@@ -17,8 +17,8 @@ pub mod MoreMoments
 pub mod NextPlaces
 pub mod Opens
 pub mod Orders
-pub mod PastsAgree
-pub mod PastsKept
+pub mod MomentsAgree
+pub mod MomentsKept
 pub mod Plain
 pub mod Serving
 pub mod SnapshotsRead

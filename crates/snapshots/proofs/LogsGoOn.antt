@@ -16,7 +16,7 @@ use Rattle.agreement.specs.MasterState.{MasterState}
 use Rattle.agreement.specs.Moments.{Moment, Moments}
 use Rattle.agreement.specs.Moments.Moments.{went_on}
 use Rattle.agreement.specs.World.{GroupWorld as WholeWorld, moved as whole_moved}
-use Rattle.agreement.proofs.Agreed.PastAgrees.{machines_replay}
+use Rattle.agreement.proofs.Agreed.MomentsAgree.{machines_replay}
 use Rattle.agreement.specs.ballot_base.Logs.{Log, places}
 use Rattle.snapshots.specs.Whole.{whole_log, whole, whole_effects, whole_input}
 use Rattle.snapshots.specs.Matches.{IsBased, OutcomeMatches}
@@ -90,14 +90,14 @@ tells_before {S = S} {C = C} {O = O} rules m w n s new given r k stands is = rec
       refl,
     )
 
--- the past on whole logs after a node took a log, and what was added to it
+-- the moments on whole logs after a node took a log, and what was added to it
 pub record LogWent {S C O : Type 0} (rules : Rules S C O) (config : Config) (m : MasterState) (w : CutGroupWorld S C O) (earlier : List (Moment S C O)) (n : ℕ)
     (r : ReplicaState S C) (input : Input C) (new : ReplicaState S C) (given : List (Effect C O)) (came : Moments rules config (moment m w ∷ earlier)) : Type 0 where
   pub more : List (Moment S C O)
-  pub past : Moments rules config (moment m (moved w n new given) ∷ more)
+  pub moments : Moments rules config (moment m (moved w n new given) ∷ more)
   pub all : (c : Moment S C O) → In c (moment m w ∷ earlier) → In c more
   pub continues : Continues (moment m w ∷ earlier) (moment m (moved w n new given)) more
-  pub adds : Adds came past (added_whole w.archive n r input new given)
+  pub adds : Adds came moments (added_whole w.archive n r input new given)
 
 -- so the whole logs have continued, by one step or by one and learning
 pub log_goes_on : {S C O : Type 0} (rules : Rules S C O) (config : Config) (m : MasterState) (w : CutGroupWorld S C O) (earlier : List (Moment S C O)) (n : ℕ)
@@ -143,7 +143,7 @@ log_goes_on {S = S} {C = C} {O = O} rules config m w earlier n r input ballot lo
         (whole_loses rules w.archive r (replica_step rules r input) p new given matches (inl (is, thin))) in
         record {
           more = moment m w ∷ earlier;
-          past = went_on came s.0;
+          moments = went_on came s.0;
           all = λ c i. i;
           continues = one_more (moment m w ∷ earlier) (moment m (moved w n new given));
           adds = adds_one came (added_whole w.archive n r input new given) s;
@@ -171,9 +171,9 @@ log_goes_on {S = S} {C = C} {O = O} rules config m w earlier n r input ballot lo
             by_way : (r.committed < log.base) ⊎ (log.base ≤ r.committed) →
                 LogWent rules config m w earlier n r input new given came
             by_way (inr low) = by_match (t.row (with_snapshot r log machine) took refl refl (snapshot_taken w.archive r log machine low))
-            by_way (inl past) =
+            by_way (inl moments) =
                 let l = t.learns (with_snapshot r log machine) took
-                (snapshot_learned rules w.archive r log machine within past replays
+                (snapshot_learned rules w.archive r log machine within moments replays
                 (machines_replay rules config (moment m w) earlier came n W there_now runs ∙ ap (replay rules) (sym front))) in
                 let known : WasApplied (moment m w ∷ earlier) p.state.joined log.base (take log.base p.state.log) =
                 subst (λ (us : List C). WasApplied (moment m w ∷ earlier) p.state.joined log.base us)
@@ -181,7 +181,7 @@ log_goes_on {S = S} {C = C} {O = O} rules config m w earlier n r input ballot lo
                 (subst (λ b. WasApplied (moment m w ∷ earlier) b log.base (take log.base w.archive)) (sym t.joined) was) in
                 let base_long : log.base ≤ length p.state.log =
                 subst (λ (us : List C). log.base ≤ length us) (sym t.log_is) (let a = whole_long w.archive log within in omega (arith, a)) in
-                let low : p.state.committed ≤ log.base = let a = t.committed in omega (arith, a, past) in
+                let low : p.state.committed ≤ log.base = let a = t.committed in omega (arith, a, moments) in
                 let z = learns_after rules config (moment m w) earlier n W (whole w.archive new) (whole_input w.archive input) (whole_effects w.archive given)
                 log.base came there_now runs (may_take_whole w n input may) (thinned_then (whole_thinned w.archive thin) l.effects)
                 (t.stopped ∙ runs) t.passive low base_long known (ap (whole w.archive) is ∙ l.state) in
@@ -191,7 +191,7 @@ log_goes_on {S = S} {C = C} {O = O} rules config m w earlier n r input ballot lo
                 let same = ap (λ (x : WholeState S C). whole_taken_by W x (whole_input w.archive input)) (sym (ap (whole w.archive) is ∙ l.state)) in
                 record {
                   more = middle ∷ moment m w ∷ earlier;
-                  past = e.0;
+                  moments = e.0;
                   all = λ c i. there i;
                   continues = two_more (moment m w ∷ earlier) (moment m (moved w n new given)) middle
                       (tells_before rules m w n p.state new given r log.base stands (ap (whole w.archive) is ∙ l.state));

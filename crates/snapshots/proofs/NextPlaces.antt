@@ -26,8 +26,8 @@ use Rattle.agreement.specs.MasterState.{AssignRefusal, MasterState, refusal}
 use Rattle.agreement.specs.Moments.{Moment as WholeMoment}
 use Rattle.agreement.specs.whole.Protocol.{replica_step as whole_step}
 use Rattle.agreement.specs.whole.Replica.{ReplicaState as WholeState}
-use Rattle.agreement.proofs.Agreed.PastAgrees as wholes
-use Rattle.agreement.proofs.Agreed.PastKnown.{past_known}
+use Rattle.agreement.proofs.Agreed.MomentsAgree as wholes
+use Rattle.agreement.proofs.Agreed.MomentsKnown.{moments_known}
 use Rattle.agreement.proofs.Given.NextPlaces.{node_gives, same_gives, some_same}
 use Rattle.agreement.proofs.Given.Places.{front_between}
 use Rattle.snapshots.specs.Giving.{given_in}
@@ -42,7 +42,7 @@ use Rattle.snapshots.specs.World.{CutGroupWorld, moved, outputs, whole_world}
 use Rattle.snapshots.specs.World.NodeGoes.{takes, stops, cuts}
 use Rattle.snapshots.proofs.CutsGoOn.{cuts_on}
 use Rattle.snapshots.proofs.Kept.{Kept}
-use Rattle.snapshots.proofs.PastsKept.{past_stands}
+use Rattle.snapshots.proofs.MomentsKept.{moments_stand}
 use Rattle.snapshots.proofs.Continues.{agreed_in}
 use Rattle.snapshots.proofs.Plain.{IsPlain, plain_matches}
 use Rattle.snapshots.proofs.Views.{get_whole, outputs_whole, whole_loses}
@@ -215,11 +215,11 @@ step_gives {S = S} {C = C} {O = O} rules config m w k v earlier kept step n old 
 
 -- in the terms of the law
 pub answers_at_the_next_places : {S C O : Type 0} (rules : Rules S C O) → AnswersAtTheNextPlaces rules
-answers_at_the_next_places {S = S} {C = C} {O = O} rules config a b past xs came agreed step n old new stood stands =
-    let s = past_stands rules config a past came in
-    let t = past_stands rules config b (a ∷ past) (went_on came step) in
-    let q = past_known rules config (whole_moment a) s.earlier s.kept.came in
-    let p = past_known rules config (whole_moment b) t.earlier t.kept.came in
+answers_at_the_next_places {S = S} {C = C} {O = O} rules config a b moments xs came agreed step n old new stood stands =
+    let s = moments_stand rules config a moments came in
+    let t = moments_stand rules config b (a ∷ moments) (went_on came step) in
+    let q = moments_known rules config (whole_moment a) s.earlier s.kept.came in
+    let p = moments_known rules config (whole_moment b) t.earlier t.kept.came in
     let was = get_whole (whole a.world.archive) a.world.nodes n old stood in
     let is = get_whole (whole b.world.archive) b.world.nodes n new stands in
     let within = (p.serves.sound.nodes n (whole b.world.archive new) is).within in

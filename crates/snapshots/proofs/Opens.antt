@@ -16,7 +16,7 @@ use Rattle.agreement.specs.Moments.{Moment, Moments}
 use Rattle.agreement.specs.Moments.Moments.{began, went_on}
 use Rattle.agreement.specs.World.{can_open, opening_nodes as whole_opening_nodes}
 use Rattle.snapshots.specs.Moments.{opening_nodes, opening_world}
-use Rattle.agreement.proofs.Agreed.PastAgrees.{has_agreed}
+use Rattle.agreement.proofs.Agreed.MomentsAgree.{has_agreed}
 use Rattle.agreement.specs.ballot_base.Logs.{Log, empty_log}
 use Rattle.agreement.specs.ballot_base.declared.message.Body.{Body}
 use Rattle.agreement.specs.ballot_base.declared.message.Message.{Message}
@@ -92,19 +92,19 @@ opens_silent rules nodes config can = record { proposes = refl; takes = refl; ta
 
 -- ---- the master
 
-plain_carries : {S C O : Type 0} (rules : Rules S C O) (past : List (Moment S C O)) (archive : List C) (body : Body C) → IsPlainBody body →
-    Carries rules past archive body
-plain_carries rules past archive (State b log) p = absurd p
-plain_carries rules past archive (Install b log) p = absurd p
-plain_carries rules past archive (NewBallot b members a old) p = tt
-plain_carries rules past archive (Join b a) p = tt
-plain_carries rules past archive (Installed b held) p = tt
-plain_carries rules past archive (Activate b) p = tt
-plain_carries rules past archive (Activated b) p = tt
-plain_carries rules past archive (Superseded b) p = tt
-plain_carries rules past archive (Append b place c) p = tt
-plain_carries rules past archive (Held b held) p = tt
-plain_carries rules past archive (Commit b held) p = tt
+plain_carries : {S C O : Type 0} (rules : Rules S C O) (moments : List (Moment S C O)) (archive : List C) (body : Body C) → IsPlainBody body →
+    Carries rules moments archive body
+plain_carries rules moments archive (State b log) p = absurd p
+plain_carries rules moments archive (Install b log) p = absurd p
+plain_carries rules moments archive (NewBallot b members a old) p = tt
+plain_carries rules moments archive (Join b a) p = tt
+plain_carries rules moments archive (Installed b held) p = tt
+plain_carries rules moments archive (Activate b) p = tt
+plain_carries rules moments archive (Activated b) p = tt
+plain_carries rules moments archive (Superseded b) p = tt
+plain_carries rules moments archive (Append b place c) p = tt
+plain_carries rules moments archive (Held b held) p = tt
+plain_carries rules moments archive (Commit b held) p = tt
 
 -- a message of the master carries no log
 pub master_kept : {S C O : Type 0} (rules : Rules S C O) (config : Config) (m k : MasterState) (w : CutGroupWorld S C O) (earlier : List (Moment S C O))
@@ -115,18 +115,18 @@ pub master_kept : {S C O : Type 0} (rules : Rules S C O) (config : Config) (m k 
 master_kept {S = S} {C = C} {O = O} rules config m k w earlier receiver body q plain step =
     record {
       kept = record {
-        came = past.0;
+        came = moments.0;
         nodes = q.nodes;
         each_sent = λ to x i. by_age to x (in_append w.sent ((receiver, record { from = 0; body = body }) ∷ []) i);
         begins = λ ys agreed. let xs = has_agreed rules config (moment m w) earlier q.came in
             prefix_then (q.begins xs.0 xs.1) (grows_in config (moment m w ∷ earlier) (moment k v ∷ moment m w ∷ earlier) xs.0 ys (λ c i. there i) xs.1 agreed);
       };
-      adds = past.1;
+      adds = moments.1;
     }
   where
-    past : (came : Moments rules config (moment k (record w { sent = w.sent ++ (receiver, record { from = 0; body = body }) ∷ [] }) ∷ moment m w ∷ earlier))
+    moments : (came : Moments rules config (moment k (record w { sent = w.sent ++ (receiver, record { from = 0; body = body }) ∷ [] }) ∷ moment m w ∷ earlier))
         × Adds q.came came (nothing_added C O)
-    past = subst (λ us. let x : Moment S C O = record { master = k; world = record (whole_world w) { sent = us } } in
+    moments = subst (λ us. let x : Moment S C O = record { master = k; world = record (whole_world w) { sent = us } } in
         (came : Moments rules config (x ∷ moment m w ∷ earlier)) × Adds q.came came (nothing_added C O))
         (sym (map-append (whole_sent w.archive) w.sent ((receiver, record { from = 0; body = body }) ∷ [])))
         (went_on q.came step.0, adds_one q.came (nothing_added C O) step)

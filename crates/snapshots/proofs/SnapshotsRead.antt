@@ -28,34 +28,34 @@ and_not true b e = e
 and_not false b e = refl
 
 -- by the kind of the message
-pub carried_is_read : {S C O : Type 0} (rules : Rules S C O) (past : List (Moment S C O)) (archive : List C) (r : ReplicaState S C) (body : Body C) →
-    Carries rules past archive body → is_unread rules r body ≡ false
-carried_is_read rules past archive r (State b log) x = and_not (waits_for r b (places log)) (reads_none rules r log) (reads_some rules archive r log x.0)
-carried_is_read rules past archive r (Install b log) x = and_not (lacks r b (places log)) (reads_none rules r log) (reads_some rules archive r log x.0)
-carried_is_read rules past archive r (NewBallot b members a old) x = refl
-carried_is_read rules past archive r (Join b a) x = refl
-carried_is_read rules past archive r (Installed b held) x = refl
-carried_is_read rules past archive r (Activate b) x = refl
-carried_is_read rules past archive r (Activated b) x = refl
-carried_is_read rules past archive r (Superseded b) x = refl
-carried_is_read rules past archive r (Append b place c) x = refl
-carried_is_read rules past archive r (Held b held) x = refl
-carried_is_read rules past archive r (Commit b held) x = refl
+pub carried_is_read : {S C O : Type 0} (rules : Rules S C O) (moments : List (Moment S C O)) (archive : List C) (r : ReplicaState S C) (body : Body C) →
+    Carries rules moments archive body → is_unread rules r body ≡ false
+carried_is_read rules moments archive r (State b log) x = and_not (waits_for r b (places log)) (reads_none rules r log) (reads_some rules archive r log x.0)
+carried_is_read rules moments archive r (Install b log) x = and_not (lacks r b (places log)) (reads_none rules r log) (reads_some rules archive r log x.0)
+carried_is_read rules moments archive r (NewBallot b members a old) x = refl
+carried_is_read rules moments archive r (Join b a) x = refl
+carried_is_read rules moments archive r (Installed b held) x = refl
+carried_is_read rules moments archive r (Activate b) x = refl
+carried_is_read rules moments archive r (Activated b) x = refl
+carried_is_read rules moments archive r (Superseded b) x = refl
+carried_is_read rules moments archive r (Append b place c) x = refl
+carried_is_read rules moments archive r (Held b held) x = refl
+carried_is_read rules moments archive r (Commit b held) x = refl
 
 -- the log that a message carries
 same_log : {C : Type 0} (log other : Log C) → Some log ≡ Some other → log ≡ other
 same_log log other e = cc
 
-pub carried_log : {S C O : Type 0} (rules : Rules S C O) (past : List (Moment S C O)) (archive : List C) (body : Body C) (log : Log C) →
-    Carries rules past archive body → log_in body ≡ Some log → IsSnapshot rules archive log
-carried_log rules past archive (State b other) log x e = subst (λ l. IsSnapshot rules archive l) (same_log other log e) x.0
-carried_log rules past archive (Install b other) log x e = subst (λ l. IsSnapshot rules archive l) (same_log other log e) x.0
-carried_log rules past archive (NewBallot b members a old) log x e = cc
-carried_log rules past archive (Join b a) log x e = cc
-carried_log rules past archive (Installed b held) log x e = cc
-carried_log rules past archive (Activate b) log x e = cc
-carried_log rules past archive (Activated b) log x e = cc
-carried_log rules past archive (Superseded b) log x e = cc
-carried_log rules past archive (Append b place c) log x e = cc
-carried_log rules past archive (Held b held) log x e = cc
-carried_log rules past archive (Commit b held) log x e = cc
+pub carried_log : {S C O : Type 0} (rules : Rules S C O) (moments : List (Moment S C O)) (archive : List C) (body : Body C) (log : Log C) →
+    Carries rules moments archive body → log_in body ≡ Some log → IsSnapshot rules archive log
+carried_log rules moments archive (State b other) log x e = subst (λ l. IsSnapshot rules archive l) (same_log other log e) x.0
+carried_log rules moments archive (Install b other) log x e = subst (λ l. IsSnapshot rules archive l) (same_log other log e) x.0
+carried_log rules moments archive (NewBallot b members a old) log x e = cc
+carried_log rules moments archive (Join b a) log x e = cc
+carried_log rules moments archive (Installed b held) log x e = cc
+carried_log rules moments archive (Activate b) log x e = cc
+carried_log rules moments archive (Activated b) log x e = cc
+carried_log rules moments archive (Superseded b) log x e = cc
+carried_log rules moments archive (Append b place c) log x e = cc
+carried_log rules moments archive (Held b held) log x e = cc
+carried_log rules moments archive (Commit b held) log x e = cc

@@ -26,7 +26,7 @@ use Rattle.snapshots.specs.Whole.{whole, whole_input}
 use Rattle.snapshots.specs.World.{MayTake, CutGroupWorld, moved, whole_world}
 use Rattle.snapshots.specs.World.NodeGoes.{takes, stops, cuts}
 use Rattle.snapshots.proofs.Adds.{StepAdds, added_whole, proposed_whole, taken_whole}
-use Rattle.snapshots.proofs.PastsKept.{past_stands}
+use Rattle.snapshots.proofs.MomentsKept.{moments_stand}
 use Rattle.snapshots.proofs.Plain.{plain_matches}
 use Rattle.snapshots.proofs.Views.{step_whole, whole_loses}
 
@@ -96,9 +96,9 @@ step_stands rules m w k v (answer_lost from b sent) based later =
 
 -- in the terms of the law
 pub taken_stand_at_once : {S C O : Type 0} (rules : Rules S C O) → TakenStandAtOnce rules
-taken_stand_at_once rules config a b past came step =
-    let before = past_stands rules config a past came in
-    let after = past_stands rules config b (a ∷ past) (went_on came step) in
+taken_stand_at_once rules config a b moments came step =
+    let before = moments_stand rules config a moments came in
+    let after = moments_stand rules config b (a ∷ moments) (went_on came step) in
     step_stands rules a.master a.world b.master b.world step
     (λ n r stands. let z = before.kept.nodes n r stands in record { within = z.0.within; low = z.1 })
     (λ n r stands. (after.kept.nodes n r stands).0.within)

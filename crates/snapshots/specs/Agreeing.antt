@@ -20,8 +20,8 @@ Holds master world list = HoldsWhole master (whole_world world) list
 -- the outputs that left are the machine's answers at places of it, in order
 abbrev pub LeftInOrder : {S C O : Type 0} →
     Rules S C O → List (Moment S C O) → CutGroupWorld S C O → List C → Type 0
-LeftInOrder rules past world list =
-    LeftInOrderWhole rules (map whole_moment past) (whole_world world) list
+LeftInOrder rules moments world list =
+    LeftInOrderWhole rules (map whole_moment moments) (whole_world world) list
 
 -- the node at an index is the active primary of a ballot
 abbrev pub IsPrimary : {S C O : Type 0} → CutGroupWorld S C O → ℕ → ℕ → Type 0

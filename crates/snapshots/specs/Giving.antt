@@ -30,22 +30,22 @@ given_in node (master_hears from ballot sent) = []
 given_in node (assignment_lost config) = []
 given_in node (answer_lost from ballot sent) = []
 
--- all that it gave in a past, in order
+-- all that it gave up to the last of some moments, in order
 abbrev pub given_of : {S C O : Type 0} {rules : Rules S C O} {config : Config}
-    {past : List (Moment S C O)} → ℕ → Moments rules config past → List (ℕ × O)
+    {moments : List (Moment S C O)} → ℕ → Moments rules config moments → List (ℕ × O)
 given_of node (began nodes lawful is) = []
 given_of node (went_on came step) = given_of node came ++ given_in node step
 
--- a past continues from a moment, and the node at an index is the active primary of a ballot at
+-- moments continue from a moment, and the node at an index is the active primary of a ballot at
 -- that moment and at each later one
 pub data LeadsOn {S C O : Type 0} {rules : Rules S C O} {config : Config} (node ballot : ℕ)
-    {moment : Moment S C O} {past : List (Moment S C O)}
-    (came : Moments rules config (moment ∷ past)) :
+    {moment : Moment S C O} {moments : List (Moment S C O)}
+    (came : Moments rules config (moment ∷ moments)) :
     (last : Moment S C O) (later : List (Moment S C O)) → Moments rules config (last ∷ later) →
     Type 0 where
   -- it is so at the moment itself
   leads_there : IsPrimary (whole_world moment.world) node ballot →
-      LeadsOn node ballot came moment past came
+      LeadsOn node ballot came moment moments came
   -- it is so after one more step
   leads_still : {previous next : Moment S C O} {later : List (Moment S C O)}
       {more : Moments rules config (previous ∷ later)} →

@@ -41,11 +41,11 @@ pub data Moments {S C O : Type 0} (rules : Rules S C O) (config : Config) :
   began : {moment : Moment S C O} (nodes : ℕ) → can_open nodes config ≡ true →
       moment ≡ opening_moment rules nodes config → Moments rules config (moment ∷ [])
   -- one more step
-  went_on : {moment next : Moment S C O} {past : List (Moment S C O)} →
-      Moments rules config (moment ∷ past) →
+  went_on : {moment next : Moment S C O} {moments : List (Moment S C O)} →
+      Moments rules config (moment ∷ moments) →
       MayHappen rules moment.master moment.world next.master next.world →
-      Moments rules config (next ∷ moment ∷ past)
+      Moments rules config (next ∷ moment ∷ moments)
 
 -- the agreed list: the longest that is chosen in a ballot that was active, of the whole logs
 abbrev pub IsAgreed : {S C O : Type 0} → Config → List (Moment S C O) → List C → Type 0
-IsAgreed config past list = IsAgreedWhole config (map whole_moment past) list
+IsAgreed config moments list = IsAgreedWhole config (map whole_moment moments) list

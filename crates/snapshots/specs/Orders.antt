@@ -1,5 +1,5 @@
--- What holds for the order of proposals, and of what nodes give, in every past of a group that cuts
--- its logs. What is said about logs is said about whole ones.
+-- What holds for the order of proposals, and of what nodes give, at all moments of a group that
+-- cuts its logs. What is said about logs is said about whole ones.
 use Rattle.std.specs.Prelude.{ℕ, Bool, ◌≤◌, ◌≡◌, List, [], ◌∷◌, ◌++◌, filter, length, map}
 use Rattle.std.specs.Prelude.{slice_get, Some}
 use Rattle.machine.specs.Machine.{Rules}
@@ -25,8 +25,8 @@ use Rattle.snapshots.specs.World.{CutGroupWorld, whole_world}
 -- proposing
 abbrev pub KeepsTheOrder : {S C O : Type 0} → Rules S C O → Type 0
 KeepsTheOrder {S} {C} {O} rules =
-    (config : Config) (moment : Moment S C O) (past : List (Moment S C O)) →
-    (came : Moments rules config (moment ∷ past)) →
+    (config : Config) (moment : Moment S C O) (moments : List (Moment S C O)) →
+    (came : Moments rules config (moment ∷ moments)) →
     IsPartOf (taken_of came) (proposals_of came)
     × ((names : C → Bool) (ballot : ℕ) → IsOfBallot rules.start_of names ballot (taken_of came) →
     (node : ℕ) (replica : ReplicaState S C) → slice_get moment.world.nodes node ≡ Some replica →
@@ -34,7 +34,7 @@ KeepsTheOrder {S} {C} {O} rules =
     (filter names (commands_of (taken_of came))))
 
 -- what a node takes in a step is at once at the end of its log; everything that is taken is taken
--- by some node; and a proposal that is not taken changes no log. The step is one of a past, since
+-- by some node; and a proposal that is not taken changes no log. The step is between moments, since
 -- the whole log is given by the record.
 pub record StandsAtOnce {S C O : Type 0} {rules : Rules S C O} {master : MasterState}
     {world : CutGroupWorld S C O} {next_master : MasterState} {next_world : CutGroupWorld S C O}
@@ -49,25 +49,25 @@ pub record StandsAtOnce {S C O : Type 0} {rules : Rules S C O} {master : MasterS
 -- what a step takes is at the end of a log at once
 abbrev pub TakenStandAtOnce : {S C O : Type 0} → Rules S C O → Type 0
 TakenStandAtOnce {S} {C} {O} rules =
-    (config : Config) (moment next : Moment S C O) (past : List (Moment S C O)) →
-    Moments rules config (moment ∷ past) →
+    (config : Config) (moment next : Moment S C O) (moments : List (Moment S C O)) →
+    Moments rules config (moment ∷ moments) →
     (step : MayHappen rules moment.master moment.world next.master next.world) → StandsAtOnce step
 
 -- what was taken in a ballot was taken by the one node that was its active primary
 abbrev pub OneNodeTakesABallot : {S C O : Type 0} → Rules S C O → Type 0
 OneNodeTakesABallot {S} {C} {O} rules =
-    (config : Config) (moment : Moment S C O) (past : List (Moment S C O)) →
-    (came : Moments rules config (moment ∷ past)) →
-    (earlier : Moment S C O) (node ballot : ℕ) → In earlier (moment ∷ past) →
+    (config : Config) (moment : Moment S C O) (moments : List (Moment S C O)) →
+    (came : Moments rules config (moment ∷ moments)) →
+    (earlier : Moment S C O) (node ballot : ℕ) → In earlier (moment ∷ moments) →
     IsPrimary (whole_world earlier.world) node ballot →
     rows_in ballot (taken_of came) ≡ rows_in ballot (taken_at node came)
 
 -- the outputs of a node in a step are the answers at the next places of the agreed list
 abbrev pub AnswersAtTheNextPlaces : {S C O : Type 0} → Rules S C O → Type 0
 AnswersAtTheNextPlaces {S} {C} {O} rules =
-    (config : Config) (moment next : Moment S C O) (past : List (Moment S C O)) (agreed : List C) →
-    Moments rules config (moment ∷ past) →
-    IsAgreed config (map whole_moment (next ∷ moment ∷ past)) agreed →
+    (config : Config) (moment next : Moment S C O) (moments : List (Moment S C O))
+    (agreed : List C) → Moments rules config (moment ∷ moments) →
+    IsAgreed config (map whole_moment (next ∷ moment ∷ moments)) agreed →
     (step : MayHappen rules moment.master moment.world next.master next.world) →
     (node : ℕ) (old new : ReplicaState S C) → slice_get moment.world.nodes node ≡ Some old →
     slice_get next.world.nodes node ≡ Some new →
@@ -78,9 +78,9 @@ AnswersAtTheNextPlaces {S} {C} {O} rules =
 -- agreed list that it applied between them: none is left out, and none comes twice.
 abbrev pub AnswersWhileItLeads : {S C O : Type 0} → Rules S C O → Type 0
 AnswersWhileItLeads {S} {C} {O} rules =
-    (config : Config) (first last : Moment S C O) (past later : List (Moment S C O))
+    (config : Config) (first last : Moment S C O) (moments later : List (Moment S C O))
     (agreed : List C) →
-    (came : Moments rules config (first ∷ past)) (more : Moments rules config (last ∷ later)) →
+    (came : Moments rules config (first ∷ moments)) (more : Moments rules config (last ∷ later)) →
     IsAgreed config (map whole_moment (last ∷ later)) agreed → (node ballot : ℕ) →
     LeadsOn node ballot came last later more →
     (old new : ReplicaState S C) → slice_get first.world.nodes node ≡ Some old →

@@ -73,7 +73,7 @@ pub fn one_primary_a_ballot<M: Machine>()
 {}
 
 /// States that each log has, of the commands that were taken only in one ballot, a prefix in the
-/// order of proposing, whichever places of it were cut. The past says which were taken: those by
+/// order of proposing, whichever places of it were cut. The moments say which were taken: those by
 /// which a log grew.
 pub fn keeps_the_order<M: Machine>()
     ensures { KeepsTheOrder M.rules }

@@ -14,9 +14,9 @@ use Rattle.snapshots.specs.agreement.Inside.Ballots.{Given, IsChosenIn, Told}
 use Rattle.snapshots.specs.agreement.Inside.Ballots.Told.{told_as_primary, told_by_held}
 use Rattle.snapshots.specs.agreement.Inside.Chosen.{ChosenList}
 use Rattle.snapshots.specs.agreement.Inside.Sound.{IsActive}
-use Rattle.snapshots.proofs.of_agreement.Agreed.PastAgrees.{agreed_known, has_agreed, nodes_agree}
-use Rattle.snapshots.proofs.of_agreement.Agreed.PastIsKnown.{IsKnown}
-use Rattle.snapshots.proofs.of_agreement.Agreed.PastKnown.{past_known}
+use Rattle.snapshots.proofs.of_agreement.Agreed.MomentsAgree.{agreed_known, has_agreed, nodes_agree}
+use Rattle.snapshots.proofs.of_agreement.Agreed.MomentsAreKnown.{IsKnown}
+use Rattle.snapshots.proofs.of_agreement.Agreed.MomentsKnown.{moments_known}
 use Rattle.ways_out.specs.Deliveries.{NodeIs}
 use Rattle.ways_out.specs.Following.{LeadsWhole}
 use Rattle.ways_out.specs.AnswerLaws.{WhatAllHoldIsAgreed}
@@ -29,12 +29,12 @@ prefix_both {X = X} xs ys p q = by p.rest p.is (prefix_length q)
     by [] e low = sym (e ∙ append-nil xs)
     by (x ∷ rest) e low = absurd (let z = ap length e in let y = length-append xs (x ∷ rest) in omega (arith, z, y, low))
 
-module _ {S C O : Type 0} (rules : Rules S C O) (config : Config) (a : Moment S C O) (past : List (Moment S C O)) (came : Moments rules config (a ∷ past))
+module _ {S C O : Type 0} (rules : Rules S C O) (config : Config) (a : Moment S C O) (moments : List (Moment S C O)) (came : Moments rules config (a ∷ moments))
     (index : ℕ) (r : ReplicaState S C) (log : List C) (os : List ℕ) (stands : slice_get a.world.nodes index ≡ Some r)
     (serves : LeadsWhole a.master.active log os (index + 1) r) (member : In (index + 1) a.master.members)
     (named : (m : ℕ) → In m a.master.members → (m ≡ index + 1 → ⊥) → In m os) where
-  pub known : IsKnown rules config a past
-  known = past_known rules config a past came
+  pub known : IsKnown rules config a moments
+  known = moments_known rules config a moments came
 
   active : IsActive a.world known.history index r
   active = (known.serves.sound.nodes index r stands).active serves.leads.role
@@ -65,11 +65,11 @@ module _ {S C O : Type 0} (rules : Rules S C O) (config : Config) (a : Moment S 
       by m i (inr ne) = told m (named m i ne)
 
   -- so it is the longest that is chosen, and the primary has no more
-  pub agreed_is : ((m : ℕ) → In m os → Told a.world known.history m a.master.active (length log)) → (xs : List C) → IsAgreed config (a ∷ past) xs → xs ≡ log
+  pub agreed_is : ((m : ℕ) → In m os → Told a.world known.history m a.master.active (length log)) → (xs : List C) → IsAgreed config (a ∷ moments) xs → xs ≡ log
   agreed_is told xs agreed =
       prefix_both xs log
-      (subst (λ (us : List C). IsPrefixOf xs us) serves.log_is ((nodes_agree rules config a past xs came agreed).0.held index r stands member))
-      ((agreed_known rules config a past known xs agreed).longest log list)
+      (subst (λ (us : List C). IsPrefixOf xs us) serves.log_is ((nodes_agree rules config a moments xs came agreed).0.held index r stands member))
+      ((agreed_known rules config a moments known xs agreed).longest log list)
     where
       list : ChosenList a.world known.history log
       list =
@@ -85,8 +85,8 @@ module _ {S C O : Type 0} (rules : Rules S C O) (config : Config) (a : Moment S 
 
 -- what all hold is agreed
 pub what_all_hold_is_agreed : {S C O : Type 0} (rules : Rules S C O) → WhatAllHoldIsAgreed rules
-what_all_hold_is_agreed {S = S} {C = C} {O = O} rules config a past came primary log os h =
-    by_agreed (has_agreed rules config a past came)
+what_all_hold_is_agreed {S = S} {C = C} {O = O} rules config a moments came primary log os h =
+    by_agreed (has_agreed rules config a moments came)
   where
     at : NodeIs (LeadsWhole a.master.active log os) a.world.nodes primary
     at = h.primary_serves
@@ -94,10 +94,10 @@ what_all_hold_is_agreed {S = S} {C = C} {O = O} rules config a past came primary
     number : primary ≡ at.index + 1
     number = at.number
 
-    by_agreed : (xs : List C) × IsAgreed config (a ∷ past) xs → IsAgreed config (a ∷ past) log
+    by_agreed : (xs : List C) × IsAgreed config (a ∷ moments) xs → IsAgreed config (a ∷ moments) log
     by_agreed (xs, agreed) =
-        subst (λ (us : List C). IsAgreed config (a ∷ past) us)
-        (agreed_is rules config a past came at.index at.replica log os at.stands
+        subst (λ (us : List C). IsAgreed config (a ∷ moments) us)
+        (agreed_is rules config a moments came at.index at.replica log os at.stands
         (subst (λ m. LeadsWhole a.master.active log os m at.replica) number at.is)
         (subst (λ m. In m a.master.members) number h.member)
         (λ m i ne. h.all_named m i (λ e. ne (e ∙ number)))

@@ -20,7 +20,7 @@ use Rattle.snapshots.specs.whole.Serving.{added, max_places}
 use Rattle.snapshots.proofs.of_whole.StepRows.{proposed-adds}
 use Rattle.snapshots.specs.agreement.Moments.{Moment}
 use Rattle.snapshots.specs.agreement.World.{messages, outputs}
-use Rattle.snapshots.proofs.of_agreement.Agreed.PastAgrees.{machines_replay}
+use Rattle.snapshots.proofs.of_agreement.Agreed.MomentsAgree.{machines_replay}
 use Rattle.snapshots.proofs.of_agreement.Effects.{outputs_of_messages}
 use Rattle.ways_out.specs.Deliveries.{after_outcome, NumbersAreApart, Delivered, NodeIs, numbers_from}
 use Rattle.ways_out.specs.Following.{Follows, LeadsIn, LeadsWhole}
@@ -214,11 +214,11 @@ module _ {S C O : Type 0} (rules : Rules S C O) (b index : ℕ) (r : ReplicaStat
         }
 
 pub commands_are_answered : {S C O : Type 0} (rules : Rules S C O) → CommandsAreAnswered rules
-commands_are_answered {S = S} {C = C} {O = O} rules config a past came b index r log os c stands serves room = (
+commands_are_answered {S = S} {C = C} {O = O} rules config a moments came b index r log os c stands serves room = (
   answers_alone rules b index r log os c serves room machine,
   λ front last are apart out follow. held_by_all rules b index r log os c serves room machine a stands front last are apart out follow,
 )
   where
     machine : r.machine ≡ replay rules log
-    machine = machines_replay rules config a past came index r stands serves.leads.runs
+    machine = machines_replay rules config a moments came index r stands serves.leads.runs
         ∙ ap (replay rules) (take_all r.committed r.log (let e = ap length serves.log_is in let f = serves.applied in omega (arith, e, f)) ∙ serves.log_is)

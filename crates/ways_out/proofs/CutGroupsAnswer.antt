@@ -35,8 +35,8 @@ use Rattle.snapshots.specs.Steps.MayHappen.{node_goes}
 use Rattle.snapshots.specs.Whole.{whole, whole_body, whole_effects, whole_message}
 use Rattle.snapshots.specs.World.{messages, whole_sent}
 use Rattle.snapshots.specs.World.NodeGoes.{takes}
-use Rattle.snapshots.proofs.PastsAgree.{agreed_grows}
-use Rattle.snapshots.proofs.PastsKept.{StandsFor, past_stands}
+use Rattle.snapshots.proofs.MomentsAgree.{agreed_grows}
+use Rattle.snapshots.proofs.MomentsKept.{StandsFor, moments_stand}
 use Rattle.snapshots.proofs.Views.{get_whole, outputs_whole}
 use Rattle.ways_out.specs.Deliveries.{NumbersAreApart, Delivered as WholeDelivered, NodeIs, numbers_from}
 use Rattle.ways_out.specs.Deliveries.{after_outcome as whole_after_outcome}
@@ -120,11 +120,11 @@ answers_cut rules archive ballot log c os m ow o z like =
 
 -- ---- the proposal
 
-module _ {S C O : Type 0} (rules : Rules S C O) (config : Config) (a : Moment S C O) (past : List (Moment S C O)) (came : Moments rules config (a ∷ past)) (ballot index : ℕ)
+module _ {S C O : Type 0} (rules : Rules S C O) (config : Config) (a : Moment S C O) (moments : List (Moment S C O)) (came : Moments rules config (a ∷ moments)) (ballot index : ℕ)
     (r : ReplicaState S C) (log : List C) (os : List ℕ) (c : C) (stands : slice_get a.world.nodes index ≡ Some r)
     (serves : LeadsWhole ballot log os (index + 1) (whole a.world.archive r)) (room : length log < max_places) where
-  q : StandsFor rules config a past
-  q = past_stands rules config a past came
+  q : StandsFor rules config a moments
+  q = moments_stand rules config a moments came
 
   abbrev W : WholeState S C
   W = whole a.world.archive r
@@ -184,8 +184,8 @@ module _ {S C O : Type 0} (rules : Rules S C O) (config : Config) (a : Moment S 
   step : MayHappen rules a.master a.world first.master first.world
   step = node_goes (takes index r (Proposes c) stands runs tt (inl (refl, thinned_same o.effects)))
 
-  first_goes : Goes rules config (a ∷ past) first
-  first_goes = record { between = []; came = went_on came step; grown = λ xs ys x y. agreed_grows rules config first (a ∷ past) xs ys x y }
+  first_goes : Goes rules config (a ∷ moments) first
+  first_goes = record { between = []; came = went_on came step; grown = λ xs ys x y. agreed_grows rules config first (a ∷ moments) xs ys x y }
 
   first_came : WholeMoments rules config (first_whole ∷ whole_moment a ∷ q.earlier)
   first_came = whole_went_on q.kept.came (node_takes index W (whole_proposes c) there_now runs tt (inl (refl, whole_thinned_same ow.effects)))
@@ -200,11 +200,11 @@ module _ {S C O : Type 0} (rules : Rules S C O) (config : Config) (a : Moment S 
     numbers k = numbers_from k (length front + 1) ++ numbers_from (k + (length front + 1)) (length front)
 
     abbrev Way : Type 0
-    Way = Followed rules config ballot (a ∷ past) first (numbers (length a.world.sent)) h.before
+    Way = Followed rules config ballot (a ∷ moments) first (numbers (length a.world.sent)) h.before
 
     way : Way
     way =
-        followed rules config ballot (a ∷ past) (subst (λ k. WholeDelivered rules ballot first_whole (numbers k) h.before) as_many h.delivered) (whole_moment a ∷ q.earlier) first_came first
+        followed rules config ballot (a ∷ moments) (subst (λ k. WholeDelivered rules ballot first_whole (numbers k) h.before) as_many h.delivered) (whole_moment a ∷ q.earlier) first_came first
         first_goes first_like
 
     abbrev answer : WholeMessage C
@@ -235,11 +235,11 @@ module _ {S C O : Type 0} (rules : Rules S C O) (config : Config) (a : Moment S 
           record {
             replica = z.replica;
             stands = z.stands;
-            runs = following.goes_r rules config ballot (a ∷ past) h.before w.whole_before w.whole_came w.end w.goes w.like (length a.world.sent + 2 * length front + 1) index h.primary.replica
+            runs = following.goes_r rules config ballot (a ∷ moments) h.before w.whole_before w.whole_came w.end w.goes w.like (length a.world.sent + 2 * length front + 1) index h.primary.replica
                 answer came_last stands_last h.primary.is.0 h.primary.is.1.serves.leads.joined;
             answers = answers_cut rules w.end.world.archive ballot log c (front ++ last ∷ []) (index + 1) ended (received rules z.replica last (Held ballot (length log + 1))) h.primary.is.1
                 (subst (λ (m : Message C). AreLike rules ballot ended (wholly w.end.world.archive (received rules z.replica m.from m.body))) is_held
-                (following.all rules config ballot (a ∷ past) h.before w.whole_before w.whole_came w.end w.goes w.like (length a.world.sent + 2 * length front + 1) index h.primary.replica
+                (following.all rules config ballot (a ∷ moments) h.before w.whole_before w.whole_came w.end w.goes w.like (length a.world.sent + 2 * length front + 1) index h.primary.replica
                 answer came_last stands_last h.primary.is.0 h.primary.is.1.serves.leads.joined));
           }
         where
@@ -249,10 +249,10 @@ module _ {S C O : Type 0} (rules : Rules S C O) (config : Config) (a : Moment S 
           z : NodeLike rules ballot w.end.world index h.primary.replica
           z = w.like.nodes index h.primary.replica stands_last
 
-          is_held : following.m rules config ballot (a ∷ past) h.before w.whole_before w.whole_came w.end w.goes w.like (length a.world.sent + 2 * length front + 1) index h.primary.replica
+          is_held : following.m rules config ballot (a ∷ moments) h.before w.whole_before w.whole_came w.end w.goes w.like (length a.world.sent + 2 * length front + 1) index h.primary.replica
               answer came_last stands_last h.primary.is.0 h.primary.is.1.serves.leads.joined ≡ record { from = last; body = Held ballot (length log + 1) }
           is_held = held_back w.end.world.archive _ last ballot (length log + 1)
-              (following.is_x rules config ballot (a ∷ past) h.before w.whole_before w.whole_came w.end w.goes w.like (length a.world.sent + 2 * length front + 1) index h.primary.replica
+              (following.is_x rules config ballot (a ∷ moments) h.before w.whole_before w.whole_came w.end w.goes w.like (length a.world.sent + 2 * length front + 1) index h.primary.replica
               answer came_last stands_last h.primary.is.0 h.primary.is.1.serves.leads.joined)
 
       pub held_by_all : IsHeldByAll rules a index ballot r log c front last
@@ -274,5 +274,5 @@ module _ {S C O : Type 0} (rules : Rules S C O) (config : Config) (a : Moment S 
   with_others front last e apart out each = let h = law.1 front last e apart out each in held_by_all front last h (way front last h)
 
 pub cut_groups_answer : {S C O : Type 0} (rules : Rules S C O) → CutGroupsAnswer rules
-cut_groups_answer rules config a past came ballot index r log os c stands serves room =
-    (alone rules config a past came ballot index r log os c stands serves room, with_others rules config a past came ballot index r log os c stands serves room)
+cut_groups_answer rules config a moments came ballot index r log os c stands serves room =
+    (alone rules config a moments came ballot index r log os c stands serves room, with_others rules config a moments came ballot index r log os c stands serves room)

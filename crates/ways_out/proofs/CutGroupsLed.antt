@@ -23,8 +23,8 @@ use Rattle.snapshots.specs.Steps.MayHappen.{master_assigns}
 use Rattle.snapshots.specs.Whole.{whole}
 use Rattle.snapshots.specs.World.{whole_sent}
 use Rattle.snapshots.proofs.Continues.{agreed_back}
-use Rattle.snapshots.proofs.PastsAgree.{agreed_grows}
-use Rattle.snapshots.proofs.PastsKept.{StandsFor, past_stands}
+use Rattle.snapshots.proofs.MomentsAgree.{agreed_grows}
+use Rattle.snapshots.proofs.MomentsKept.{StandsFor, moments_stand}
 use Rattle.snapshots.proofs.Views.{get_whole}
 use Rattle.ways_out.specs.Deliveries.{Delivered as WholeDelivered, NodeIs, way_out}
 use Rattle.ways_out.specs.Deliveries.{assigned_moment as whole_assigned}
@@ -40,19 +40,19 @@ use Rattle.ways_out.proofs.Followed.{Followed, Goes, MomentLike, followed, get_b
 
 -- ---- the Assign
 
-assign_goes : {S C O : Type 0} (rules : Rules S C O) (config : Config) (a : Moment S C O) (past : List (Moment S C O)) (new : Config) →
-    Moments rules config (a ∷ past) → refusal a.master new ≡ None → Goes rules config (a ∷ past) (assigned_moment new a)
-assign_goes {S = S} {C = C} {O = O} rules config a past new came granted =
+assign_goes : {S C O : Type 0} (rules : Rules S C O) (config : Config) (a : Moment S C O) (moments : List (Moment S C O)) (new : Config) →
+    Moments rules config (a ∷ moments) → refusal a.master new ≡ None → Goes rules config (a ∷ moments) (assigned_moment new a)
+assign_goes {S = S} {C = C} {O = O} rules config a moments new came granted =
     record {
       between = [];
       came = went_on came (subst (λ (o : Option AssignRefusal). MayHappen rules a.master a.world (master_after a.master new o) (world_after a.master a.world new o)) granted
           (master_assigns new));
-      grown = λ xs ys p q. agreed_grows rules config (assigned_moment new a) (a ∷ past) xs ys p q;
+      grown = λ xs ys p q. agreed_grows rules config (assigned_moment new a) (a ∷ moments) xs ys p q;
     }
 
-whole_assign : {S C O : Type 0} (rules : Rules S C O) (config : Config) (a : WholeMoment S C O) (past : List (WholeMoment S C O)) (new : Config) →
-    WholeMoments rules config (a ∷ past) → refusal a.master new ≡ None → WholeMoments rules config (whole_assigned new a ∷ a ∷ past)
-whole_assign rules config a past new came granted =
+whole_assign : {S C O : Type 0} (rules : Rules S C O) (config : Config) (a : WholeMoment S C O) (moments : List (WholeMoment S C O)) (new : Config) →
+    WholeMoments rules config (a ∷ moments) → refusal a.master new ≡ None → WholeMoments rules config (whole_assigned new a ∷ a ∷ moments)
+whole_assign rules config a moments new came granted =
     whole_went_on came (subst (λ (o : Option AssignRefusal). WholeMayHappen rules a.master a.world (master_after a.master new o) (whole_after a.master a.world new o)) granted
     (whole_assigns new))
 
@@ -88,10 +88,10 @@ node_still rules ballot P m a b like keeps z =
       is = keeps z.replica (whole b.world.archive n.replica) n.like z.is;
     }
 
-module _ {S C O : Type 0} (rules : Rules S C O) (silent : StartsGiveNothing rules) (config : Config) (a : Moment S C O) (past : List (Moment S C O))
-    (came : Moments rules config (a ∷ past)) (new : Config) (index source : ℕ) (log : List C) (can : CanBeLed (whole_moment a) new index source log) where
-  stood : StandsFor rules config a past
-  stood = past_stands rules config a past came
+module _ {S C O : Type 0} (rules : Rules S C O) (silent : StartsGiveNothing rules) (config : Config) (a : Moment S C O) (moments : List (Moment S C O))
+    (came : Moments rules config (a ∷ moments)) (new : Config) (index source : ℕ) (log : List C) (can : CanBeLed (whole_moment a) new index source log) where
+  stood : StandsFor rules config a moments
+  stood = moments_stand rules config a moments came
 
   -- on whole logs
   out : WholeLeadsOut rules config (whole_moment a ∷ stood.earlier) (whole_moment a) new index log
@@ -113,13 +113,13 @@ module _ {S C O : Type 0} (rules : Rules S C O) (silent : StartsGiveNothing rule
   came_so = subst (λ (k : ℕ). WholeDelivered rules ballot (whole_assigned new (whole_moment a)) (way_out k (length a.master.members) index (length new.members - 1)) out.last) as_many out.delivered
 
   abbrev Way : Type 0
-  Way = Followed rules config ballot (a ∷ past) (assigned_moment new a) numbers out.last
+  Way = Followed rules config ballot (a ∷ moments) (assigned_moment new a) numbers out.last
 
   way : Way
   way =
-      followed rules config ballot (a ∷ past) came_so (whole_moment a ∷ stood.earlier)
+      followed rules config ballot (a ∷ moments) came_so (whole_moment a ∷ stood.earlier)
       (whole_assign rules config (whole_moment a) stood.earlier new stood.kept.came can.granted) (assigned_moment new a)
-      (assign_goes rules config a past new came can.granted) (assign_like rules ballot a new)
+      (assign_goes rules config a moments new came can.granted) (assign_like rules ballot a new)
 
   -- what is led there is led here
   led_by : (w : Way) → IsLed ballot new longer (whole_moment w.end)
@@ -133,9 +133,9 @@ module _ {S C O : Type 0} (rules : Rules S C O) (silent : StartsGiveNothing rule
       }
 
   -- and agreed, as all hold it
-  agreed_by : (w : Way) → IsAgreed config (w.end ∷ (w.goes.between ++ (a ∷ past))) longer
+  agreed_by : (w : Way) → IsAgreed config (w.end ∷ (w.goes.between ++ (a ∷ moments))) longer
   agreed_by w =
-      agreed_back config (map whole_moment (w.end ∷ (w.goes.between ++ (a ∷ past)))) (whole_moment w.end ∷ q.earlier) longer q.covers
+      agreed_back config (map whole_moment (w.end ∷ (w.goes.between ++ (a ∷ moments)))) (whole_moment w.end ∷ q.earlier) longer q.covers
       (what_all_hold_is_agreed rules config (whole_moment w.end) q.earlier q.kept.came new.primary longer (others new.primary new.members)
       (record {
         primary_serves = subst (λ b. NodeIs (LeadsWhole b longer (others new.primary new.members)) (whole_moment w.end).world.nodes new.primary) (sym led.active) led.primary;
@@ -146,8 +146,8 @@ module _ {S C O : Type 0} (rules : Rules S C O) (silent : StartsGiveNothing rule
             (subst (λ n. In (new.primary, record { from = m; body = Held ballot n }) out.last.world.sent) (sym (length-append log (rules.start_of ballot ∷ []))) (out.told m i)));
       }))
     where
-      q : StandsFor rules config w.end (w.goes.between ++ (a ∷ past))
-      q = past_stands rules config w.end (w.goes.between ++ (a ∷ past)) w.goes.came
+      q : StandsFor rules config w.end (w.goes.between ++ (a ∷ moments))
+      q = moments_stand rules config w.end (w.goes.between ++ (a ∷ moments)) w.goes.came
 
       led : IsLed ballot new longer (whole_moment w.end)
       led = led_by w
@@ -159,10 +159,10 @@ module _ {S C O : Type 0} (rules : Rules S C O) (silent : StartsGiveNothing rule
           by_case (inl e) = absurd (ne e)
           by_case (inr j) = j
 
-  pub leads_out : LeadsOut rules config (a ∷ past) a new index log
+  pub leads_out : LeadsOut rules config (a ∷ moments) a new index log
   leads_out = by way
     where
-      by : Way → LeadsOut rules config (a ∷ past) a new index log
+      by : Way → LeadsOut rules config (a ∷ moments) a new index log
       by w =
           record {
             last = w.end;
@@ -176,4 +176,4 @@ module _ {S C O : Type 0} (rules : Rules S C O) (silent : StartsGiveNothing rule
           }
 
 pub cut_groups_have_ways_out : {S C O : Type 0} (rules : Rules S C O) → CutGroupsHaveWaysOut rules
-cut_groups_have_ways_out rules silent config a past came new index source log can = leads_out rules silent config a past came new index source log can
+cut_groups_have_ways_out rules silent config a moments came new index source log can = leads_out rules silent config a moments came new index source log can

@@ -9,8 +9,8 @@ use Rattle.snapshots.proofs.of_lists.Prefixes.{prefix_then}
 use Rattle.snapshots.proofs.of_lists.Members.{in_at}
 use Rattle.snapshots.proofs.of_lists.Places.{get_set, get_set_other}
 use Rattle.machine.specs.Machine.{Rules}
-use Rattle.snapshots.proofs.of_agreement.Agreed.PastAgrees.{machines_replay}
-use Rattle.snapshots.proofs.of_agreement.Agreed.PastKnown.{past_known}
+use Rattle.snapshots.proofs.of_agreement.Agreed.MomentsAgree.{machines_replay}
+use Rattle.snapshots.proofs.of_agreement.Agreed.MomentsKnown.{moments_known}
 use Rattle.snapshots.specs.agreement.MasterState.{MasterState, activating, is_granted}
 use Rattle.snapshots.specs.agreement.Moments.{Moment as WholeMoment, Moments as WholeMoments}
 use Rattle.snapshots.specs.agreement.Moments.Moments.{went_on as whole_went_on}
@@ -43,8 +43,8 @@ use Rattle.snapshots.specs.Steps.{MayHappen}
 use Rattle.snapshots.specs.Whole.{whole, whole_body, whole_effects, whole_message}
 use Rattle.snapshots.specs.World.{CutGroupWorld, messages, outputs, whole_sent}
 use Rattle.snapshots.specs.World.NodeGoes.{takes}
-use Rattle.snapshots.proofs.PastsAgree.{agreed_grows, has_agreed}
-use Rattle.snapshots.proofs.PastsKept.{StandsFor, past_stands}
+use Rattle.snapshots.proofs.MomentsAgree.{agreed_grows, has_agreed}
+use Rattle.snapshots.proofs.MomentsKept.{StandsFor, moments_stand}
 use Rattle.snapshots.proofs.Views.{outputs_whole}
 use Rattle.ways_out.specs.Deliveries.{Delivered as WholeDelivered, after_activate as whole_after_activate, after_outcome as whole_after_outcome}
 use Rattle.ways_out.specs.Deliveries.Delivered.{all_came as all_came_whole, to_node as to_node_whole, to_master as to_master_whole}
@@ -109,37 +109,37 @@ pub record MomentLike {S C O : Type 0} (rules : Rules S C O) (ballot : ℕ) (a :
   pub sent : map (whole_sent b.world.archive) b.world.sent ≡ a.world.sent
   pub nodes : (n : ℕ) (p : WholeState S C) → slice_get a.world.nodes n ≡ Some p → NodeLike rules ballot b.world n p
 
--- a past continues
-pub record Goes {S C O : Type 0} (rules : Rules S C O) (config : Config) (past : List (Moment S C O)) (b : Moment S C O) : Type 0 where
+-- moments continue
+pub record Goes {S C O : Type 0} (rules : Rules S C O) (config : Config) (moments : List (Moment S C O)) (b : Moment S C O) : Type 0 where
   pub between : List (Moment S C O)
-  pub came : Moments rules config (b ∷ (between ++ past))
-  pub grown : (xs ys : List C) → IsAgreed config past xs → IsAgreed config (b ∷ (between ++ past)) ys → IsPrefixOf xs ys
+  pub came : Moments rules config (b ∷ (between ++ moments))
+  pub grown : (xs ys : List C) → IsAgreed config moments xs → IsAgreed config (b ∷ (between ++ moments)) ys → IsPrefixOf xs ys
 
-pub goes_one : {S C O : Type 0} (rules : Rules S C O) (config : Config) (past : List (Moment S C O)) (b c : Moment S C O) → Goes rules config past b →
-    MayHappen rules b.master b.world c.master c.world → Goes rules config past c
-goes_one rules config past b c g step =
+pub goes_one : {S C O : Type 0} (rules : Rules S C O) (config : Config) (moments : List (Moment S C O)) (b c : Moment S C O) → Goes rules config moments b →
+    MayHappen rules b.master b.world c.master c.world → Goes rules config moments c
+goes_one rules config moments b c g step =
     record {
       between = b ∷ g.between;
       came = went_on g.came step;
-      grown = λ xs ys p q. let z = has_agreed rules config b (g.between ++ past) g.came in
-          prefix_then (g.grown xs z.0 p z.1) (agreed_grows rules config c (b ∷ (g.between ++ past)) z.0 ys z.1 q);
+      grown = λ xs ys p q. let z = has_agreed rules config b (g.between ++ moments) g.came in
+          prefix_then (g.grown xs z.0 p z.1) (agreed_grows rules config c (b ∷ (g.between ++ moments)) z.0 ys z.1 q);
     }
 
-pub record Followed {S C O : Type 0} (rules : Rules S C O) (config : Config) (ballot : ℕ) (past : List (Moment S C O)) (a : Moment S C O) (ks : List ℕ)
+pub record Followed {S C O : Type 0} (rules : Rules S C O) (config : Config) (ballot : ℕ) (moments : List (Moment S C O)) (a : Moment S C O) (ks : List ℕ)
     (last : WholeMoment S C O) : Type 0 where
   pub end : Moment S C O
   pub delivered : Delivered rules ballot a ks end
-  pub goes : Goes rules config past end
+  pub goes : Goes rules config moments end
   pub like : MomentLike rules ballot last end
   pub archive : end.world.archive ≡ a.world.archive
-  -- and the past on whole logs has continued
+  -- and the moments on whole logs have continued
   pub whole_before : List (WholeMoment S C O)
   pub whole_came : WholeMoments rules config (last ∷ whole_before)
 
 -- ---- a message comes to a node
 
-module _ {S C O : Type 0} (rules : Rules S C O) (config : Config) (ballot : ℕ) (past : List (Moment S C O)) (a : WholeMoment S C O) (earlier : List (WholeMoment S C O))
-    (came : WholeMoments rules config (a ∷ earlier)) (b : Moment S C O) (goes : Goes rules config past b) (like : MomentLike rules ballot a b)
+module _ {S C O : Type 0} (rules : Rules S C O) (config : Config) (ballot : ℕ) (moments : List (Moment S C O)) (a : WholeMoment S C O) (earlier : List (WholeMoment S C O))
+    (came : WholeMoments rules config (a ∷ earlier)) (b : Moment S C O) (goes : Goes rules config moments b) (like : MomentLike rules ballot a b)
     (k n : ℕ) (p : WholeState S C) (x : WholeMessage C) (sent : slice_get a.world.sent k ≡ Some (n + 1, x)) (stands : slice_get a.world.nodes n ≡ Some p) (runs : p.stopped ≡ false)
     (after : (whole_received {O = O} rules p x.from x.body).state.joined ≡ ballot) where
   abbrev pub node : NodeLike rules ballot b.world n p
@@ -183,7 +183,7 @@ module _ {S C O : Type 0} (rules : Rules S C O) (config : Config) (ballot : ℕ)
   ahead : AreLike rules ballot o u
   ahead =
       like_received rules ballot p (whole b.world.archive r) x.from x.body node.like
-      ((past_known rules config a earlier came).serves.sound.nodes n p stands).within
+      ((moments_known rules config a earlier came).serves.sound.nodes n p stands).within
       (machines_replay rules config a earlier came n p stands runs) after
 
   joined_of : (s t : WholeState S C) → IsLike rules ballot s t → t.joined ≡ s.joined
@@ -200,8 +200,8 @@ module _ {S C O : Type 0} (rules : Rules S C O) (config : Config) (ballot : ℕ)
       (subst (λ (y : WholeMessage C). (whole_received {O = O} rules (whole b.world.archive r) y.from y.body).state.joined ≡ ballot) (sym is_x)
       (joined_of o.state u.state ahead.state ∙ after)))
     where
-      q : StandsFor rules config b (goes.between ++ past)
-      q = past_stands rules config b (goes.between ++ past) goes.came
+      q : StandsFor rules config b (goes.between ++ moments)
+      q = moments_stand rules config b (goes.between ++ moments) goes.came
 
   pub all : AreLike rules ballot o (wholly b.world.archive given)
   all = record { state = like_then rules ballot o.state u.state (whole b.world.archive given.state) ahead.state told.state; effects = told.effects ∙ ahead.effects }
@@ -234,20 +234,20 @@ module _ {S C O : Type 0} (rules : Rules S C O) (config : Config) (ballot : ℕ)
           let z = like.nodes i s (sym (get_set_other a.world.nodes n i o.state other) ∙ e) in
           record { replica = z.replica; stands = get_set_other b.world.nodes n i given.state other ∙ z.stands; like = z.like }
 
-  goes_now : Goes rules config past (after_outcome n given b)
-  goes_now = goes_one rules config past b (after_outcome n given b) goes (node_goes (takes n r (Receives m) node.stands goes_r may (inl (refl, thinned_same given.effects))))
+  goes_now : Goes rules config moments (after_outcome n given b)
+  goes_now = goes_one rules config moments b (after_outcome n given b) goes (node_goes (takes n r (Receives m) node.stands goes_r may (inl (refl, thinned_same given.effects))))
 
   came_now : WholeMoments rules config (whole_after_outcome n o a ∷ a ∷ earlier)
   came_now = whole_went_on came (node_takes n p (whole_receives x) stands runs (in_at a.world.sent k (n + 1, x) sent) (inl (refl, whole_thinned_same o.effects)))
 
-  then_to_node : whole_outputs o.effects ≡ [] → {ks : List ℕ} {last : WholeMoment S C O} → Followed rules config ballot past (after_outcome n given b) ks last → Followed rules config ballot past b (k ∷ ks) last
+  then_to_node : whole_outputs o.effects ≡ [] → {ks : List ℕ} {last : WholeMoment S C O} → Followed rules config ballot moments (after_outcome n given b) ks last → Followed rules config ballot moments b (k ∷ ks) last
   then_to_node silent f =
       record { end = f.end; delivered = to_node k n r m stood node.stands goes_r (quiet silent) joined_now f.delivered; goes = f.goes; like = f.like; archive = f.archive; whole_before = f.whole_before; whole_came = f.whole_came }
 
 -- ---- an Activate comes to the master
 
-module _ {S C O : Type 0} (rules : Rules S C O) (config : Config) (ballot : ℕ) (past : List (Moment S C O)) (a : WholeMoment S C O) (earlier : List (WholeMoment S C O))
-    (came : WholeMoments rules config (a ∷ earlier)) (b : Moment S C O) (goes : Goes rules config past b) (like : MomentLike rules ballot a b)
+module _ {S C O : Type 0} (rules : Rules S C O) (config : Config) (ballot : ℕ) (moments : List (Moment S C O)) (a : WholeMoment S C O) (earlier : List (WholeMoment S C O))
+    (came : WholeMoments rules config (a ∷ earlier)) (b : Moment S C O) (goes : Goes rules config moments b) (like : MomentLike rules ballot a b)
     (k from asked : ℕ) (sent : slice_get a.world.sent k ≡ Some (0, record { from = from; body = bodies.Activate asked })) where
   asks : slice_get b.world.sent k ≡ Some (0, record { from = from; body = Activate asked })
   asks = by (get_back (whole_sent b.world.archive) b.world.sent k (0, record { from = from; body = bodies.Activate asked }) (ap (λ l. slice_get l k) like.sent ∙ sent))
@@ -273,28 +273,28 @@ module _ {S C O : Type 0} (rules : Rules S C O) (config : Config) (ballot : ℕ)
         nodes = λ i s e. let z = like.nodes i s e in record { replica = z.replica; stands = z.stands; like = z.like };
       }
 
-  goes_heard : Goes rules config past (after_activate from asked b)
-  goes_heard = goes_one rules config past b (after_activate from asked b) goes (master_hears from asked (in_at b.world.sent k _ asks))
+  goes_heard : Goes rules config moments (after_activate from asked b)
+  goes_heard = goes_one rules config moments b (after_activate from asked b) goes (master_hears from asked (in_at b.world.sent k _ asks))
 
   came_heard : WholeMoments rules config (whole_after_activate from asked a ∷ a ∷ earlier)
   came_heard = whole_went_on came (whole_hears from asked (in_at a.world.sent k _ sent))
 
-  then_to_master : {ks : List ℕ} {last : WholeMoment S C O} → Followed rules config ballot past (after_activate from asked b) ks last → Followed rules config ballot past b (k ∷ ks) last
+  then_to_master : {ks : List ℕ} {last : WholeMoment S C O} → Followed rules config ballot moments (after_activate from asked b) ks last → Followed rules config ballot moments b (k ∷ ks) last
   then_to_master f = record { end = f.end; delivered = to_master k from asked asks f.delivered; goes = f.goes; like = f.like; archive = f.archive; whole_before = f.whole_before; whole_came = f.whole_came }
 
 -- ---- all of them
 
-pub followed : {S C O : Type 0} (rules : Rules S C O) (config : Config) (ballot : ℕ) (past : List (Moment S C O)) {a last : WholeMoment S C O} {ks : List ℕ} →
-    WholeDelivered rules ballot a ks last → (earlier : List (WholeMoment S C O)) → WholeMoments rules config (a ∷ earlier) → (b : Moment S C O) → Goes rules config past b →
-    MomentLike rules ballot a b → Followed rules config ballot past b ks last
-followed rules config ballot past all_came_whole earlier came b goes like = record { end = b; delivered = all_came; goes = goes; like = like; archive = refl; whole_before = earlier; whole_came = came }
-followed rules config ballot past {a = a} (to_node_whole k n p x sent stands runs silent after d) earlier came b goes like =
-    then_to_node rules config ballot past a earlier came b goes like k n p x sent stands runs after silent
-    (followed rules config ballot past d (a ∷ earlier) (came_now rules config ballot past a earlier came b goes like k n p x sent stands runs after) _
-    (goes_now rules config ballot past a earlier came b goes like k n p x sent stands runs after)
-    (like_now rules config ballot past a earlier came b goes like k n p x sent stands runs after))
-followed rules config ballot past {a = a} (to_master_whole k from asked sent d) earlier came b goes like =
-    then_to_master rules config ballot past a earlier came b goes like k from asked sent
-    (followed rules config ballot past d (a ∷ earlier) (came_heard rules config ballot past a earlier came b goes like k from asked sent) _
-    (goes_heard rules config ballot past a earlier came b goes like k from asked sent)
-    (like_then_heard rules config ballot past a earlier came b goes like k from asked sent))
+pub followed : {S C O : Type 0} (rules : Rules S C O) (config : Config) (ballot : ℕ) (moments : List (Moment S C O)) {a last : WholeMoment S C O} {ks : List ℕ} →
+    WholeDelivered rules ballot a ks last → (earlier : List (WholeMoment S C O)) → WholeMoments rules config (a ∷ earlier) → (b : Moment S C O) → Goes rules config moments b →
+    MomentLike rules ballot a b → Followed rules config ballot moments b ks last
+followed rules config ballot moments all_came_whole earlier came b goes like = record { end = b; delivered = all_came; goes = goes; like = like; archive = refl; whole_before = earlier; whole_came = came }
+followed rules config ballot moments {a = a} (to_node_whole k n p x sent stands runs silent after d) earlier came b goes like =
+    then_to_node rules config ballot moments a earlier came b goes like k n p x sent stands runs after silent
+    (followed rules config ballot moments d (a ∷ earlier) (came_now rules config ballot moments a earlier came b goes like k n p x sent stands runs after) _
+    (goes_now rules config ballot moments a earlier came b goes like k n p x sent stands runs after)
+    (like_now rules config ballot moments a earlier came b goes like k n p x sent stands runs after))
+followed rules config ballot moments {a = a} (to_master_whole k from asked sent d) earlier came b goes like =
+    then_to_master rules config ballot moments a earlier came b goes like k from asked sent
+    (followed rules config ballot moments d (a ∷ earlier) (came_heard rules config ballot moments a earlier came b goes like k from asked sent) _
+    (goes_heard rules config ballot moments a earlier came b goes like k from asked sent)
+    (like_then_heard rules config ballot moments a earlier came b goes like k from asked sent))

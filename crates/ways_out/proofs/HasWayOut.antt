@@ -19,13 +19,13 @@ use Rattle.ways_out.specs.Laws.{CanBeLed, HasWayOut, LeadsOut, StartsGiveNothing
 use Rattle.ways_out.proofs.Activating.{with_active}
 use Rattle.ways_out.proofs.AllAgreed.{what_all_hold_is_agreed}
 use Rattle.ways_out.proofs.Fetching.{CanGive}
-use Rattle.ways_out.proofs.PastsGoOn.{Goes, assign_goes, deliveries_go}
+use Rattle.ways_out.proofs.MomentsGoOn.{Goes, assign_goes, deliveries_go}
 use Rattle.ways_out.proofs.Premises.{can_give, can_take, joined_below}
 use Rattle.ways_out.proofs.RisingMembers.{lawful_apart, others_apart, others_count}
 use Rattle.ways_out.proofs.Ways.{IsOut, is_out, way_out_count}
 
-module _ {S C O : Type 0} (rules : Rules S C O) (silent : StartsGiveNothing rules) (config : Config) (a : Moment S C O) (past : List (Moment S C O))
-    (came : Moments rules config (a ∷ past)) (new : Config) (index source : ℕ) (log : List C) (can : CanBeLed a new index source log) where
+module _ {S C O : Type 0} (rules : Rules S C O) (silent : StartsGiveNothing rules) (config : Config) (a : Moment S C O) (moments : List (Moment S C O))
+    (came : Moments rules config (a ∷ moments)) (new : Config) (index source : ℕ) (log : List C) (can : CanBeLed a new index source log) where
   lawful : is_lawful new.members new.primary ≡ true
   lawful = (not_refused a.master new can.granted).0
 
@@ -55,15 +55,15 @@ module _ {S C O : Type 0} (rules : Rules S C O) (silent : StartsGiveNothing rule
       is_out rules silent a first.index gives_log.index index first.replica gives_log.replica (others new.primary new.members) log new
       first.number (λ i. not_others new.primary new.members new.primary (subst (λ m. In m (others new.primary new.members)) (sym first.number) i) refl)
       (others_apart new.primary new.members (lawful_apart new lawful)) (ap (λ m. others m new.members) (sym first.number))
-      first.stands (joined_below rules config a past came first.index first.replica first.stands) (takes first.index first.replica first.stands first.is.runs)
+      first.stands (joined_below rules config a moments came first.index first.replica first.stands) (takes first.index first.replica first.stands first.is.runs)
       gives_log.stands (subst (λ (l : List C). CanGive (a.master.given + 1) a.master.active l (gives_log.index + 1) gives_log.replica) gives_log.is.log_is
-      (can_give rules config a past came gives_log.index gives_log.replica gives_log.stands asked_member gives_log.is.runs))
+      (can_give rules config a moments came gives_log.index gives_log.replica gives_log.stands asked_member gives_log.is.runs))
       (can.asked ∙ ap (λ m. Some m) gives_log.number) (λ m i. each m (can.live m (in_others new.primary new.members m i))) can.room
     where
       takes : (n : ℕ) (r : ReplicaState S C) → slice_get a.world.nodes n ≡ Some r → r.stopped ≡ false → CanTake (a.master.given + 1) (length log) (n + 1) r
       takes n r stands runs =
           subst (λ (l : List C). CanTake (a.master.given + 1) (length l) (n + 1) r) gives_log.is.log_is
-          (can_take rules config a past came n gives_log.index r gives_log.replica stands gives_log.stands asked_member runs)
+          (can_take rules config a moments came n gives_log.index r gives_log.replica stands gives_log.stands asked_member runs)
 
       each : (m : ℕ) → NodeIs IsRunning a.world.nodes m → NodeIs (CanTake (a.master.given + 1) (length log)) a.world.nodes m
       each m z =
@@ -75,10 +75,10 @@ module _ {S C O : Type 0} (rules : Rules S C O) (silent : StartsGiveNothing rule
             is = subst (λ k. CanTake (a.master.given + 1) (length log) k z.replica) (sym z.number) (takes z.index z.replica z.stands z.is.runs);
           }
 
-  pub leads_out : LeadsOut rules config (a ∷ past) a new index log
+  pub leads_out : LeadsOut rules config (a ∷ moments) a new index log
   leads_out = by out_is
     where
-      by : Out → LeadsOut rules config (a ∷ past) a new index log
+      by : Out → LeadsOut rules config (a ∷ moments) a new index log
       by o =
           record {
             last = o.after;
@@ -110,12 +110,12 @@ module _ {S C O : Type 0} (rules : Rules S C O) (silent : StartsGiveNothing rule
           whole : length (others new.primary new.members) + 1 ≡ length new.members
           whole = others_count new.primary new.members led (lawful_apart new lawful)
 
-          goes : Goes rules config (a ∷ past) o.after
-          goes = deliveries_go rules config (a ∷ past) o.delivered (assign_goes rules config a past new came can.granted)
+          goes : Goes rules config (a ∷ moments) o.after
+          goes = deliveries_go rules config (a ∷ moments) o.delivered (assign_goes rules config a moments new came can.granted)
 
-          agrees : IsAgreed config (o.after ∷ (goes.between ++ (a ∷ past))) longer
+          agrees : IsAgreed config (o.after ∷ (goes.between ++ (a ∷ moments))) longer
           agrees =
-              what_all_hold_is_agreed rules config o.after (goes.between ++ (a ∷ past)) goes.came (first.index + 1) longer (others new.primary new.members)
+              what_all_hold_is_agreed rules config o.after (goes.between ++ (a ∷ moments)) goes.came (first.index + 1) longer (others new.primary new.members)
               (record {
                 primary_serves = subst (λ b. NodeIs (LeadsWhole b longer (others new.primary new.members)) o.after.world.nodes (first.index + 1))
                     (sym (ap (λ (m : MasterState). m.active) o.master_is)) o.primary;
@@ -133,4 +133,4 @@ module _ {S C O : Type 0} (rules : Rules S C O) (silent : StartsGiveNothing rule
                   by_case (inr j) = j
 
 pub has_way_out : {S C O : Type 0} (rules : Rules S C O) → HasWayOut rules
-has_way_out rules silent config a past came new index source log can = leads_out rules silent config a past came new index source log can
+has_way_out rules silent config a moments came new index source log can = leads_out rules silent config a moments came new index source log can

@@ -9,7 +9,7 @@ pub mod Holding
 pub mod Activating
 pub mod Fetching
 pub mod RisingMembers
-pub mod PastsGoOn
+pub mod MomentsGoOn
 pub mod Premises
 pub mod AllAgreed
 pub mod Ways

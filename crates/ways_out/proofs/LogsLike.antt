@@ -6,7 +6,7 @@ use Rattle.std.proofs.lemmas.Bool.{and_parts, cases_Bool, cases_lt, eqb-true, lt
 use Rattle.std.proofs.lemmas.List.{take-take}
 use Rattle.snapshots.specs.lists.Lists.{In}
 use Rattle.machine.specs.Machine.{Rules, replay}
-use Rattle.snapshots.proofs.of_agreement.Agreed.PastAgrees.{machines_replay}
+use Rattle.snapshots.proofs.of_agreement.Agreed.MomentsAgree.{machines_replay}
 use Rattle.snapshots.proofs.of_whole.AppliesInOrder.{replay_goes_on}
 use Rattle.snapshots.proofs.of_whole.ChangeRows.{on_install-answers, on_install-stays, on_install-takes, on_state-stays, on_state-takes}
 use Rattle.snapshots.specs.agreement.Moments.{Moment as WholeMoment}
@@ -124,24 +124,24 @@ module _ {S C O : Type 0} (rules : Rules S C O) (config : Config) (m : MasterSta
 
           by_applied : (r.committed < log.base) ⊎ (log.base ≤ r.committed) → Took rules w.archive r log
           by_applied (inr low) = record { took = with_snapshot r log machine; is = is_taken; so = inl (snapshot_taken w.archive r log machine low) }
-          by_applied (inl past) =
+          by_applied (inl moments) =
               record {
                 took = with_snapshot r log machine;
                 is = is_taken;
-                so = inr (past, front, snapshot_learned rules w.archive r log machine snap.within past refl (replays ∙ ap (replay rules) (sym front)));
+                so = inr (moments, front, snapshot_learned rules w.archive r log machine snap.within moments refl (replays ∙ ap (replay rules) (sym front)));
               }
 
   -- after it took the log of a ballot, on whole logs
   learned_ahead : (ballot : ℕ) (p s : WholeState S C) (log : Log C) → log.base ≤ length w.archive → p.log ≡ whole_log w.archive log → p.committed ≡ r.committed → p.machine ≡ r.machine →
       take r.committed (whole_log w.archive log) ≡ take r.committed W.log → r.committed < log.base → s ≡ whole_applied_to rules p log.base → p.joined ≡ ballot → p.held_in ≡ ballot →
       is_active p.role ≡ false → is_fetching p.role ≡ false → IsAhead rules ballot p s
-  learned_ahead ballot p s log within is committed machine front past learned joined held passive fetched =
+  learned_ahead ballot p s log within is committed machine front moments learned joined held passive fetched =
       record {
         places = log.base;
         is = learned ∙ ap (λ (x : S). let y : WholeState S C = record p { committed = log.base; machine = x } in y)
-            (replay_goes_on rules p.machine p.log p.committed log.base (omega (arith, past, committed))
+            (replay_goes_on rules p.machine p.log p.committed log.base (omega (arith, moments, committed))
             (machine ∙ replays ∙ ap (replay rules) (sym front ∙ ap (take r.committed) (sym is) ∙ ap (λ c. take c p.log) (sym committed))));
-        more = omega (arith, past, committed);
+        more = omega (arith, moments, committed);
         within = subst (λ (us : List C). log.base ≤ length us) (sym is) (let z = whole_long w.archive log within in omega (arith, z));
         joined = joined;
         held = held;
@@ -189,12 +189,12 @@ module _ {S C O : Type 0} (rules : Rules S C O) (config : Config) (m : MasterSta
           by_so (inl same) =
               let state : whole w.archive with_it ≡ new = ap (λ (x : WholeState S C). let y : WholeState S C = record x { held_in = b; role = Installing; lacking = others r.id r.members } in y) same in
               record { state = inl state; effects = sends ∙ ap (λ (x : WholeState S C). whole_install_effects O x (others r.id r.members)) state }
-          by_so (inr (past, front, learned)) =
+          by_so (inr (moments, front, learned)) =
               let state : whole w.archive with_it ≡ whole_applied_to rules new log.base =
               ap (λ (x : WholeState S C). let y : WholeState S C = record x { held_in = b; role = Installing; lacking = others r.id r.members } in y) learned in
               let mine : r.joined ≡ ballot = sym (ap (λ (o : WholeOutcome S C O). o.state.joined) row) ∙ after in
               record {
-                state = inr (learned_ahead ballot new (whole w.archive with_it) log snap.within refl refl refl front past state mine
+                state = inr (learned_ahead ballot new (whole w.archive with_it) log snap.within refl refl refl front moments state mine
                     (sym (eqb-true r.joined b (and_parts (r.joined == b) (is_fetching r.role && nat_le r.committed (places log)) e).0) ∙ mine) refl refl);
                 effects = sends ∙ ap (λ (x : WholeState S C). whole_install_effects O x (others r.id r.members)) state ∙ alike (others r.id r.members);
               }
@@ -256,10 +256,10 @@ module _ {S C O : Type 0} (rules : Rules S C O) (config : Config) (m : MasterSta
                 state = inl (ap (λ (x : WholeState S C). let y : WholeState S C = record x { joined = b; held_in = b; role = Backup } in y) same);
                 effects = ap (λ i. answer i ∷ []) (sym long);
               }
-          by_so (inr (past, front, learned)) =
+          by_so (inr (moments, front, learned)) =
               let mine : b ≡ ballot = sym (ap (λ (o : WholeOutcome S C O). o.state.joined) row) ∙ after in
               record {
-                state = inr (learned_ahead ballot new (whole w.archive with_it) log snap.within refl refl refl front past
+                state = inr (learned_ahead ballot new (whole w.archive with_it) log snap.within refl refl refl front moments
                     (ap (λ (x : WholeState S C). let y : WholeState S C = record x { joined = b; held_in = b; role = Backup } in y) learned) mine mine refl refl);
                 effects = ap (λ i. answer i ∷ []) (sym long);
               }

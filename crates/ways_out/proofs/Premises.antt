@@ -1,4 +1,4 @@
--- Premises.antt: what a past says about nodes that live: each can take the log of any member of the
+-- Premises.antt: what moments say about nodes that live: each can take the log of any member of the
 -- active configuration, and that member can give it.
 use Rattle.std.proofs.Common.{◌≡◌, ℕ, ◌+◌, ◌<◌, ◌≤◌, ◌⊎◌, inl, inr, false, List, ◌∷◌, length, Some, refl, sym, subst, arith}
 use Rattle.std.specs.Prelude.{slice_get}
@@ -12,20 +12,20 @@ use Rattle.snapshots.specs.whole.Replica.{ReplicaState}
 use Rattle.snapshots.specs.agreement.Agreement.{Agrees}
 use Rattle.snapshots.specs.agreement.Moments.{Moment, Moments}
 use Rattle.snapshots.specs.agreement.Inside.Ballots.{Given, Line, IsChosenIn}
-use Rattle.snapshots.proofs.of_agreement.Agreed.PastAgrees.{has_agreed, nodes_agree}
-use Rattle.snapshots.proofs.of_agreement.Agreed.PastIsKnown.{IsKnown}
-use Rattle.snapshots.proofs.of_agreement.Agreed.PastKnown.{past_known}
+use Rattle.snapshots.proofs.of_agreement.Agreed.MomentsAgree.{has_agreed, nodes_agree}
+use Rattle.snapshots.proofs.of_agreement.Agreed.MomentsAreKnown.{IsKnown}
+use Rattle.snapshots.proofs.of_agreement.Agreed.MomentsKnown.{moments_known}
 use Rattle.snapshots.proofs.of_agreement.Frame.Bases.{chosen_told}
 use Rattle.ways_out.specs.Following.{whole_log_of_node}
 use Rattle.ways_out.specs.Inside.{CanTake}
 use Rattle.ways_out.proofs.Fetching.{CanGive}
 
-module _ {S C O : Type 0} (rules : Rules S C O) (config : Config) (a : Moment S C O) (past : List (Moment S C O)) (came : Moments rules config (a ∷ past)) where
-  known : IsKnown rules config a past
-  known = past_known rules config a past came
+module _ {S C O : Type 0} (rules : Rules S C O) (config : Config) (a : Moment S C O) (moments : List (Moment S C O)) (came : Moments rules config (a ∷ moments)) where
+  known : IsKnown rules config a moments
+  known = moments_known rules config a moments came
 
   agrees : (xs : List C) × Agrees rules a.master a.world xs
-  agrees = let z = has_agreed rules config a past came in (z.0, (nodes_agree rules config a past z.0 came z.1).0)
+  agrees = let z = has_agreed rules config a moments came in (z.0, (nodes_agree rules config a moments z.0 came z.1).0)
 
   -- no node has joined a ballot above those that were given
   joined_low : (n : ℕ) (r : ReplicaState S C) → slice_get a.world.nodes n ≡ Some r → r.joined ≤ a.master.given

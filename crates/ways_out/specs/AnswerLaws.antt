@@ -32,9 +32,9 @@ pub record AllHoldIt {S C O : Type 0} (moment : Moment S C O) (primary : ℕ) (l
 -- the log that all members hold is the agreed list, whatever came before
 abbrev pub WhatAllHoldIsAgreed : {S C O : Type 0} → Rules S C O → Type 0
 WhatAllHoldIsAgreed {S} {C} {O} rules =
-    (config : Config) (moment : Moment S C O) (past : List (Moment S C O)) →
-    Moments rules config (moment ∷ past) → (primary : ℕ) (log : List C) (others_of : List ℕ) →
-    AllHoldIt moment primary log others_of → IsAgreed config (moment ∷ past) log
+    (config : Config) (moment : Moment S C O) (moments : List (Moment S C O)) →
+    Moments rules config (moment ∷ moments) → (primary : ℕ) (log : List C) (others_of : List ℕ) →
+    AllHoldIt moment primary log others_of → IsAgreed config (moment ∷ moments) log
 
 -- a step of the primary that answers a command after a log: it outputs what the machine answers
 -- there, before any message, and then serves the longer log
@@ -76,8 +76,8 @@ pub record IsHeldByAll {S C O : Type 0} (rules : Rules S C O) (moment : Moment S
 -- otherwise when all others have answered
 abbrev pub CommandsAreAnswered : {S C O : Type 0} → Rules S C O → Type 0
 CommandsAreAnswered {S} {C} {O} rules =
-    (config : Config) (moment : Moment S C O) (past : List (Moment S C O)) →
-    Moments rules config (moment ∷ past) → (ballot index : ℕ) (replica : ReplicaState S C)
+    (config : Config) (moment : Moment S C O) (moments : List (Moment S C O)) →
+    Moments rules config (moment ∷ moments) → (ballot index : ℕ) (replica : ReplicaState S C)
     (log : List C) (others_of : List ℕ) (command : C) →
     slice_get moment.world.nodes index ≡ Some replica →
     LeadsWhole ballot log others_of (index + 1) replica → length log < max_places →

@@ -66,8 +66,8 @@ pub record IsHeldByAll {S C O : Type 0} (rules : Rules S C O) (moment : Moment S
 -- otherwise when all others have answered
 abbrev pub CutGroupsAnswer : {S C O : Type 0} → Rules S C O → Type 0
 CutGroupsAnswer {S} {C} {O} rules =
-    (config : Config) (moment : Moment S C O) (past : List (Moment S C O)) →
-    Moments rules config (moment ∷ past) → (ballot index : ℕ) (replica : ReplicaState S C)
+    (config : Config) (moment : Moment S C O) (moments : List (Moment S C O)) →
+    Moments rules config (moment ∷ moments) → (ballot index : ℕ) (replica : ReplicaState S C)
     (log : List C) (others_of : List ℕ) (command : C) →
     slice_get moment.world.nodes index ≡ Some replica →
     LeadsWhole ballot log others_of (index + 1) (whole moment.world.archive replica) →

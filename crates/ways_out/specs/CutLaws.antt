@@ -9,20 +9,20 @@ use Rattle.ways_out.specs.Deliveries.{way_out}
 use Rattle.ways_out.specs.Laws.{CanBeLed, IsLed, StartsGiveNothing}
 use Rattle.ways_out.specs.CutDeliveries.{Delivered, assigned_moment}
 
--- a past continues to a later moment, if this list is agreed; what was agreed before is a
+-- moments continue to a later moment, if this list is agreed; what was agreed before is a
 -- prefix of it
 pub record GoesOnTo {S C O : Type 0} (rules : Rules S C O) (config : Config)
-    (past : List (Moment S C O)) (later : Moment S C O) (agreed : List C) : Type 0 where
+    (moments : List (Moment S C O)) (later : Moment S C O) (agreed : List C) : Type 0 where
   pub between : List (Moment S C O)
-  pub came : Moments rules config (later ∷ (between ++ past))
-  pub agrees : IsAgreed config (later ∷ (between ++ past)) agreed
-  pub grown : (before : List C) → IsAgreed config past before → IsPrefixOf before agreed
+  pub came : Moments rules config (later ∷ (between ++ moments))
+  pub agrees : IsAgreed config (later ∷ (between ++ moments)) agreed
+  pub grown : (before : List C) → IsAgreed config moments before → IsPrefixOf before agreed
 
 -- a way out: after an Assign of the configuration come the messages of `way_out`; then the next
 -- ballot is led, and the whole log that was fetched is agreed with the ballot's start after it
 pub record LeadsOut {S C O : Type 0} (rules : Rules S C O) (config : Config)
-    (past : List (Moment S C O)) (moment : Moment S C O) (new : Config) (index : ℕ) (log : List C) :
-    Type 0 where
+    (moments : List (Moment S C O)) (moment : Moment S C O) (new : Config)
+    (index : ℕ) (log : List C) : Type 0 where
   pub last : Moment S C O
   pub delivered : Delivered rules (moment.master.given + 1) (assigned_moment new moment)
       (way_out (length moment.world.sent) (length moment.master.members) index
@@ -36,13 +36,14 @@ pub record LeadsOut {S C O : Type 0} (rules : Rules S C O) (config : Config)
       (length new.members - 1)) + 1 ≡ 4 * length new.members + 2
   pub led : IsLed (moment.master.given + 1) new
       (log ++ rules.start_of (moment.master.given + 1) ∷ []) (whole_moment last)
-  pub goes : GoesOnTo rules config past last (log ++ rules.start_of (moment.master.given + 1) ∷ [])
+  pub goes : GoesOnTo rules config moments
+      last (log ++ rules.start_of (moment.master.given + 1) ∷ [])
 
 -- if starts have no output, there is a way out at each moment of a group, whichever logs were cut
 abbrev pub CutGroupsHaveWaysOut : {S C O : Type 0} → Rules S C O → Type 0
 CutGroupsHaveWaysOut {S} {C} {O} rules =
     StartsGiveNothing rules →
-    (config : Config) (moment : Moment S C O) (past : List (Moment S C O)) →
-    Moments rules config (moment ∷ past) → (new : Config) (index source : ℕ) (log : List C) →
+    (config : Config) (moment : Moment S C O) (moments : List (Moment S C O)) →
+    Moments rules config (moment ∷ moments) → (new : Config) (index source : ℕ) (log : List C) →
     CanBeLed (whole_moment moment) new index source log
-    → LeadsOut rules config (moment ∷ past) moment new index log
+    → LeadsOut rules config (moment ∷ moments) moment new index log

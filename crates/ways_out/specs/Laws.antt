@@ -40,20 +40,20 @@ pub record IsLed {S C O : Type 0} (ballot : ℕ) (new : Config) (log : List C)
   pub each : (other : ℕ) → In other (others new.primary new.members) →
       NodeIs (Follows ballot log) moment.world.nodes other
 
--- a past continues to a later moment, if this list is agreed; what was agreed before is a
+-- moments continue to a later moment, if this list is agreed; what was agreed before is a
 -- prefix of it
 pub record GoesOnTo {S C O : Type 0} (rules : Rules S C O) (config : Config)
-    (past : List (Moment S C O)) (later : Moment S C O) (agreed : List C) : Type 0 where
+    (moments : List (Moment S C O)) (later : Moment S C O) (agreed : List C) : Type 0 where
   pub between : List (Moment S C O)
-  pub came : Moments rules config (later ∷ (between ++ past))
-  pub agrees : IsAgreed config (later ∷ (between ++ past)) agreed
-  pub grown : (before : List C) → IsAgreed config past before → IsPrefixOf before agreed
+  pub came : Moments rules config (later ∷ (between ++ moments))
+  pub agrees : IsAgreed config (later ∷ (between ++ moments)) agreed
+  pub grown : (before : List C) → IsAgreed config moments before → IsPrefixOf before agreed
 
 -- a way out: after an Assign of the configuration come the messages of `way_out`; then the next
 -- ballot is led, and the log that was fetched is agreed with the ballot's start after it
 pub record LeadsOut {S C O : Type 0} (rules : Rules S C O) (config : Config)
-    (past : List (Moment S C O)) (moment : Moment S C O) (new : Config) (index : ℕ) (log : List C) :
-    Type 0 where
+    (moments : List (Moment S C O)) (moment : Moment S C O) (new : Config)
+    (index : ℕ) (log : List C) : Type 0 where
   pub last : Moment S C O
   pub delivered : Delivered rules (moment.master.given + 1) (assigned_moment new moment)
       (way_out (length moment.world.sent) (length moment.master.members) index
@@ -72,13 +72,14 @@ pub record LeadsOut {S C O : Type 0} (rules : Rules S C O) (config : Config)
         record { from = other; body = Held (moment.master.given + 1) (length log + 1) },
       )
       last.world.sent
-  pub goes : GoesOnTo rules config past last (log ++ rules.start_of (moment.master.given + 1) ∷ [])
+  pub goes : GoesOnTo rules config moments
+      last (log ++ rules.start_of (moment.master.given + 1) ∷ [])
 
 -- if starts have no output, there is a way out at each moment of a group
 abbrev pub HasWayOut : {S C O : Type 0} → Rules S C O → Type 0
 HasWayOut {S} {C} {O} rules =
     StartsGiveNothing rules →
-    (config : Config) (moment : Moment S C O) (past : List (Moment S C O)) →
-    Moments rules config (moment ∷ past) → (new : Config) (index source : ℕ) (log : List C) →
+    (config : Config) (moment : Moment S C O) (moments : List (Moment S C O)) →
+    Moments rules config (moment ∷ moments) → (new : Config) (index source : ℕ) (log : List C) →
     CanBeLed moment new index source log →
-    LeadsOut rules config (moment ∷ past) moment new index log
+    LeadsOut rules config (moment ∷ moments) moment new index log

@@ -5,7 +5,7 @@ use Rattle.escaping_client.specs.lists.Lists.In.{here}
 use Rattle.escaping_client.proofs.of_lists.Prefixes.{prefix_same, prefix_then}
 use Rattle.headline.specs.ballot_base.declared.config.Config.{Config}
 use Rattle.headline.specs.snapshots.Moments.{IsAgreed, Moment}
-use Rattle.headline.proofs.of_snapshots.PastsAgree.{has_agreed, nodes_agree}
+use Rattle.headline.proofs.of_snapshots.MomentsAgree.{has_agreed, nodes_agree}
 use Rattle.headline.specs.broker_spec.declared.command.Command.{Command}
 use Rattle.headline.specs.broker_spec.declared.command.Output.{Output}
 use Rattle.headline.specs.broker_base.State.{State}
@@ -14,8 +14,8 @@ use Rattle.headline.specs.node_group.Group.{Group, moment_of_nodes}
 use Rattle.headline.specs.node_group.Steps.{GroupTrace, all_proposed, groups_on_trace, put_in_step}
 use Rattle.headline.specs.node_group.Steps.GroupTrace.{then_went}
 use Rattle.headline.specs.node_group.Order.{KeepsOrder}
-use Rattle.headline.specs.node_group.Pasts.{HasPast, packets_in}
-use Rattle.headline.proofs.of_node_group.GroupsArePasts.{goes_on as past_goes_on, seen_still}
+use Rattle.headline.specs.node_group.GroupMoments.{HasMoments, packets_in}
+use Rattle.headline.proofs.of_node_group.GroupsHaveMoments.{goes_on as moments_go_on, seen_still}
 use Rattle.headline.proofs.of_node_group.NamesInGroups.{puts_in_the_ballot_of_the_name}
 use Rattle.headline.proofs.of_node_group.Ordered.{groups_keep_the_order, in_agreed}
 use Rattle.headline.proofs.of_node_group.Packets.{packets_join}
@@ -25,13 +25,13 @@ use Rattle.world_clients.specs.NodesGoOn.{StepsOfGroup, NodesGo}
 use Rattle.world_clients.specs.NodesGoOn.StepsOfGroup.{rests, goes_on}
 use Rattle.world.proofs.OneAgreed.{one_agreed}
 
--- A group that continued from another: its past continues from the past of that one.
+-- A group that continued from another: its moments continue those of that one.
 record LeadsOn (nodes : ℕ) (config : Config) (g : Group) (earlier : List (Moment State Command Output)) (h : Group) : Type 0 where
   pub went : GroupTrace nodes config h
-  pub of : HasPast config h (groups_on_trace went) (all_proposed went)
+  pub of : HasMoments config h (groups_on_trace went) (all_proposed went)
   pub grows : (xs ys : List Command) → IsAgreed config (moment_of_nodes g ∷ earlier) xs → IsAgreed config (moment_of_nodes h ∷ of.earlier) ys → IsPrefixOf xs ys
 
-leads_on : (nodes : ℕ) (config : Config) (g h : Group) (went : GroupTrace nodes config g) (of : HasPast config g (groups_on_trace went) (all_proposed went)) → StepsOfGroup g h
+leads_on : (nodes : ℕ) (config : Config) (g h : Group) (went : GroupTrace nodes config g) (of : HasMoments config g (groups_on_trace went) (all_proposed went)) → StepsOfGroup g h
     → LeadsOn nodes config g of.earlier h
 leads_on nodes config g h went of rests =
     record {
@@ -41,13 +41,13 @@ leads_on nodes config g h went of rests =
     }
 leads_on nodes config g k went of (goes_on {next = h} goes step) =
     let so_far = leads_on nodes config g h went of goes in
-    let further = past_goes_on config h k step so_far.of.earlier so_far.of.past in
-    let between = has_agreed rules config (moment_of_nodes h) so_far.of.earlier so_far.of.past in
+    let further = moments_go_on config h k step so_far.of.earlier so_far.of.moments in
+    let between = has_agreed rules config (moment_of_nodes h) so_far.of.earlier so_far.of.moments in
     record {
       went = then_went so_far.went step;
       of = record {
         earlier = further.before;
-        past = further.past;
+        moments = further.moments;
         proposed = further.proposed ∙ ap (λ l. l ++ put_in_step step) so_far.of.proposed;
         taken = λ x.
             further.taken x ∙ ap (λ l. l ++ packets_in x (put_in_step step)) (so_far.of.taken x) ∙ sym (packets_join x (all_proposed so_far.went) (put_in_step step));
@@ -65,8 +65,8 @@ agreed_grows old new go nodes config before =
       logs = (groups_keep_the_order nodes config to.after on.went).logs;
       agreed = λ x xs is. in_agreed config to.after (groups_on_trace on.went) (all_proposed on.went) on.of (puts_in_the_ballot_of_the_name nodes config to.after on.went) x xs is;
     } in
-    let list = has_agreed rules config (moment_of_nodes to.after) on.of.earlier on.of.past in
-    let agree = nodes_agree rules config (moment_of_nodes to.after) on.of.earlier list.0 on.of.past list.1 in (
+    let list = has_agreed rules config (moment_of_nodes to.after) on.of.earlier on.of.moments in
+    let agree = nodes_agree rules config (moment_of_nodes to.after) on.of.earlier list.0 on.of.moments list.1 in (
       record {
         group = to.after;
         went = on.went;

@@ -53,7 +53,7 @@ module _ (name : List ℕ) (i at number place : ℕ) (core : Core) (up : List �
     (housed : SlotsAreValid (targets_of_clients w.clients) w.connections)
     (s : IsNewest i at number (suc place) core up [] true (with_nodes (after_node_call place node (takes (Bytes (port_at_node number) piece 0)) w.nodes) w))
     (first : position (is_named name) w.clients ≡ Some i)
-    (config : Config) (a : Moment State Command Output) (past : List (Moment State Command Output)) (came : Moments rules config (a ∷ past)) (ballot start : ℕ) (x : ConnectionName)
+    (config : Config) (a : Moment State Command Output) (moments : List (Moment State Command Output)) (came : Moments rules config (a ∷ moments)) (ballot start : ℕ) (x : ConnectionName)
     (list : List Command) (connect : Connect) where
   abbrev item : Item
   item = Bytes (port_at_node number) piece 0
@@ -74,7 +74,7 @@ module _ (name : List ℕ) (i at number place : ℕ) (core : Core) (up : List �
   pub answers_alone : CanAsk a w.nodes ballot place node [] (port_at_node number) x list start piece connect → IsAnswered name i at number place core w.nodes after.nodes after
   answers_alone possible =
       put_first name i at number place core up (with_nodes taken w) after turned positive (get_set w.nodes.nodes place node turned stands)
-      (sole_member_answers_the_client config a past came w.nodes ballot place node (port_at_node number) x list start 0 piece connect possible)
+      (sole_member_answers_the_client config a moments came w.nodes ballot place node (port_at_node number) x list start 0 piece connect possible)
       gathers housed s first w.nodes (nodes_go_join w.nodes taken after.nodes goes passes.nodes) refl
 
   -- ---- with others
@@ -90,7 +90,7 @@ module _ (name : List ℕ) (i at number place : ℕ) (core : Core) (up : List �
     index = length w.nodes.sent + 2 * length front + 1
 
     awaits : AwaitsOthers ballot place (port_at_node number) x ks taken
-    awaits = others_are_awaited config a past came w.nodes ballot place node front last (port_at_node number) x list start 0 piece connect possible apart out each
+    awaits = others_are_awaited config a moments came w.nodes ballot place node front last (port_at_node number) x list start 0 piece connect possible apart out each
 
     newest : IsNewest i at number (suc place) core up [] true after
     newest = own_waits i at number place core up x (with_nodes taken w) after awaits.waits.node positive awaits.waits.stands awaits.waits.waits gathers housed s
@@ -116,5 +116,5 @@ module _ (name : List ℕ) (i at number place : ℕ) (core : Core) (up : List �
         let b = others_answer run none in
         let f = deliveries_are_followed ballot awaits.moment awaits.before ks awaits.delivered taken b.mid.nodes b.passes.come awaits.seen awaits.calm in
         answers_last name ks i at number place core up index last ballot (begun_log list start) more (with_nodes taken w) new positive b
-        (others_let_the_client_be_answered config a past came w.nodes b.mid.nodes ballot place node front last (port_at_node number) x list start 0 piece connect possible apart out each b.passes.come)
+        (others_let_the_client_be_answered config a moments came w.nodes b.mid.nodes ballot place node front last (port_at_node number) x list start 0 piece connect possible apart out each b.passes.come)
         first w.nodes (nodes_go_join w.nodes taken b.mid.nodes goes b.passes.nodes) (sym f.seen.master ∙ awaits.master)

@@ -63,7 +63,7 @@ split (x ∷ xs) = by (split xs)
 
 module _ (name : List ℕ) (v : WorldState) (i at number place : ℕ) (core : Core) (up : List ℕ) (positive : 0 < number) (newest : IsNewest i at number (suc place) core up [] true v)
     (housed : SlotsAreValid (targets_of_clients v.clients) v.connections) (first : position (is_named name) v.clients ≡ Some i)
-    (config : Config) (a : Moment State Command Output) (past : List (Moment State Command Output)) (came : Moments rules config (a ∷ past)) (ballot : ℕ) (os : List ℕ)
+    (config : Config) (a : Moment State Command Output) (moments : List (Moment State Command Output)) (came : Moments rules config (a ∷ moments)) (ballot : ℕ) (os : List ℕ)
     (list : List Command) (o : IsOpened a v.nodes ballot place os (begun_log list ballot) (port_at_node number)) (room : length list + 2 ≤ max_places) (connect : Connect)
     (session : session_of (past_of usual_limits list) connect.client ≡ Some false) (is_connect : verdict up ≡ Ok (packets.Connect connect, [])) (kept : connect.clean ≡ false)
     (count : ℕ) (many : length up ≡ count) (some : 0 < count) (apart : NumbersAreApart os) (out : In (place + 1) os → ⊥)
@@ -105,14 +105,14 @@ module _ (name : List ℕ) (v : WorldState) (i at number place : ℕ) (core : Co
   answered f gathers (inl none) =
       record {
         after = f.after;
-        is = answers_alone name i at number place core (drop count newest.way.up) w f.after o.node positive o.stands up gathers w_housed w_newest w_first config a past came ballot ballot
+        is = answers_alone name i at number place core (drop count newest.way.up) w f.after o.node positive o.stands up gathers w_housed w_newest w_first config a moments came ballot ballot
             (first_of ballot) list connect
             (subst (λ (xs : List ℕ). CanAsk a v.nodes ballot place o.node xs (port_at_node number) (first_of ballot) list ballot up connect) none asks);
         rest = subst (λ (xs : List ℕ). EventsHappen (map events.Deliver (asked_and_answered (length v.nodes.sent) (length xs)) ++ more) f.after new) none f.rest;
         whole = f.whole;
       }
   answered f gathers (inr e) =
-      answers_with_others name i at number place core (drop count newest.way.up) w f.after o.node positive o.stands up gathers w_housed w_newest w_first config a past came ballot ballot
+      answers_with_others name i at number place core (drop count newest.way.up) w f.after o.node positive o.stands up gathers w_housed w_newest w_first config a moments came ballot ballot
       (first_of ballot) list connect e.front e.last
       (subst (λ (xs : List ℕ). CanAsk a v.nodes ballot place o.node xs (port_at_node number) (first_of ballot) list ballot up connect) e.is asks)
       (subst NumbersAreApart e.is apart) (subst (λ (xs : List ℕ). In (place + 1) xs → ⊥) e.is out)

@@ -21,7 +21,7 @@ use Rattle.headline.specs.node_group.Group.{Group, moment_of_nodes, replica_of}
 use Rattle.headline.specs.snapshots.Moments.{Moment, Moments, whole_moment}
 use Rattle.headline.specs.snapshots.Whole.{whole, whole_log}
 use Rattle.headline.proofs.of_snapshots.Fronts.{whole_long}
-use Rattle.headline.proofs.of_snapshots.PastsKept.{past_stands}
+use Rattle.headline.proofs.of_snapshots.MomentsKept.{moments_stand}
 use Rattle.headline.proofs.of_snapshots.Views.{get_whole}
 use Rattle.escaping_client.specs.lists.Lists.{In}
 use Rattle.escaping_client.specs.lists.Lists.In.{here, there}
@@ -70,7 +70,7 @@ runs_here nodes (suc at) e = by (slice_get nodes at) refl e
 
 -- ---- what a way out asks for
 
-module _ (config : Config) (g : Group) (past : List (Moment State Command Output)) (came : Moments rules config (moment_of_nodes g ∷ past)) (w : WorldState) (s : NodesStandFor g w.nodes)
+module _ (config : Config) (g : Group) (moments : List (Moment State Command Output)) (came : Moments rules config (moment_of_nodes g ∷ moments)) (w : WorldState) (s : NodesStandFor g w.nodes)
     (members : List ℕ) (name : Client) (possible : CanEscape members name w) where
   abbrev a : Moment State Command Output
   a = moment_of_nodes g
@@ -92,7 +92,7 @@ module _ (config : Config) (g : Group) (past : List (Moment State Command Output
 
   pub long : length (whole_log_of w.nodes possible.source) + 2 ≤ max_places
   long =
-      let q = past_stands rules config a past came in
+      let q = moments_stand rules config a moments came in
       let within = (q.kept.nodes source.at (replica_of source.node.core) (replica_at a w.nodes seen source.at source.node source.stands)).0.within in
       let whole_is = whole_long g.archive source.node.core.replica.state.log within in
       let same = ap (λ (l : List Command). length l) log_is in

@@ -59,11 +59,11 @@ module _ (name : Client) (w : WorldState) (housed : SlotsAreValid (targets_of_cl
   abbrev g : Group
   g = r.world.group
 
-  abbrev past : List (Moment State Command Output)
-  past = r.exact.of.earlier
+  abbrev moments : List (Moment State Command Output)
+  moments = r.exact.of.earlier
 
-  came : Moments rules config (moment_of_nodes g ∷ past)
-  came = r.exact.of.past
+  came : Moments rules config (moment_of_nodes g ∷ moments)
+  came = r.exact.of.moments
 
   abbrev ballot : ℕ
   ballot = g.master.given + 1
@@ -110,7 +110,7 @@ module _ (name : Client) (w : WorldState) (housed : SlotsAreValid (targets_of_cl
       let t = named_there name possible.core w.clients possible.client in
       subst (λ (k : Core). CanGoOut k.state) t.is (client_at w.clients r.world.clients t.at t.client r.stands.clients t.found).stands.fits
 
-  module _ (l : LedTo config g past (first ∷ os) possible.index list more w new) (p : IsNewPrimary l.way.last ballot log first os l.mid)
+  module _ (l : LedTo config g moments (first ∷ os) possible.index list more w new) (p : IsNewPrimary l.way.last ballot log first os l.mid)
       (left : HasLeft name possible.core (opening (suc p.index)) l.mid new) where
     abbrev b : Moment State Command Output
     b = l.way.last
@@ -140,8 +140,8 @@ module _ (name : Client) (w : WorldState) (housed : SlotsAreValid (targets_of_cl
       answered : AnsweredTo name h.i h.at number p.index h.core v.nodes last_event new
       answered =
           let c = connect_spelled possible.core.state.client fits.client left.before.state.keep_alive h.up (left.keep_alive ∙ fits.keep_alive) written in
-          answers_out name v h.i h.at number p.index h.core h.up (omega arith) h.newest h.housed h.first config b (l.way.goes.between ++ moment_of_nodes g ∷ past) l.way.goes.came ballot os
-          list h.awaits (long config g past came w r.stands.nodes (first ∷ os) name possible) (keeps possible.core.state.client left.before.state.keep_alive) possible.session c.0 refl
+          answers_out name v h.i h.at number p.index h.core h.up (omega arith) h.newest h.housed h.first config b (l.way.goes.between ++ moment_of_nodes g ∷ moments) l.way.goes.came ballot os
+          list h.awaits (long config g moments came w r.stands.nodes (first ∷ os) name possible) (keeps possible.core.state.client left.before.state.keep_alive) possible.session c.0 refl
           bytes c.1 (omega arith) p.apart p.out p.each last_event new (subst (λ (k : ℕ). EventsHappen (asking k) v new) sent_is run) none
 
       served : (a : AnsweredTo name h.i h.at number p.index h.core v.nodes last_event new) → IsOnline name a.after new
@@ -182,9 +182,9 @@ module _ (name : Client) (w : WorldState) (housed : SlotsAreValid (targets_of_cl
 
   leads : EventsHappen (escaping_events w (first ∷ os) possible.index holds name bytes) w new → WorldLosesNothing w new → HasEscaped name w new
   leads run none =
-      let l = led_to config g past came w r.stands.nodes housed (first ∷ os) name possible more new run none in
-      let lawful_is = lawful config g past came w r.stands.nodes housed (first ∷ os) name possible more new in
-      let p = new_primary config r.world r.trail w r.stands past came first os name possible more new l lawful_is.0 lawful_is.1 in
+      let l = led_to config g moments came w r.stands.nodes housed (first ∷ os) name possible more new run none in
+      let lawful_is = lawful config g moments came w r.stands.nodes housed (first ∷ os) name possible more new in
+      let p = new_primary config r.world r.trail w r.stands moments came first os name possible more new l lawful_is.0 lawful_is.1 in
       opened l p
       (leaves name possible.core (opening (suc p.index)) l.mid new (core_seen name possible.core l.mid.clients w.clients l.clients possible.client) l.housed holds held
       (subst (λ (es : List Event). EventsHappen es l.mid new) (more_is (suc p.index) p.number) l.rest) l.whole)

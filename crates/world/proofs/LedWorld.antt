@@ -43,9 +43,9 @@ use Rattle.world_clients.proofs.NodesGoOn.{nodes_go_join}
 use Rattle.world.proofs.PassesOn.{seen_of}
 
 -- the world then, and the events after it
-pub record LedTo (config : Config) (g : Group) (past : List (Moment State Command Output)) (members : List ℕ) (index : ℕ) (log : List Command) (more : List Event)
+pub record LedTo (config : Config) (g : Group) (moments : List (Moment State Command Output)) (members : List ℕ) (index : ℕ) (log : List Command) (more : List Event)
     (w new : WorldState) : Type 0 where
-  pub way : LeadsOut rules config (moment_of_nodes g ∷ past) (moment_of_nodes g) (configuration_of members) index log
+  pub way : LeadsOut rules config (moment_of_nodes g ∷ moments) (moment_of_nodes g) (configuration_of members) index log
   pub mid : WorldState
   pub followed : AreFollowed (g.master.given + 1) way.last (after_giving (configuration_of members) w.nodes) mid.nodes
   pub nodes : NodesGo w.nodes mid.nodes
@@ -62,7 +62,7 @@ group_events w members index =
     events.Assign (configuration_of members)
     ∷ map events.Deliver (way_out (length w.nodes.sent) (length w.nodes.master.members) index (length (configuration_of members).members - 1))
 
-module _ (config : Config) (g : Group) (past : List (Moment State Command Output)) (came : Moments rules config (moment_of_nodes g ∷ past)) (w : WorldState) (s : NodesStandFor g w.nodes)
+module _ (config : Config) (g : Group) (moments : List (Moment State Command Output)) (came : Moments rules config (moment_of_nodes g ∷ moments)) (w : WorldState) (s : NodesStandFor g w.nodes)
     (housed : SlotsAreValid (targets_of_clients w.clients) w.connections) (members : List ℕ) (name : Client) (possible : CanEscape members name w) (more : List Event) (new : WorldState) where
   abbrev conf : Config
   conf = configuration_of members
@@ -70,8 +70,8 @@ module _ (config : Config) (g : Group) (past : List (Moment State Command Output
   abbrev numbers : List ℕ
   numbers = way_out (length w.nodes.sent) (length w.nodes.master.members) possible.index (length conf.members - 1)
 
-  way : LeadsOut rules config (moment_of_nodes g ∷ past) (moment_of_nodes g) conf possible.index (whole_log_of w.nodes possible.source)
-  way = way_of config (moment_of_nodes g) past came conf possible.index possible.source (whole_log_of w.nodes possible.source) (can_be_led config g past came w s members name possible)
+  way : LeadsOut rules config (moment_of_nodes g ∷ moments) (moment_of_nodes g) conf possible.index (whole_log_of w.nodes possible.source)
+  way = way_of config (moment_of_nodes g) moments came conf possible.index possible.source (whole_log_of w.nodes possible.source) (can_be_led config g moments came w s members name possible)
 
   seen : IsSeen (moment_of_nodes g) w.nodes
   seen = seen_as g w.nodes s
@@ -80,7 +80,7 @@ module _ (config : Config) (g : Group) (past : List (Moment State Command Output
   same = ap (λ (l : List (ℕ × Message Command)). way_out (length l) (length g.master.members) possible.index (length conf.members - 1)) s.sent
       ∙ ap (λ (m : MasterState). way_out (length w.nodes.sent) (length m.members) possible.index (length conf.members - 1)) s.master
 
-  pub led_to : EventsHappen (group_events w members possible.index ++ more) w new → WorldLosesNothing w new → LedTo config g past members possible.index (whole_log_of w.nodes possible.source) more w new
+  pub led_to : EventsHappen (group_events w members possible.index ++ more) w new → WorldLosesNothing w new → LedTo config g moments members possible.index (whole_log_of w.nodes possible.source) more w new
   led_to run none =
       let f = first_done (events.Assign conf) (map events.Deliver numbers ++ more) w new run none (λ cannot. cannot possible.granted) in
       let given : WorldState = with_nodes (after_giving conf w.nodes) w in
@@ -89,7 +89,7 @@ module _ (config : Config) (g : Group) (past : List (Moment State Command Output
       let whole : WorldLosesNothing given new = subst (λ (v : WorldState). WorldLosesNothing v new) is f.whole in
       let on = goes_apart w (after_giving conf w.nodes) (omega arith) (goes_by None refl (λ h t. (gives_exactly w.nodes conf possible.granted h t).0)) in
       let t = in_two (map events.Deliver numbers) more given new rest whole in
-      let calm : AreCalm (g.master.given + 1) given.nodes = λ at node there. inr (low_before config (moment_of_nodes g) past came w.nodes seen at node there) in
+      let calm : AreCalm (g.master.given + 1) given.nodes = λ at node there. inr (low_before config (moment_of_nodes g) moments came w.nodes seen at node there) in
       let first_seen : IsSeen (assigned_moment conf (moment_of_nodes g)) given.nodes = assigned_seen (moment_of_nodes g) w.nodes conf seen in
       let delivered = subst (λ (ks : List ℕ). Delivered rules (g.master.given + 1) (assigned_moment conf (moment_of_nodes g)) ks way.last) same way.delivered in
       let p = walk (g.master.given + 1) (assigned_moment conf (moment_of_nodes g)) way.last numbers delivered given t.mid t.first t.whole_first first_seen calm housed in

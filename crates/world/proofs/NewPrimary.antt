@@ -72,9 +72,9 @@ module _ (first : ℕ) (os : List ℕ) (lawful : is_lawful (first ∷ os) first 
 -- ---- the new primary
 
 module _ (config : Config) {nodes : ℕ} {cs : List Client} (m : ByteWorld) (trail : Reached nodes config cs m) (w : WorldState) (s : WorldStandsFor m w)
-    (past : List (Moment State Command Output)) (came : Moments rules config (moment_of_nodes m.group ∷ past)) (first : ℕ) (os : List ℕ) (name : Client)
+    (moments : List (Moment State Command Output)) (came : Moments rules config (moment_of_nodes m.group ∷ moments)) (first : ℕ) (os : List ℕ) (name : Client)
     (possible : CanEscape (first ∷ os) name w) (more : List Event) (new : WorldState)
-    (l : LedTo config m.group past (first ∷ os) possible.index (whole_log_of w.nodes possible.source) more w new)
+    (l : LedTo config m.group moments (first ∷ os) possible.index (whole_log_of w.nodes possible.source) more w new)
     (lawful : is_lawful (first ∷ os) first ≡ true) (given : w.nodes.master.given < max_ballot) where
   abbrev ballot : ℕ
   ballot = m.group.master.given + 1
@@ -133,7 +133,7 @@ module _ (config : Config) {nodes : ℕ} {cs : List Client} (m : ByteWorld) (tra
       let in_model : slice_get m.group.nodes r.at ≡ Some r.node.core =
       ap (λ (xs : List CoreState). slice_get xs r.at) s.nodes.nodes ∙ get_mapped (λ (c : CountedCore). c.core) w.nodes.nodes r.at r.node r.stands in
       let within = (nodes_are_orderly nodes config cs m trail r.at r.node.core in_model).within in
-      let joined = low_before config (moment_of_nodes m.group) past came w.nodes (seen_as m.group w.nodes s.nodes) r.at r.node r.stands in
+      let joined = low_before config (moment_of_nodes m.group) moments came w.nodes (seen_as m.group w.nodes s.nodes) r.at r.node r.stands in
       omega (arith, kept, within, joined)
 
   to : ModelStepsTo [] m l.mid

@@ -17,10 +17,10 @@ use Rattle.world.specs.World.{WorldState}
 use Rattle.world.specs.Trace.{AreReached}
 use Rattle.world.specs.StandsFor.{IsReached}
 
-begins : (config : Config) (past : List (Moment State Command Output)) (xs ys : List Command) → IsAgreed config past xs → IsAgreed config past ys → IsPrefixOf xs ys
-begins config past xs ys x y = by_chosen x.chosen
+begins : (config : Config) (moments : List (Moment State Command Output)) (xs ys : List Command) → IsAgreed config moments xs → IsAgreed config moments ys → IsPrefixOf xs ys
+begins config moments xs ys x y = by_chosen x.chosen
   where
-    by_chosen : (xs ≡ []) ⊎ ((b : ℕ) × WasActive (map whole_moment past) b × IsChosen config (map whole_moment past) b xs) → IsPrefixOf xs ys
+    by_chosen : (xs ≡ []) ⊎ ((b : ℕ) × WasActive (map whole_moment moments) b × IsChosen config (map whole_moment moments) b xs) → IsPrefixOf xs ys
     by_chosen (inl none) = subst (λ (l : List Command). IsPrefixOf l ys) (sym none) (record { rest = ys; is = refl })
     by_chosen (inr (b, active, chosen)) = y.longest b xs active chosen
 
@@ -28,18 +28,18 @@ nothing_left : (rest : List Command) → length rest ≡ 0 → rest ≡ []
 nothing_left [] e = refl
 nothing_left (x ∷ rest) e = absurd (omega (arith, e))
 
-pub one_agreed : (config : Config) (past : List (Moment State Command Output)) (xs ys : List Command) → IsAgreed config past xs → IsAgreed config past ys → xs ≡ ys
-one_agreed config past xs ys x y =
-    let p = begins config past xs ys x y in
-    let longer = prefix_length (begins config past ys xs y x) in
+pub one_agreed : (config : Config) (moments : List (Moment State Command Output)) (xs ys : List Command) → IsAgreed config moments xs → IsAgreed config moments ys → xs ≡ ys
+one_agreed config moments xs ys x y =
+    let p = begins config moments xs ys x y in
+    let longer = prefix_length (begins config moments ys xs y x) in
     let whole = ap length p.is in
     sym (p.is ∙ ap (λ (l : List Command). xs ++ l) (nothing_left p.rest (omega (arith, longer, whole, length-append xs p.rest))) ∙ append-nil xs)
 
 pub reached_agree : (n : NodesState) (list : List Command) → AgreeOn n list → (nodes : ℕ) (config : Config) (r : AreReached nodes config n) → list ≡ r.list
 reached_agree n list agree nodes config r =
-    one_agreed config (moment_of_nodes r.group ∷ r.order.of.earlier) list r.list (agree config r.group r.order.of.earlier r.stands r.order.of.past) r.agreed
+    one_agreed config (moment_of_nodes r.group ∷ r.order.of.earlier) list r.list (agree config r.group r.order.of.earlier r.stands r.order.of.moments) r.agreed
 
 pub exact_by : (w : WorldState) (list : List Command) → AgreeOn w.nodes list → (nodes : ℕ) (config : Config) (clients : List Client) (r : IsReached nodes config clients w)
     → list ≡ r.exact.agreed
 exact_by w list agree nodes config clients r =
-    one_agreed config (moment_of_nodes r.world.group ∷ r.exact.of.earlier) list r.exact.agreed (agree config r.world.group r.exact.of.earlier r.stands.nodes r.exact.of.past) r.exact.is_agreed
+    one_agreed config (moment_of_nodes r.world.group ∷ r.exact.of.earlier) list r.exact.agreed (agree config r.world.group r.exact.of.earlier r.stands.nodes r.exact.of.moments) r.exact.is_agreed

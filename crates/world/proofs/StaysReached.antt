@@ -1,7 +1,7 @@
 -- Steps of nodes, one after another.
 use Rattle.std.proofs.Common.{◌-◌, ℕ}
 use Rattle.headline.specs.ballot_base.declared.config.Config.{Config}
-use Rattle.headline.proofs.of_snapshots.PastsAgree.{has_agreed, nodes_agree}
+use Rattle.headline.proofs.of_snapshots.MomentsAgree.{has_agreed, nodes_agree}
 use Rattle.node_core.specs.Core.{rules}
 use Rattle.headline.specs.node_group.Group.{Group, moment_of_nodes}
 use Rattle.headline.specs.node_group.Steps.{GroupTrace}
@@ -17,8 +17,8 @@ use Rattle.world_clients.specs.NodesGoOn.StepsOfGroup.{rests, goes_on}
 pub are_reached : (nodes : ℕ) (config : Config) (g : Group) (new : NodesState) → GroupTrace nodes config g → NodesStandFor g new → AreReached nodes config new
 are_reached nodes config g new went stands =
     let order = groups_keep_the_order nodes config g went in
-    let list = has_agreed rules config (moment_of_nodes g) order.of.earlier order.of.past in
-    let agree = nodes_agree rules config (moment_of_nodes g) order.of.earlier list.0 order.of.past list.1 in
+    let list = has_agreed rules config (moment_of_nodes g) order.of.earlier order.of.moments in
+    let agree = nodes_agree rules config (moment_of_nodes g) order.of.earlier list.0 order.of.moments list.1 in
     record {
       group = g;
       went = went;

@@ -25,7 +25,7 @@ use Rattle.world_nodes.proofs.Acts.{core_in}
 -- what the members acknowledged is counted
 pub members_low : (n : NodesState) (told next : ToldIn) → HaveCounted n told next → (m : ℕ) → In m n.master.members → m < 16
 members_low n told next c m i =
-    let lawful = group_lawful rules c.counts.config (moment_of_nodes c.group) c.counts.past c.counts.came in
+    let lawful = group_lawful rules c.counts.config (moment_of_nodes c.group) c.counts.moments c.counts.came in
     (rising_above 0 c.group.master.members m lawful.active (subst (λ (k : MasterState). In m k.members) (sym c.stands.master) i)).1
 
 -- of several members, the second least of the numbers that they acknowledged
@@ -94,7 +94,7 @@ pub within_at : (n : NodesState) (told next : ToldIn) → HaveCounted n told nex
     → slice_get (replicas_of n.nodes) at ≡ Some r → r.log.base ≤ length n.archive
 within_at n told next c at r stands =
     subst (λ (l : List Command). r.log.base ≤ length l) c.stands.archive
-    (within_of rules c.counts.config (moment_of_nodes c.group) c.counts.past c.counts.came at r
+    (within_of rules c.counts.config (moment_of_nodes c.group) c.counts.moments c.counts.came at r
     (ap (λ (l : List (ReplicaState State Command)). slice_get l at) (sym (same_nodes n c.group c.stands)) ∙ stands))
 
 -- ---- logs of nodes

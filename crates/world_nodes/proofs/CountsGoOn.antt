@@ -8,7 +8,7 @@ use Rattle.byte_world.specs.broker_spec.declared.command.Command.{Command}
 use Rattle.byte_world.specs.node_moves.Moves.{NodeCall}
 use Rattle.byte_world.specs.node_group.Group.{opening_group}
 use Rattle.byte_world.specs.node_group.Steps.GroupTrace.{opened}
-use Rattle.byte_world.proofs.of_node_group.GroupsArePasts.{goes_on, groups_are_pasts}
+use Rattle.byte_world.proofs.of_node_group.GroupsHaveMoments.{goes_on, groups_have_moments}
 use Rattle.master.specs.Inside.{HasCounted, ToldIn}
 use Rattle.master.proofs.Groups.{front_of}
 use Rattle.world_nodes.specs.Nodes.{NodesState, NodesStandFor}
@@ -21,14 +21,14 @@ Sent = List (ℕ × Message Command)
 pub opens_counting : (nodes : ℕ) (config : Config) (n : NodesState) (told next : ToldIn) → can_open nodes config ≡ true → NodesStandFor (opening_group nodes config) n
     → told.ballot ≡ 1 → ((m : ℕ) → get_or told.held m 0 ≡ 0) → ((m : ℕ) → get_or next.held m 0 ≡ 0) → HaveCounted n told next
 opens_counting nodes config n told next can stands one untold untold_next =
-    let so_far = groups_are_pasts nodes config (opening_group nodes config) (opened can) in
+    let so_far = groups_have_moments nodes config (opening_group nodes config) (opened can) in
     record {
       group = opening_group nodes config;
       stands = stands;
       counts = record {
         config = config;
-        past = so_far.earlier;
-        came = so_far.past;
+        moments = so_far.earlier;
+        came = so_far.moments;
         active = one;
         counted = λ m low. untold m;
         waits = λ b c e. cc;
@@ -46,15 +46,15 @@ pub acts_counting : (old new : NodesState) (at : ℕ) (node_call : NodeCall) (to
     → (HasCounted old.sent told → HasCounted new.sent told') → (HasCounted old.sent next → HasCounted new.sent next') → HaveCounted new told' next'
 acts_counting old new at node_call told next told' next' c acts same one two counts counts_next =
     let g = acts c.group c.stands in
-    let on = goes_on c.counts.config c.group g.does.after g.does.step c.counts.past c.counts.came in
+    let on = goes_on c.counts.config c.group g.does.after g.does.step c.counts.moments c.counts.came in
     let master : c.group.master ≡ g.does.after.master = c.stands.master ∙ sym same ∙ sym g.stands.master in
     record {
       group = g.does.after;
       stands = g.stands;
       counts = record {
         config = c.counts.config;
-        past = on.before;
-        came = on.past;
+        moments = on.before;
+        came = on.moments;
         active = one ∙ c.counts.active ∙ ap (λ (m : MasterState). m.active) master;
         counted = subst (λ (l : Sent). HasCounted l told') (sym g.stands.sent) (counts (subst (λ (l : Sent). HasCounted l told) c.stands.sent c.counts.counted));
         waits = λ b config e. two ∙ c.counts.waits b config (ap (λ (m : MasterState). m.waiting) master ∙ e);

@@ -178,7 +178,7 @@ does_nothing message core more names free = (by free.0, free.1)
 pub names_sent : (n : NodesState) (told next : ToldIn) → HaveCounted n told next → (number : ℕ) (found : ℕ × Message Command) → slice_get n.sent number ≡ Some found →
     NamesSome found.1.body
 names_sent n told next c number found there =
-    names_some rules c.counts.config (moment_of_nodes c.group) c.counts.past c.counts.came found.0 found.1
+    names_some rules c.counts.config (moment_of_nodes c.group) c.counts.moments c.counts.came found.0 found.1
     (subst (λ (sent : List (ℕ × Message Command)). In {X = ℕ × Message Command} (found.0, found.1) sent) (sym c.stands.sent) (in_at n.sent number found there))
 
 -- a message that has an effect on a node takes memory, or has only numbers

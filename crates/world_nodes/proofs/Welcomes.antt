@@ -12,7 +12,7 @@ use Rattle.byte_world.specs.broker_spec.Place.{Client}
 use Rattle.byte_world.specs.broker_base.State.{State}
 use Rattle.master.specs.Inside.{ToldIn}
 use Rattle.master.specs.snapshots.Laws.{IsCutRight}
-use Rattle.master.proofs.of_snapshots.PastsAgree.{logs_are_cut_right}
+use Rattle.master.proofs.of_snapshots.MomentsAgree.{logs_are_cut_right}
 use Rattle.node_core.specs.Core.{CoreState, CountedCore, rules}
 use Rattle.byte_world.specs.node_group.Group.{moment_of_nodes, replica_of}
 use Rattle.byte_world.proofs.of_node_group.Placed.{get_mapped}
@@ -42,7 +42,7 @@ cut_right n told next c node core there =
     get_mapped replica_of c.group.nodes (node - 1) core.core
     (ap (λ (l : List CoreState). slice_get l (node - 1)) c.stands.nodes ∙ get_mapped core_in n.nodes (node - 1) core (at_place n.nodes node core there)) in
     subst (λ (l : List Command). IsCutRight rules l core.core.replica.state) c.stands.archive
-    (logs_are_cut_right rules c.counts.config (moment_of_nodes c.group) c.counts.past c.counts.came (node - 1) (replica_of core.core) found)
+    (logs_are_cut_right rules c.counts.config (moment_of_nodes c.group) c.counts.moments c.counts.came (node - 1) (replica_of core.core) found)
 
 -- the machine at its base
 at_base : (archive : List Command) (r : ReplicaState State Command) → IsCutRight rules archive r → (base : ℕ) (bytes : List ℕ) (machine : State) → base ≡ r.log.base →

@@ -49,9 +49,9 @@ sound_agrees {S = S} {C = C} {O = O} rules m w h xs s k a =
     }
 
 -- what left is in order
-pub sound_leaves : {S C O : Type 0} (rules : Rules S C O) (past : List (Moment S C O)) (w : GroupWorld S C O) (h : History C) (xs : List C) →
-    IsSoundWorld rules w h → IsAgreedIn w h xs → ((b : ℕ) → In b h.activated → WasActive past b) → LeftInOrder rules past w xs
-sound_leaves {S = S} {C = C} {O = O} rules past w h xs s a active =
+pub sound_leaves : {S C O : Type 0} (rules : Rules S C O) (moments : List (Moment S C O)) (w : GroupWorld S C O) (h : History C) (xs : List C) →
+    IsSoundWorld rules w h → IsAgreedIn w h xs → ((b : ℕ) → In b h.activated → WasActive moments b) → LeftInOrder rules moments w xs
+sound_leaves {S = S} {C = C} {O = O} rules moments w h xs s a active =
     record {
       segments = s.left.segments;
       left = s.left.left xs (λ b j l i e c. a.longest (take j l.list) (chosen_list w h b j l i e c));
@@ -60,11 +60,11 @@ sound_leaves {S = S} {C = C} {O = O} rules past w h xs s a active =
       in_order = s.left.in_order;
     }
   where
-    inside : (y : Segment) → In y.ballot h.activated × (y.first < y.past) × IsChosenIn w h y.ballot y.past
-        × ((l : Line C) × (h.line y.ballot ≡ Some l) × (length l.base ≤ y.first)) → (y.first < y.past) × (y.past ≤ length xs)
+    inside : (y : Segment) → In y.ballot h.activated × (y.first < y.end) × IsChosenIn w h y.ballot y.end
+        × ((l : Line C) × (h.line y.ballot ≡ Some l) × (length l.base ≤ y.first)) → (y.first < y.end) × (y.end ≤ length xs)
     inside y (i, rising, chosen, (l, lined, low)) =
-        let p = prefix_length (a.longest (take y.past l.list) (chosen_list w h y.ballot y.past l i lined chosen)) in
-        let z = length-take-le y.past l.list (chosen_within w h s.ballots (within_of rules w h s) y.ballot y.past l lined chosen) in
+        let p = prefix_length (a.longest (take y.end l.list) (chosen_list w h y.ballot y.end l i lined chosen)) in
+        let z = length-take-le y.end l.list (chosen_within w h s.ballots (within_of rules w h s) y.ballot y.end l lined chosen) in
         (rising, omega (arith, p, z))
 
 -- the agreed list only grows

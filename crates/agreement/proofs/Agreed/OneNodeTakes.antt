@@ -68,19 +68,19 @@ step_takes rules m w k v (master_hears from b sent) n ballot one = refl
 step_takes rules m w k v (assignment_lost config) n ballot one = refl
 step_takes rules m w k v (answer_lost from b sent) n ballot one = refl
 
--- and so in a whole past
-past_takes : {S C O : Type 0} (rules : Rules S C O) (config : Config) (past : List (Moment S C O)) → (came : Moments rules config past) →
-    (n ballot : ℕ) → ((c : Moment S C O) → In c past → (i : ℕ) → IsPrimary c.world i ballot → i ≡ n) →
+-- and so at several moments
+moments_take : {S C O : Type 0} (rules : Rules S C O) (config : Config) (moments : List (Moment S C O)) → (came : Moments rules config moments) →
+    (n ballot : ℕ) → ((c : Moment S C O) → In c moments → (i : ℕ) → IsPrimary c.world i ballot → i ≡ n) →
     rows_in ballot (taken_of came) ≡ rows_in ballot (taken_at n came)
-past_takes rules config past (began nodes lawful is) n ballot one = refl
-past_takes {S = S} {C = C} {O = O} rules config (b ∷ (a ∷ past)) (went_on came step) n ballot one =
+moments_take rules config moments (began nodes lawful is) n ballot one = refl
+moments_take {S = S} {C = C} {O = O} rules config (b ∷ (a ∷ moments)) (went_on came step) n ballot one =
     filter-append (λ (row : ℕ × C). row.0 == ballot) (taken_of came) (taken_in step)
-    ∙ ap₂ (λ (xs ys : List (ℕ × C)). xs ++ ys) (past_takes rules config (a ∷ past) came n ballot (λ c i. one c (there i)))
+    ∙ ap₂ (λ (xs ys : List (ℕ × C)). xs ++ ys) (moments_take rules config (a ∷ moments) came n ballot (λ c i. one c (there i)))
     (step_takes rules a.master a.world b.master b.world step n ballot (one a (there here)))
     ∙ sym (filter-append (λ (row : ℕ × C). row.0 == ballot) (taken_at n came) (takes_at n step))
-past_takes rules config (b ∷ (a ∷ past)) (learned came learns) n ballot one =
-    past_takes rules config (a ∷ past) came n ballot (λ c i. one c (there i))
+moments_take rules config (b ∷ (a ∷ moments)) (learned came learns) n ballot one =
+    moments_take rules config (a ∷ moments) came n ballot (λ c i. one c (there i))
 
 pub one_node_takes_a_ballot : {S C O : Type 0} (rules : Rules S C O) → OneNodeTakesABallot rules
-one_node_takes_a_ballot rules config a past came c n ballot i p =
-    past_takes rules config (a ∷ past) came n ballot (λ d j k q. one_primary_a_ballot rules config a past came d c k n ballot j i q p)
+one_node_takes_a_ballot rules config a moments came c n ballot i p =
+    moments_take rules config (a ∷ moments) came n ballot (λ d j k q. one_primary_a_ballot rules config a moments came d c k n ballot j i q p)

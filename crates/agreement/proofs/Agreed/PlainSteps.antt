@@ -25,31 +25,31 @@ use Rattle.agreement.proofs.Runs.Serves.{one_step}
 
 -- what the nodes applied at these moments
 abbrev pub WereApplied : {S C O : Type 0} → List (Moment S C O) → GroupWorld S C O → History C → Type 0
-WereApplied {S} {C} {O} past w h =
-    (c : Moment S C O) → In c past → (n : ℕ) (r : ReplicaState S C) → slice_get c.world.nodes n ≡ Some r → Applied w h r
+WereApplied {S} {C} {O} moments w h =
+    (c : Moment S C O) → In c moments → (n : ℕ) (r : ReplicaState S C) → slice_get c.world.nodes n ≡ Some r → Applied w h r
 
 -- .. is so still after a step
-pub were_applied : {S C O : Type 0} (rules : Rules S C O) (past : List (Moment S C O)) (w v : GroupWorld S C O) (h i : History C) → IsSoundWorld rules w h →
-    Extends w h v i → ((b : ℕ) → In b h.activated → In b i.activated) → WereApplied past w h → WereApplied past v i
-were_applied rules past w v h i s extends active were c j n r stands =
+pub were_applied : {S C O : Type 0} (rules : Rules S C O) (moments : List (Moment S C O)) (w v : GroupWorld S C O) (h i : History C) → IsSoundWorld rules w h →
+    Extends w h v i → ((b : ℕ) → In b h.activated → In b i.activated) → WereApplied moments w h → WereApplied moments v i
+were_applied rules moments w v h i s extends active were c j n r stands =
     applied_kept w v h i r extends active (within_of rules w h s) (were c j n r stands)
 
 -- the rows that were taken, with the history whose lists have them in order
-pub record IsOrdered {S C O : Type 0} (rules : Rules S C O) (past : List (Moment S C O)) (m : MasterState) (w : GroupWorld S C O)
+pub record IsOrdered {S C O : Type 0} (rules : Rules S C O) (moments : List (Moment S C O)) (m : MasterState) (w : GroupWorld S C O)
     (rows : List (ℕ × C)) : Type 0 where
   pub history : History C
   pub serves : Serves rules m w history
-  pub were : WereApplied past w history
+  pub were : WereApplied moments w history
   pub own : OwnLines rules.start_of history rows
 
 -- a step with no proposal
-pub plain_step : {S C O : Type 0} (rules : Rules S C O) (past : List (Moment S C O)) (m : MasterState) (w : GroupWorld S C O) (k : MasterState) (v : GroupWorld S C O) (rows : List (ℕ × C)) →
-    (step : MayHappen rules m w k v) → proposal_of step ≡ [] → IsOrdered rules past m w rows → IsOrdered rules past k v rows
-plain_step {S = S} {C = C} {O = O} rules past m w k v rows step none q = by_step (one_step rules m w k v step)
+pub plain_step : {S C O : Type 0} (rules : Rules S C O) (moments : List (Moment S C O)) (m : MasterState) (w : GroupWorld S C O) (k : MasterState) (v : GroupWorld S C O) (rows : List (ℕ × C)) →
+    (step : MayHappen rules m w k v) → proposal_of step ≡ [] → IsOrdered rules moments m w rows → IsOrdered rules moments k v rows
+plain_step {S = S} {C = C} {O = O} rules moments m w k v rows step none q = by_step (one_step rules m w k v step)
   where
-    by_step : ((k ≡ m) × (v ≡ w)) ⊎ ((g : MomentStep rules m w k v) × (adds_of g ≡ proposal_of step)) → IsOrdered rules past k v rows
+    by_step : ((k ≡ m) × (v ≡ w)) ⊎ ((g : MomentStep rules m w k v) × (adds_of g ≡ proposal_of step)) → IsOrdered rules moments k v rows
     by_step (inl (same, still)) =
-        subst (λ (x : MasterState). IsOrdered rules past x v rows) (sym same) (subst (λ (u : GroupWorld S C O). IsOrdered rules past m u rows) (sym still) q)
+        subst (λ (x : MasterState). IsOrdered rules moments x v rows) (sym same) (subst (λ (u : GroupWorld S C O). IsOrdered rules moments m u rows) (sym still) q)
     by_step (inr (goes, adds)) =
         let s = q.serves in
         let x = group_goes_on rules m k w v q.history s.sound s.long s.replays s.master goes in
@@ -57,7 +57,7 @@ plain_step {S = S} {C = C} {O = O} rules past m w k v rows step none q = by_step
         record {
           history = x.run.group.goes_on.history;
           serves = serves_then rules m k w v q.history (adds_of goes) s x step;
-          were = were_applied rules past w v q.history x.run.group.goes_on.history s.sound x.run.group.goes_on.extends x.run.group.goes_on.active q.were;
+          were = were_applied rules moments w v q.history x.run.group.goes_on.history s.sound x.run.group.goes_on.extends x.run.group.goes_on.active q.were;
           own = by_way o.later o.own o.way;
         }
       where

@@ -35,25 +35,25 @@ use Rattle.agreement.proofs.Starts.StaysActive.{added_keeps}
 use Rattle.agreement.proofs.Agreed.PlainSteps.{IsOrdered, moved_same, plain_step, were_applied}
 
 -- a proposal
-proposed_step : {S C O : Type 0} (rules : Rules S C O) (past : List (Moment S C O)) (m : MasterState) (w : GroupWorld S C O) (rows : List (ℕ × C)) (n : ℕ) (r : ReplicaState S C) (c : C)
+proposed_step : {S C O : Type 0} (rules : Rules S C O) (moments : List (Moment S C O)) (m : MasterState) (w : GroupWorld S C O) (rows : List (ℕ × C)) (n : ℕ) (r : ReplicaState S C) (c : C)
     (new : ReplicaState S C) (given : List (Effect C O)) → slice_get w.nodes n ≡ Some r → r.stopped ≡ false → MayTake w n (Proposes c) →
-    Loses rules r (replica_step rules r (Proposes c)) new given → Went rules r c new given → IsOrdered rules past m w rows →
-    IsOrdered rules past m (moved w n new given) (rows ++ taken_by r new (Proposes c))
-proposed_step {S = S} {C = C} {O = O} rules past m w rows n r c new given stands runs may loses (was_refused e f) q =
-    subst (λ us. IsOrdered rules past m (moved w n new given) us)
+    Loses rules r (replica_step rules r (Proposes c)) new given → Went rules r c new given → IsOrdered rules moments m w rows →
+    IsOrdered rules moments m (moved w n new given) (rows ++ taken_by r new (Proposes c))
+proposed_step {S = S} {C = C} {O = O} rules moments m w rows n r c new given stands runs may loses (was_refused e f) q =
+    subst (λ us. IsOrdered rules moments m (moved w n new given) us)
     (sym (ap (λ us. rows ++ us) (taken_when_same r new c (ap (λ (x : ReplicaState S C). x.log) e)) ∙ append-nil rows))
-    (subst (λ (u : GroupWorld S C O). IsOrdered rules past m u rows) (sym (moved_same w n r new given stands e f)) q)
-proposed_step {S = S} {C = C} {O = O} rules past m w rows n r c new given stands runs may loses (has_stopped e f) q =
-    subst (λ us. IsOrdered rules past m (moved w n new given) us)
+    (subst (λ (u : GroupWorld S C O). IsOrdered rules moments m u rows) (sym (moved_same w n r new given stands e f)) q)
+proposed_step {S = S} {C = C} {O = O} rules moments m w rows n r c new given stands runs may loses (has_stopped e f) q =
+    subst (λ us. IsOrdered rules moments m (moved w n new given) us)
     (sym (ap (λ us. rows ++ us) (taken_when_same r new c (ap (λ (x : ReplicaState S C). x.log) e)) ∙ append-nil rows))
-    (subst (λ (x : ReplicaState S C). IsOrdered rules past m (moved w n x given) rows) (sym e)
-    (subst (λ (us : List (Effect C O)). IsOrdered rules past m (moved w n (halted rules r) us) rows) (sym f)
-    (plain_step rules past m w m (moved w n (halted rules r) []) rows (node_stops n r stands) refl q)))
-proposed_step {S = S} {C = C} {O = O} rules past m w rows n r c new given stands runs may loses (was_added active e) q =
+    (subst (λ (x : ReplicaState S C). IsOrdered rules moments m (moved w n x given) rows) (sym e)
+    (subst (λ (us : List (Effect C O)). IsOrdered rules moments m (moved w n (halted rules r) us) rows) (sym f)
+    (plain_step rules moments m w m (moved w n (halted rules r) []) rows (node_stops n r stands) refl q)))
+proposed_step {S = S} {C = C} {O = O} rules moments m w rows n r c new given stands runs may loses (was_added active e) q =
     record {
       history = h;
       serves = serves_then rules m m w v q.history (adds_of goes) s x (node_takes n r (Proposes c) stands runs may loses);
-      were = were_applied rules past w v q.history h s.sound x.run.group.goes_on.extends x.run.group.goes_on.active q.were;
+      were = were_applied rules moments w v q.history h s.sound x.run.group.goes_on.extends x.run.group.goes_on.active q.were;
       own = subst (λ us. OwnLines rules.start_of h (rows ++ us)) (sym (taken_when_added r new c longer)) (by_way o.later o.own o.way);
     }
   where
@@ -108,18 +108,18 @@ proposed_step {S = S} {C = C} {O = O} rules past m w rows n r c new given stands
         (subst (λ us. OwnLines rules.start_of h us) same own)
 
 -- a step
-pub ordered_step : {S C O : Type 0} (rules : Rules S C O) (past : List (Moment S C O)) (m : MasterState) (w : GroupWorld S C O) (k : MasterState) (v : GroupWorld S C O) (rows : List (ℕ × C)) →
-    (step : MayHappen rules m w k v) → IsOrdered rules past m w rows → IsOrdered rules past k v (rows ++ taken_in step)
-ordered_step {S = S} {C = C} {O = O} rules past m w k v rows step q = by_step step
+pub ordered_step : {S C O : Type 0} (rules : Rules S C O) (moments : List (Moment S C O)) (m : MasterState) (w : GroupWorld S C O) (k : MasterState) (v : GroupWorld S C O) (rows : List (ℕ × C)) →
+    (step : MayHappen rules m w k v) → IsOrdered rules moments m w rows → IsOrdered rules moments k v (rows ++ taken_in step)
+ordered_step {S = S} {C = C} {O = O} rules moments m w k v rows step q = by_step step
   where
     plain : {k : MasterState} {v : GroupWorld S C O} (step : MayHappen rules m w k v) → proposal_of step ≡ [] → taken_in step ≡ [] →
-        IsOrdered rules past k v (rows ++ taken_in step)
+        IsOrdered rules moments k v (rows ++ taken_in step)
     plain {k = k} {v = v} step none nothing =
-        subst (λ us. IsOrdered rules past k v us) (sym (ap (λ us. rows ++ us) nothing ∙ append-nil rows)) (plain_step rules past m w k v rows step none q)
+        subst (λ us. IsOrdered rules moments k v us) (sym (ap (λ us. rows ++ us) nothing ∙ append-nil rows)) (plain_step rules moments m w k v rows step none q)
 
-    by_step : {k : MasterState} {v : GroupWorld S C O} (step : MayHappen rules m w k v) → IsOrdered rules past k v (rows ++ taken_in step)
+    by_step : {k : MasterState} {v : GroupWorld S C O} (step : MayHappen rules m w k v) → IsOrdered rules moments k v (rows ++ taken_in step)
     by_step (node_takes n r (Proposes c) {new = new} {given = given} stands runs may loses) =
-        proposed_step rules past m w rows n r c new given stands runs may loses (proposal_went rules r c new given loses) q
+        proposed_step rules moments m w rows n r c new given stands runs may loses (proposal_went rules r c new given loses) q
     by_step (node_takes n r (Receives message) {new = new} {given = given} stands runs may loses) =
         plain (node_takes n r (Receives message) stands runs may loses) refl (none_taken (nat_lt (length r.log) (length new.log)))
     by_step (node_takes n r Ticks {new = new} {given = given} stands runs may loses) =

@@ -29,22 +29,22 @@ chosen_below w h ballots lines within c d k i j less chosen lc ld e f =
 
 -- a segment of a ballot up to the one of an active primary lies below what that commits now
 pub below_now : {S C O : Type 0} (w : GroupWorld S C O) (h : History C) → AreBallots h → BallotListsStand w h → AcknowledgedIsWithin w h → (s : Segment) →
-    In s.ballot h.activated × (s.first < s.past) × IsChosenIn w h s.ballot s.past
+    In s.ballot h.activated × (s.first < s.end) × IsChosenIn w h s.ballot s.end
     × ((l : Line C) × (h.line s.ballot ≡ Some l) × (length l.base ≤ s.first)) →
-    (b first past : ℕ) (l : Line C) → In b h.activated → h.line b ≡ Some l → length l.base ≤ first → IsChosenIn w h b past →
-    (s.ballot ≡ b → s.past ≤ first) → s.ballot ≤ b → s.past ≤ first
-below_now {S = S} {C = C} w h ballots lines within s (i, rising, chosen, (ls, lined, low)) b first past l j lined_b low_b chosen_b same up =
+    (b first end : ℕ) (l : Line C) → In b h.activated → h.line b ≡ Some l → length l.base ≤ first → IsChosenIn w h b end →
+    (s.ballot ≡ b → s.end ≤ first) → s.ballot ≤ b → s.end ≤ first
+below_now {S = S} {C = C} w h ballots lines within s (i, rising, chosen, (ls, lined, low)) b first end l j lined_b low_b chosen_b same up =
     by_order (cases_lt s.ballot b)
   where
-    by_order : (s.ballot < b) ⊎ (b ≤ s.ballot) → s.past ≤ first
+    by_order : (s.ballot < b) ⊎ (b ≤ s.ballot) → s.end ≤ first
     by_order (inl less) =
-        let z = chosen_below w h ballots lines within s.ballot b s.past i j less chosen ls l lined lined_b in omega (arith, z, low_b)
+        let z = chosen_below w h ballots lines within s.ballot b s.end i j less chosen ls l lined lined_b in omega (arith, z, low_b)
     by_order (inr high) = same (omega (arith, high, up))
 
 -- and one of a higher ballot lies above it
 pub above_now : {S C O : Type 0} (w : GroupWorld S C O) (h : History C) → AreBallots h → BallotListsStand w h → AcknowledgedIsWithin w h → (s : Segment) →
-    In s.ballot h.activated × (s.first < s.past) × IsChosenIn w h s.ballot s.past
+    In s.ballot h.activated × (s.first < s.end) × IsChosenIn w h s.ballot s.end
     × ((l : Line C) × (h.line s.ballot ≡ Some l) × (length l.base ≤ s.first)) →
-    (b first past : ℕ) (l : Line C) → In b h.activated → h.line b ≡ Some l → IsChosenIn w h b past → b < s.ballot → past ≤ s.first
-above_now {S = S} {C = C} w h ballots lines within s (i, rising, chosen, (ls, lined, low)) b first past l j lined_b chosen_b more =
-    let z = chosen_below w h ballots lines within b s.ballot past j i more chosen_b l ls lined_b lined in omega (arith, z, low)
+    (b first end : ℕ) (l : Line C) → In b h.activated → h.line b ≡ Some l → IsChosenIn w h b end → b < s.ballot → end ≤ s.first
+above_now {S = S} {C = C} w h ballots lines within s (i, rising, chosen, (ls, lined, low)) b first end l j lined_b chosen_b more =
+    let z = chosen_below w h ballots lines within b s.ballot end j i more chosen_b l ls lined_b lined in omega (arith, z, low)

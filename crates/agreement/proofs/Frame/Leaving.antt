@@ -28,13 +28,13 @@ bounds_back w h v i agreed x active bounds b k l j e c =
     prefix_then (takes k y.3) (bounds b k y.0 (active b j) y.1 (chosen_kept w v h i b k x c))
 
 -- the node of a ballot's primary has still applied all that it gave
-pub applied_still : {S C O : Type 0} (w : GroupWorld S C O) (n : ℕ) (old new : ReplicaState S C) (past : ℕ) →
+pub applied_still : {S C O : Type 0} (w : GroupWorld S C O) (n : ℕ) (old new : ReplicaState S C) (end : ℕ) →
     slice_get w.nodes n ≡ Some old → old.committed ≤ new.committed → (m : ℕ) →
-    ((r : ReplicaState S C) → slice_get w.nodes m ≡ Some r → past ≤ r.committed) →
-    (r : ReplicaState S C) → slice_get (set w.nodes n new) m ≡ Some r → past ≤ r.committed
-applied_still {S = S} {C = C} w n old new past stands up m before r e = by_place (cases_eq m n)
+    ((r : ReplicaState S C) → slice_get w.nodes m ≡ Some r → end ≤ r.committed) →
+    (r : ReplicaState S C) → slice_get (set w.nodes n new) m ≡ Some r → end ≤ r.committed
+applied_still {S = S} {C = C} w n old new end stands up m before r e = by_place (cases_eq m n)
   where
-    by_place : (m ≡ n) ⊎ (m ≡ n → ⊥) → past ≤ r.committed
+    by_place : (m ≡ n) ⊎ (m ≡ n → ⊥) → end ≤ r.committed
     by_place (inl same) =
         let j : Some new ≡ Some r = sym (get_set w.nodes n old new stands) ∙ ap (slice_get (set w.nodes n new)) (sym same) ∙ e in
         let k : new ≡ r = cc in
@@ -45,15 +45,15 @@ applied_still {S = S} {C = C} w n old new past stands up m before r e = by_place
 -- a segment stays one of what is chosen
 pub segment_kept : {S C O : Type 0} (w v : GroupWorld S C O) (h i : History C) (s : Segment) → Extends w h v i →
     ((b : ℕ) → In b h.activated → In b i.activated) →
-    In s.ballot h.activated × (s.first < s.past)
-    × IsChosenIn w h s.ballot s.past × ((l : Line C) × (h.line s.ballot ≡ Some l) × (length l.base ≤ s.first)) →
-    In s.ballot i.activated × (s.first < s.past)
-    × IsChosenIn v i s.ballot s.past × ((l : Line C) × (i.line s.ballot ≡ Some l) × (length l.base ≤ s.first))
+    In s.ballot h.activated × (s.first < s.end)
+    × IsChosenIn w h s.ballot s.end × ((l : Line C) × (h.line s.ballot ≡ Some l) × (length l.base ≤ s.first)) →
+    In s.ballot i.activated × (s.first < s.end)
+    × IsChosenIn v i s.ballot s.end × ((l : Line C) × (i.line s.ballot ≡ Some l) × (length l.base ≤ s.first))
 segment_kept w v h i s x active (j, rising, chosen, (l, lined, low)) =
     let y = x.lines s.ballot l lined in (
       active s.ballot j,
       rising,
-      chosen_kept w v h i s.ballot s.past x chosen,
+      chosen_kept w v h i s.ballot s.end x chosen,
       (y.0, y.1, (let e = ap length y.2 in omega (arith, e, low))),
     )
 
@@ -69,6 +69,6 @@ left_same {S = S} {C = C} {O = O} rules w h line n old new given q dumb s =
       left = λ agreed bounds. ap (λ us. w.left ++ us) dumb ∙ append-nil w.left
           ∙ s.left agreed (bounds_back w h v i agreed x (λ b j. j) bounds);
       chosen = λ y j. segment_kept w v h i y x (λ b k. k) (s.chosen y j);
-      applied = λ y j g e m is r f. applied_still w n old new y.past q.stands q.committed m (s.applied y j g e m is) r f;
+      applied = λ y j g e m is r f. applied_still w n old new y.end q.stands q.committed m (s.applied y j g e m is) r f;
       in_order = s.in_order;
     }

@@ -61,7 +61,7 @@ quiet_sound {S = S} {C = C} {O = O} rules w h n old new given s within q node sa
         left = λ agreed bounds. ap (λ us. w.left ++ us) q.dumb ∙ append-nil w.left
             ∙ s.left.left agreed (λ b k l i e c. bounds b k l i e (chosen_kept w (moved w n new given) h h b k x c));
         chosen = λ y i. let c = s.left.chosen y i in
-            (c.0, c.1, chosen_kept w (moved w n new given) h h y.ballot y.past x c.2, c.3);
+            (c.0, c.1, chosen_kept w (moved w n new given) h h y.ballot y.end x c.2, c.3);
         applied = λ y i g e m is r f. by_primary y i g e m is r f (cases_eq m n);
         in_order = s.left.in_order;
       };
@@ -87,7 +87,7 @@ quiet_sound {S = S} {C = C} {O = O} rules w h n old new given s within q node sa
         quiet_node w h n old new given q within m r (s.nodes m r (sym (get_set_other w.nodes n m new other) ∙ e))
 
     by_primary : (y : Segment) → In y s.left.segments → (g : Given) → h.given y.ballot ≡ Some g → (m : ℕ) → g.primary ≡ m + 1 →
-        (r : ReplicaState S C) → slice_get (set w.nodes n new) m ≡ Some r → (m ≡ n) ⊎ (m ≡ n → ⊥) → y.past ≤ r.committed
+        (r : ReplicaState S C) → slice_get (set w.nodes n new) m ≡ Some r → (m ≡ n) ⊎ (m ≡ n → ⊥) → y.end ≤ r.committed
     by_primary y i g e m is r f (inl same) =
         let j : Some new ≡ Some r = sym (get_set w.nodes n old new q.stands) ∙ ap (slice_get (set w.nodes n new)) (sym same) ∙ f in
         let k : new ≡ r = cc in

@@ -18,8 +18,8 @@ use Rattle.agreement.specs.Moments.Moments.{went_on}
 use Rattle.agreement.specs.Steps.{MayHappen, world_after}
 use Rattle.agreement.specs.Steps.MayHappen.{node_takes, node_stops, master_assigns, master_hears, assignment_lost, answer_lost}
 use Rattle.agreement.specs.World.{GroupWorld, outputs}
-use Rattle.agreement.proofs.Agreed.PastAgrees.{nodes_agree}
-use Rattle.agreement.proofs.Agreed.PastKnown.{past_known}
+use Rattle.agreement.proofs.Agreed.MomentsAgree.{nodes_agree}
+use Rattle.agreement.proofs.Agreed.MomentsKnown.{moments_known}
 use Rattle.agreement.proofs.Effects.{thinned_outputs}
 use Rattle.agreement.proofs.Frame.Roles.{role_active}
 use Rattle.agreement.proofs.Given.Places.{front_between, none_between}
@@ -125,13 +125,13 @@ group_step_gives {S = S} {C = C} {O = O} rules m w k v step n old new stood stan
 
 -- in the terms of the law
 pub answers_at_the_next_places : {S C O : Type 0} (rules : Rules S C O) → AnswersAtTheNextPlaces rules
-answers_at_the_next_places rules config a b past xs came agreed step n old new stood stands =
-    let q = past_known rules config a past came in
-    let p = past_known rules config b (a ∷ past) (went_on came step) in
+answers_at_the_next_places rules config a b moments xs came agreed step n old new stood stands =
+    let q = moments_known rules config a moments came in
+    let p = moments_known rules config b (a ∷ moments) (went_on came step) in
     let within = (p.serves.sound.nodes n new stands).within in
     let own = group_step_gives rules a.master a.world b.master b.world step n old new stood stands (λ runs. q.serves.replays n old stood runs)
     (q.serves.sound.nodes n old stood).within within in
-    let front = (nodes_agree rules config b (a ∷ past) xs (went_on came step) agreed).0.applied n new stands in
+    let front = (nodes_agree rules config b (a ∷ moments) xs (went_on came step) agreed).0.applied n new stands in
     let long = length-take-le new.committed new.log within in
     let short = prefix_length front in
     record {

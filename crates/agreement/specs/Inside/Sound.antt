@@ -86,13 +86,13 @@ pub record LeftIs {S C O : Type 0} (rules : Rules S C O) (w : GroupWorld S C O)
   pub segments : List Segment
   pub left : (agreed : List C) → ((b k : ℕ) (l : Line C) → In b h.activated → h.line b ≡ Some l →
       IsChosenIn w h b k → IsPrefixOf (take k l.list) agreed) →
-      w.left ≡ flat_map (λ s. outputs (outputs_between rules agreed s.first s.past)) segments
-  pub chosen : (s : Segment) → In s segments → In s.ballot h.activated × (s.first < s.past)
-      × IsChosenIn w h s.ballot s.past × ((l : Line C) × (h.line s.ballot ≡ Some l)
+      w.left ≡ flat_map (λ s. outputs (outputs_between rules agreed s.first s.end)) segments
+  pub chosen : (s : Segment) → In s segments → In s.ballot h.activated × (s.first < s.end)
+      × IsChosenIn w h s.ballot s.end × ((l : Line C) × (h.line s.ballot ≡ Some l)
       × (length l.base ≤ s.first))
   pub applied : (s : Segment) → In s segments → (g : Given) → h.given s.ballot ≡ Some g → (n : ℕ) →
       g.primary ≡ n + 1 → (r : ReplicaState S C) → slice_get w.nodes n ≡ Some r →
-      s.past ≤ r.committed
+      s.end ≤ r.committed
   pub in_order : AreInOrder segments
 
 -- what holds for a world

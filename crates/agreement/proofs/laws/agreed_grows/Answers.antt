@@ -1,4 +1,4 @@
-use Rattle.agreement.proofs.Agreed.PastGrows.{agreed_grows}
+use Rattle.agreement.proofs.Agreed.MomentsGrow.{agreed_grows}
 use Rattle.agreement.proofs.laws.agreed_grows.Goals as goal
 
 pub returns : goal.returns

@@ -1,4 +1,4 @@
-use Rattle.agreement.proofs.Agreed.PastAgrees.{has_agreed}
+use Rattle.agreement.proofs.Agreed.MomentsAgree.{has_agreed}
 use Rattle.agreement.proofs.laws.has_agreed.Goals as goal
 
 pub returns : goal.returns

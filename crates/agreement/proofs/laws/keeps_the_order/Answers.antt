@@ -1,4 +1,4 @@
-use Rattle.agreement.proofs.Agreed.PastOrder.{keeps_the_order}
+use Rattle.agreement.proofs.Agreed.MomentsOrder.{keeps_the_order}
 use Rattle.agreement.proofs.laws.keeps_the_order.Goals as goal
 
 pub returns : goal.returns

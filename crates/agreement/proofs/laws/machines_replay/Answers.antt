@@ -1,4 +1,4 @@
-use Rattle.agreement.proofs.Agreed.PastAgrees.{machines_replay}
+use Rattle.agreement.proofs.Agreed.MomentsAgree.{machines_replay}
 use Rattle.agreement.proofs.laws.machines_replay.Goals as goal
 
 pub returns : goal.returns

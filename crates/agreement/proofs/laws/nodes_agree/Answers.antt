@@ -1,4 +1,4 @@
-use Rattle.agreement.proofs.Agreed.PastAgrees.{nodes_agree}
+use Rattle.agreement.proofs.Agreed.MomentsAgree.{nodes_agree}
 use Rattle.agreement.proofs.laws.nodes_agree.Goals as goal
 
 pub returns : goal.returns

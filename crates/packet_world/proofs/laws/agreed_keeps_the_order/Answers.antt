@@ -1,4 +1,4 @@
-use Rattle.snapshots.proofs.PastsAgree.{nodes_agree}
+use Rattle.snapshots.proofs.MomentsAgree.{nodes_agree}
 use Rattle.snapshots.proofs.Orders.{keeps_the_order}
 use Rattle.packet_world.proofs.AgreedInOrder.{agreed_in_order}
 use Rattle.packet_world.proofs.laws.agreed_keeps_the_order.Goals as goal

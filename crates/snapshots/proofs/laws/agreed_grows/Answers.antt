@@ -1,4 +1,4 @@
-use Rattle.snapshots.proofs.PastsAgree.{agreed_grows}
+use Rattle.snapshots.proofs.MomentsAgree.{agreed_grows}
 use Rattle.snapshots.proofs.laws.agreed_grows.Goals as goal
 
 pub returns : goal.returns

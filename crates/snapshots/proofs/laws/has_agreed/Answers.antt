@@ -1,4 +1,4 @@
-use Rattle.snapshots.proofs.PastsAgree.{has_agreed}
+use Rattle.snapshots.proofs.MomentsAgree.{has_agreed}
 use Rattle.snapshots.proofs.laws.has_agreed.Goals as goal
 
 pub returns : goal.returns

@@ -1,4 +1,4 @@
-use Rattle.snapshots.proofs.PastsAgree.{logs_are_cut_right}
+use Rattle.snapshots.proofs.MomentsAgree.{logs_are_cut_right}
 use Rattle.snapshots.proofs.laws.logs_are_cut_right.Goals as goal
 
 pub returns : goal.returns

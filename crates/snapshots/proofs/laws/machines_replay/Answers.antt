@@ -1,4 +1,4 @@
-use Rattle.snapshots.proofs.PastsAgree.{machines_replay}
+use Rattle.snapshots.proofs.MomentsAgree.{machines_replay}
 use Rattle.snapshots.proofs.laws.machines_replay.Goals as goal
 
 pub returns : goal.returns

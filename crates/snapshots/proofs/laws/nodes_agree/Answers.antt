@@ -1,4 +1,4 @@
-use Rattle.snapshots.proofs.PastsAgree.{nodes_agree}
+use Rattle.snapshots.proofs.MomentsAgree.{nodes_agree}
 use Rattle.snapshots.proofs.laws.nodes_agree.Goals as goal
 
 pub returns : goal.returns

@@ -1,4 +1,4 @@
-use Rattle.snapshots.proofs.PastsAgree.{one_primary_a_ballot}
+use Rattle.snapshots.proofs.MomentsAgree.{one_primary_a_ballot}
 use Rattle.snapshots.proofs.laws.one_primary_a_ballot.Goals as goal
 
 pub returns : goal.returns

@@ -1,4 +1,4 @@
-use Rattle.snapshots.proofs.PastsAgree.{sent_logs_are_right}
+use Rattle.snapshots.proofs.MomentsAgree.{sent_logs_are_right}
 use Rattle.snapshots.proofs.laws.sent_logs_are_right.Goals as goal
 
 pub returns : goal.returns

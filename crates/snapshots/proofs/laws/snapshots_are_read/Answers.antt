@@ -1,4 +1,4 @@
-use Rattle.snapshots.proofs.PastsAgree.{snapshots_are_read}
+use Rattle.snapshots.proofs.MomentsAgree.{snapshots_are_read}
 use Rattle.snapshots.proofs.laws.snapshots_are_read.Goals as goal
 
 pub returns : goal.returns

@@ -13,7 +13,7 @@ record-requires-clause-recorded g c =
     let rules = g.M.Machine.rules in
     let there = rw (← c.self.view_is) at c.requires in
     let group = c.self.invariant.1 in
-    let within = within_of rules group.config _ group.past group.came c.args.at there.0 there.1 in
+    let within = within_of rules group.config _ group.moments group.came c.args.at there.0 there.1 in
     let same = same_replica c.self.inside.nodes.items c.args.at c.index-replica.result.now there.0 c.index-replica.ensures there.1 in
     let base = c.snapshot-base.ensures.base ∙ ap (λ (s : ReplicaState g.row.M.Denot g.row.M-Command.Denot). s.log.base) same in omega (arith, within, base)
 
@@ -47,7 +47,7 @@ invariant_of-self-then-cut g c =
     let rules = g.M.Machine.rules in
     let there = rw (← c.self.view_is) at c.requires in
     let group = c.self.invariant.1 in
-    let within = within_of rules group.config _ group.past group.came c.args.at there.0 there.1 in
+    let within = within_of rules group.config _ group.moments group.came c.args.at there.0 there.1 in
     let took = cut_read rules c.self.inside.archive.items c.record.new.archive.items c.rest.result.now c.self.inside.master c.self.inside.nodes.items c.self.inside.sent.items
     c.self.inside.left.items c.self.inside.losses c.args.at c.snapshot-base.result.0 c.index-replica.result.now c.index_mut-replica.result.now c.cut.new.self
     c.status-committed.result there.0 within c.index-replica.ensures c.index_mut-replica.ensures.value there.1 c.snapshot-base.ensures.base c.status-committed.ensures
@@ -66,7 +66,7 @@ returns-then-cut g c =
     let group = c.self.invariant.1 in
     rw (← c.self.view_is) (λ r stands. cut_read rules c.self.inside.archive.items c.record.new.archive.items c.rest.result.now c.self.inside.master c.self.inside.nodes.items
     c.self.inside.sent.items c.self.inside.left.items c.self.inside.losses c.args.at c.snapshot-base.result.0 c.index-replica.result.now c.index_mut-replica.result.now c.cut.new.self
-    c.status-committed.result r (within_of rules group.config _ group.past group.came c.args.at r stands) c.index-replica.ensures c.index_mut-replica.ensures.value stands
+    c.status-committed.result r (within_of rules group.config _ group.moments group.came c.args.at r stands) c.index-replica.ensures c.index_mut-replica.ensures.value stands
     c.snapshot-base.ensures.base c.status-committed.ensures c.rest.ensures.rest c.in-Ok.ensures.ok (c.cut.ensures.done c.if-cut.true).1 (c.cut.ensures.thaws c.if-cut.true))
 
 pub invariant_of-self-2 : goal.invariant_of-self-2

@@ -5,7 +5,7 @@ use Rattle.ballot.specs.ballot_base.Protocol.{replica_step}
 use Rattle.ballot.specs.ballot_base.Protocol.Input.{Receives}
 use Rattle.ballot.specs.ballot_base.Replica.{ReplicaState, CountedReplica}
 use Rattle.ballot.specs.ballot_base.Sending.{nothing_done}
-use Rattle.snapshots.proofs.PastsAgree.{snapshots_are_read}
+use Rattle.snapshots.proofs.MomentsAgree.{snapshots_are_read}
 use Rattle.master.proofs.EarlierMembers.{names_some, quiet_does_nothing}
 use Rattle.master.proofs.StepsOfNodes.{same_replica}
 use Rattle.master.proofs.Viewed.{heeded}
@@ -24,7 +24,7 @@ returns-clause-nothing g c =
     let sent = rw (← c.self.view_is) at c.requires.sent in
     rw (← c.self.view_is) (λ r stands. heeded rules r c.index.result.now.state c.args.message.now c.heeds.result
     (same_replica c.self.inside.nodes.items c.args.at c.index.result.now r c.index.ensures stands)
-    (snapshots_are_read rules there.config _ there.past there.came sent.0 c.args.message.now sent.1 r) c.heeds.ensures)
+    (snapshots_are_read rules there.config _ there.moments there.came sent.0 c.args.message.now sent.1 r) c.heeds.ensures)
 
 pub returns-clause-more : goal.returns-clause-more
 returns-clause-more g c =
@@ -33,6 +33,6 @@ returns-clause-more g c =
     let sent = rw (← c.self.view_is) at c.requires.sent in
     rw (← c.self.view_is) (λ r stands on more quiet. both_ways c.heeds.result ((heeded rules r c.index.result.now.state c.args.message.now c.heeds.result
     (same_replica c.self.inside.nodes.items c.args.at c.index.result.now r c.index.ensures stands)
-    (snapshots_are_read rules there.config _ there.past there.came sent.0 c.args.message.now sent.1 r) c.heeds.ensures).1
+    (snapshots_are_read rules there.config _ there.moments there.came sent.0 c.args.message.now sent.1 r) c.heeds.ensures).1
     (quiet_does_nothing rules r c.args.message.now.from c.args.message.now.body more
-    (names_some rules there.config _ there.past there.came sent.0 c.args.message.now sent.1) quiet)) on)
+    (names_some rules there.config _ there.moments there.came sent.0 c.args.message.now sent.1) quiet)) on)

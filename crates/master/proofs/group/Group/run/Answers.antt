@@ -16,4 +16,4 @@ loop-event-preserved g c =
 pub returns-clause-agreement : goal.returns-clause-agreement
 returns-clause-agreement g c =
     let rules = g.M.Machine.rules in
-    λ config past came. agrees_after rules config c.args.self.now c.loop-event.self past _ came c.loop-event.invariant.ran
+    λ config moments came. agrees_after rules config c.args.self.now c.loop-event.self moments _ came c.loop-event.invariant.ran

@@ -5,32 +5,32 @@ use Rattle.master.proofs.group.Group.step.Goals as goal
 pub returns-in-Propose-clause-agreement : goal.returns-in-Propose-clause-agreement
 returns-in-Propose-clause-agreement g c =
     let rules = g.M.Machine.rules in
-    λ config past came. agrees_next rules config c.args.self.now c.propose.new.self past _ came c.propose.ensures.step
+    λ config moments came. agrees_next rules config c.args.self.now c.propose.new.self moments _ came c.propose.ensures.step
 
 pub returns-in-Assign-clause-agreement : goal.returns-in-Assign-clause-agreement
 returns-in-Assign-clause-agreement g c =
     let rules = g.M.Machine.rules in
-    λ config past came. agrees_next rules config c.args.self.now c.assign.new.self past _ came c.assign.ensures.step
+    λ config moments came. agrees_next rules config c.args.self.now c.assign.new.self moments _ came c.assign.ensures.step
 
 pub returns-in-Deliver-clause-agreement : goal.returns-in-Deliver-clause-agreement
 returns-in-Deliver-clause-agreement g c =
     let rules = g.M.Machine.rules in
-    λ config past came. agrees_next rules config c.args.self.now c.deliver.new.self past _ came c.deliver.ensures.step
+    λ config moments came. agrees_next rules config c.args.self.now c.deliver.new.self moments _ came c.deliver.ensures.step
 
 pub returns-in-Tick-clause-agreement : goal.returns-in-Tick-clause-agreement
 returns-in-Tick-clause-agreement g c =
     let rules = g.M.Machine.rules in
-    λ config past came. agrees_next rules config c.args.self.now c.tick.new.self past _ came c.tick.ensures.step
+    λ config moments came. agrees_next rules config c.args.self.now c.tick.new.self moments _ came c.tick.ensures.step
 
 pub returns-in-Cut-clause-agreement : goal.returns-in-Cut-clause-agreement
 returns-in-Cut-clause-agreement g c =
     let rules = g.M.Machine.rules in
-    λ config past came. agrees_next rules config c.args.self.now c.cut.new.self past _ came c.cut.ensures.step
+    λ config moments came. agrees_next rules config c.args.self.now c.cut.new.self moments _ came c.cut.ensures.step
 
 pub returns-in-Crash-clause-agreement : goal.returns-in-Crash-clause-agreement
 returns-in-Crash-clause-agreement g c =
     let rules = g.M.Machine.rules in
-    λ config past came. agrees_next rules config c.args.self.now c.crash.new.self past _ came c.crash.ensures.step
+    λ config moments came. agrees_next rules config c.args.self.now c.crash.new.self moments _ came c.crash.ensures.step
 
 pub returns-in-Propose-clause-quiet : goal.returns-in-Propose-clause-quiet
 returns-in-Propose-clause-quiet g c =

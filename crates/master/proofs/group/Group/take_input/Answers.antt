@@ -38,7 +38,7 @@ invariant_of-self g c =
     c.self.inside.left.items c.step_replica-had_memory.new.out.items c.part-kept.new.effects.items c.self.inside.losses c.counted-self-inside.result c.args.at c.len-from.result
     c.index_mut-replica.result.now c.step_replica-had_memory.new.replica (input_of c.args.input) there.0 c.step_replica-had_memory.result c.part-kept.result
     below c.index_mut-replica.ensures.value there.1 from c.step_replica-had_memory.ensures c.part-kept.ensures c.counted-self-inside.ensures
-    (taken_is_read rules group.config _ group.past group.came c.args.at (input_of c.args.input) there.0 may) low high in (
+    (taken_is_read rules group.config _ group.moments group.came c.args.at (input_of c.args.input) there.0 may) low high in (
       c.part-kept.ensures.messages_are
           ∙ ap messages (front_of c.len-from.result c.self.inside.left.items c.step_replica-had_memory.ensures.given c.step_replica-had_memory.new.out.items c.step_replica-had_memory.ensures.appended from)
           ∙ c.self.invariant.0,
@@ -64,4 +64,4 @@ returns g c =
     c.self.inside.left.items c.step_replica-had_memory.new.out.items c.part-kept.new.effects.items c.self.inside.losses c.counted-self-inside.result c.args.at c.len-from.result
     c.index_mut-replica.result.now c.step_replica-had_memory.new.replica (input_of c.args.input) r c.step_replica-had_memory.result c.part-kept.result
     below c.index_mut-replica.ensures.value stands from c.step_replica-had_memory.ensures c.part-kept.ensures c.counted-self-inside.ensures
-    (taken_is_read rules group.config _ group.past group.came c.args.at (input_of c.args.input) r may) low high)
+    (taken_is_read rules group.config _ group.moments group.came c.args.at (input_of c.args.input) r may) low high)

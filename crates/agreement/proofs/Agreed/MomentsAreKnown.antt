@@ -1,4 +1,4 @@
--- PastIsKnown.antt: what is known after a past, and what is acknowledged at its last moment.
+-- MomentsAreKnown.antt: what is known after some moments, and what is acknowledged at the last.
 use Rattle.std.proofs.Common.{◌≡◌, ℕ, ◌+◌, ◌≤◌, ◌⊎◌, inl, inr, List, ◌∷◌, length, take, Some, refl, sym, ◌∙◌, subst, arith}
 use Rattle.std.specs.Prelude.{slice_get}
 use Rattle.std.proofs.lemmas.List.{length-take-le}
@@ -16,29 +16,29 @@ use Rattle.agreement.specs.Inside.OpeningHistory.{first_ballot}
 use Rattle.agreement.specs.Moments.{Moment, HasConfig, WasActive, HasTold, ToldLength}
 use Rattle.agreement.specs.Moments.HasTold.{told_as_log, told_by_message}
 
--- what is known after a past
-pub record IsKnown {S C O : Type 0} (rules : Rules S C O) (config : Config) (a : Moment S C O) (past : List (Moment S C O)) : Type 0 where
+-- what is known after some moments
+pub record IsKnown {S C O : Type 0} (rules : Rules S C O) (config : Config) (a : Moment S C O) (moments : List (Moment S C O)) : Type 0 where
   pub history : History C
   pub serves : Serves rules a.master a.world history
   pub first : history.given 1 ≡ Some (first_ballot config)
   pub numbers : (x : ℕ) → In x config.members → (n : ℕ) × (x ≡ n + 1)
   -- the history of each moment, from which this one continues
-  pub moments : (c : Moment S C O) → In c (a ∷ past) → (g : History C) × Serves rules c.master c.world g
+  pub histories : (c : Moment S C O) → In c (a ∷ moments) → (g : History C) × Serves rules c.master c.world g
       × Extends c.world g a.world history × ((b : ℕ) → In b g.activated → In b history.activated)
   -- given ballots have configurations, activated ones were active, and what is acknowledged was
   -- acknowledged
   pub configs : (b : ℕ) (g : Given) → history.given b ≡ Some g →
-      (c : Config) × HasConfig config (a ∷ past) b c × (g.members ≡ c.members) × (g.primary ≡ c.primary)
-  pub active : (b : ℕ) → In b history.activated → WasActive (a ∷ past) b
+      (c : Config) × HasConfig config (a ∷ moments) b c × (g.members ≡ c.members) × (g.primary ≡ c.primary)
+  pub active : (b : ℕ) → In b history.activated → WasActive (a ∷ moments) b
   pub tells : (n b k : ℕ) → Told a.world history (n + 1) b k →
-      (k ≡ 0) ⊎ ((xs : List C) × HasTold config (a ∷ past) b n xs × (k ≤ length xs))
+      (k ≡ 0) ⊎ ((xs : List C) × HasTold config (a ∷ moments) b n xs × (k ≤ length xs))
 
 -- a length that a node acknowledged of the ballot in which it holds its log
-told_length : {S C O : Type 0} (rules : Rules S C O) (config : Config) (a : Moment S C O) (past : List (Moment S C O)) (h : History C)
+told_length : {S C O : Type 0} (rules : Rules S C O) (config : Config) (a : Moment S C O) (moments : List (Moment S C O)) (h : History C)
     (n b k held : ℕ) (r : ReplicaState S C) → Serves rules a.master a.world h → slice_get a.world.nodes n ≡ Some r → b ≡ r.held_in →
     ToldLength a.world (n + 1) b held → Told a.world h (n + 1) b held → k ≤ held →
-    (xs : List C) × HasTold config (a ∷ past) b n xs × (k ≤ length xs)
-told_length {S = S} {C = C} rules config a past h n b k held r s stands own sent told below =
+    (xs : List C) × HasTold config (a ∷ moments) b n xs × (k ≤ length xs)
+told_length {S = S} {C = C} rules config a moments h n b k held r s stands own sent told below =
     let within : held ≤ length r.log = (s.sound.nodes n r stands).placed.told_here held (subst (λ x. Told a.world h (n + 1) x held) own told) in
     let long : length (take held r.log) ≡ held = length-take-le held r.log within in (
       take held r.log,
@@ -47,23 +47,23 @@ told_length {S = S} {C = C} rules config a past h n b k held r s stands own sent
     )
 
 -- what is acknowledged now
-pub told_now : {S C O : Type 0} (rules : Rules S C O) (config : Config) (a : Moment S C O) (past : List (Moment S C O)) (h : History C)
+pub told_now : {S C O : Type 0} (rules : Rules S C O) (config : Config) (a : Moment S C O) (moments : List (Moment S C O)) (h : History C)
     (n b k : ℕ) → Serves rules a.master a.world h →
     ((b : ℕ) (g : Given) → h.given b ≡ Some g →
-    (c : Config) × HasConfig config (a ∷ past) b c × (g.members ≡ c.members) × (g.primary ≡ c.primary)) →
+    (c : Config) × HasConfig config (a ∷ moments) b c × (g.members ≡ c.members) × (g.primary ≡ c.primary)) →
     TellsHere a.world (n + 1) b k → Told a.world h (n + 1) b k →
-    (k ≡ 0) ⊎ ((xs : List C) × HasTold config (a ∷ past) b n xs × (k ≤ length xs))
-told_now {S = S} {C = C} rules config a past h n b k s configs t = by_told
+    (k ≡ 0) ⊎ ((xs : List C) × HasTold config (a ∷ moments) b n xs × (k ≤ length xs))
+told_now {S = S} {C = C} rules config a moments h n b k s configs t = by_told
   where
     stands : slice_get a.world.nodes n ≡ Some t.replica
     stands = let e = t.number in let same : t.node ≡ n = omega (arith, e) in subst (λ j. slice_get a.world.nodes j ≡ Some t.replica) same t.stands
 
-    by_told : Told a.world h (n + 1) b k → (k ≡ 0) ⊎ ((xs : List C) × HasTold config (a ∷ past) b n xs × (k ≤ length xs))
+    by_told : Told a.world h (n + 1) b k → (k ≡ 0) ⊎ ((xs : List C) × HasTold config (a ∷ moments) b n xs × (k ≤ length xs))
     by_told (told_at_opening g one nothing is member) = inl nothing
     by_told (told_by_held receiver held j below) =
-        inr (told_length rules config a past h n b k held t.replica s stands t.held (receiver, inl j) (told_by_held receiver held j (omega arith)) below)
+        inr (told_length rules config a moments h n b k held t.replica s stands t.held (receiver, inl j) (told_by_held receiver held j (omega arith)) below)
     by_told (told_by_installed receiver held j below) =
-        inr (told_length rules config a past h n b k held t.replica s stands t.held (receiver, inr j) (told_by_installed receiver held j (omega arith)) below)
+        inr (told_length rules config a moments h n b k held t.replica s stands t.held (receiver, inr j) (told_by_installed receiver held j (omega arith)) below)
     by_told (told_as_primary g l is primary lined below) =
         let z = configs b g is in
         inr (t.replica.log, told_as_log a t.replica z.0 here stands (sym t.held) z.1 (sym z.3 ∙ primary) refl, t.short)

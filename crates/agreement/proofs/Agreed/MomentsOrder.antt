@@ -1,4 +1,4 @@
--- PastOrder.antt: logs keep the order in which the commands of one ballot were taken.
+-- MomentsOrder.antt: logs keep the order in which the commands of one ballot were taken.
 use Rattle.std.proofs.Common.{◌≡◌, ℕ, ◌⊎◌, inl, inr, List, [], ◌∷◌, ◌++◌, Some, ap, sym, ◌∙◌, subst}
 use Rattle.std.specs.Prelude.{filter, slice_get}
 use Rattle.std.proofs.lemmas.List.{append-nil}
@@ -27,24 +27,24 @@ use Rattle.agreement.proofs.Runs.OpeningServes.{opening_is_serving}
 use Rattle.agreement.proofs.Runs.RunsGoOn.{StepGoesOn}
 
 -- the present moment is one of them, too
-now_too : {S C O : Type 0} (rules : Rules S C O) (v : Moment S C O) (past : List (Moment S C O)) (rows : List (ℕ × C)) →
-    IsOrdered rules past v.master v.world rows → IsOrdered rules (v ∷ past) v.master v.world rows
-now_too {S = S} {C = C} {O = O} rules v past rows q =
+now_too : {S C O : Type 0} (rules : Rules S C O) (v : Moment S C O) (moments : List (Moment S C O)) (rows : List (ℕ × C)) →
+    IsOrdered rules moments v.master v.world rows → IsOrdered rules (v ∷ moments) v.master v.world rows
+now_too {S = S} {C = C} {O = O} rules v moments rows q =
     record { history = q.history; serves = q.serves; were = λ c i n r stands. were c i n r stands; own = q.own }
   where
-    were : (c : Moment S C O) → In c (v ∷ past) → (n : ℕ) (r : ReplicaState S C) → slice_get c.world.nodes n ≡ Some r → Applied v.world q.history r
+    were : (c : Moment S C O) → In c (v ∷ moments) → (n : ℕ) (r : ReplicaState S C) → slice_get c.world.nodes n ≡ Some r → Applied v.world q.history r
     were c here n r stands = (q.serves.sound.nodes n r stands).applied
     were c (there i) n r stands = q.were c i n r stands
 
 -- a node that learns takes nothing
-ordered_learned : {S C O : Type 0} (rules : Rules S C O) (a v : Moment S C O) (past : List (Moment S C O)) (rows : List (ℕ × C)) →
-    Learns rules (a ∷ past) a v → IsOrdered rules (a ∷ past) a.master a.world rows → IsOrdered rules (a ∷ past) v.master v.world rows
-ordered_learned {S = S} {C = C} {O = O} rules a v past rows y q =
-    subst (λ (u : Moment S C O). IsOrdered rules (a ∷ past) u.master u.world rows) (sym y.becomes)
+ordered_learned : {S C O : Type 0} (rules : Rules S C O) (a v : Moment S C O) (moments : List (Moment S C O)) (rows : List (ℕ × C)) →
+    Learns rules (a ∷ moments) a v → IsOrdered rules (a ∷ moments) a.master a.world rows → IsOrdered rules (a ∷ moments) v.master v.world rows
+ordered_learned {S = S} {C = C} {O = O} rules a v moments rows y q =
+    subst (λ (u : Moment S C O). IsOrdered rules (a ∷ moments) u.master u.world rows) (sym y.becomes)
     (record {
       history = x.run.group.goes_on.history;
       serves = learned_serves rules a.master a.world q.history y.node y.replica y.places q.serves y.stands x;
-      were = were_applied rules (a ∷ past) a.world (moved a.world y.node (applied_to rules y.replica y.places) []) q.history x.run.group.goes_on.history
+      were = were_applied rules (a ∷ moments) a.world (moved a.world y.node (applied_to rules y.replica y.places) []) q.history x.run.group.goes_on.history
           q.serves.sound x.run.group.goes_on.extends x.run.group.goes_on.active q.were;
       own = by_way o.later o.own o.way;
     })
@@ -64,9 +64,9 @@ ordered_learned {S = S} {C = C} {O = O} rules a v past rows y q =
     by_way later own (inr more) = subst (λ us. OwnLines rules.start_of x.run.group.goes_on.history us) (more ∙ append-nil rows) own
 
 -- nothing is proposed at the opening
-ordered_past : {S C O : Type 0} (rules : Rules S C O) (config : Config) (a : Moment S C O) (past : List (Moment S C O)) →
-    (came : Moments rules config (a ∷ past)) → IsOrdered rules (a ∷ past) a.master a.world (taken_of came)
-ordered_past {S = S} {C = C} {O = O} rules config a past (began nodes lawful is) =
+ordered_moments : {S C O : Type 0} (rules : Rules S C O) (config : Config) (a : Moment S C O) (moments : List (Moment S C O)) →
+    (came : Moments rules config (a ∷ moments)) → IsOrdered rules (a ∷ moments) a.master a.world (taken_of came)
+ordered_moments {S = S} {C = C} {O = O} rules config a moments (began nodes lawful is) =
     subst (λ (u : Moment S C O). IsOrdered rules (u ∷ []) u.master u.world []) (sym is)
     (record {
       history = opening_history C config;
@@ -84,16 +84,16 @@ ordered_past {S = S} {C = C} {O = O} rules config a past (began nodes lawful is)
         slice_get c.world.nodes n ≡ Some r → Applied (opening_world rules nodes config) (opening_history C config) r
     opened c here n r stands = ((opening_is_serving rules nodes config lawful).sound.nodes n r stands).applied
     opened c (there i) n r stands = elim i [ ]
-ordered_past rules config v (a ∷ past) (went_on came step) =
-    now_too rules v (a ∷ past) (taken_of (went_on came step))
-    (ordered_step rules (a ∷ past) a.master a.world v.master v.world (taken_of came) step (ordered_past rules config a past came))
-ordered_past rules config v (a ∷ past) (learned came learns) =
-    now_too rules v (a ∷ past) (taken_of came) (ordered_learned rules a v past (taken_of came) learns (ordered_past rules config a past came))
+ordered_moments rules config v (a ∷ moments) (went_on came step) =
+    now_too rules v (a ∷ moments) (taken_of (went_on came step))
+    (ordered_step rules (a ∷ moments) a.master a.world v.master v.world (taken_of came) step (ordered_moments rules config a moments came))
+ordered_moments rules config v (a ∷ moments) (learned came learns) =
+    now_too rules v (a ∷ moments) (taken_of came) (ordered_learned rules a v moments (taken_of came) learns (ordered_moments rules config a moments came))
 
 -- each log keeps the order
 pub keeps_the_order : {S C O : Type 0} (rules : Rules S C O) → KeepsTheOrder rules
-keeps_the_order rules config a past came =
-    let q = ordered_past rules config a past came in (
-      taken_are_part rules config (a ∷ past) came,
+keeps_the_order rules config a moments came =
+    let q = ordered_moments rules config a moments came in (
+      taken_are_part rules config (a ∷ moments) came,
       λ names ballot of n r stands. own_in_logs rules a.world q.history (taken_of came) q.serves.sound q.own n r stands names ballot of,
     )

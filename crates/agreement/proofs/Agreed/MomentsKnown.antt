@@ -1,4 +1,4 @@
--- PastKnown.antt: every past is known.
+-- MomentsKnown.antt: all moments are known.
 use Rattle.std.proofs.Common.{◌≡◌, ℕ, ◌+◌, ◌⊎◌, inl, inr, true, List, [], ◌∷◌, refl, ap, sym, ◌∙◌, subst}
 use Rattle.machine.specs.Machine.{Rules}
 use Rattle.whole.specs.lists.Lists.{In}
@@ -23,7 +23,7 @@ use Rattle.agreement.proofs.Runs.OpeningServes.{opening_is_serving}
 use Rattle.agreement.proofs.Runs.OpeningTold.{first_given, told_opens}
 use Rattle.agreement.proofs.Runs.RunsGoOn.{group_goes_on}
 use Rattle.agreement.proofs.Runs.Serves.{one_step}
-use Rattle.agreement.proofs.Agreed.PastIsKnown.{IsKnown}
+use Rattle.agreement.proofs.Agreed.MomentsAreKnown.{IsKnown}
 use Rattle.agreement.proofs.Agreed.KnownSteps.{serves_then, known_step, known_same}
 
 -- an opening
@@ -37,31 +37,31 @@ known_opening {S = S} {C = C} {O = O} rules config nodes lawful =
       serves = z;
       first = refl;
       numbers = opens.1;
-      moments = λ c i. moments c i;
+      histories = λ c i. histories c i;
       configs = λ b g e. let y = first_given C config b g e in
           (config, opened_with y.0 refl, sym (ap (λ (u : Given). u.members) y.1), sym (ap (λ (u : Given). u.primary) y.1));
       active = λ b i. active b i;
       tells = λ n b k t. inl (told_opens rules nodes config opens.0 (n + 1) b k t).1;
     }
   where
-    moments : (c : Moment S C O) → In c (opening_moment rules nodes config ∷ []) → (g : History C) × Serves rules c.master c.world g
+    histories : (c : Moment S C O) → In c (opening_moment rules nodes config ∷ []) → (g : History C) × Serves rules c.master c.world g
         × Extends c.world g (opening_moment rules nodes config).world (opening_history C config)
         × ((b : ℕ) → In b g.activated → In b (opening_history C config).activated)
-    moments c here =
+    histories c here =
         let z = opening_is_serving rules nodes config lawful in
         (opening_history C config, z, (goes_same rules (opening_moment rules nodes config).world (opening_history C config) z.sound).extends, λ b j. j)
-    moments c (there i) = elim i [ ]
+    histories c (there i) = elim i [ ]
 
     active : (b : ℕ) → In b (1 ∷ []) → WasActive (opening_moment rules nodes config ∷ []) b
     active b here = (opening_moment rules nodes config, here, refl)
     active b (there i) = elim i [ ]
 
 -- a node that learns
-known_learned : {S C O : Type 0} (rules : Rules S C O) (config : Config) (a v : Moment S C O) (past : List (Moment S C O)) →
-    (q : IsKnown rules config a past) → Learns rules (a ∷ past) a v → IsKnown rules config v (a ∷ past)
-known_learned {S = S} {C = C} {O = O} rules config a v past q y =
+known_learned : {S C O : Type 0} (rules : Rules S C O) (config : Config) (a v : Moment S C O) (moments : List (Moment S C O)) →
+    (q : IsKnown rules config a moments) → Learns rules (a ∷ moments) a v → IsKnown rules config v (a ∷ moments)
+known_learned {S = S} {C = C} {O = O} rules config a v moments q y =
     let s = q.serves in
-    let z = q.moments y.earlier y.was in
+    let z = q.histories y.earlier y.was in
     let teaches : Teaches a.world q.history y.replica y.teacher y.places = record {
       applied = applied_kept y.earlier.world a.world z.0 q.history y.teacher z.2 z.3 (within_of rules y.earlier.world z.0 z.1.sound)
           (z.1.sound.nodes y.other y.teacher y.stood).applied;
@@ -70,28 +70,28 @@ known_learned {S = S} {C = C} {O = O} rules config a v past q y =
       same = y.same;
     } in
     let x = learned_goes_on rules a.master a.world q.history y.node y.replica y.teacher y.places s y.stands y.runs y.passive y.more y.within teaches in
-    subst (λ (u : Moment S C O). IsKnown rules config u (a ∷ past)) (sym y.becomes)
-    (known_step rules config a _ past [] q x (learned_serves rules a.master a.world q.history y.node y.replica y.places s y.stands x))
+    subst (λ (u : Moment S C O). IsKnown rules config u (a ∷ moments)) (sym y.becomes)
+    (known_step rules config a _ moments [] q x (learned_serves rules a.master a.world q.history y.node y.replica y.places s y.stands x))
 
--- every past is known
-pub past_known : {S C O : Type 0} (rules : Rules S C O) (config : Config) (a : Moment S C O) (past : List (Moment S C O)) →
-    Moments rules config (a ∷ past) → IsKnown rules config a past
-past_known {S = S} {C = C} {O = O} rules config a past (began nodes lawful is) =
+-- all moments are known
+pub moments_known : {S C O : Type 0} (rules : Rules S C O) (config : Config) (a : Moment S C O) (moments : List (Moment S C O)) →
+    Moments rules config (a ∷ moments) → IsKnown rules config a moments
+moments_known {S = S} {C = C} {O = O} rules config a moments (began nodes lawful is) =
     subst (λ (u : Moment S C O). IsKnown rules config u []) (sym is) (known_opening rules config nodes lawful)
-past_known {S = S} {C = C} {O = O} rules config v (a ∷ past) (went_on came step) =
-    let q = past_known rules config a past came in
+moments_known {S = S} {C = C} {O = O} rules config v (a ∷ moments) (went_on came step) =
+    let q = moments_known rules config a moments came in
     by_step q (one_step rules a.master a.world v.master v.world step)
   where
-    by_step : (q : IsKnown rules config a past) → ((v.master ≡ a.master) × (v.world ≡ a.world))
+    by_step : (q : IsKnown rules config a moments) → ((v.master ≡ a.master) × (v.world ≡ a.world))
         ⊎ ((g : MomentStep rules a.master a.world v.master v.world) × (adds_of g ≡ proposal_of step)) →
-        IsKnown rules config v (a ∷ past)
+        IsKnown rules config v (a ∷ moments)
     by_step q (inl (same, still)) =
-        known_same rules config a v past q
+        known_same rules config a v moments q
         (ap (λ m. let u : Moment S C O = record { master = m; world = v.world } in u) same
         ∙ ap (λ w. let u : Moment S C O = record { master = a.master; world = w } in u) still)
     by_step q (inr (goes, taken)) =
         let s = q.serves in
         let x = group_goes_on rules a.master v.master a.world v.world q.history s.sound s.long s.replays s.master goes in
-        known_step rules config a v past (adds_of goes) q x (serves_then rules a.master v.master a.world v.world q.history (adds_of goes) s x step)
-past_known rules config v (a ∷ past) (learned came learns) =
-    known_learned rules config a v past (past_known rules config a past came) learns
+        known_step rules config a v moments (adds_of goes) q x (serves_then rules a.master v.master a.world v.world q.history (adds_of goes) s x step)
+moments_known rules config v (a ∷ moments) (learned came learns) =
+    known_learned rules config a v moments (moments_known rules config a moments came) learns

@@ -1,4 +1,4 @@
--- The replicas of a group went through a past.
+-- The replicas of a group went through moments.
 use Rattle.std.proofs.Common.{◌≡◌, ℕ, List, [], ◌∷◌, ◌++◌, Option, Some, None, refl, sym, ap, ◌∙◌, subst}
 use Rattle.packet_world.specs.lists.Lists.{Each, In}
 use Rattle.packet_world.specs.lists.Lists.In.{here}
@@ -20,7 +20,7 @@ use Rattle.node_group.specs.Steps.GroupTrace.{opened, then_went}
 use Rattle.node_group.specs.Losing.{WereSent}
 use Rattle.node_group.specs.Losing.{all_given as given_losing, put_in_run as put_losing}
 use Rattle.node_group.specs.Putting.{recorded_in}
-use Rattle.node_group.specs.Pasts.{GroupsArePasts, packets_in}
+use Rattle.node_group.specs.GroupMoments.{GroupsHaveMoments, packets_in}
 use Rattle.node_group.proofs.LosingNone.{frozen_losing, losing_none, same_given, same_put, same_recorded, sent_losing}
 use Rattle.node_group.proofs.MovesHappen.{Further, by_event}
 use Rattle.node_group.proofs.RunsHappen.{runs_happen}
@@ -63,14 +63,14 @@ pub seen_still : {old new : List (Moment State Command Output)} (groups : List G
 seen_still [] kept all = tt
 seen_still (h ∷ groups) kept all = (kept (moment_of_nodes h) all.0, seen_still groups kept all.1)
 
-pub groups_are_pasts : GroupsArePasts
-groups_are_pasts nodes config g (opened can) = record { earlier = []; past = began nodes can (opens_as nodes config); proposed = refl; taken = λ x. refl; seen = (here, tt) }
-groups_are_pasts nodes config h (then_went {group = g} went step) =
-    let so_far = groups_are_pasts nodes config g went in
-    let further = goes_on config g h step so_far.earlier so_far.past in
+pub groups_have_moments : GroupsHaveMoments
+groups_have_moments nodes config g (opened can) = record { earlier = []; moments = began nodes can (opens_as nodes config); proposed = refl; taken = λ x. refl; seen = (here, tt) }
+groups_have_moments nodes config h (then_went {group = g} went step) =
+    let so_far = groups_have_moments nodes config g went in
+    let further = goes_on config g h step so_far.earlier so_far.moments in
     record {
       earlier = further.before;
-      past = further.past;
+      moments = further.moments;
       proposed = further.proposed ∙ ap (λ l. l ++ put_in_step step) so_far.proposed;
       taken = λ x.
           further.taken x ∙ ap (λ l. l ++ packets_in x (put_in_step step)) (so_far.taken x) ∙ sym (packets_join x (all_proposed went) (put_in_step step));

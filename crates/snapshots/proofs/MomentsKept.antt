@@ -1,4 +1,4 @@
--- PastsKept.antt: what is kept holds after each step of a group that cuts its logs, and so at each moment of its pasts.
+-- MomentsKept.antt: what is kept holds after each step of a group that cuts its logs, and so at each of its moments.
 use Rattle.std.proofs.Common.{cond, Bool, ◌≡◌, ℕ, true, false, List, [], ◌∷◌, ◌++◌, map, None, Some, Option, refl, ap, sym, ◌∙◌, subst}
 use Rattle.machine.specs.Machine.{Rules}
 use Rattle.agreement.specs.whole.Messages.Body.{Activated as whole_activated, Superseded as whole_superseded}
@@ -83,11 +83,11 @@ step_goes_on {C = C} {O = O} rules config m k w v earlier q (answer_lost from b 
     (master_unheard rules config m (activating m b m.waiting) w earlier q
     (happens.answer_lost from b (in_whole (whole_sent w.archive) sent), record { proposes = refl; takes = refl; takes_at = λ n. refl; gives = λ n. refl }))
 
--- a past on whole logs that a past of a group that cuts its logs corresponds to
-pub record StandsFor {S C O : Type 0} (rules : Rules S C O) (config : Config) (a : Moment S C O) (past : List (Moment S C O)) : Type 0 where
+-- moments on whole logs to which those of a group that cuts its logs correspond
+pub record StandsFor {S C O : Type 0} (rules : Rules S C O) (config : Config) (a : Moment S C O) (moments : List (Moment S C O)) : Type 0 where
   pub earlier : List (WholeMoment S C O)
   pub kept : Kept rules config a.master a.world earlier
-  pub covers : Covers (map whole_moment (a ∷ past)) (whole_moment a ∷ earlier)
+  pub covers : Covers (map whole_moment (a ∷ moments)) (whole_moment a ∷ earlier)
 
 -- .. with the same proposals, taken by the same nodes, and the same outputs
 pub record SaysAs {S C O : Type 0} {rules : Rules S C O} {config : Config} {xs : List (Moment S C O)} {ys : List (WholeMoment S C O)}
@@ -97,14 +97,14 @@ pub record SaysAs {S C O : Type 0} {rules : Rules S C O} {config : Config} {xs :
   pub takes_at : (n : ℕ) → whole_taken_at n whole ≡ taken_at n came
   pub gives : (n : ℕ) → whole_given_of n whole ≡ given_of n came
 
-pub record StandsWith {S C O : Type 0} (rules : Rules S C O) (config : Config) (a : Moment S C O) (past : List (Moment S C O))
-    (came : Moments rules config (a ∷ past)) : Type 0 where
-  pub stands : StandsFor rules config a past
+pub record StandsWith {S C O : Type 0} (rules : Rules S C O) (config : Config) (a : Moment S C O) (moments : List (Moment S C O))
+    (came : Moments rules config (a ∷ moments)) : Type 0 where
+  pub stands : StandsFor rules config a moments
   pub says : SaysAs came stands.kept.came
 
-pub past_stands_with : {S C O : Type 0} (rules : Rules S C O) (config : Config) (a : Moment S C O) (past : List (Moment S C O)) → (came : Moments rules config (a ∷ past)) →
-    StandsWith rules config a past came
-past_stands_with {S = S} {C = C} {O = O} rules config a past (began nodes can is) =
+pub moments_stand_with : {S C O : Type 0} (rules : Rules S C O) (config : Config) (a : Moment S C O) (moments : List (Moment S C O)) → (came : Moments rules config (a ∷ moments)) →
+    StandsWith rules config a moments came
+moments_stand_with {S = S} {C = C} {O = O} rules config a moments (began nodes can is) =
     record { stands = z.0; says = record { proposes = z.1.proposes; takes = z.1.takes; takes_at = z.1.takes_at; gives = z.1.gives } }
   where
     z : (s : StandsFor rules config a []) × SaysNothing s.kept.came
@@ -116,14 +116,14 @@ past_stands_with {S = S} {C = C} {O = O} rules config a past (began nodes can is
       },
       opens_silent rules nodes config can,
     )
-past_stands_with {S = S} {C = C} {O = O} rules config b (a ∷ past) (went_on came step) =
-    let q = past_stands_with rules config a past came in
+moments_stand_with {S = S} {C = C} {O = O} rules config b (a ∷ moments) (went_on came step) =
+    let q = moments_stand_with rules config a moments came in
     let z = step_goes_on rules config a.master b.master a.world b.world q.stands.earlier q.stands.kept step in
     record {
       stands = record {
         earlier = z.more;
         kept = z.kept;
-        covers = covers_more (map whole_moment (a ∷ past)) (whole_moment a ∷ q.stands.earlier) (whole_moment b) z.more q.stands.covers z.continues;
+        covers = covers_more (map whole_moment (a ∷ moments)) (whole_moment a ∷ q.stands.earlier) (whole_moment b) z.more q.stands.covers z.continues;
       };
       says = record {
         proposes = z.adds.proposes ∙ ap (λ us. us ++ proposal_of step) q.says.proposes;
@@ -133,6 +133,6 @@ past_stands_with {S = S} {C = C} {O = O} rules config b (a ∷ past) (went_on ca
       };
     }
 
-pub past_stands : {S C O : Type 0} (rules : Rules S C O) (config : Config) (a : Moment S C O) (past : List (Moment S C O)) →
-    Moments rules config (a ∷ past) → StandsFor rules config a past
-past_stands rules config a past came = (past_stands_with rules config a past came).stands
+pub moments_stand : {S C O : Type 0} (rules : Rules S C O) (config : Config) (a : Moment S C O) (moments : List (Moment S C O)) →
+    Moments rules config (a ∷ moments) → StandsFor rules config a moments
+moments_stand rules config a moments came = (moments_stand_with rules config a moments came).stands

@@ -1,4 +1,4 @@
--- The steps of a group's replicas are a past for which agreement is proved.
+-- The steps of a group's replicas go through moments for which agreement is proved.
 use Rattle.std.specs.Prelude.{◌≡◌, ℕ, List, ◌∷◌, filter}
 use Rattle.packet_world.specs.lists.Lists.{Each, In}
 use Rattle.node_moves.specs.ballot_base.declared.config.Config.{Config}
@@ -17,21 +17,21 @@ use Rattle.node_group.specs.Steps.{GroupTrace, all_proposed, groups_on_trace}
 abbrev pub packets_in : ConnectionName → List (ℕ × Command) → List (ℕ × Command)
 packets_in connection rows = filter (λ (row : ℕ × Command). is_packet_of row.1 connection) rows
 
--- A past whose last moment is that of the group's replicas. In it these commands were proposed, the
+-- Moments whose last is that of the group's replicas. In it these commands were proposed, the
 -- packets of all connections among them were taken, and each of these earlier groups has its
 -- moment.
-pub record HasPast (config : Config) (group : Group) (groups : List Group)
+pub record HasMoments (config : Config) (group : Group) (groups : List Group)
     (put : List (ℕ × Command)) : Type 0 where
   pub earlier : List (Moment State Command Output)
-  pub past : Moments rules config (moment_of_nodes group ∷ earlier)
-  pub proposed : proposals_of past ≡ put
+  pub moments : Moments rules config (moment_of_nodes group ∷ earlier)
+  pub proposed : proposals_of moments ≡ put
   pub taken : (connection : ConnectionName) →
-      packets_in connection (taken_of past) ≡ packets_in connection put
+      packets_in connection (taken_of moments) ≡ packets_in connection put
   pub seen : Each
       (λ (other : Group). In (moment_of_nodes other) (moment_of_nodes group ∷ earlier)) groups
 
--- each run of a group has a past (`HasPast`)
-abbrev pub GroupsArePasts : Type 0
-GroupsArePasts =
+-- each run of a group has moments (`HasMoments`)
+abbrev pub GroupsHaveMoments : Type 0
+GroupsHaveMoments =
     (nodes : ℕ) (config : Config) (group : Group) (went : GroupTrace nodes config group) →
-    HasPast config group (groups_on_trace went) (all_proposed went)
+    HasMoments config group (groups_on_trace went) (all_proposed went)
