@@ -6,7 +6,7 @@ use Rattle.std.proofs.lemmas.Grind.{get_or_default_zero}
 use Rattle.atomic_table.specs.Seated.{TableId}
 use Rattle.crossbeam_queue.specs.Passes.{Pass, view, IsSamePass}
 use Rattle.mailbox.specs.declared.view.View.{View}
-use Rattle.mailbox.specs.Delivery.{items_of_lane, taker_view}
+use Rattle.mailbox.specs.Delivery.{items_of_lane, dealt_receiver_view}
 use Rattle.mailbox.specs.Inside.{Took, heard}
 use Rattle.mailbox.specs.Kept.{ReceiverKept}
 use Rattle.mailbox.proofs.ItemsOfALane.{items_of-append, items_of-same, items_of-other}
@@ -51,7 +51,7 @@ module _ {T : Type 0} where
         at_rest = same.2 ∙ kept.at_rest;
         named = kept.named;
         has_room = kept.has_room;
-        role = is ∙ ap (λ v. heard v w) kept.role ∙ (λ i. taker_view (length counts) (sym taken i) (sym bounds i));
+        role = is ∙ ap (λ v. heard v w) kept.role ∙ (λ i. dealt_receiver_view (length counts) (sym taken i) (sym bounds i));
         counted = λ lane within. kept.counted lane within ∙ ap (λ l. length (items_of_lane lane l)) (sym taken);
       }
 
@@ -63,7 +63,7 @@ module _ {T : Type 0} where
       → count ≡ slice_index_or counts at count
       → ReceiverKept queue room new name (slice_set counts at (count + 1))
   kept_on queue room old new name counts x at count kept same took at_is count_is =
-      let step : view new ≡ taker_view (length counts) ((view old).taken ++ x ∷ []) (view old).bounds =
+      let step : view new ≡ dealt_receiver_view (length counts) ((view old).taken ++ x ∷ []) (view old).bounds =
       took.0 ∙ ap (λ (v : View T). record v { taken = v.taken ++ x ∷ [] }) kept.role in
       let taken : (view new).taken ≡ (view old).taken ++ x ∷ [] = ap (λ (v : View T). v.taken) step in
       let bounds : (view new).bounds ≡ (view old).bounds = ap (λ (v : View T). v.bounds) step in
@@ -80,7 +80,7 @@ module _ {T : Type 0} where
         at_rest = same.2 ∙ kept.at_rest;
         named = kept.named;
         has_room = kept.has_room;
-        role = step ∙ (λ i. taker_view (sizes i) (sym taken i) (sym bounds i));
+        role = step ∙ (λ i. dealt_receiver_view (sizes i) (sym taken i) (sym bounds i));
         counted = λ lane within.
             rw (counts', taken)
             (counts_follow counts (view old).taken x lane kept.counted

@@ -50,8 +50,8 @@ receiver_view lanes taken may_send all bounds = record {
 }
 
 -- what a receiver shows once it has made all its lanes, each of which may send `MAX_SENT` items
-abbrev pub taker_view : {T : Type 0} → ℕ → List (ℕ × T) → Bounds → View T
-taker_view lanes taken bounds = receiver_view lanes taken 0 (lanes * MAX_SENT) bounds
+abbrev pub dealt_receiver_view : {T : Type 0} → ℕ → List (ℕ × T) → Bounds → View T
+dealt_receiver_view lanes taken bounds = receiver_view lanes taken 0 (lanes * MAX_SENT) bounds
 
 -- how many items may still be sent
 abbrev pub rights : {T : Type 0} → List (View T) → ℕ

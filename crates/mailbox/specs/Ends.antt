@@ -4,7 +4,7 @@ use Rattle.crossbeam_queue.specs.Fifo.{Held}
 use Rattle.mailbox.specs.declared.limits.TheConstants.{MAX_ITEMS, MAX_LANES}
 use Rattle.mailbox.specs.declared.lane.TheConstants.{MAX_SENT}
 use Rattle.mailbox.specs.declared.view.Bounds.{Bounds}
-use Rattle.mailbox.specs.Delivery.{items_of_lane, lane_view, taker_view, Knew}
+use Rattle.mailbox.specs.Delivery.{items_of_lane, lane_view, dealt_receiver_view, Knew}
 
 -- how many items an inbox holds at most
 abbrev pub max_items : ℕ
@@ -62,7 +62,8 @@ module _ {T : Type 0} where
 
   -- at one moment, at which everything that the receipt says was true, the inbox held nothing
   abbrev pub WasEmpty : ReceiverView T → ReceiptView → Type 0
-  WasEmpty taker receipt = Held 0 (Knew (taker_view taker.lanes taker.taken receipt.bounds))
+  WasEmpty receiver receipt =
+      Held 0 (Knew (dealt_receiver_view receiver.lanes receiver.taken receipt.bounds))
 
   -- every item that was sent, as far as the receipt says, is among these items that were taken
   abbrev pub HasArrived : ReceiptView → List (ℕ × T) → Type 0
@@ -74,7 +75,7 @@ module _ {T : Type 0} where
 
   -- these are all lanes of the receiver's inbox, in order
   abbrev pub AreAllLanes : ReceiverView T → List (LaneView T) → Type 0
-  AreAllLanes taker lanes = map as_made lanes ≡ fresh_lanes taker.inbox taker.lanes
+  AreAllLanes receiver lanes = map as_made lanes ≡ fresh_lanes receiver.inbox receiver.lanes
 
   -- a lane, whatever it knows to be taken
   abbrev pub unmet : LaneView T → LaneView T

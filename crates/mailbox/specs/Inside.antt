@@ -72,12 +72,12 @@ module _ {T : Type 0} where
 
   -- the receiver's view with a lane's added
   abbrev pub joined : View T → View T → View T
-  joined taker sender = record taker {
+  joined receiver sender = record receiver {
     sends = sender.sends;
     lane = sender.lane;
     sent = sender.sent;
     met = sender.met;
-    may_send = taker.may_send + sender.may_send;
+    may_send = receiver.may_send + sender.may_send;
   }
 
   -- what was taken of the lane is a prefix of what it sent, and no less than it knew

@@ -5,7 +5,7 @@ use Rattle.crossbeam_queue.specs.Passes.{Pass, view}
 use Rattle.mailbox.specs.declared.limits.TheConstants.{MAX_ITEMS}
 use Rattle.mailbox.specs.declared.lane.TheConstants.{MAX_SENT}
 use Rattle.mailbox.specs.declared.view.View.{View}
-use Rattle.mailbox.specs.Delivery.{items_of_lane, lane_view, no_bounds, receiver_view, taker_view}
+use Rattle.mailbox.specs.Delivery.{items_of_lane, lane_view, no_bounds, receiver_view, dealt_receiver_view}
 use Rattle.mailbox.specs.Ends.{LaneView, ReceiverView, max_lanes}
 use Rattle.mailbox.specs.Inside.{nobody}
 
@@ -32,7 +32,7 @@ pub record ReceiverKept {T : Type 0}
   pub at_rest : pass.me.1 ≡ []
   pub named : queue ≡ name
   pub has_room : room ≡ MAX_ITEMS
-  pub role : view pass ≡ taker_view (length counts) (view pass).taken (view pass).bounds
+  pub role : view pass ≡ dealt_receiver_view (length counts) (view pass).taken (view pass).bounds
   pub counted :
       (lane : ℕ)
       → lane < length counts

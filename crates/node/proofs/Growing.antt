@@ -31,4 +31,4 @@ pub grown_since : (bytes now : ℕ) (old new : ReceiverView Item) (taken : ℕ �
 grown_since bytes now old new taken is before after =
     after ∙ ap (λ n. saturated (grown n taken.1)) before ∙ grown_counted (bytes_since_cut old.taken) taken.1
     ∙ ap saturated (sym (since_more old.taken taken))
-    ∙ ap (λ (taker : ReceiverView Item). saturated (bytes_since_cut taker.taken)) (sym is)
+    ∙ ap (λ (receiver : ReceiverView Item). saturated (bytes_since_cut receiver.taken)) (sym is)

@@ -15,11 +15,11 @@ use Rattle.node.specs.State.{Replays}
 use Rattle.node.specs.State.Replays.{opens, steps, hands}
 
 -- nothing was taken yet
-pub opened : (first_of : ℕ → CountedCore) (taker : ReceiverView Item) (core : CountedCore) → taker.taken ≡ []
-    → core ≡ first_of taker.inbox → Replays (first_of taker.inbox) taker.taken core
-opened first_of taker core none is =
-    subst (λ (items : List (ℕ × Item)). Replays (first_of taker.inbox) items core) (sym none)
-    (subst (λ (c : CountedCore). Replays (first_of taker.inbox) [] c) (sym is) opens)
+pub opened : (first_of : ℕ → CountedCore) (receiver : ReceiverView Item) (core : CountedCore) → receiver.taken ≡ []
+    → core ≡ first_of receiver.inbox → Replays (first_of receiver.inbox) receiver.taken core
+opened first_of receiver core none is =
+    subst (λ (items : List (ℕ × Item)). Replays (first_of receiver.inbox) items core) (sym none)
+    (subst (λ (c : CountedCore). Replays (first_of receiver.inbox) [] c) (sym is) opens)
 
 -- one item was taken, and its step was done
 pub stepped : (first_of : ℕ → CountedCore) (old new : ReceiverView Item) (taken : ℕ × Item) (core next : CountedCore)
@@ -32,12 +32,12 @@ stepped first_of old new taken core next before after is replays step =
     (steps taken next before after replays step)
 
 -- what was queued for a port was handed over, or memory ran out
-pub handed : {E : Type 0} (first_of : ℕ → CountedCore) (taker : ReceiverView Item) (port : Port) (core new : CountedCore)
+pub handed : {E : Type 0} (first_of : ℕ → CountedCore) (receiver : ReceiverView Item) (port : Port) (core new : CountedCore)
     (result : Result Handed E)
     → OnOk result (new ≡ record core { core = hands_over port core.core })
     → OnErr result (new ≡ core)
-    → Replays (first_of taker.inbox) taker.taken core → Replays (first_of taker.inbox) taker.taken new
-handed first_of taker port core new (Ok h) ok err replays =
-    subst (λ (c : CountedCore). Replays (first_of taker.inbox) taker.taken c) (sym ok) (hands port replays)
-handed first_of taker port core new (Err e) ok err replays =
-    subst (λ (c : CountedCore). Replays (first_of taker.inbox) taker.taken c) (sym err) replays
+    → Replays (first_of receiver.inbox) receiver.taken core → Replays (first_of receiver.inbox) receiver.taken new
+handed first_of receiver port core new (Ok h) ok err replays =
+    subst (λ (c : CountedCore). Replays (first_of receiver.inbox) receiver.taken c) (sym ok) (hands port replays)
+handed first_of receiver port core new (Err e) ok err replays =
+    subst (λ (c : CountedCore). Replays (first_of receiver.inbox) receiver.taken c) (sym err) replays

@@ -28,7 +28,7 @@ pub data Replays (first : CountedCore) : List (ℕ × Item) → CountedCore → 
 -- the model of a node: its inbox with all that was taken from it, the node itself, and how often an
 -- item was asked for
 pub record NodeStateView : Type 0 where
-  pub taker : ReceiverView Item
+  pub receiver : ReceiverView Item
   pub node : CountedCore
   pub takings : ℕ
 
@@ -41,7 +41,7 @@ pub record TakesOne (old new : NodeStateView)
     (before after : List (Effect Command Output)) : Type 0 where
   pub lane : ℕ
   pub item : Item
-  pub taken : new.taker ≡ record old.taker { taken = old.taker.taken ++ (lane, item) ∷ [] }
+  pub taken : new.receiver ≡ record old.receiver { taken = old.receiver.taken ++ (lane, item) ∷ [] }
   pub stepped : ItemStepOrLost old.node item new.node before after
 
 -- the node of a number for which none was chosen

@@ -42,7 +42,7 @@ impl<J: NodeNaming> Model for NodeState<J> {
     ghost Value = { NodeStateView };
 
     ghost view = { λ state. record {
-      taker = state.receiver;
+      receiver = state.receiver;
       node = state.core;
       takings = state.takings;
     } };
@@ -57,7 +57,7 @@ impl<J: NodeNaming> NodeState<J> {
     pub fn new(receiver: Receiver<Item, J>, core: NodeCore) -> NodeState<J>
         requires fresh { receiver.taken ≡ [] }
         requires first { core ≡ J.first_of receiver.inbox }
-        ensures { result ≡ record { taker = receiver; node = core; takings = 0 } }
+        ensures { result ≡ record { receiver = receiver; node = core; takings = 0 } }
     {
         NodeState {
             receiver,
@@ -69,21 +69,21 @@ impl<J: NodeNaming> NodeState<J> {
 
     /// Returns the number of its inbox.
     pub fn inbox_number(&self) -> u8
-        ensures { result ≡ self.now.taker.inbox }
+        ensures { result ≡ self.now.receiver.inbox }
     {
         self.receiver.inbox_number()
     }
 
     /// Returns how many lanes its inbox has.
     pub fn lanes(&self) -> usize
-        ensures { result ≡ self.now.taker.lanes }
+        ensures { result ≡ self.now.receiver.lanes }
     {
         self.receiver.lanes()
     }
 
     /// Says whether these are all lanes of its inbox, in the order of their numbers.
     pub fn has_all(&self, lanes: &[Lane<Item, J>]) -> bool
-        ensures { IsTrue result ↔ AreAllLanes self.now.taker lanes.now }
+        ensures { IsTrue result ↔ AreAllLanes self.now.receiver lanes.now }
     {
         self.receiver.has_all(lanes)
     }
@@ -92,10 +92,10 @@ impl<J: NodeNaming> NodeState<J> {
     /// [`mailbox::MAX_SENT`].
     pub fn receipt(&mut self) -> Receipt<Item, J>
         ensures says { result ≡ record {
-          inbox = self.old.taker.inbox;
+          inbox = self.old.receiver.inbox;
           bounds = record no_bounds {
-            taken = length self.old.taker.taken;
-            most = self.old.taker.lanes * MAX_SENT;
+            taken = length self.old.receiver.taken;
+            most = self.old.receiver.lanes * MAX_SENT;
           };
         } }
         ensures same { self.new ≡ self.old }
@@ -121,20 +121,20 @@ impl<J: NodeNaming> NodeState<J> {
         effects: &mut Vec<Effect<Command, Output>>,
         receipt: Receipt<Item, J>,
     ) -> bool
-        requires { receipt.inbox ≡ self.old.taker.inbox }
+        requires { receipt.inbox ≡ self.old.receiver.inbox }
         ensures took { result ≡ true →
             TakesOne self.old self.new effects.old.items effects.new.items }
 
         // The node that steps is a replay of all that was taken.
         ensures replays { Replays
-            (J.first_of self.old.taker.inbox) self.old.taker.taken self.old.node }
+            (J.first_of self.old.receiver.inbox) self.old.receiver.taken self.old.node }
 
         ensures takings { self.new.takings ≡ next_taking self.old.takings }
 
         // No item waited, and nothing else changed: everything was taken that the receipt knows
         // about.
-        ensures empty { result ≡ false → WasEmpty self.old.taker receipt }
-        ensures arrived { result ≡ false → HasArrived receipt self.old.taker.taken }
+        ensures empty { result ≡ false → WasEmpty self.old.receiver receipt }
+        ensures arrived { result ≡ false → HasArrived receipt self.old.receiver.taken }
         ensures same { result ≡ false →
             self.new ≡ record self.old { takings = next_taking self.old.takings } }
         ensures silent { result ≡ false → effects.new.items ≡ effects.old.items }
@@ -152,16 +152,17 @@ impl<J: NodeNaming> NodeState<J> {
 
     /// Returns how many items of a lane of this inbox were taken. The lane then knows it, too.
     pub fn meet(&mut self, lane: &mut Lane<Item, J>) -> u64
-        requires { lane.old.inbox ≡ self.old.taker.inbox }
-        ensures exact { result ≡ length (items_of_lane lane.old.lane self.old.taker.taken) }
+        requires { lane.old.inbox ≡ self.old.receiver.inbox }
+        ensures exact { result ≡ length (items_of_lane lane.old.lane self.old.receiver.taken) }
 
         // They are the first that the lane sent, and no fewer than it knew.
-        ensures first { items_of_lane lane.old.lane self.old.taker.taken
+        ensures first { items_of_lane lane.old.lane self.old.receiver.taken
             ≡ take result lane.old.sent }
         ensures known { lane.old.met ≤ result }
 
         // The node is a replay of all that was taken.
-        ensures replays { Replays (J.first_of lane.old.inbox) self.old.taker.taken self.old.node }
+        ensures replays { Replays
+            (J.first_of lane.old.inbox) self.old.receiver.taken self.old.node }
 
         // Nothing was sent or taken.
         ensures same { self.new ≡ self.old }
@@ -183,7 +184,7 @@ impl<J: NodeNaming> NodeState<J> {
 
         // The node that hands over is a replay of all that was taken.
         ensures replays { Replays
-            (J.first_of self.old.taker.inbox) self.old.taker.taken self.old.node }
+            (J.first_of self.old.receiver.inbox) self.old.receiver.taken self.old.node }
 
         // Running out of memory changes nothing.
         ensures same { OnErr result (self.new ≡ self.old) }
@@ -220,7 +221,7 @@ impl<J: NodeNaming> NodeState<J> {
     /// what was taken since the last cut counts more than 16 MiB and more than the snapshot has
     /// bytes.
     pub fn wants_cut(&self) -> bool
-        ensures { result ≡ wants_cut self.now.taker.taken self.now.node.core }
+        ensures { result ≡ wants_cut self.now.receiver.taken self.now.node.core }
     {
         let (base, snapshot) = self.core.snapshot();
         let commands = self.core.status().committed - base;
@@ -245,8 +246,8 @@ impl<J: NodeNaming> NodeState<J> {
         report: Report,
         gate_missed: u64,
     ) -> Report
-        requires lanes { AreAllLanes self.taker lanes.old }
-        requires capacity { HasCapacity self.taker.lanes report }
+        requires lanes { AreAllLanes self.receiver lanes.old }
+        requires capacity { HasCapacity self.receiver.lanes report }
 
         // What was taken and what is left over are, lane by lane and in order, all that was sent.
         ensures whole { All (ArrivesWhole result.taken.items result.left.items) lanes.new }
@@ -254,13 +255,13 @@ impl<J: NodeNaming> NodeState<J> {
 
         // What the node replayed and what is left over are, lane by lane and in order, all that was
         // sent.
-        ensures all { All (ReportsAll self.taker.taken result.left.items) lanes.new }
+        ensures all { All (ReportsAll self.receiver.taken result.left.items) lanes.new }
 
         // For each lane, the count of taken items is that of the replay.
         ensures counted { EachIndex result.taken.items (λ lane.
-            slice_index result.taken.items lane ≡ length (items_of_lane lane self.taker.taken)) }
-        ensures each { length result.taken.items ≡ self.taker.lanes }
-        ensures replays { Replays (J.first_of self.taker.inbox) self.taker.taken self.node }
+            slice_index result.taken.items lane ≡ length (items_of_lane lane self.receiver.taken)) }
+        ensures each { length result.taken.items ≡ self.receiver.lanes }
+        ensures replays { Replays (J.first_of self.receiver.inbox) self.receiver.taken self.node }
 
         ensures base { result.base ≡ self.node.core.replica.state.log.base }
         ensures gate { result.gate_missed ≡ gate_missed }

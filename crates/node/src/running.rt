@@ -81,8 +81,8 @@ impl<'g, J: NodeNaming, G: Gate> Node<'g, J, NodeState<J>, G> {
         state: NodeState<J>,
         gate: Option<&'g G>,
     ) -> Result<Node<'g, J, NodeState<J>, G>, Memory>
-        ensures number { IfOk result (λ node. node.number ≡ state.taker.inbox) }
-        ensures lanes { IfOk result (λ node. node.lanes ≡ state.taker.lanes) }
+        ensures number { IfOk result (λ node. node.number ≡ state.receiver.inbox) }
+        ensures lanes { IfOk result (λ node. node.lanes ≡ state.receiver.lanes) }
         ensures gated { IfOk result (λ node. node.is_gated ≡ is_some gate.entry) }
     {
         let number = state.inbox_number();

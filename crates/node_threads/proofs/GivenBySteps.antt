@@ -21,14 +21,14 @@ pub each_opens : (config : Config) (first_of : ℕ → CountedCore) → EachOpen
 each_opens config first_of opens = λ inbox. ∣ record { number = inbox; config = config; is = opens inbox } ∣₁
 
 pub given_more : (first_of : ℕ → CountedCore) (old new : NodeStateView) (before after : List (Effect Command Output))
-    → EachOpens first_of → Replays (first_of old.taker.inbox) old.taker.taken old.node
+    → EachOpens first_of → Replays (first_of old.receiver.inbox) old.receiver.taken old.node
     → TakesOne old new before after → Each WasGiven before → Each WasGiven after
 given_more first_of old new before after opens replays takes given =
     subst (λ (effects : List (Effect Command Output)). Each WasGiven effects) (sym takes.stepped.appended)
     (each_append WasGiven before takes.stepped.given given (each_in WasGiven takes.stepped.given (λ effect gives. record {
-      first = first_of old.taker.inbox;
-      opens = opens old.taker.inbox;
-      history = old.taker.taken;
+      first = first_of old.receiver.inbox;
+      opens = opens old.receiver.inbox;
+      history = old.receiver.taken;
       core = old.node;
       replays = replays;
       item = takes.item;

@@ -106,7 +106,7 @@ fn take_up_to<J: NodeNaming, R: Wait>(
     permit: &Permit<'_>,
     lane: &mut Lane<Item, J>,
 ) -> (bool, Given)
-    requires inbox { lane.old.inbox ≡ node.old.taker.inbox }
+    requires inbox { lane.old.inbox ≡ node.old.receiver.inbox }
     requires opens { EachOpens J.first_of }
     requires next { IsNext permit.now node.old }
 

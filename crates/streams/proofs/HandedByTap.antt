@@ -15,7 +15,7 @@ pub handed_by_tap :
     (first_of : ℕ → CountedCore) (before after : PortTap) (seen : NodeStateView) (answer : Handed) (old new : List ℕ)
     (was is count : ℕ)
     → NodesBegan first_of
-    → Replays (first_of seen.taker.inbox) seen.taker.taken seen.node
+    → Replays (first_of seen.receiver.inbox) seen.receiver.taken seen.node
     → new ≡ old ++ pending_bytes (listed_at before.port seen.node.core)
     → answer ≡ handed_after (listed_at before.port seen.node.core)
     → was ≡ length old → is ≡ length new

@@ -21,7 +21,7 @@ pub record IsHandedOver
     (first_of : ℕ → CountedCore) (port : Port) (bytes : List ℕ) (answer : Handed)
     : Type 0 where
   pub seen : NodeStateView
-  pub replays : Replays (first_of seen.taker.inbox) seen.taker.taken seen.node
+  pub replays : Replays (first_of seen.receiver.inbox) seen.receiver.taken seen.node
   pub bytes_are : bytes ≡ pending_bytes (listed_at port seen.node.core)
   pub answer_is : answer ≡ handed_after (listed_at port seen.node.core)
 

@@ -23,7 +23,7 @@ loop-preserved g c = record {
   lane = c.receipt-receipt.ensures.same ∙ c.loop.invariant.lane;
   inbox =
       ap (λ (lane : LaneView Item). lane.inbox) c.receipt-receipt.ensures.same ∙ c.loop.invariant.inbox
-      ∙ sym (ap (λ (taker : ReceiverView Item). taker.inbox) (c.if-not-take_one.ensures.took refl).taken);
+      ∙ sym (ap (λ (receiver : ReceiverView Item). receiver.inbox) (c.if-not-take_one.ensures.took refl).taken);
 }
 
 pub returns-then-not-take_one-clause-given : goal.returns-then-not-take_one-clause-given

@@ -9,5 +9,5 @@ invariant-loop g l = record {
   given : Each WasGiven l.effects.items;
   turns : Turns l.initial.node l.node l.effects.items;
   lane : l.lane ≡ l.initial.lane;
-  inbox : l.lane.inbox ≡ l.node.taker.inbox;
+  inbox : l.lane.inbox ≡ l.node.receiver.inbox;
 }

@@ -17,14 +17,14 @@ returns-clause-whole g c =
 
 pub returns-clause-counted : goal.returns-clause-counted
 returns-clause-counted g c =
-    subst (λ counts. EachIndex counts (λ lane. slice_index counts lane ≡ length (items_of_lane lane c.args.self.taker.taken)))
+    subst (λ counts. EachIndex counts (λ lane. slice_index counts lane ≡ length (items_of_lane lane c.args.self.receiver.taken)))
     (sym (written_back c.args.report.taken.len c.take_rest.new.counts c.args.report.taken.items (omega (arith, c.as_mut_slice.ensures.len))))
-    (subst (λ (s : NodeStateView). EachIndex c.take_rest.new.counts (λ lane. slice_index c.take_rest.new.counts lane ≡ length (items_of_lane lane s.taker.taken)))
+    (subst (λ (s : NodeStateView). EachIndex c.take_rest.new.counts (λ lane. slice_index c.take_rest.new.counts lane ≡ length (items_of_lane lane s.receiver.taken)))
     c.self.view_is c.take_rest.ensures.counted)
 
 pub returns-clause-all : goal.returns-clause-all
 returns-clause-all g c =
-    subst (λ (s : NodeStateView). All (ReportsAll s.taker.taken c.take_rest.new.left.items) c.take_rest.new.lanes)
+    subst (λ (s : NodeStateView). All (ReportsAll s.receiver.taken c.take_rest.new.left.items) c.take_rest.new.lanes)
     c.self.view_is
     (λ place other within.
     let lane : ℕ = (slice_index_or c.take_rest.new.lanes place other).lane in

@@ -13,6 +13,6 @@ invariant_of-self g c = (
 
 pub returns-in-Some-clause-took : goal.returns-in-Some-clause-took
 returns-in-Some-clause-took g c = λ _.
-    subst (λ (s : NodeStateView). TakesOne s (record { taker = c.take.new.self; node = c.step.new.self; takings = c.saturating_add-self-inside.result })
+    subst (λ (s : NodeStateView). TakesOne s (record { receiver = c.take.new.self; node = c.step.new.self; takings = c.saturating_add-self-inside.result })
     c.args.effects.now.items c.step.new.effects.items) c.self.view_is
     (record { lane = c.in-Some.field-0-0; item = c.in-Some.item; taken = c.in-Some.ensures.taken; stepped = c.step.ensures })
