@@ -61,7 +61,7 @@ named_nowhere name change = nowhere (is_open_named name) change
 
 -- the same for only the node
 abbrev as_running : CoreState → RunningStep
-as_running core = record { core = core; out_of_memory = false }
+as_running core = record { core = core; has_lost = false }
 
 pub core_there : (test : Connection → Bool) (change : Connection → Connection) (core : CoreState) (index : Option ℕ) (i : ℕ)
     (c new : Connection) → index ≡ position test core.connections → index ≡ Some i →

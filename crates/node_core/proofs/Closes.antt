@@ -72,7 +72,7 @@ proposes_nothing command core e =
 
 -- a refused proposal closes the connection
 pub closes_refused : (port : Port) (command : Command) (a b c : RunningStep)
-    (x y : List (Effect Command Output)) → (c.out_of_memory ≡ false → false ≡ has_room a.core) →
+    (x y : List (Effect Command Output)) → (c.has_lost ≡ false → false ≡ has_room a.core) →
     DoesOutcome a b x y (proposes command a.core) → DoesExactly b c (changes port closed_connection b.core) →
     DoesOutcome a c x y (if has_room a.core then proposes command a.core else without_messages (changes port closed_connection a.core))
 closes_refused port command a b c x y full turns shut =
@@ -80,7 +80,7 @@ closes_refused port command a b c x y full turns shut =
     (turns_join a b c x y y (proposes command a.core)
     (λ core. without_messages (changes port closed_connection core)) turns (turns_without_messages b c y (changes port closed_connection b.core) shut))
   where
-    same : c.out_of_memory ≡ false →
+    same : c.has_lost ≡ false →
         then_also (proposes command a.core) (λ core. without_messages (changes port closed_connection core))
         ≡ (if has_room a.core then proposes command a.core else without_messages (changes port closed_connection a.core))
     same whole =

@@ -50,9 +50,9 @@ cut_exactly core new false r same below = by_need (cases_Bool (can_cut core.repl
 -- so it is what was done, unless memory ran out
 pub cut_does : (old new : RunningStep) (replica : CountedReplica State Command) (result : Bool) (before : ℕ) → ReplicaCut old.core replica result →
     before ≡ old.core.replica.losses → new.core ≡ record old.core { replica = replica } →
-    (new.out_of_memory ≡ false → (old.out_of_memory ≡ false) × ((replica.losses ≡ before) × (before < 2 ^ 64 - 1))) → DoesExactly old new (cuts old.core)
+    (new.has_lost ≡ false → (old.has_lost ≡ false) × ((replica.losses ≡ before) × (before < 2 ^ 64 - 1))) → DoesExactly old new (cuts old.core)
 cut_does old new replica result before r losses kept none quiet =
     let z = none quiet in
     let below : old.core.replica.losses < 2 ^ 64 - 1 = (let b = z.1.1 in omega (arith, losses, b)) in
-    ap₂ (λ (k : CoreState) (w : Bool). let x : RunningStep = record { core = k; out_of_memory = w } in x)
+    ap₂ (λ (k : CoreState) (w : Bool). let x : RunningStep = record { core = k; has_lost = w } in x)
     (kept ∙ cut_exactly old.core replica result r (z.1.0 ∙ losses) below) (quiet ∙ sym z.0)

@@ -53,7 +53,7 @@ pub heard_quietly : (message : Message Command) (old mid new : RunningStep) (rep
     IsHeardQuietly message old.core → ReadsNone message old.core → WithoutFailure old new × (after ≡ [])
 heard_quietly message old mid new replica before after losses empty step still stays is was notes quiet reads = (
   record {
-    out_of_memory = ap (λ (r : RunningStep). r.out_of_memory) becomes;
+    has_lost = ap (λ (r : RunningStep). r.has_lost) becomes;
     failed = λ none. ap (λ (r : RunningStep). find has_failed r.core.connections) becomes ∙ none;
   },
   (by old.core.replica.state.stopped refl).1,

@@ -177,22 +177,22 @@ ran_ignored item a b x y idle ran =
 
 -- if nothing failed there are none
 pub quiet_ignored : (a b : RunningStep) → (find has_failed a.core.connections ≡ None → b ≡ a) → find has_failed a.core.connections ≡ None →
-    b.out_of_memory ≡ a.out_of_memory
-quiet_ignored a b none failed = ap (λ (r : RunningStep). r.out_of_memory) (none failed)
+    b.has_lost ≡ a.has_lost
+quiet_ignored a b none failed = ap (λ (r : RunningStep). r.has_lost) (none failed)
 
 calm_then : (a b c : RunningStep) → WithoutFailure a b → (find has_failed b.core.connections ≡ None → c ≡ b) → find has_failed a.core.connections ≡ None →
-    c.out_of_memory ≡ a.out_of_memory
-calm_then a b c calm none failed = ap (λ (r : RunningStep). r.out_of_memory) (none (calm.failed failed)) ∙ calm.out_of_memory
+    c.has_lost ≡ a.has_lost
+calm_then a b c calm none failed = ap (λ (r : RunningStep). r.has_lost) (none (calm.failed failed)) ∙ calm.has_lost
 
 heeded : (item : Item) (a c : RunningStep) (ignored : Bool) → ignored ≡ false → (ignored ≡ true) ↔ DoesNothing item a.core → DoesNothing item a.core →
-    c.out_of_memory ≡ a.out_of_memory
+    c.has_lost ≡ a.has_lost
 heeded item a c ignored is decides idle = (let e = decides.1 idle in absurd cc)
 
 -- a message that has an effect is heard quietly
 heard_then : (message : Message Command) (a b c : RunningStep) (ignored : Bool) → ignored ≡ false → (ignored ≡ true) ↔ DoesNothing (Peer message) a.core →
     (IsHeardQuietly message a.core → ReadsNone message a.core → WithoutFailure a b) → (find has_failed b.core.connections ≡ None → c ≡ b) →
     IsIgnored (Receives message) a.core ⊎ IsHeardQuietly message a.core → ReadsNone message a.core → find has_failed a.core.connections ≡ None →
-    c.out_of_memory ≡ a.out_of_memory
+    c.has_lost ≡ a.has_lost
 heard_then message a b c ignored is decides heard none (inl idle) reads failed = heeded (Peer message) a c ignored is decides (idle, reads)
 heard_then message a b c ignored is decides heard none (inr quiet) reads failed = calm_then a b c (heard quiet reads) none failed
 
@@ -201,7 +201,7 @@ heard_then message a b c ignored is decides heard none (inr quiet) reads failed 
 pub quiet_otherwise : (item : Item) (a b c : RunningStep) (ignored : Bool) → ignored ≡ false → (ignored ≡ true) ↔ DoesNothing item a.core →
     ((message : Message Command) → item ≡ Peer message → IsHeardQuietly message a.core → ReadsNone message a.core → WithoutFailure a b) →
     (item ≡ Crash → WithoutFailure a b) → ((port : Port) → item ≡ Ended port → was_proposed (open_at port a.core) ≡ false → WithoutFailure a b) →
-    (find has_failed b.core.connections ≡ None → c ≡ b) → ItemTakesNoMemory item a.core → find has_failed a.core.connections ≡ None → c.out_of_memory ≡ a.out_of_memory
+    (find has_failed b.core.connections ≡ None → c ≡ b) → ItemTakesNoMemory item a.core → find has_failed a.core.connections ≡ None → c.has_lost ≡ a.has_lost
 quiet_otherwise (Peer message) a b c ignored is decides heard crash ended none takes failed =
     heard_then message a b c ignored is decides (heard message refl) none takes.0 takes.1 failed
 quiet_otherwise (Tick now) a b c ignored is decides heard crash ended none takes failed = heeded (Tick now) a c ignored is decides takes
@@ -230,6 +230,6 @@ ended_calmly port q item a b is same closes unproposed =
     let e : q ≡ port = cc in
     let done = closes (subst (λ (p : Port). was_proposed (open_at p a.core) ≡ false) (sym e) unproposed) in
     record {
-      out_of_memory = ap (λ (r : RunningStep). r.out_of_memory) done;
+      has_lost = ap (λ (r : RunningStep). r.has_lost) done;
       failed = λ none. ap (λ (r : RunningStep). find has_failed r.core.connections) done ∙ closing_fails_none (is_open_at q) a.core.connections none;
     }

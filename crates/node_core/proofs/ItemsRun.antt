@@ -44,30 +44,30 @@ ran_crashed a replica x is =
 -- ---- the step
 
 exactly_by : (old : CountedCore) (a b : RunningStep) (outcome : StepOutcome) (new : CoreState) (losses : ℕ) (x y : List (Effect Command Output))
-    (turns : DoesOutcome a b x y outcome) → new ≡ settled b.core → b.out_of_memory ≡ false → losses ≡ old.losses →
+    (turns : DoesOutcome a b x y outcome) → new ≡ settled b.core → b.has_lost ≡ false → losses ≡ old.losses →
     IsExactly old (record { core = settled outcome.core; messages = outcome.messages }) (record { core = new; losses = losses }) turns.given
 exactly_by old a b outcome new losses x y turns settles e counted =
     let did = turns.exact e in
     (settles ∙ ap (λ (r : RunningStep). settled r.core) did.0, did.1, counted)
 
 steps_by : (old : CountedCore) (a b : RunningStep) (outcome : StepOutcome) (new : CoreState) (losses : ℕ) (x y : List (Effect Command Output))
-    (turns : DoesOutcome a b x y outcome) → new ≡ settled b.core → (out_of_memory : Bool) → b.out_of_memory ≡ out_of_memory →
-    losses ≡ (if out_of_memory then one_more old.losses else old.losses) →
+    (turns : DoesOutcome a b x y outcome) → new ≡ settled b.core → (has_lost : Bool) → b.has_lost ≡ has_lost →
+    losses ≡ (if has_lost then one_more old.losses else old.losses) →
     NodeStepOrLost old (record { core = settled outcome.core; messages = outcome.messages }) (record { core = new; losses = losses }) turns.given
 steps_by old a b outcome new losses x y turns settles true e counted = inr counted
 steps_by old a b outcome new losses x y turns settles false e counted = inl (exactly_by old a b outcome new losses x y turns settles e counted)
 
 pub stepped_by : (old : CountedCore) (item : Item) (a b : RunningStep) (new : CoreState) (losses : ℕ) (x y : List (Effect Command Output)) →
     a.core ≡ old.core → DoesOutcome a b x y (acts_on item a.core) → StepPartOrLost (ActsOn item) a.core b.core x y → new ≡ settled b.core →
-    losses ≡ (if b.out_of_memory then one_more old.losses else old.losses) → a.out_of_memory ≡ false →
-    (ItemTakesNoMemory item a.core → find has_failed a.core.connections ≡ None → b.out_of_memory ≡ a.out_of_memory) →
+    losses ≡ (if b.has_lost then one_more old.losses else old.losses) → a.has_lost ≡ false →
+    (ItemTakesNoMemory item a.core → find has_failed a.core.connections ≡ None → b.has_lost ≡ a.has_lost) →
     ItemStepOrLost old item (record { core = new; losses = losses }) x y
 stepped_by old item a b new losses x y same turns ran settles counted calm quiet =
     record {
       given = turns.given;
       appended = turns.appended;
       steps = subst (λ (k : CoreState). NodeStepOrLost old (node_step item k) (record { core = new; losses = losses }) turns.given) same
-          (steps_by old a b (acts_on item a.core) new losses x y turns settles b.out_of_memory refl counted);
+          (steps_by old a b (acts_on item a.core) new losses x y turns settles b.has_lost refl counted);
       uncounted = subst (λ (k : CoreState). ItemTakesNoMemory item k → find has_failed k.connections ≡ None →
           IsExactly old (node_step item k) (record { core = new; losses = losses }) turns.given) same
           (λ idle failed. let whole = quiet idle failed ∙ calm in

@@ -69,7 +69,7 @@ pub opened_core : (port : Port) (core : CoreState) (name : ConnectionName) (ball
     record core { last_name = record { ballot = ballot; count = count }; connections = all } ≡ with_next_connection port core
 opened_core port core name ballot count c all accepted is b n new added =
     ap (λ (r : RunningStep). r.core)
-    (opened port (record { core = core; out_of_memory = false }) name ballot count c all accepted is b n new added)
+    (opened port (record { core = core; has_lost = false }) name ballot count c all accepted is b n new added)
 
 -- there was no memory for it
 pub opened_not : (core : CoreState) (all : List Connection) → all ≡ core.connections → record core { connections = all } ≡ core

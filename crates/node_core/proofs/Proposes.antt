@@ -11,7 +11,7 @@ use Rattle.ballot.specs.ballot_base.Serving.{proposed}
 use Rattle.node_core.specs.Core.{StepOutcome, rules, serves}
 use Rattle.node_core.specs.Inside.{RunningStep, StepsReplica, DoesOutcome}
 use Rattle.node_core.specs.Effects.{handled_all, drives, outcome_of_input, after_replica_step, proposes}
-use Rattle.node_core.proofs.StepsJoin.{turns_idle, out_of_memory_kept}
+use Rattle.node_core.proofs.StepsJoin.{turns_idle, has_lost_kept}
 
 -- a step of the replica, and what it gave
 turns_moved : (a b c : RunningStep) (outcome : Outcome State Command Output) (given before after : List (Effect Command Output)) →
@@ -24,11 +24,11 @@ turns_moved a b c outcome given before after hears turns =
       exact = λ whole. joined whole (turns.exact whole);
     }
   where
-    joined : c.out_of_memory ≡ false →
+    joined : c.has_lost ≡ false →
         (c ≡ record b { core = (handled_all given b.core).core }) × (turns.given ≡ (handled_all given b.core).messages) →
         (c ≡ record a { core = (after_replica_step outcome a.core).core }) × (turns.given ≡ (after_replica_step outcome a.core).messages)
     joined whole did =
-        let did_hear = hears (out_of_memory_kept b c (handled_all given b.core).core did.0 whole) in (
+        let did_hear = hears (has_lost_kept b c (handled_all given b.core).core did.0 whole) in (
           did.0 ∙ ap (λ (r : RunningStep). record r { core = (handled_all given r.core).core }) did_hear.0
               ∙ ap (λ (l : List (Effect Command Output)). record a {
                 core = (handled_all l (record a.core {

@@ -59,12 +59,12 @@ module _ (next : CoreState → StepOutcome) where
 
   -- the last one says that the next would do nothing
   pub repeats_enough : (n all : ℕ) (a b : RunningStep) (x y : List (Effect Command Output)) → n ≤ all →
-      DoesOutcome a b x y (repeated n next a.core) → (b.out_of_memory ≡ false → next b.core ≡ without_messages b.core) →
+      DoesOutcome a b x y (repeated n next a.core) → (b.has_lost ≡ false → next b.core ≡ without_messages b.core) →
       DoesOutcome a b x y (repeated all next a.core)
   repeats_enough n all a b x y few done last =
       turns_as a b x y (repeated n next a.core) (repeated all next a.core) same done
     where
-      same : b.out_of_memory ≡ false → repeated n next a.core ≡ repeated all next a.core
+      same : b.has_lost ≡ false → repeated n next a.core ≡ repeated all next a.core
       same whole =
           let core : b.core ≡ (repeated n next a.core).core = ap (λ (r : RunningStep). r.core) (done.exact whole).0 in
           let without_messages_there = subst (λ (k : CoreState). next k ≡ without_messages k) core (last whole) in

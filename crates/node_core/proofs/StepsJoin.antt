@@ -22,8 +22,8 @@ turns_without_messages old new out core does =
     record { given = []; appended = sym (append-nil out); exact = λ whole. (does whole, refl) }
 
 -- the parts of a step that was done
-pub out_of_memory_kept : (a b : RunningStep) (core : CoreState) → b ≡ record a { core = core } → b.out_of_memory ≡ false → a.out_of_memory ≡ false
-out_of_memory_kept a b core e whole = sym (ap (λ (z : RunningStep). z.out_of_memory) e) ∙ whole
+pub has_lost_kept : (a b : RunningStep) (core : CoreState) → b ≡ record a { core = core } → b.has_lost ≡ false → a.has_lost ≡ false
+has_lost_kept a b core e whole = sym (ap (λ (z : RunningStep). z.has_lost) e) ∙ whole
 
 -- one thing and then another
 pub turns_join : (a b c : RunningStep) (x y z : List (Effect Command Output)) (first : StepOutcome) (next : CoreState → StepOutcome) →
@@ -36,11 +36,11 @@ turns_join a b c x y z first next one two =
       exact = λ whole. joined whole (two.exact whole);
     }
   where
-    joined : c.out_of_memory ≡ false → (c ≡ record b { core = (next b.core).core }) × (two.given ≡ (next b.core).messages) →
+    joined : c.has_lost ≡ false → (c ≡ record b { core = (next b.core).core }) × (two.given ≡ (next b.core).messages) →
         (c ≡ record a { core = (then_also first next).core })
         × (one.given ++ two.given ≡ (then_also first next).messages)
     joined whole did =
-        let before = one.exact (out_of_memory_kept b c (next b.core).core did.0 whole) in
+        let before = one.exact (has_lost_kept b c (next b.core).core did.0 whole) in
         let core : b.core ≡ first.core = ap (λ (r : RunningStep). r.core) before.0 in (
           did.0 ∙ ap (λ (r : RunningStep). record r { core = (next r.core).core }) before.0,
           ap (λ (l : List (Effect Command Output)). l ++ two.given) before.1
@@ -64,17 +64,17 @@ turns_push a b c x y z given e one two =
         (sym (filter-append is_message given (e ∷ [])))
 
 -- memory ran out before: nothing exact is said
-pub turns_out_of_memory : (a b c : RunningStep) (x y : List (Effect Command Output)) (t u : StepOutcome) → b.out_of_memory ≡ true →
+pub turns_lost : (a b c : RunningStep) (x y : List (Effect Command Output)) (t u : StepOutcome) → b.has_lost ≡ true →
     DoesOutcome b c x y t → DoesOutcome a c x y u
-turns_out_of_memory a b c x y t u lost turns =
+turns_lost a b c x y t u lost turns =
     record {
       given = turns.given;
       appended = turns.appended;
-      exact = λ whole. (let kept = out_of_memory_kept b c t.core (turns.exact whole).0 whole in absurd cc);
+      exact = λ whole. (let kept = has_lost_kept b c t.core (turns.exact whole).0 whole in absurd cc);
     }
 
 -- the same turn, if memory suffices
-pub turns_as : (a c : RunningStep) (x y : List (Effect Command Output)) (t u : StepOutcome) → (c.out_of_memory ≡ false → t ≡ u) →
+pub turns_as : (a c : RunningStep) (x y : List (Effect Command Output)) (t u : StepOutcome) → (c.has_lost ≡ false → t ≡ u) →
     DoesOutcome a c x y t → DoesOutcome a c x y u
 turns_as a c x y t u same turns =
     record {

@@ -20,33 +20,33 @@ use Rattle.node_core.specs.Lossy.{Account, HandlesAll, TakesCommand, without_eff
 use Rattle.node_core.specs.LossyProposals.{Declines, ProposesCommand}
 use Rattle.node_core.specs.Effects.{has_room}
 
--- a node during a step, and whether memory ran out in it
+-- a node during a step, and whether something was lost in it
 pub record RunningStep : Type 0 where
   pub core : CoreState
-  pub out_of_memory : Bool
+  pub has_lost : Bool
 
--- memory did not run out, and no connection failed
+-- nothing was lost, and no connection failed
 pub record WithoutFailure (old new : RunningStep) : Type 0 where
-  pub out_of_memory : new.out_of_memory ≡ old.out_of_memory
+  pub has_lost : new.has_lost ≡ old.has_lost
   pub failed : find has_failed old.core.connections ≡ None →
       find has_failed new.core.connections ≡ None
 
--- this is what was done, unless memory ran out
+-- this is what was done, unless something was lost
 abbrev pub DoesExactly : RunningStep → RunningStep → CoreState → Type 0
-DoesExactly old new core = new.out_of_memory ≡ false → new ≡ record old { core = core }
+DoesExactly old new core = new.has_lost ≡ false → new ≡ record old { core = core }
 
--- this is what was done, unless memory ran out; its messages were appended to what was there
+-- this is what was done, unless something was lost; its messages were appended to what was there
 pub record DoesOutcome (old new : RunningStep) (before after : List (Effect Command Output))
     (done : StepOutcome) : Type 0 where
   pub given : List (Effect Command Output)
   pub appended : after ≡ before ++ given
-  pub exact : new.out_of_memory ≡ false →
+  pub exact : new.has_lost ≡ false →
       (new ≡ record old { core = done.core }) × (given ≡ done.messages)
 
 -- a step of the replica only
 abbrev pub StepsReplica : RunningStep → RunningStep →
     Outcome State Command Output → List (Effect Command Output) → Type 0
-StepsReplica old new outcome given = new.out_of_memory ≡ false →
+StepsReplica old new outcome given = new.has_lost ≡ false →
     (new ≡ record old {
       core = record old.core {
         replica = record old.core.replica { state = outcome.state };

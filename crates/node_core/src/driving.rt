@@ -23,7 +23,7 @@ impl SteppingNode {
             (proposes command self.old.core) }
         ensures lossy { StepPartOrLost (ProposedBy result command) self.old.core self.new.core
             effects.old.items effects.new.items }
-        ensures taken { self.new.out_of_memory ≡ false → result ≡ has_room self.old.core }
+        ensures taken { self.new.has_lost ≡ false → result ≡ has_room self.old.core }
     {
         if !self.serves() {
             return false;
@@ -45,7 +45,7 @@ impl SteppingNode {
         ensures hears { StepsReplica self.old self.new
             (proposed rules self.old.core.replica.state command) given.new.items }
         ensures answered { Answered result command self.old.core self.new.core given.new.items }
-        ensures taken { self.new.out_of_memory ≡ false → result ≡ has_room self.old.core }
+        ensures taken { self.new.has_lost ≡ false → result ≡ has_room self.old.core }
     {
         let before = self.replica.losses();
         let put = self.replica.propose(command, given);
@@ -123,15 +123,15 @@ impl SteppingNode {
     // `before` until then.
     fn note_losses(&mut self, before: u64)
         ensures kept { self.new.core ≡ self.old.core }
-        ensures none { self.new.out_of_memory ≡ false →
-            (self.old.out_of_memory ≡ false) ×
+        ensures none { self.new.has_lost ≡ false →
+            (self.old.has_lost ≡ false) ×
             ((self.old.core.replica.losses ≡ before) × (before < greatest_count)) }
         ensures same { self.old.core.replica.losses ≡ before → before < greatest_count →
             self.new ≡ self.old }
     {
         let after = self.replica.losses();
         if after != before || after == u64::MAX {
-            self.out_of_memory = true;
+            self.has_lost = true;
         }
     }
 
@@ -167,7 +167,7 @@ impl SteppingNode {
             Effect::Out(_, output) => self.perform(&output),
             Effect::To(receiver, message) => {
                 if effects.push(Effect::To(receiver, message)).is_err() {
-                    self.out_of_memory = true;
+                    self.has_lost = true;
                 }
             }
         }

@@ -163,7 +163,7 @@ impl NodeCore {
     {
         self.stepping.begin_step();
         self.stepping.pass_over(message, effects);
-        self.losses = losses_after(self.losses, self.stepping.is_out_of_memory());
+        self.losses = losses_after(self.losses, self.stepping.has_lost());
         self.stepping.settle();
     }
 
@@ -175,7 +175,7 @@ impl NodeCore {
     {
         self.stepping.begin_step();
         self.stepping.act_on(item, effects);
-        self.losses = losses_after(self.losses, self.stepping.is_out_of_memory());
+        self.losses = losses_after(self.losses, self.stepping.has_lost());
         self.stepping.settle();
     }
 
@@ -212,10 +212,10 @@ impl NodeCore {
 }
 
 // Returns the count of steps in which something was lost, after one more step.
-fn losses_after(losses: u64, out_of_memory: bool) -> u64
-    ensures { result ≡ (if out_of_memory then one_more losses else losses) }
+fn losses_after(losses: u64, has_lost: bool) -> u64
+    ensures { result ≡ (if has_lost then one_more losses else losses) }
 {
-    if out_of_memory {
+    if has_lost {
         losses.saturating_add(1)
     } else {
         losses

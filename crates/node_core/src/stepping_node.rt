@@ -29,7 +29,7 @@ use packet::{Packet, RefusalCode};
 use std::alloc::Global;
 use std::marker::Model;
 
-/// A replica of the broker with its connections, and whether memory ran out in the current step.
+/// A replica of the broker with its connections, and whether the current step has lost something.
 pub struct SteppingNode {
     /// The allocator of connections, and of what a step gives.
     pub(crate) alloc: Global,
@@ -41,8 +41,8 @@ pub struct SteppingNode {
     pub(crate) last_count: u64,
     /// In the order in which they were opened.
     pub(crate) connections: Vec<Connection>,
-    /// Whether memory ran out in the current step.
-    pub(crate) out_of_memory: bool,
+    /// Whether the current step has lost something.
+    pub(crate) has_lost: bool,
 }
 
 impl Drop for SteppingNode {
@@ -53,7 +53,7 @@ impl Drop for SteppingNode {
             last_ballot: _,
             last_count: _,
             connections: _connections,
-            out_of_memory: _,
+            has_lost: _,
         } = self;
     }
 }
@@ -72,7 +72,7 @@ impl Model for SteppingNode {
             last_name = record { ballot = stepping.last_ballot; count = stepping.last_count };
             connections = stepping.connections.items;
           };
-          out_of_memory = stepping.out_of_memory;
+          has_lost = stepping.has_lost;
         } };
 
     ghost invariant = { λ stepping. stepping.last_count ≤ max_count };
@@ -84,7 +84,7 @@ impl SteppingNode {
         requires low { 1 ≤ id }
         requires high { id ≤ MAX_NODE }
         ensures ok { IfOk result (λ stepping.
-            stepping ≡ record { core = opening_core id config.now; out_of_memory = false }) }
+            stepping ≡ record { core = opening_core id config.now; has_lost = false }) }
         ensures bad { IsErrOf result OpeningError.BadMembers
             ↔ (is_lawful config.now.members config.now.primary ≡ false) }
     {
@@ -95,22 +95,22 @@ impl SteppingNode {
             last_ballot: 0,
             last_count: 0,
             connections: Vec::new(alloc),
-            out_of_memory: false,
+            has_lost: false,
         })
     }
 
-    /// Begins a step: memory has not run out yet.
+    /// Begins a step: nothing is lost yet.
     pub fn begin_step(&mut self)
-        ensures { self.new ≡ record self.old { out_of_memory = false } }
+        ensures { self.new ≡ record self.old { has_lost = false } }
     {
-        self.out_of_memory = false;
+        self.has_lost = false;
     }
 
-    /// Says whether memory ran out in this step.
-    pub fn is_out_of_memory(&self) -> bool
-        ensures { result ≡ self.now.out_of_memory }
+    /// Says whether something was lost in this step.
+    pub fn has_lost(&self) -> bool
+        ensures { result ≡ self.now.has_lost }
     {
-        self.out_of_memory
+        self.has_lost
     }
 
     /// Returns what the replica shows of itself.
@@ -223,15 +223,15 @@ impl SteppingNode {
         }
     }
 
-    /// Closes the open connection of a port, whose proposal was refused: if memory ran out, its
-    /// loss is still to be reported to the broker.
+    /// Closes the open connection of a port, whose proposal was refused. If the step has lost
+    /// something, the connection fails: that it ended is still to be reported to the broker.
     pub fn give_up(&mut self, port: Port)
         ensures exact { DoesExactly self.old self.new
             (changes port closed_connection self.old.core) }
         ensures lossy { (self.new.core ≡ changes port closed_connection self.old.core)
             ⊎ (self.new.core ≡ changes port failing self.old.core) }
     {
-        if !self.out_of_memory {
+        if !self.has_lost {
             return self.close(port);
         }
         if let Some(index) = self.index_at(port) {
@@ -287,7 +287,7 @@ impl SteppingNode {
         if let Some(index) = self.index_of(name) {
             let whole = self.connections[index].put_or_fail(packet);
             if !whole {
-                self.out_of_memory = true;
+                self.has_lost = true;
             }
         }
     }
@@ -347,7 +347,7 @@ impl SteppingNode {
         };
         let connection = Connection::new(self.alloc, port, name);
         if !push(&mut self.connections, connection) {
-            self.out_of_memory = true;
+            self.has_lost = true;
             return;
         }
         self.last_ballot = name.ballot();

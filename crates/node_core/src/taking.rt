@@ -28,7 +28,7 @@ use packet::{ClientId, Connect, Packet};
 
 impl SteppingNode {
     /// Takes an item, and reports each connection that fails in it to the broker. After it
-    /// `is_out_of_memory` says whether memory ran out.
+    /// `has_lost` says whether something was lost.
     pub fn act_on(&mut self, item: Item, effects: &mut Vec<Effect<Command, Output>>)
         ensures exact { DoesOutcome self.old self.new effects.old.items effects.new.items
             (acts_on item self.old.core) }
@@ -36,7 +36,7 @@ impl SteppingNode {
             (ActsOn item) self.old.core self.new.core effects.old.items effects.new.items }
         ensures quiet { ItemTakesNoMemory item self.old.core →
             find has_failed self.old.core.connections ≡ None →
-            self.new.out_of_memory ≡ self.old.out_of_memory }
+            self.new.has_lost ≡ self.old.has_lost }
     {
         if self.ignores(&item) {
             return self.report_failed(effects);
@@ -57,7 +57,7 @@ impl SteppingNode {
         ensures lossy { StepPartOrLost (ActsOn (items.Peer message.now)) self.old.core self.new.core
             effects.old.items effects.new.items }
         ensures quiet { find has_failed self.old.core.connections ≡ None →
-            self.new.out_of_memory ≡ self.old.out_of_memory }
+            self.new.has_lost ≡ self.old.has_lost }
     {
         self.report_failed(effects);
     }
@@ -127,7 +127,7 @@ impl SteppingNode {
             effects.old.items effects.new.items }
     {
         if !self.hold_at(port, &piece) {
-            self.out_of_memory = true;
+            self.has_lost = true;
             self.end(port, effects);
         }
     }
@@ -158,7 +158,7 @@ impl SteppingNode {
             (reads_next now port self.old.core) }
         ensures lossy { StepPartOrLost
             (ReadsNext now port) self.old.core self.new.core effects.old.items effects.new.items }
-        ensures done { result ≡ false → self.new.out_of_memory ≡ false →
+        ensures done { result ≡ false → self.new.has_lost ≡ false →
             reads_next now port self.new.core ≡ without_messages self.new.core }
         ensures idle { result ≡ false →
             ReadsNext now port self.new.core (without_effects self.new.core) }
@@ -174,7 +174,7 @@ impl SteppingNode {
             Front::Packet(packet) => self.on_packet(port, name, stage, packet, effects),
             Front::Refused(_) | Front::Fault => self.report_lost(name, stage, effects),
             Front::OutOfMemory => {
-                self.out_of_memory = true;
+                self.has_lost = true;
                 self.report_lost(name, stage, effects);
             }
         }

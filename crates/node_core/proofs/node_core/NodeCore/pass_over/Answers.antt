@@ -14,5 +14,5 @@ returns c =
     c.args.effects.now.items c.pass_over.new.effects.items) c.self.view_is
     (stepped_by _ (Peer c.args.message.now) c.begin_step.new.self c.pass_over.new.self c.settle.new.self.core c.losses_after-self-inside.result _ _
     (core_of _ _ c.begin_step.ensures) c.pass_over.ensures.exact c.pass_over.ensures.lossy (core_of _ _ c.settle.ensures)
-    (c.losses_after-self-inside.ensures ∙ ap (λ (w : Bool). if w then one_more c.self.inside.losses else c.self.inside.losses) c.is_out_of_memory.ensures)
-    (ap (λ (r : RunningStep). r.out_of_memory) c.begin_step.ensures) (λ _. c.pass_over.ensures.quiet))
+    (c.losses_after-self-inside.ensures ∙ ap (λ (w : Bool). if w then one_more c.self.inside.losses else c.self.inside.losses) c.has_lost.ensures)
+    (ap (λ (r : RunningStep). r.has_lost) c.begin_step.ensures) (λ _. c.pass_over.ensures.quiet))

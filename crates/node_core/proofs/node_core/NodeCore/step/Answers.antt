@@ -13,5 +13,5 @@ returns c =
     c.args.effects.now.items c.act_on.new.effects.items) c.self.view_is
     (stepped_by _ c.args.item c.begin_step.new.self c.act_on.new.self c.settle.new.self.core c.losses_after-self-inside.result _ _
     (core_of _ _ c.begin_step.ensures) c.act_on.ensures.exact c.act_on.ensures.lossy (core_of _ _ c.settle.ensures)
-    (c.losses_after-self-inside.ensures ∙ ap (λ (w : Bool). if w then one_more c.self.inside.losses else c.self.inside.losses) c.is_out_of_memory.ensures)
-    (ap (λ (r : RunningStep). r.out_of_memory) c.begin_step.ensures) c.act_on.ensures.quiet)
+    (c.losses_after-self-inside.ensures ∙ ap (λ (w : Bool). if w then one_more c.self.inside.losses else c.self.inside.losses) c.has_lost.ensures)
+    (ap (λ (r : RunningStep). r.has_lost) c.begin_step.ensures) c.act_on.ensures.quiet)

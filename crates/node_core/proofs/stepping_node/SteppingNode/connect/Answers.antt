@@ -11,7 +11,7 @@ pub returns-then-not-propose-clause-exact : goal.returns-then-not-propose-clause
 returns-then-not-propose-clause-exact c =
     closes_refused c.args.port (commands.Connect c.args.name c.args.connect.client c.args.connect.clean) _ _ _ _ _
     (λ whole. sym c.if-not-propose.true ∙ c.propose.ensures.taken
-    (sym (ap (λ (r : RunningStep). r.out_of_memory) c.close.ensures) ∙ whole))
+    (sym (ap (λ (r : RunningStep). r.has_lost) c.close.ensures) ∙ whole))
     c.propose.ensures.exact (λ _. c.close.ensures)
 
 pub returns-then-not-propose-clause-lossy : goal.returns-then-not-propose-clause-lossy

@@ -42,7 +42,7 @@ pub returns-in-Crash-clause-lossy : goal.returns-in-Crash-clause-lossy
 returns-in-Crash-clause-lossy c = rw (c.in-Crash.is, ← c.self.view_is) (ran_crashed _ c.stop.new.self _ c.stop.ensures)
 
 pub returns-in-Crash-clause-crash : goal.returns-in-Crash-clause-crash
-returns-in-Crash-clause-crash c = rw (← c.self.view_is) (λ _. record { out_of_memory = refl; failed = λ none. none })
+returns-in-Crash-clause-crash c = rw (← c.self.view_is) (λ _. record { has_lost = refl; failed = λ none. none })
 
 pub returns-in-Ended-clause-ended : goal.returns-in-Ended-clause-ended
 returns-in-Ended-clause-ended c = λ port is unproposed. ended_calmly port c.in-Ended.port c.args.item _ _ c.in-Ended.is is c.end.ensures.unproposed unproposed

@@ -11,7 +11,7 @@ returns-then-not-propose-clause-exact c =
     closes_refused c.args.port (commands.Packet c.args.name c.args.packet) c.args.self.now c.propose.new.self c.give_up.new.self
     c.args.effects.now.items c.propose.new.effects.items
     (λ whole. sym c.if-not-propose.true ∙ c.propose.ensures.taken
-    (sym (ap (λ (r : RunningStep). r.out_of_memory) (c.give_up.ensures.exact whole)) ∙ whole))
+    (sym (ap (λ (r : RunningStep). r.has_lost) (c.give_up.ensures.exact whole)) ∙ whole))
     (rw (c.in-Ok.ensures.value) at c.propose.ensures.exact) c.give_up.ensures.exact
 
 pub returns-then-not-propose-clause-lossy : goal.returns-then-not-propose-clause-lossy

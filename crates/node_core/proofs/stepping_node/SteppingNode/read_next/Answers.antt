@@ -33,7 +33,7 @@ returns-in-More-clause-done c = λ _ _.
         last_name = record { ballot = c.self.inside.last_ballot; count = c.self.inside.last_count };
         connections = slice_set c.self.inside.connections.items c.in-Some.index c.next.new.self;
       };
-      out_of_memory = c.self.inside.out_of_memory;
+      has_lost = c.self.inside.has_lost;
     } in
     more_next c.args.now c.args.port c.index_mut-connection.result.now c.next.new.self c.args.self.now after
     (rw (← c.self.view_is) (found_there (is_open_at c.args.port) _ c.index_at.result c.in-Some.index _
