@@ -1,5 +1,6 @@
 -- What proofs say about groups; no law cites it.
 pub mod Ballots
+pub mod BallotsStand
 pub mod Begun
 pub mod Chosen
 pub mod Extending
@@ -12,4 +13,5 @@ pub mod Own
 pub mod Saying
 pub mod Serves
 pub mod Sound
+pub mod SoundNodes
 pub mod ToldLengths

@@ -16,7 +16,8 @@ use Rattle.snapshots.specs.whole.Replica.{ReplicaState}
 use Rattle.snapshots.specs.agreement.World.{GroupWorld, log_of}
 use Rattle.snapshots.specs.agreement.Moments.{Moment, Moments, IsAgreed}
 use Rattle.snapshots.specs.agreement.Agreement.{Holds}
-use Rattle.snapshots.specs.agreement.Inside.Ballots.{Given, History, IsChain, Line}
+use Rattle.snapshots.specs.agreement.Inside.Ballots.{Given, History, Line}
+use Rattle.snapshots.specs.agreement.Inside.BallotsStand.{IsChain}
 use Rattle.snapshots.specs.agreement.Inside.Ballots.Told.{told_as_primary}
 use Rattle.snapshots.specs.agreement.Inside.Chosen.{ChosenList, IsAgreedIn}
 use Rattle.snapshots.specs.agreement.Inside.Serves.{Serves}

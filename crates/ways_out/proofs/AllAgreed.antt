@@ -13,7 +13,7 @@ use Rattle.snapshots.specs.agreement.Moments.{Moment, Moments, IsAgreed}
 use Rattle.snapshots.specs.agreement.Inside.Ballots.{Given, IsChosenIn, Told}
 use Rattle.snapshots.specs.agreement.Inside.Ballots.Told.{told_as_primary, told_by_held}
 use Rattle.snapshots.specs.agreement.Inside.Chosen.{ChosenList}
-use Rattle.snapshots.specs.agreement.Inside.Sound.{IsActive}
+use Rattle.snapshots.specs.agreement.Inside.SoundNodes.{IsActive}
 use Rattle.snapshots.proofs.of_agreement.Agreed.MomentsAgree.{agreed_known, has_agreed, nodes_agree}
 use Rattle.snapshots.proofs.of_agreement.Agreed.MomentsAreKnown.{IsKnown}
 use Rattle.snapshots.proofs.of_agreement.Agreed.MomentsKnown.{moments_known}

@@ -8,7 +8,8 @@ use Rattle.agreement.specs.World.{GroupWorld}
 use Rattle.whole.specs.lists.Lists.{In, IsPrefixOf}
 use Rattle.whole.specs.lists.Lists.In.{here, there}
 use Rattle.agreement.specs.Inside.Chosen.{IsAgreedIn}
-use Rattle.agreement.specs.Inside.Ballots.{Given, Line, History, Told, IsChosenIn, IsChain}
+use Rattle.agreement.specs.Inside.Ballots.{Given, Line, History, Told, IsChosenIn}
+use Rattle.agreement.specs.Inside.BallotsStand.{IsChain}
 use Rattle.agreement.specs.MasterState.{MasterState}
 use Rattle.agreement.specs.Inside.Masters.{IsMaster}
 use Rattle.agreement.specs.Inside.Sound.{IsSoundWorld}

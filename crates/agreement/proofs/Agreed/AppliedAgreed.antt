@@ -8,9 +8,11 @@ use Rattle.agreement.specs.World.{GroupWorld}
 use Rattle.whole.specs.lists.Lists.{In, IsPrefixOf}
 use Rattle.whole.specs.lists.Lists.In.{here}
 use Rattle.agreement.specs.Inside.Chosen.{ChosenList, IsAgreedIn}
-use Rattle.agreement.specs.Inside.Ballots.{Given, Line, History, Told, Sealed, IsChosenIn, IsChain, Applied}
-use Rattle.agreement.specs.Inside.Ballots.Applied.{nothing, in_ballot}
-use Rattle.agreement.specs.Inside.Sound.{IsSoundNode, IsSoundWorld}
+use Rattle.agreement.specs.Inside.Ballots.{Given, Line, History, Told, Sealed, IsChosenIn}
+use Rattle.agreement.specs.Inside.BallotsStand.{IsChain, Applied}
+use Rattle.agreement.specs.Inside.BallotsStand.Applied.{nothing, in_ballot}
+use Rattle.agreement.specs.Inside.Sound.{IsSoundWorld}
+use Rattle.agreement.specs.Inside.SoundNodes.{IsSoundNode}
 use Rattle.whole.proofs.of_lists.Prefixes.{prefix_then, prefix_take, take_prefix}
 use Rattle.agreement.proofs.Masters.Assigned.{at_most_newest}
 use Rattle.agreement.proofs.Frame.Bases.{chosen_told, sealed_bounds, base_is, one_line}

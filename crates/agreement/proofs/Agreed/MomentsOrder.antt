@@ -8,7 +8,8 @@ use Rattle.whole.specs.ballot_base.declared.config.Config.{Config}
 use Rattle.whole.specs.Replica.{ReplicaState}
 use Rattle.whole.specs.lists.Lists.{In}
 use Rattle.whole.specs.lists.Lists.In.{here, there}
-use Rattle.agreement.specs.Inside.Ballots.{Applied, Line}
+use Rattle.agreement.specs.Inside.Ballots.{Line}
+use Rattle.agreement.specs.Inside.BallotsStand.{Applied}
 use Rattle.agreement.specs.Inside.OpeningHistory.{opening_history}
 use Rattle.agreement.specs.Inside.Own.{OwnLines}
 use Rattle.agreement.specs.Laws.{KeepsTheOrder}

@@ -6,7 +6,8 @@ use Rattle.machine.specs.Machine.{Rules}
 use Rattle.whole.specs.Messages.{Effect}
 use Rattle.whole.specs.Replica.{ReplicaState}
 use Rattle.whole.specs.lists.Lists.{In}
-use Rattle.agreement.specs.Inside.Ballots.{Applied, History}
+use Rattle.agreement.specs.Inside.Ballots.{History}
+use Rattle.agreement.specs.Inside.BallotsStand.{Applied}
 use Rattle.agreement.specs.Inside.Extending.{Extends}
 use Rattle.agreement.specs.Inside.MomentSteps.{MomentStep, adds_of}
 use Rattle.agreement.specs.Inside.Own.{OwnLines}

@@ -16,7 +16,7 @@ use Rattle.agreement.specs.Inside.MomentSteps.{MomentStep, adds_of}
 use Rattle.agreement.specs.Inside.MomentSteps.MomentStep.{takes}
 use Rattle.agreement.specs.Inside.Own.{OwnLines}
 use Rattle.agreement.specs.Inside.Serves.{Serves}
-use Rattle.agreement.specs.Inside.Sound.{IsActive, IsSoundNode}
+use Rattle.agreement.specs.Inside.SoundNodes.{IsActive, IsSoundNode}
 use Rattle.agreement.specs.MasterState.{MasterState}
 use Rattle.agreement.specs.Moments.{Moment}
 use Rattle.agreement.specs.Proposals.{proposal_of, taken_by, taken_in}

@@ -16,9 +16,10 @@ use Rattle.agreement.specs.World.{GroupWorld}
 use Rattle.whole.specs.lists.Lists.{In, IsPrefixOf}
 use Rattle.whole.specs.lists.Lists.In.{here, there}
 use Rattle.agreement.specs.Inside.Ballots.{Given, History, Told}
-use Rattle.agreement.specs.Inside.Ballots.Applied.{in_ballot}
+use Rattle.agreement.specs.Inside.BallotsStand.Applied.{in_ballot}
 use Rattle.agreement.specs.Inside.Keeps.{KeepsAdding}
-use Rattle.agreement.specs.Inside.Sound.{IsInstalling, IsSoundNode, IsSoundWorld}
+use Rattle.agreement.specs.Inside.Sound.{IsSoundWorld}
+use Rattle.agreement.specs.Inside.SoundNodes.{IsInstalling, IsSoundNode}
 use Rattle.agreement.specs.Inside.Saying.{SpeaksTruth}
 use Rattle.agreement.proofs.Frame.Adding.{adds_less}
 use Rattle.agreement.proofs.Frame.EqualLists.{prefix_of_same}

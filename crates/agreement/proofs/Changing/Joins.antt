@@ -12,10 +12,12 @@ use Rattle.whole.specs.Changing.{on_join}
 use Rattle.agreement.specs.World.{GroupWorld, messages, moved}
 use Rattle.whole.specs.lists.Lists.{In}
 use Rattle.whole.specs.lists.Lists.In.{here, there}
-use Rattle.agreement.specs.Inside.Ballots.{Given, History, Applied, Sealed, BallotListsStand}
-use Rattle.agreement.specs.Inside.Ballots.Applied.{nothing, in_ballot}
+use Rattle.agreement.specs.Inside.Ballots.{Given, History, Sealed}
+use Rattle.agreement.specs.Inside.BallotsStand.{Applied, BallotListsStand}
+use Rattle.agreement.specs.Inside.BallotsStand.Applied.{nothing, in_ballot}
 use Rattle.agreement.specs.Inside.Keeps.{KeepsSoundness}
-use Rattle.agreement.specs.Inside.Sound.{IsSoundNode, IsSoundWorld}
+use Rattle.agreement.specs.Inside.Sound.{IsSoundWorld}
+use Rattle.agreement.specs.Inside.SoundNodes.{IsSoundNode}
 use Rattle.agreement.specs.Inside.Saying.{SpeaksTruth, IsOffered}
 use Rattle.whole.proofs.of_lists.Places.{get_set}
 use Rattle.agreement.proofs.Frame.Framing.{within_of}

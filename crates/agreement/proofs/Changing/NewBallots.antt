@@ -12,11 +12,13 @@ use Rattle.whole.specs.Changing.{on_new_ballot}
 use Rattle.agreement.specs.World.{GroupWorld, messages, outputs, moved}
 use Rattle.whole.specs.lists.Lists.{In}
 use Rattle.whole.specs.lists.Lists.In.{here, there}
-use Rattle.agreement.specs.Inside.Ballots.{Given, Line, History, Applied}
+use Rattle.agreement.specs.Inside.Ballots.{Given, Line, History}
+use Rattle.agreement.specs.Inside.BallotsStand.{Applied}
 use Rattle.agreement.specs.Inside.Ballots.Told.{told_as_primary}
-use Rattle.agreement.specs.Inside.Ballots.Applied.{nothing, in_ballot}
+use Rattle.agreement.specs.Inside.BallotsStand.Applied.{nothing, in_ballot}
 use Rattle.agreement.specs.Inside.Keeps.{KeepsSoundness}
-use Rattle.agreement.specs.Inside.Sound.{IsSoundNode, IsSoundWorld}
+use Rattle.agreement.specs.Inside.Sound.{IsSoundWorld}
+use Rattle.agreement.specs.Inside.SoundNodes.{IsSoundNode}
 use Rattle.agreement.specs.Inside.Saying.{SpeaksTruth}
 use Rattle.whole.proofs.of_lists.Places.{get_set}
 use Rattle.agreement.proofs.Frame.Joining.{IsSilent, MovesQuietly}

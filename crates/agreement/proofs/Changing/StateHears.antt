@@ -5,7 +5,7 @@ use Rattle.whole.specs.Replica.{ReplicaState}
 use Rattle.agreement.specs.World.{GroupWorld}
 use Rattle.whole.specs.lists.Lists.{IsPrefixOf}
 use Rattle.agreement.specs.Inside.Ballots.{Given, Line, History, Sealed}
-use Rattle.agreement.specs.Inside.Sound.{IsFetching}
+use Rattle.agreement.specs.Inside.SoundNodes.{IsFetching}
 use Rattle.agreement.specs.Inside.Saying.{SpeaksTruth, IsOf, IsOffered}
 
 -- what a fetching primary knows when a State of its ballot comes

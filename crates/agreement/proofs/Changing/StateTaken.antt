@@ -7,15 +7,17 @@ use Rattle.whole.specs.Replica.{ReplicaState, others}
 use Rattle.whole.specs.Changing.{install_effects}
 use Rattle.agreement.specs.World.{GroupWorld, moved}
 use Rattle.whole.specs.lists.Lists.{In, IsPrefixOf}
-use Rattle.agreement.specs.Inside.Ballots.{Given, Line, History, Told, Applied}
+use Rattle.agreement.specs.Inside.Ballots.{Given, Line, History, Told}
+use Rattle.agreement.specs.Inside.BallotsStand.{Applied}
 use Rattle.agreement.specs.Inside.Extending.{Extends}
-use Rattle.agreement.specs.Inside.Ballots.Applied.{nothing, in_ballot}
+use Rattle.agreement.specs.Inside.BallotsStand.Applied.{nothing, in_ballot}
 use Rattle.agreement.specs.Inside.Ballots.Told.{told_as_primary}
 use Rattle.agreement.specs.Inside.Keeps.{KeepsSoundness, LineAdds}
 use Rattle.agreement.specs.Inside.Keeps.LineAdds.{as_it_was, begins_after}
 use Rattle.agreement.specs.Inside.MovesAt.{MovesAt, with_lines, lined_at}
 use Rattle.agreement.specs.Inside.MovesAt.LineGoesOn.{begins}
-use Rattle.agreement.specs.Inside.Sound.{IsInstalling, IsSoundNode, IsSoundWorld}
+use Rattle.agreement.specs.Inside.Sound.{IsSoundWorld}
+use Rattle.agreement.specs.Inside.SoundNodes.{IsInstalling, IsSoundNode}
 use Rattle.whole.proofs.of_lists.Prefixes.{prefix_same}
 use Rattle.agreement.proofs.Effects.{thinned_messages, thinned_outputs}
 use Rattle.agreement.proofs.Frame.MoveLines.{tells_here}

@@ -5,7 +5,8 @@ use Rattle.std.proofs.lemmas.Bool.{cases_lt}
 use Rattle.std.proofs.lemmas.List.{length-take-le}
 use Rattle.agreement.specs.World.{GroupWorld}
 use Rattle.whole.specs.lists.Lists.{In}
-use Rattle.agreement.specs.Inside.Ballots.{Line, History, IsChosenIn, AreBallots, BallotListsStand}
+use Rattle.agreement.specs.Inside.Ballots.{Line, History, IsChosenIn}
+use Rattle.agreement.specs.Inside.BallotsStand.{AreBallots, BallotListsStand}
 use Rattle.agreement.specs.Inside.Extending.{AcknowledgedIsWithin}
 use Rattle.agreement.specs.Leaving.{Segment}
 use Rattle.whole.proofs.of_lists.Prefixes.{prefix_length}

@@ -3,7 +3,8 @@ use Rattle.std.proofs.Common.{◌≡◌, ℕ, ◌+◌, List, [], ◌∷◌, leng
 use Rattle.agreement.specs.World.{GroupWorld}
 use Rattle.whole.specs.lists.Lists.{In, IsPrefixOf}
 use Rattle.whole.specs.lists.Lists.In.{here, there}
-use Rattle.agreement.specs.Inside.Ballots.{Given, Line, History, Told, IsChosenIn, Sealed, IsChain, BallotListsStand}
+use Rattle.agreement.specs.Inside.Ballots.{Given, Line, History, Told, IsChosenIn, Sealed}
+use Rattle.agreement.specs.Inside.BallotsStand.{IsChain, BallotListsStand}
 use Rattle.whole.proofs.of_lists.Prefixes.{prefix_then, take_prefix}
 
 -- there is one list of a ballot

@@ -12,7 +12,8 @@ use Rattle.whole.specs.Applying.{outputs_from, outputs_between}
 use Rattle.agreement.specs.World.{GroupWorld, outputs, moved}
 use Rattle.whole.specs.lists.Lists.{In, IsPrefixOf}
 use Rattle.whole.specs.lists.Lists.In.{here, there}
-use Rattle.agreement.specs.Inside.Ballots.{Given, Line, History, IsChosenIn, AreBallots, BallotListsStand}
+use Rattle.agreement.specs.Inside.Ballots.{Given, Line, History, IsChosenIn}
+use Rattle.agreement.specs.Inside.BallotsStand.{AreBallots, BallotListsStand}
 use Rattle.agreement.specs.Inside.Extending.{Extends, AcknowledgedIsWithin}
 use Rattle.agreement.specs.Inside.MovesAt.{MovesAt, with_lines}
 use Rattle.agreement.specs.Inside.Sound.{LeftIs, IsSoundWorld}

@@ -11,7 +11,7 @@ use Rattle.whole.specs.lists.Lists.{In}
 use Rattle.agreement.specs.Inside.Ballots.{Line, History, Told}
 use Rattle.agreement.specs.Inside.Extending.{Extends, AcknowledgedIsWithin}
 use Rattle.agreement.specs.Inside.Ballots.Told.{told_at_opening, told_by_held, told_by_installed, told_as_primary}
-use Rattle.agreement.specs.Inside.Sound.{IsSoundNode}
+use Rattle.agreement.specs.Inside.SoundNodes.{IsSoundNode}
 use Rattle.whole.proofs.of_lists.Prefixes.{prefix_same}
 use Rattle.whole.proofs.of_lists.Places.{get_set, get_set_other}
 use Rattle.whole.proofs.of_lists.Members.{in_left, in_append}

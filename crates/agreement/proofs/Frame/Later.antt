@@ -3,9 +3,10 @@ use Rattle.std.proofs.Common.{◌≡◌, ℕ, zero, suc, ◌++◌, ◌+◌, ◌�
 use Rattle.whole.specs.Replica.{ReplicaState}
 use Rattle.agreement.specs.World.{GroupWorld}
 use Rattle.whole.specs.lists.Lists.{In, IsPrefixOf}
-use Rattle.agreement.specs.Inside.Ballots.{Line, History, Told, IsChosenIn, Sealed, Applied}
+use Rattle.agreement.specs.Inside.Ballots.{Line, History, Told, IsChosenIn, Sealed}
+use Rattle.agreement.specs.Inside.BallotsStand.{Applied}
 use Rattle.agreement.specs.Inside.Extending.{Extends, AcknowledgedIsWithin}
-use Rattle.agreement.specs.Inside.Ballots.Applied.{nothing, in_ballot}
+use Rattle.agreement.specs.Inside.BallotsStand.Applied.{nothing, in_ballot}
 use Rattle.agreement.specs.Inside.Ballots.Told.{told_at_opening, told_by_held, told_by_installed, told_as_primary}
 use Rattle.whole.proofs.of_lists.Prefixes.{prefix_then, prefix_length, take_prefix}
 

@@ -5,7 +5,8 @@ use Rattle.whole.specs.Messages.{Effect}
 use Rattle.whole.specs.Replica.{ReplicaState}
 use Rattle.agreement.specs.World.{GroupWorld, moved}
 use Rattle.whole.specs.lists.Lists.{In, IsPrefixOf}
-use Rattle.agreement.specs.Inside.Ballots.{TellsHere, Given, Line, History, Told, IsChosenIn, Sealed, BallotListsStand}
+use Rattle.agreement.specs.Inside.Ballots.{TellsHere, Given, Line, History, Told, IsChosenIn, Sealed}
+use Rattle.agreement.specs.Inside.BallotsStand.{BallotListsStand}
 use Rattle.agreement.specs.Inside.Extending.{AcknowledgedIsWithin}
 use Rattle.agreement.specs.Inside.MovesAt.{MovesAt, with_lines, LineGoesOn, TellsNow}
 use Rattle.agreement.specs.Inside.MovesAt.LineGoesOn.{stays, grows, begins}

@@ -9,11 +9,13 @@ use Rattle.whole.specs.Replica.{ReplicaState}
 use Rattle.whole.specs.Sending.{Outcome, nothing_done}
 use Rattle.agreement.specs.World.{GroupWorld, messages, outputs, moved}
 use Rattle.whole.specs.lists.Lists.{In}
-use Rattle.agreement.specs.Inside.Ballots.{History, Applied}
-use Rattle.agreement.specs.Inside.Ballots.Applied.{nothing, in_ballot}
+use Rattle.agreement.specs.Inside.Ballots.{History}
+use Rattle.agreement.specs.Inside.BallotsStand.{Applied}
+use Rattle.agreement.specs.Inside.BallotsStand.Applied.{nothing, in_ballot}
 use Rattle.agreement.specs.Inside.Keeps.LineAdds.{as_it_was}
 use Rattle.agreement.specs.Inside.Keeps.{KeepsSoundness}
-use Rattle.agreement.specs.Inside.Sound.{IsSoundNode, IsSoundWorld}
+use Rattle.agreement.specs.Inside.Sound.{IsSoundWorld}
+use Rattle.agreement.specs.Inside.SoundNodes.{IsSoundNode}
 use Rattle.agreement.specs.Inside.Saying.{SpeaksTruth}
 use Rattle.agreement.proofs.Effects.{thinned_outputs, thinned_messages}
 use Rattle.agreement.proofs.Frame.Framing.{within_of}

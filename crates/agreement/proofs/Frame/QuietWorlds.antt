@@ -8,9 +8,11 @@ use Rattle.whole.specs.Messages.{Message, Effect}
 use Rattle.whole.specs.Replica.{ReplicaState}
 use Rattle.agreement.specs.World.{GroupWorld, messages, moved}
 use Rattle.whole.specs.lists.Lists.{In}
-use Rattle.agreement.specs.Inside.Ballots.{Given, History, BallotListsStand}
+use Rattle.agreement.specs.Inside.Ballots.{Given, History}
+use Rattle.agreement.specs.Inside.BallotsStand.{BallotListsStand}
 use Rattle.agreement.specs.Inside.Extending.{Extends, AcknowledgedIsWithin}
-use Rattle.agreement.specs.Inside.Sound.{IsSoundNode, IsSoundWorld}
+use Rattle.agreement.specs.Inside.Sound.{IsSoundWorld}
+use Rattle.agreement.specs.Inside.SoundNodes.{IsSoundNode}
 use Rattle.agreement.specs.Inside.Saying.{SpeaksTruth}
 use Rattle.agreement.specs.Leaving.{Segment}
 use Rattle.whole.proofs.of_lists.Places.{get_set, get_set_other}

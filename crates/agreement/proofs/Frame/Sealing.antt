@@ -6,7 +6,8 @@ use Rattle.whole.specs.Replica.{ReplicaState}
 use Rattle.agreement.specs.World.{GroupWorld}
 use Rattle.whole.specs.lists.Lists.{In, IsPrefixOf}
 use Rattle.agreement.specs.Inside.Saying.{IsOffered}
-use Rattle.agreement.specs.Inside.Ballots.{Given, Line, History, Told, IsChosenIn, Sealed, AreBallots, BallotListsStand, IsPlaced}
+use Rattle.agreement.specs.Inside.Ballots.{Given, Line, History, Told, IsChosenIn, Sealed}
+use Rattle.agreement.specs.Inside.BallotsStand.{AreBallots, BallotListsStand, IsPlaced}
 use Rattle.whole.proofs.of_lists.Prefixes.{prefix_then, prefix_take, take_prefix}
 use Rattle.agreement.proofs.Frame.Bases.{chosen_told, sealed_wider}
 

@@ -5,8 +5,9 @@ use Rattle.whole.specs.Replica.{ReplicaState}
 use Rattle.agreement.specs.World.{GroupWorld}
 use Rattle.whole.specs.lists.Lists.{In, IsPrefixOf}
 use Rattle.whole.specs.lists.Lists.In.{here, there}
-use Rattle.agreement.specs.Inside.Ballots.{Given, Line, History, IsChosenIn, Sealed, IsChain, AreBallots, BallotListsStand, IsPlaced, Applied}
-use Rattle.agreement.specs.Inside.Ballots.Applied.{nothing, in_ballot}
+use Rattle.agreement.specs.Inside.Ballots.{Given, Line, History, IsChosenIn, Sealed}
+use Rattle.agreement.specs.Inside.BallotsStand.{IsChain, AreBallots, BallotListsStand, IsPlaced, Applied}
+use Rattle.agreement.specs.Inside.BallotsStand.Applied.{nothing, in_ballot}
 use Rattle.whole.proofs.of_lists.Prefixes.{prefix_then}
 use Rattle.agreement.proofs.Frame.Bases.{sealed_bounds, before_base, base_is, chosen_told}
 

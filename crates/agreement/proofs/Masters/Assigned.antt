@@ -6,7 +6,8 @@ use Rattle.whole.specs.ballot_base.declared.config.Config.{Config}
 use Rattle.agreement.specs.World.{GroupWorld}
 use Rattle.whole.specs.lists.Lists.{In}
 use Rattle.whole.specs.lists.Lists.In.{here, there}
-use Rattle.agreement.specs.Inside.Ballots.{Given, History, IsChain}
+use Rattle.agreement.specs.Inside.Ballots.{Given, History}
+use Rattle.agreement.specs.Inside.BallotsStand.{IsChain}
 use Rattle.agreement.specs.Inside.Keeps.{HistoryGoesOn}
 use Rattle.agreement.specs.MasterState.{MasterState, MasterOutcome}
 use Rattle.agreement.specs.Inside.Masters.{IsMaster}

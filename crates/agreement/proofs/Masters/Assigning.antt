@@ -5,7 +5,8 @@ use Rattle.whole.specs.ballot_base.declared.config.Config.{Config}
 use Rattle.agreement.specs.World.{GroupWorld}
 use Rattle.whole.specs.lists.Lists.{In}
 use Rattle.whole.specs.lists.Lists.In.{here}
-use Rattle.agreement.specs.Inside.Ballots.{Given, History, IsChain, AreBallots}
+use Rattle.agreement.specs.Inside.Ballots.{Given, History}
+use Rattle.agreement.specs.Inside.BallotsStand.{IsChain, AreBallots}
 use Rattle.agreement.specs.Inside.Extending.{Extends}
 use Rattle.agreement.specs.MasterState.{MasterState, assigned}
 use Rattle.agreement.specs.Inside.Masters.{IsMaster}

@@ -8,7 +8,8 @@ use Rattle.whole.specs.Messages.Body.{Activate, Activated}
 use Rattle.agreement.specs.World.{GroupWorld}
 use Rattle.whole.specs.lists.Lists.{In}
 use Rattle.whole.specs.lists.Lists.In.{here, there}
-use Rattle.agreement.specs.Inside.Ballots.{Given, Line, History, IsChosenIn, IsChain, AreBallots}
+use Rattle.agreement.specs.Inside.Ballots.{Given, Line, History, IsChosenIn}
+use Rattle.agreement.specs.Inside.BallotsStand.{IsChain, AreBallots}
 use Rattle.agreement.specs.Inside.Extending.{Extends}
 use Rattle.agreement.specs.MasterState.{MasterState, MasterOutcome, activated}
 use Rattle.agreement.specs.Inside.Masters.{IsMaster}

@@ -6,7 +6,8 @@ use Rattle.whole.specs.Messages.{Message}
 use Rattle.agreement.specs.World.{GroupWorld}
 use Rattle.whole.specs.lists.Lists.{In}
 use Rattle.whole.specs.lists.Lists.In.{here, there}
-use Rattle.agreement.specs.Inside.Ballots.{Given, Line, History, IsChosenIn, AreBallots}
+use Rattle.agreement.specs.Inside.Ballots.{Given, Line, History, IsChosenIn}
+use Rattle.agreement.specs.Inside.BallotsStand.{AreBallots}
 use Rattle.agreement.specs.Inside.Extending.{Extends}
 use Rattle.agreement.specs.MasterState.{MasterOutcome}
 use Rattle.agreement.specs.Steps.{sends_from_master}

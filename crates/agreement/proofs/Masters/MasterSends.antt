@@ -6,7 +6,8 @@ use Rattle.whole.specs.Messages.Body.{Held, Installed}
 use Rattle.agreement.specs.World.{GroupWorld}
 use Rattle.whole.specs.lists.Lists.{In}
 use Rattle.whole.specs.lists.Lists.In.{here, there}
-use Rattle.agreement.specs.Inside.Ballots.{Given, Line, History, Told, IsChosenIn, IsChain, AreBallots}
+use Rattle.agreement.specs.Inside.Ballots.{Given, Line, History, Told, IsChosenIn}
+use Rattle.agreement.specs.Inside.BallotsStand.{IsChain, AreBallots}
 use Rattle.agreement.specs.Inside.Extending.{Extends, AcknowledgedIsWithin}
 use Rattle.agreement.specs.Inside.Ballots.Told.{told_at_opening, told_by_held, told_by_installed, told_as_primary}
 use Rattle.agreement.specs.Inside.Sound.{IsSoundWorld}

@@ -13,11 +13,13 @@ use Rattle.whole.specs.ballot_base.declared.status.Role.TheVariants.{Active}
 use Rattle.whole.proofs.AppliesInOrder.{replay_goes_on}
 use Rattle.whole.specs.lists.Lists.{In, IsPrefixOf}
 use Rattle.whole.proofs.of_lists.Prefixes.{prefix_take, prefix_then}
-use Rattle.agreement.specs.Inside.Ballots.{History, Applied}
-use Rattle.agreement.specs.Inside.Ballots.Applied.{nothing, in_ballot}
+use Rattle.agreement.specs.Inside.Ballots.{History}
+use Rattle.agreement.specs.Inside.BallotsStand.{Applied}
+use Rattle.agreement.specs.Inside.BallotsStand.Applied.{nothing, in_ballot}
 use Rattle.agreement.specs.Inside.Keeps.{KeepsSoundness}
 use Rattle.agreement.specs.Inside.Serves.{IsLedByNode, Serves}
-use Rattle.agreement.specs.Inside.Sound.{IsSoundWorld, IsSoundNode}
+use Rattle.agreement.specs.Inside.Sound.{IsSoundWorld}
+use Rattle.agreement.specs.Inside.SoundNodes.{IsSoundNode}
 use Rattle.agreement.specs.MasterState.{MasterState}
 use Rattle.agreement.specs.World.{GroupWorld, moved}
 use Rattle.agreement.proofs.Frame.Joining.{MovesQuietly, quiet_extends}

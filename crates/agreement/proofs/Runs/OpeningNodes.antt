@@ -14,9 +14,9 @@ use Rattle.whole.specs.lists.Lists.{In, IsPrefixOf}
 use Rattle.whole.specs.lists.Lists.In.{here}
 use Rattle.agreement.specs.Inside.Ballots.{Given, Line}
 use Rattle.agreement.specs.Inside.Ballots.Told.{told_at_opening}
-use Rattle.agreement.specs.Inside.Ballots.Applied.{nothing}
+use Rattle.agreement.specs.Inside.BallotsStand.Applied.{nothing}
 use Rattle.agreement.specs.Inside.OpeningHistory.{first_ballot, first_line, opening_history}
-use Rattle.agreement.specs.Inside.Sound.{IsSoundNode}
+use Rattle.agreement.specs.Inside.SoundNodes.{IsSoundNode}
 use Rattle.whole.proofs.of_lists.Prefixes.{prefix_same}
 use Rattle.agreement.proofs.Changing.Activating.{reached_of, followed_in}
 use Rattle.agreement.proofs.Changing.OtherMembers.{in_others, others_in, not_others}

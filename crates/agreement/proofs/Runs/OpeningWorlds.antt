@@ -13,7 +13,8 @@ use Rattle.agreement.specs.Inside.Ballots.Told.{told_at_opening}
 use Rattle.agreement.specs.Inside.Masters.{IsMaster}
 use Rattle.agreement.specs.Inside.OpeningHistory.{first_ballot, first_line, opening_history}
 use Rattle.agreement.specs.MasterState.{opening_master}
-use Rattle.agreement.specs.Inside.Sound.{IsSoundNode, IsSoundWorld}
+use Rattle.agreement.specs.Inside.Sound.{IsSoundWorld}
+use Rattle.agreement.specs.Inside.SoundNodes.{IsSoundNode}
 use Rattle.whole.proofs.of_lists.Prefixes.{prefix_same}
 use Rattle.agreement.proofs.Frame.Giving.{get_pushed_to}
 use Rattle.agreement.proofs.Runs.OpeningTold.{first_given, first_lined, told_opens}

@@ -12,10 +12,12 @@ use Rattle.whole.specs.Serving.{follows, on_commit}
 use Rattle.whole.proofs.MessageRows.{on_commit-elsewhere, on_commit-past, on_commit-takes}
 use Rattle.agreement.specs.World.{GroupWorld, moved}
 use Rattle.whole.specs.lists.Lists.{In, IsPrefixOf}
-use Rattle.agreement.specs.Inside.Ballots.{Given, Line, History, Applied}
-use Rattle.agreement.specs.Inside.Ballots.Applied.{nothing, in_ballot}
+use Rattle.agreement.specs.Inside.Ballots.{Given, Line, History}
+use Rattle.agreement.specs.Inside.BallotsStand.{Applied}
+use Rattle.agreement.specs.Inside.BallotsStand.Applied.{nothing, in_ballot}
 use Rattle.agreement.specs.Inside.Keeps.{KeepsSoundness}
-use Rattle.agreement.specs.Inside.Sound.{IsSoundNode, IsSoundWorld}
+use Rattle.agreement.specs.Inside.Sound.{IsSoundWorld}
+use Rattle.agreement.specs.Inside.SoundNodes.{IsSoundNode}
 use Rattle.agreement.specs.Inside.Saying.{SpeaksTruth}
 use Rattle.agreement.proofs.Frame.Later.{chosen_kept, takes}
 use Rattle.agreement.proofs.Frame.Joining.{MovesQuietly, quiet_extends}

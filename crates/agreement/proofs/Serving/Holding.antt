@@ -13,13 +13,15 @@ use Rattle.whole.specs.Serving.{raised, raised_progress, leads, on_held}
 use Rattle.whole.proofs.MessageRows.{raised_progress-member, on_held-elsewhere, on_held-raises}
 use Rattle.agreement.specs.World.{GroupWorld, moved}
 use Rattle.whole.specs.lists.Lists.{In}
-use Rattle.agreement.specs.Inside.Ballots.{History, Told, Applied}
+use Rattle.agreement.specs.Inside.Ballots.{History, Told}
+use Rattle.agreement.specs.Inside.BallotsStand.{Applied}
 use Rattle.agreement.specs.Inside.Ballots.Told.{told_by_held}
-use Rattle.agreement.specs.Inside.Ballots.Applied.{nothing, in_ballot}
+use Rattle.agreement.specs.Inside.BallotsStand.Applied.{nothing, in_ballot}
 use Rattle.agreement.specs.Inside.Keeps.LineAdds.{as_it_was}
 use Rattle.agreement.specs.Inside.Keeps.{KeepsSoundness}
 use Rattle.agreement.specs.Inside.MovesAt.{MovesAt, with_lines}
-use Rattle.agreement.specs.Inside.Sound.{IsActive, IsSoundNode, IsSoundWorld}
+use Rattle.agreement.specs.Inside.Sound.{IsSoundWorld}
+use Rattle.agreement.specs.Inside.SoundNodes.{IsActive, IsSoundNode}
 use Rattle.agreement.proofs.Frame.Framing.{within_of, move_extends}
 use Rattle.agreement.proofs.Frame.Later.{told_kept, applied_kept}
 use Rattle.agreement.proofs.Frame.Lining.{silent_within}

@@ -5,8 +5,9 @@ use Rattle.whole.specs.ballot_base.declared.status.Role.TheVariants.{Active}
 use Rattle.whole.specs.Replica.{ReplicaState}
 use Rattle.agreement.specs.World.{GroupWorld}
 use Rattle.whole.specs.lists.Lists.{In}
-use Rattle.agreement.specs.Inside.Ballots.{Given, Line, History, Told, Applied}
-use Rattle.agreement.specs.Inside.Sound.{IsActive, IsSoundNode}
+use Rattle.agreement.specs.Inside.Ballots.{Given, Line, History, Told}
+use Rattle.agreement.specs.Inside.BallotsStand.{Applied}
+use Rattle.agreement.specs.Inside.SoundNodes.{IsActive, IsSoundNode}
 use Rattle.agreement.proofs.Serving.ActiveTicks.{active_log}
 
 -- a primary of an activated ballot, before the command is added

@@ -9,10 +9,10 @@ use Rattle.whole.specs.Applying.{applied_to}
 use Rattle.agreement.specs.World.{GroupWorld, messages, moved}
 use Rattle.whole.specs.lists.Lists.{In}
 use Rattle.agreement.specs.Inside.Ballots.{Line, History}
-use Rattle.agreement.specs.Inside.Ballots.Applied.{in_ballot}
+use Rattle.agreement.specs.Inside.BallotsStand.Applied.{in_ballot}
 use Rattle.agreement.specs.Inside.Keeps.{LineAdds}
 use Rattle.agreement.specs.Inside.MovesAt.{MovesAt, with_lines}
-use Rattle.agreement.specs.Inside.Sound.{IsSoundNode}
+use Rattle.agreement.specs.Inside.SoundNodes.{IsSoundNode}
 use Rattle.agreement.proofs.Serving.ActiveTicks.{active_chosen, active_log}
 use Rattle.agreement.proofs.Frame.Joining.{IsSilent}
 use Rattle.agreement.proofs.Frame.Later.{takes}

@@ -16,7 +16,8 @@ use Rattle.whole.specs.lists.Lists.{In}
 use Rattle.whole.specs.lists.Lists.In.{here, there}
 use Rattle.agreement.specs.Inside.Ballots.{Given, History}
 use Rattle.agreement.specs.Inside.Keeps.{KeepsSoundness}
-use Rattle.agreement.specs.Inside.Sound.{IsFetching, IsInstalling, IsActive, IsSoundWorld}
+use Rattle.agreement.specs.Inside.Sound.{IsSoundWorld}
+use Rattle.agreement.specs.Inside.SoundNodes.{IsFetching, IsInstalling, IsActive}
 use Rattle.agreement.specs.Inside.Saying.{SpeaksTruth}
 use Rattle.agreement.proofs.Frame.Framing.{within_of}
 use Rattle.agreement.proofs.Frame.SaysLater.{says_kept}
