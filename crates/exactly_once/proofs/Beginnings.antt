@@ -18,7 +18,8 @@ use Rattle.exactly_once.specs.StoryTrace.{AreUnsent, unserved}
 use Rattle.exactly_once.specs.Carried.{carries, new_numbers, more_by, is_two}
 use Rattle.exactly_once.specs.Inside.Projections.{items_of_own, as_publisher}
 use Rattle.exactly_once.specs.Inside.AsSubscriber.{items_of_entries, as_subscriber, left_behind}
-use Rattle.exactly_once.specs.Inside.Shape.{AreNumberedFrom, HasShape, IsSoundStory, LastIsCurrent, NewestIsServed}
+use Rattle.exactly_once.specs.Inside.Shape.{HasShape, IsSoundStory, LastIsCurrent, NewestIsServed}
+use Rattle.exactly_once.specs.Inside.OwnShape.{AreNumberedFrom}
 use Rattle.exactly_once.proofs.places.Sessions.{received_outside}
 use Rattle.exactly_once.proofs.subscribing.places.Quiet.{no_entries}
 use Rattle.session_base.specs.declared.publication.Publication.{Publication}

@@ -12,7 +12,8 @@ use Rattle.exactly_once.specs.Items.{SenderItem, value_of}
 use Rattle.exactly_once.specs.HandshakeInvariant.{IsGood}
 use Rattle.exactly_once.specs.Carried.{new_numbers, own_publications}
 use Rattle.exactly_once.specs.Inside.Projections.{as_publisher}
-use Rattle.exactly_once.specs.Inside.Shape.{AreNumberedFrom, IsSoundStory}
+use Rattle.exactly_once.specs.Inside.Shape.{IsSoundStory}
+use Rattle.exactly_once.specs.Inside.OwnShape.{AreNumberedFrom}
 use Rattle.exactly_once.specs.InStep.{IsFirstSession, IsInStep}
 use Rattle.exactly_once.specs.Lives.{Lived}
 use Rattle.exactly_once.specs.Story.{Story}

@@ -12,7 +12,7 @@ use Rattle.exactly_once.specs.HandshakeInvariant.{IsNew}
 use Rattle.lists.specs.Lists.{Each}
 use Rattle.exactly_once.specs.Carried.{is_two, own_publication, own_publications}
 use Rattle.exactly_once.specs.Inside.Projections.{items_of_own}
-use Rattle.exactly_once.specs.Inside.Shape.{AreNumberedFrom}
+use Rattle.exactly_once.specs.Inside.OwnShape.{AreNumberedFrom}
 use Rattle.headline.specs.Shown.{at_two, unacknowledged_of}
 
 -- ---- of a handshake

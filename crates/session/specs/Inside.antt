@@ -13,14 +13,14 @@ use Rattle.session_base.specs.Form.{IsWritable}
 
 -- the first publication that waits starts
 abbrev pub started_with : List Flight → List Publication → Queue
-started_with flights (p ∷ waiting) =
-    record { in_flight = flights ++ started_flight flights p ∷ []; waiting = waiting }
+started_with flights (publication ∷ waiting) =
+    record { in_flight = flights ++ started_flight flights publication ∷ []; waiting = waiting }
 started_with flights [] = record { in_flight = flights; waiting = [] }
 
 -- the first publication that waits is sent
 abbrev pub sends_with : List Flight → List Publication → List Packet
-sends_with flights (p ∷ waiting) =
-    packets.Publish (publish_for false (started_flight flights p).0 p) ∷ []
+sends_with flights (publication ∷ waiting) =
+    packets.Publish (publish_for false (started_flight flights publication).0 publication) ∷ []
 sends_with flights [] = []
 
 -- the entry with this identifier waits for PUBREC

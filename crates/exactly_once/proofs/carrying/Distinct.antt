@@ -10,7 +10,7 @@ use Rattle.lists.proofs.Tests.{none_or, or_none, eq_turn}
 use Rattle.client_base.specs.Keeper.{Own, number_in}
 use Rattle.exactly_once.specs.Carried.{is_two, own_qos2_numbers, own_publications, own_publication}
 use Rattle.client_base.specs.OrderLaws.{AreNumbered}
-use Rattle.exactly_once.specs.Inside.Shape as shape
+use Rattle.exactly_once.specs.Inside.OwnShape as shape
 
 -- ---- numbers
 

@@ -21,7 +21,7 @@ use Rattle.client_base.specs.Handled.{discarded, confirmed}
 use Rattle.exactly_once.specs.Story.{with_side}
 use Rattle.client_base.specs.Connected.{opening_connect}
 use Rattle.exactly_once.specs.Inside.Projections.{items_of_own, forward_of_own, backward_of_own, is_current, as_publisher, GoesTo}
-use Rattle.exactly_once.specs.Inside.Shape.{OwnInShape}
+use Rattle.exactly_once.specs.Inside.OwnShape.{OwnInShape}
 use Rattle.exactly_once.specs.Inside.ConnectionShape.{ConnectionInShape}
 use Rattle.exactly_once.proofs.publishing.Links.{link_by, Reaches, reaches_by, reaches_then}
 use Rattle.exactly_once.proofs.publishing.Written.{dropped_next}

@@ -14,7 +14,7 @@ use Rattle.exactly_once.specs.Inside.Projections.{backward_of_own}
 
 -- whether a packet is a CONNACK
 abbrev pub is_connack : Packet → Bool
-is_connack (packets.Connack c) = true
+is_connack (packets.Connack connack) = true
 is_connack _ = false
 
 -- none of these packets is a CONNACK

@@ -1,47 +1,22 @@
--- What every story keeps besides its two handshakes, and when it is sound.
-use Rattle.std.specs.Prelude.{◌≡◌, ◌≤◌, ◌⊎◌, ℕ, suc, Bool, true, false, List, [], ◌∷◌, length, Option, Some, None}
+-- What every story keeps besides its two handshakes, and what is left to show for each event.
+use Rattle.std.specs.Prelude.{◌≡◌, ◌≤◌, ◌⊎◌, Bool, true, false, List, [], ◌∷◌, Option, Some, None}
 use Rattle.packet.specs.declared.connack.Connack.TheVariants as connacks
 use Rattle.packet.specs.declared.packet.Packet.{Packet}
 use Rattle.packet.specs.declared.packet.Packet.TheVariants as packets
-use Rattle.lists.specs.Lists.{has_id, IsDistinct, Each}
+use Rattle.lists.specs.Lists.{Each}
 use Rattle.broker_spec.specs.Connection.{ConnectionName, same_connection}
 use Rattle.broker_spec.specs.Place.{Client, Past, Limits, same_client}
 use Rattle.broker_spec.specs.Past.{current_connection, session_of}
-use Rattle.exactly_once.specs.Items.{has_released}
 use Rattle.exactly_once.specs.HandshakeInvariant.{IsGood}
 use Rattle.exactly_once.specs.Sends.{put_to}
-use Rattle.client_base.specs.Keeper.{Own, Keeper, ids_in_use}
+use Rattle.client_base.specs.Keeper.{Keeper}
 use Rattle.exactly_once.specs.Sides.{ClientConnection}
 use Rattle.exactly_once.specs.Story.{Story}
 use Rattle.exactly_once.specs.StoryCommands.{any_named}
-use Rattle.exactly_once.specs.Carried.{is_two}
-use Rattle.exactly_once.specs.Inside.Projections.{items_of_own, last_confirmed, as_publisher}
+use Rattle.exactly_once.specs.Inside.Projections.{last_confirmed, as_publisher}
 use Rattle.exactly_once.specs.Inside.AsSubscriber.{as_subscriber}
 use Rattle.exactly_once.specs.Inside.ConnectionShape.{ConnectionInShape}
-
--- the n-th has number n
-abbrev pub AreNumberedFrom : ℕ → List Own → Type 0
-AreNumberedFrom n (Own.Unsent k p id ∷ own) = (k ≡ n) × AreNumberedFrom (suc n) own
-AreNumberedFrom n (Own.Sent k p id ∷ own) = (k ≡ n) × AreNumberedFrom (suc n) own
-AreNumberedFrom n (Own.Released k p id ∷ own) =
-    (k ≡ n) × (is_two p.qos ≡ true) × AreNumberedFrom (suc n) own
-AreNumberedFrom n (Own.Done k p ∷ own) = (k ≡ n) × AreNumberedFrom (suc n) own
-AreNumberedFrom n [] = Unit {0}
-
--- whether each of these publications was sent
-abbrev pub none_unsent : List Own → Bool
-none_unsent (Own.Unsent k p id ∷ own) = false
-none_unsent (_ ∷ own) = none_unsent own
-none_unsent [] = true
-
--- the client's identifiers, numbers and releases fit its publications
-pub record OwnInShape (keeper : Keeper) : Type 0 where
-  pub ids_apart : IsDistinct (ids_in_use keeper)
-  pub numbered : AreNumberedFrom (length keeper.earlier) keeper.own
-  pub releases_apart : IsDistinct keeper.releases
-  pub releases_are : (id : ℕ) →
-      has_id id keeper.releases ≡ has_released id (items_of_own keeper.own)
-  pub online_sent : keeper.is_online ≡ true → none_unsent keeper.own ≡ true
+use Rattle.exactly_once.specs.Inside.OwnShape.{OwnInShape}
 
 -- no two connections have the same name
 abbrev pub NamesApart : List ClientConnection → Type 0

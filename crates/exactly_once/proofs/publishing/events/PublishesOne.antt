@@ -20,7 +20,8 @@ use Rattle.client_base.specs.Written.{writes_first}
 use Rattle.client_base.specs.Called.{adds_own, written_for}
 use Rattle.exactly_once.specs.Carried.{is_two}
 use Rattle.exactly_once.specs.Inside.Projections.{items_of_own, forward_of_own, backward_of_own, to_come, to_be_taken, is_current, as_publisher, GoesTo}
-use Rattle.exactly_once.specs.Inside.Shape.{OwnInShape, HeldInShape, none_unsent}
+use Rattle.exactly_once.specs.Inside.Shape.{HeldInShape}
+use Rattle.exactly_once.specs.Inside.OwnShape.{OwnInShape, none_unsent}
 use Rattle.exactly_once.specs.Inside.ConnectionShape.{ConnectionInShape}
 use Rattle.exactly_once.proofs.publishing.Links.{link_by, Reaches, reaches_itself, reaches_by, reaches_then, goes_of}
 use Rattle.exactly_once.proofs.publishing.Publishes.{forward_publishes}

@@ -16,7 +16,8 @@ use Rattle.client_base.specs.Keeper.{Keeper}
 use Rattle.client_base.specs.Handled.{lost, packet_handled, handled_first, handled_online}
 use Rattle.exactly_once.specs.Story.{with_side}
 use Rattle.exactly_once.specs.Inside.Projections.{last_confirmed, as_publisher, GoesTo}
-use Rattle.exactly_once.specs.Inside.Shape.{OwnInShape, HeldInShape}
+use Rattle.exactly_once.specs.Inside.Shape.{HeldInShape}
+use Rattle.exactly_once.specs.Inside.OwnShape.{OwnInShape}
 use Rattle.exactly_once.specs.Inside.ConnectionShape.{ConnectionInShape}
 use Rattle.exactly_once.proofs.publishing.kept.Numbers.{same_numbers, same_written}
 use Rattle.exactly_once.proofs.publishing.First.{story_by, counted_within}

@@ -11,7 +11,7 @@ use Rattle.client_base.specs.State.{id_of_request}
 use Rattle.client_base.specs.Handshakes.{own_at_puback, own_at_pubrec, own_at_pubcomp}
 use Rattle.session_base.specs.Identifiers.{without_id}
 use Rattle.exactly_once.specs.Inside.Projections.{items_of_own}
-use Rattle.exactly_once.specs.Inside.Shape.{OwnInShape, none_unsent}
+use Rattle.exactly_once.specs.Inside.OwnShape.{OwnInShape, none_unsent}
 use Rattle.exactly_once.proofs.publishing.Own.{items_acknowledged, items_released, items_finished}
 use Rattle.exactly_once.proofs.publishing.kept.Fewer.{fewer_itself, fewer_both, fewer_distinct, fewer_puback, fewer_pubrec, fewer_pubcomp, fewer_filtered, IsFewer}
 use Rattle.exactly_once.proofs.publishing.Releases.{released_finished, released_more}

@@ -25,7 +25,8 @@ use Rattle.client_base.specs.Called.{adds_own}
 use Rattle.exactly_once.specs.Story.StoryStep.{takes, others_take, receives, opens_anew, loses, disconnects, publishes_one, subscribes, unsubscribes}
 use Rattle.exactly_once.specs.Carried.{is_two}
 use Rattle.exactly_once.specs.Inside.Projections.{items_of_own, as_publisher}
-use Rattle.exactly_once.specs.Inside.Shape.{OwnInShape, HeldInShape, HasShape, IsSoundStory, AreNumberedFrom, none_unsent}
+use Rattle.exactly_once.specs.Inside.Shape.{HeldInShape, HasShape, IsSoundStory}
+use Rattle.exactly_once.specs.Inside.OwnShape.{OwnInShape, AreNumberedFrom, none_unsent}
 use Rattle.exactly_once.proofs.publishing.kept.MoreOwn.{ids_more, numbered_more, unsent_more, released_front}
 use Rattle.exactly_once.proofs.publishing.kept.NewItem.{items_more}
 use Rattle.exactly_once.proofs.publishing.kept.KeepsOwn.{lost_keeps}

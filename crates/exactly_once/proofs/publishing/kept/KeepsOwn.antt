@@ -8,7 +8,7 @@ use Rattle.client_base.specs.Keeper.{Keeper, ids_of_own, ids_in_use}
 use Rattle.client_base.specs.State.{id_of_request}
 use Rattle.client_base.specs.Written.{sent_all}
 use Rattle.client_base.specs.Handled.{discarded, lost}
-use Rattle.exactly_once.specs.Inside.Shape.{OwnInShape}
+use Rattle.exactly_once.specs.Inside.OwnShape.{OwnInShape}
 use Rattle.exactly_once.proofs.publishing.kept.Fewer.{IsFewer, fewer_itself, fewer_both, fewer_distinct, fewer_requests}
 use Rattle.exactly_once.proofs.publishing.kept.MoreOwn.{ids_sent, numbered_sent, unsent_sent, released_sent}
 

@@ -22,7 +22,8 @@ use Rattle.client_base.specs.Written.{plain, writing}
 use Rattle.client_base.specs.Handled.{not_subscribes, not_unsubscribes, packet_handled, handled_online, handled_first}
 use Rattle.client_base.specs.Handshakes.{own_at_pubrec, is_sent_with, takes_in, pubrec_answered}
 use Rattle.exactly_once.specs.Inside.Projections.{items_of_own, forward_of_own, backward_of_own, to_be_taken, is_current, as_publisher}
-use Rattle.exactly_once.specs.Inside.Shape.{OwnInShape, HeldInShape}
+use Rattle.exactly_once.specs.Inside.Shape.{HeldInShape}
+use Rattle.exactly_once.specs.Inside.OwnShape.{OwnInShape}
 use Rattle.exactly_once.proofs.publishing.Written.{dropped_next}
 use Rattle.exactly_once.proofs.publishing.First.{story_by}
 use Rattle.exactly_once.proofs.publishing.Answered.{counted_side, due_first, sent_among, answer_link}

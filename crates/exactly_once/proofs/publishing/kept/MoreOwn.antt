@@ -6,7 +6,7 @@ use Rattle.client_base.specs.Keeper.{Own, ids_of_own}
 use Rattle.client_base.specs.Written.{sent_all}
 use Rattle.exactly_once.specs.Carried.{is_two}
 use Rattle.exactly_once.specs.Inside.Projections.{items_of_own}
-use Rattle.exactly_once.specs.Inside.Shape.{AreNumberedFrom, none_unsent}
+use Rattle.exactly_once.specs.Inside.OwnShape.{AreNumberedFrom, none_unsent}
 
 -- ---- one more
 

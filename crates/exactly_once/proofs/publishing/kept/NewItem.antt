@@ -10,7 +10,7 @@ use Rattle.client_base.specs.Keeper.{Own, Keeper, ids_of_own, ids_in_use}
 use Rattle.client_base.specs.State.{id_of_request}
 use Rattle.exactly_once.specs.Carried.{is_two}
 use Rattle.exactly_once.specs.Inside.Projections.{items_of_own}
-use Rattle.exactly_once.specs.Inside.Shape.{none_unsent}
+use Rattle.exactly_once.specs.Inside.OwnShape.{none_unsent}
 use Rattle.exactly_once.proofs.publishing.Starting.{NoneWaits}
 use Rattle.exactly_once.proofs.publishing.Unsent.{not_busy}
 

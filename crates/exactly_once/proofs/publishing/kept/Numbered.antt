@@ -10,7 +10,7 @@ use Rattle.client_base.specs.Keeper.{Own, ids_of_own}
 use Rattle.client_base.specs.Handshakes.{own_at_pubrec, own_at_puback, own_at_pubcomp}
 use Rattle.exactly_once.specs.Carried.{is_two}
 use Rattle.exactly_once.specs.Inside.Projections.{items_of_own}
-use Rattle.exactly_once.specs.Inside.Shape.{AreNumberedFrom}
+use Rattle.exactly_once.specs.Inside.OwnShape.{AreNumberedFrom}
 use Rattle.exactly_once.proofs.publishing.Unsent.{not_busy}
 
 pub numbered_puback : (i n : ℕ) (own : List Own) → AreNumberedFrom n own → AreNumberedFrom n (map (own_at_puback i) own)
