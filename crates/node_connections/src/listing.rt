@@ -17,7 +17,7 @@ use machine::Memory;
 pub fn has_port(connections: &[Connection], port: Port) -> bool
     ensures { result ≡ list_any (is_at port) connections.now }
 {
-    connections.iter().any(|c| c.is_at(port))
+    connections.iter().any(|connection| connection.is_at(port))
 }
 
 /// Returns the lowest port of the connections that are silent at this time.
@@ -79,5 +79,5 @@ pub fn close_each(connections: &mut Vec<Connection>)
 pub fn keep_listed(connections: &mut Vec<Connection>)
     ensures { connections.new.items ≡ filter is_listed connections.old.items }
 {
-    connections.retain(|c| c.is_listed());
+    connections.retain(|connection| connection.is_listed());
 }

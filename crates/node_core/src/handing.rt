@@ -60,6 +60,8 @@ impl SteppingNode {
     fn index_listed(&self, port: Port) -> Option<usize>
         ensures { result ≡ position (is_at port) self.now.core.connections }
     {
-        self.connections.iter().position(|c| c.is_at(port))
+        self.connections
+            .iter()
+            .position(|connection| connection.is_at(port))
     }
 }

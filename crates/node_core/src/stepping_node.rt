@@ -171,14 +171,18 @@ impl SteppingNode {
     pub fn index_at(&self, port: Port) -> Option<usize>
         ensures { result ≡ position (is_open_at port) self.now.core.connections }
     {
-        self.connections.iter().position(|c| c.is_open_at(port))
+        self.connections
+            .iter()
+            .position(|connection| connection.is_open_at(port))
     }
 
     /// Returns the index of the open connection of a name in the list.
     pub fn index_of(&self, name: ConnectionName) -> Option<usize>
         ensures { result ≡ position (is_open_named name) self.now.core.connections }
     {
-        self.connections.iter().position(|c| c.is_open_named(name))
+        self.connections
+            .iter()
+            .position(|connection| connection.is_open_named(name))
     }
 
     /// Returns how many connections are listed.
@@ -200,7 +204,9 @@ impl SteppingNode {
     pub fn index_failed(&self) -> Option<usize>
         ensures { result ≡ position has_failed self.now.core.connections }
     {
-        self.connections.iter().position(|c| c.has_failed())
+        self.connections
+            .iter()
+            .position(|connection| connection.has_failed())
     }
 
     /// Closes the open connection of a port.
