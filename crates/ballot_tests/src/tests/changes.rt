@@ -10,7 +10,7 @@ use std::alloc::Global;
 
 /// Checks that node 2, given ballot 2, fetches and installs the log. Returns the first step that
 /// fails.
-pub fn goes_over(pair: &mut Pair, alloc: Global) -> Option<&'static str> {
+pub fn hand_over_log(pair: &mut Pair, alloc: Global) -> Option<&'static str> {
     if !give_ballot_two(pair, alloc, &[1]) {
         Some("node 2 is given ballot 2")
     } else if !shows(&pair.two, 2, Role::Fetching, 0, 0) {
@@ -36,7 +36,7 @@ fn the_log_goes_over(rt: HostRuntime) {
 }
 
 // Says whether ballot 2 is given. Five messages are handed on.
-fn went_over(pair: &mut Pair, alloc: Global) -> bool {
+fn hand_over(pair: &mut Pair, alloc: Global) -> bool {
     let is_given = give_ballot_two(pair, alloc, &[1]);
     for _step in 0..5 {
         let _ = hand_on(pair);
@@ -45,8 +45,8 @@ fn went_over(pair: &mut Pair, alloc: Global) -> bool {
 }
 
 /// Checks that the start of ballot 2 is added and committed. Returns the first step that fails.
-pub fn begins(pair: &mut Pair, alloc: Global) -> Option<&'static str> {
-    if !went_over(pair, alloc) {
+pub fn begin_ballot_two(pair: &mut Pair, alloc: Global) -> Option<&'static str> {
+    if !hand_over(pair, alloc) {
         Some("node 2 is given ballot 2")
     } else if !deliver_from_master(pair, Body::Activated(2)) {
         Some("node 2 goes on after Activated")
@@ -73,8 +73,8 @@ fn a_new_ballot_begins_with_its_start(rt: HostRuntime) {
 
 /// Checks that node 2 is a backup after Superseded, and stays one. Returns the first step that
 /// fails.
-pub fn is_superseded(pair: &mut Pair, alloc: Global) -> Option<&'static str> {
-    if !went_over(pair, alloc) {
+pub fn supersede(pair: &mut Pair, alloc: Global) -> Option<&'static str> {
+    if !hand_over(pair, alloc) {
         Some("node 2 is given ballot 2")
     } else if !deliver_from_master(pair, Body::Superseded(2)) {
         Some("node 2 goes on after Superseded")
@@ -100,7 +100,7 @@ fn a_superseded_ballot_does_not_begin(rt: HostRuntime) {
 
 /// Checks that the log of ballot 2 replaces that of node 1, which appended a command that never
 /// came to node 2. Returns the first step that fails.
-pub fn is_replaced(pair: &mut Pair, alloc: Global) -> Option<&'static str> {
+pub fn replace_log(pair: &mut Pair, alloc: Global) -> Option<&'static str> {
     if !propose(&mut pair.one, TallyCommand::Add(2), &mut pair.out) {
         Some("node 1 takes a command")
     } else if !shows(&pair.one, 1, Role::Active, 1, 0) {
@@ -134,7 +134,7 @@ fn ask_again(pair: &mut Pair, kinds: &[&str]) -> bool {
 
 /// Checks that node 2 asks again while it fetches the log, and while it installs it. Returns the
 /// first step that fails.
-pub fn asks_twice(pair: &mut Pair, alloc: Global) -> Option<&'static str> {
+pub fn ask_twice(pair: &mut Pair, alloc: Global) -> Option<&'static str> {
     if !give_ballot_two(pair, alloc, &[1]) {
         Some("node 2 is given ballot 2")
     } else if !ask_again(pair, &["Join", "State"]) {

@@ -26,7 +26,7 @@ const THREE: &[TallyCommand] = &[
 ];
 
 /// Checks that a sole member answers these commands at once. Returns the first step that fails.
-pub fn answers_at_once(
+pub fn answer_at_once(
     replica: &mut Replica<Tally>,
     out: &mut Vec<Effect<TallyCommand, u64>>,
 ) -> Option<&'static str> {
@@ -60,7 +60,7 @@ fn a_sole_member_answers_at_once(rt: HostRuntime) {
 
 // Checks that the output leaves once node 2 holds the place, and node 2 is sent a Commit. Returns
 // the first step that fails.
-fn leaves(
+fn hear_held(
     primary: &mut Replica<Tally>,
     out: &mut Vec<Effect<TallyCommand, u64>>,
 ) -> Option<&'static str> {
@@ -80,7 +80,7 @@ fn leaves(
 
 /// Checks that node 1 of two members appends a command that adds 2, and the output leaves once both
 /// hold it. Returns the first step that fails.
-pub fn leaves_once_held(
+pub fn append_and_hear_held(
     primary: &mut Replica<Tally>,
     out: &mut Vec<Effect<TallyCommand, u64>>,
 ) -> Option<&'static str> {
@@ -91,7 +91,7 @@ pub fn leaves_once_held(
     } else if !appends(out, 0, (1, 2), 0, 2) {
         Some("it appends 2 at place 0 of node 2")
     } else {
-        leaves(primary, out)
+        hear_held(primary, out)
     }
 }
 
@@ -106,7 +106,7 @@ fn an_output_leaves_once_all_members_hold_it(rt: HostRuntime) {
 
 // Checks that a Held that comes again does nothing, and a tick says what is committed. Returns the
 // first step that fails.
-fn hears_nothing_new(
+fn hear_held_again(
     primary: &mut Replica<Tally>,
     out: &mut Vec<Effect<TallyCommand, u64>>,
 ) -> Option<&'static str> {
@@ -131,7 +131,7 @@ fn hears_nothing_new(
 
 /// Has node 1 of two members append a command that adds 2 and receive Held twice. Returns the first
 /// step that fails.
-pub fn hears_it_again(
+pub fn append_and_hear_twice(
     primary: &mut Replica<Tally>,
     out: &mut Vec<Effect<TallyCommand, u64>>,
 ) -> Option<&'static str> {
@@ -140,7 +140,7 @@ pub fn hears_it_again(
     } else if !deliver(primary, 2, Body::Held(1, 1), out) {
         Some("it goes on after Held")
     } else {
-        hears_nothing_new(primary, out)
+        hear_held_again(primary, out)
     }
 }
 
@@ -165,7 +165,7 @@ fn deliver_append(
 }
 
 /// Checks that place 1 waits for place 0. Returns the first step that fails.
-pub fn waits_for_the_first(
+pub fn wait_for_the_first(
     backup: &mut Replica<Tally>,
     out: &mut Vec<Effect<TallyCommand, u64>>,
 ) -> Option<&'static str> {
@@ -205,7 +205,10 @@ fn is_not_active(replica: &mut Replica<Tally>, out: &mut Vec<Effect<TallyCommand
 }
 
 // Says whether a backup that holds a place says nothing to its Commit, nor at a tick.
-fn says_nothing(backup: &mut Replica<Tally>, out: &mut Vec<Effect<TallyCommand, u64>>) -> bool {
+fn commit_in_silence(
+    backup: &mut Replica<Tally>,
+    out: &mut Vec<Effect<TallyCommand, u64>>,
+) -> bool {
     out.clear();
     let goes_on = deliver(backup, 1, Body::Commit(1, 1), out);
     backup.tick(out);
@@ -214,13 +217,13 @@ fn says_nothing(backup: &mut Replica<Tally>, out: &mut Vec<Effect<TallyCommand, 
 
 /// Checks that a backup that is sent a place is silent, and takes no proposal. Returns the first
 /// step that fails.
-pub fn is_silent(
+pub fn append_in_silence(
     backup: &mut Replica<Tally>,
     out: &mut Vec<Effect<TallyCommand, u64>>,
 ) -> Option<&'static str> {
     if !deliver_append(backup, 0, 2, out) {
         Some("it goes on after place 0")
-    } else if !says_nothing(backup, out) {
+    } else if !commit_in_silence(backup, out) {
         Some("it commits the place, and sends nothing")
     } else if !is_not_active(backup, out) {
         Some("it takes no proposal")
@@ -240,7 +243,7 @@ fn a_backup_is_silent(rt: HostRuntime) {
 const TWO_NUMBERS: &[TallyCommand] = &[TallyCommand::Add(2), TallyCommand::Add(3)];
 
 // Returns the first of the four things that a tick does not say, in words.
-fn says_four_things(
+fn send_four_messages(
     primary: &mut Replica<Tally>,
     out: &mut Vec<Effect<TallyCommand, u64>>,
 ) -> Option<&'static str> {
@@ -263,7 +266,7 @@ fn says_four_things(
 
 /// Has node 2 of three members append commands that add 2 and 3, of which node 1 holds the first.
 /// Checks that a tick then sends what each member lacks. Returns the first step that fails.
-pub fn says_what_is_lacking(
+pub fn send_what_is_lacking(
     primary: &mut Replica<Tally>,
     out: &mut Vec<Effect<TallyCommand, u64>>,
 ) -> Option<&'static str> {
@@ -274,7 +277,7 @@ pub fn says_what_is_lacking(
     } else if out.len() != 4 {
         Some("it has sent each command to both others")
     } else {
-        says_four_things(primary, out)
+        send_four_messages(primary, out)
     }
 }
 

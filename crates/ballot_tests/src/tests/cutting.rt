@@ -19,7 +19,7 @@ fn is_cut_at(replica: &Replica<Tally>, base: u64, bytes: &[u8]) -> bool {
 
 /// Checks that a sole member that has added 2 and 3 cuts its log once, and then continues. Returns
 /// the first step that fails.
-pub fn is_cut_once(
+pub fn cut_once(
     replica: &mut Replica<Tally>,
     out: &mut Vec<Effect<TallyCommand, u64>>,
 ) -> Option<&'static str> {
@@ -36,13 +36,13 @@ pub fn is_cut_once(
     } else if replica.cut() {
         Some("there is nothing more to cut")
     } else {
-        goes_on(replica, out)
+        go_on(replica, out)
     }
 }
 
 // Checks that a member that was cut at place 2 has its total there, and counts its places from 0 as
 // before. Returns the first step that fails.
-fn goes_on(
+fn go_on(
     replica: &mut Replica<Tally>,
     out: &mut Vec<Effect<TallyCommand, u64>>,
 ) -> Option<&'static str> {
@@ -73,7 +73,7 @@ fn a_sole_member_cuts_its_log_once(rt: HostRuntime) {
 
 /// Checks that a node that is no member takes a log that it can read. A log whose snapshot is no
 /// total counts as lost, and changes nothing. Returns the first step that fails.
-pub fn reads_snapshots(
+pub fn read_snapshots(
     replica: &mut Replica<Tally>,
     out: &mut Vec<Effect<TallyCommand, u64>>,
     alloc: Global,
@@ -128,7 +128,7 @@ fn a_snapshot_is_read_or_lost(rt: HostRuntime) {
 
 /// Checks that the snapshot of node 1, which has added 2 and 3 and cut its log, goes over to node
 /// 2. That begins ballot 2. Returns the first step that fails.
-pub fn snapshot_goes_over(pair: &mut Pair, alloc: Global) -> Option<&'static str> {
+pub fn hand_over_snapshot(pair: &mut Pair, alloc: Global) -> Option<&'static str> {
     if !propose(&mut pair.one, TallyCommand::Add(2), &mut pair.out) {
         Some("node 1 takes a command")
     } else if !propose(&mut pair.one, TallyCommand::Add(3), &mut pair.out) {
@@ -144,13 +144,13 @@ pub fn snapshot_goes_over(pair: &mut Pair, alloc: Global) -> Option<&'static str
     } else if !is_cut_at(&pair.two, 2, FIVE) {
         Some("that log begins at place 2 with the total 5")
     } else {
-        begins_after(pair)
+        begin_after(pair)
     }
 }
 
 // Checks that both nodes commit the start of ballot 2 after two places. Returns the first step that
 // fails.
-fn begins_after(pair: &mut Pair) -> Option<&'static str> {
+fn begin_after(pair: &mut Pair) -> Option<&'static str> {
     if !hand_on_all(pair, &["Install", "Installed", "Activate"]) {
         Some("Install, Installed and Activate are delivered")
     } else if !deliver_from_master(pair, Body::Activated(2)) {

@@ -39,12 +39,12 @@ fn step_of(
     run: Run,
 ) -> Option<&'static str> {
     match run {
-        Run::AnswersAtOnce => commands::answers_at_once(replica, out),
-        Run::LeavesOnceHeld => commands::leaves_once_held(replica, out),
-        Run::HearsItAgain => commands::hears_it_again(replica, out),
-        Run::WaitsForTheFirst => commands::waits_for_the_first(replica, out),
-        Run::IsSilent => commands::is_silent(replica, out),
-        Run::SaysWhatIsLacking => commands::says_what_is_lacking(replica, out),
+        Run::AnswersAtOnce => commands::answer_at_once(replica, out),
+        Run::LeavesOnceHeld => commands::append_and_hear_held(replica, out),
+        Run::HearsItAgain => commands::append_and_hear_twice(replica, out),
+        Run::WaitsForTheFirst => commands::wait_for_the_first(replica, out),
+        Run::IsSilent => commands::append_in_silence(replica, out),
+        Run::SaysWhatIsLacking => commands::send_what_is_lacking(replica, out),
         Run::IsNoMember => {
             if shows(replica, 0, Role::Backup, 0, 0) {
                 None
@@ -52,8 +52,8 @@ fn step_of(
                 Some("it is a backup of ballot 0, and holds no place")
             }
         }
-        Run::IsCut => cutting::is_cut_once(replica, out),
-        Run::ReadsSnapshots => cutting::reads_snapshots(replica, out, alloc),
+        Run::IsCut => cutting::cut_once(replica, out),
+        Run::ReadsSnapshots => cutting::read_snapshots(replica, out, alloc),
     }
 }
 
@@ -100,12 +100,12 @@ pub enum Change {
 // Returns the first step that fails in a change, in words.
 fn step_of_two(alloc: Global, pair: &mut Pair, change: Change) -> Option<&'static str> {
     match change {
-        Change::GoesOver => changes::goes_over(pair, alloc),
-        Change::Begins => changes::begins(pair, alloc),
-        Change::IsSuperseded => changes::is_superseded(pair, alloc),
-        Change::IsReplaced => changes::is_replaced(pair, alloc),
-        Change::AsksAgain => changes::asks_twice(pair, alloc),
-        Change::SnapshotGoesOver => cutting::snapshot_goes_over(pair, alloc),
+        Change::GoesOver => changes::hand_over_log(pair, alloc),
+        Change::Begins => changes::begin_ballot_two(pair, alloc),
+        Change::IsSuperseded => changes::supersede(pair, alloc),
+        Change::IsReplaced => changes::replace_log(pair, alloc),
+        Change::AsksAgain => changes::ask_twice(pair, alloc),
+        Change::SnapshotGoesOver => cutting::hand_over_snapshot(pair, alloc),
     }
 }
 

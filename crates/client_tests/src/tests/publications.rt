@@ -165,7 +165,7 @@ type Offered = (
 
 // Publishes a payload of one length, then `x`, then one of another length. Returns the refusals of
 // both, what came of `x` in place of its PUBLISH, and how many bytes the last wrote.
-fn offered(alloc: Global, qos: QoS, first: usize, last: usize) -> Option<Offered> {
+fn offer(alloc: Global, qos: QoS, first: usize, last: usize) -> Option<Offered> {
     let mut client = online(alloc)?;
     let refused = publish_bytes(&mut client, alloc, qos, first);
     let came = came_instead(&mut client, alloc, ONE, None);
@@ -186,7 +186,7 @@ const LIMITS: &[(QoS, usize, usize)] = &[
 #[test]
 fn a_publication_too_large_is_refused(rt: HostRuntime) {
     for (qos, refused, largest) in LIMITS {
-        let came = offered(rt.alloc(), *qos, *refused, *largest);
+        let came = offer(rt.alloc(), *qos, *refused, *largest);
         let wanted = (Some(ClientError::TooLarge), None, None, Some(1_048_576));
         assert_eq!(rt; came, Some(wanted), "{qos:?}");
     }

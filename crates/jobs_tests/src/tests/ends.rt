@@ -108,7 +108,7 @@ fn lines_are_refused_with_a_status(rt: HostRuntime) {
 }
 
 // Refuses what no words lead to. Returns the exit status, and what is printed on both outputs.
-fn refused<'a>(
+fn refuse_and_show<'a>(
     fault: &LineFault,
     output: &'a mut Vec<u8>,
     faults: &'a mut Vec<u8>,
@@ -124,11 +124,11 @@ fn refused<'a>(
 #[test]
 fn other_refusals_have_their_status(rt: HostRuntime) {
     let (mut output, mut faults) = (Vec::new(rt.alloc()), Vec::new(rt.alloc()));
-    let came = refused(&LineFault::Memory, &mut output, &mut faults);
+    let came = refuse_and_show(&LineFault::Memory, &mut output, &mut faults);
     assert_eq!(rt; came, (1, "", "vbroker: out of memory\n"));
     faults.clear();
     let told = "vbroker: the words of the command line could not be read; try vbroker --help\n";
-    let came = refused(&LineFault::Incomplete, &mut output, &mut faults);
+    let came = refuse_and_show(&LineFault::Incomplete, &mut output, &mut faults);
     assert_eq!(rt; came, (2, "", told));
 }
 

@@ -45,7 +45,7 @@ fn sent_all(group: &Group<Tally>) -> bool {
 }
 
 /// Checks that a command is answered once both members hold it. Returns the first step that fails.
-pub fn waits_for_all(group: &mut Group<Tally>) -> Option<&'static str> {
+pub fn wait_for_all(group: &mut Group<Tally>) -> Option<&'static str> {
     if !propose(group, 1, 2) {
         Some("node 1 takes the command")
     } else if counts(group) != (Sent(1), Left(0), Agreed(0)) {
@@ -75,7 +75,7 @@ const APPENDED: &[Row] = &[(Arrives(0), Sent(2), Left(0), Agreed(1))];
 
 /// Checks that of two commands the first alone is agreed, since node 2 does not hold the second.
 /// Returns the first step that fails.
-pub fn agrees_on_one(group: &mut Group<Tally>) -> Option<&'static str> {
+pub fn agree_on_one(group: &mut Group<Tally>) -> Option<&'static str> {
     if !propose(group, 1, 2) {
         Some("node 1 takes the command")
     } else if !let_all_come(group, APPENDED) {
@@ -105,7 +105,7 @@ const ALONE: &[TallyCommand] = &[
 
 /// Checks that a sole member answers at once two numbers that are proposed to it, and a Start
 /// between them. Returns the first step that fails.
-pub fn counts_alone(group: &mut Group<Tally>) -> Option<&'static str> {
+pub fn count_alone(group: &mut Group<Tally>) -> Option<&'static str> {
     group.run(&[
         Event::Propose(1, TallyCommand::Add(2)),
         Event::Propose(1, TallyCommand::Start(2)),

@@ -60,7 +60,7 @@ fn first_fault_of_activations(master: &mut Master) -> Option<&'static str> {
 
 // Checks that ballots 2 and 3 are given, and ballot 2 is superseded. Returns the first step that
 // fails.
-fn supersedes(master: &mut Master, alloc: Global) -> Option<&'static str> {
+fn supersede_one(master: &mut Master, alloc: Global) -> Option<&'static str> {
     if !is_given(master, alloc, &[1, 2], 1, 2) {
         Some("ballot 2 is given")
     } else if !is_given(master, alloc, &[2], 2, 3) {
@@ -88,8 +88,8 @@ fn first_fault(alloc: Global, task: Task) -> Option<&'static str> {
 // Returns the first step of this task that fails with this master, in words.
 fn fault_of(master: &mut Master, alloc: Global, task: Task) -> Option<&'static str> {
     match task {
-        Task::Supersedes => supersedes(master, alloc),
-        Task::RefusesAll => refuses_bad_members(master, alloc),
+        Task::Supersedes => supersede_one(master, alloc),
+        Task::RefusesAll => refuse_bad_members(master, alloc),
     }
 }
 
@@ -109,7 +109,7 @@ const BAD: &[(&str, &[u8], u8)] = &[
 
 // Returns the first row that is not refused for its members; that ballot 2 is given after them, if
 // it is not.
-fn refuses_bad_members(master: &mut Master, alloc: Global) -> Option<&'static str> {
+fn refuse_bad_members(master: &mut Master, alloc: Global) -> Option<&'static str> {
     for (words, members, primary) in BAD {
         match assigned(master, alloc, members, *primary) {
             Some(Err(AssignError::BadMembers)) => {}

@@ -23,7 +23,7 @@ const CHANGED: &[Row] = &[
 
 /// Checks that the master gives the ballot to members 1 and 2 and primary 2, and its messages come
 /// as these rows say. Returns the first step that fails.
-pub fn is_changed(group: &mut Group<Tally>, alloc: Global) -> Option<&'static str> {
+pub fn change_members(group: &mut Group<Tally>, alloc: Global) -> Option<&'static str> {
     if !assign_to(group, alloc, &[1, 2], 2) {
         Some("the master gives ballot 2")
     } else if counts(group) != (Sent(1), Left(0), Agreed(0)) {
@@ -80,7 +80,7 @@ fn is_refused(group: &Group<Tally>) -> bool {
 
 /// Checks that the ballot of members 1 and 2 is superseded by that of member 3, and messages come
 /// as these rows say. Returns the first step that fails.
-pub fn is_superseded(group: &mut Group<Tally>, alloc: Global) -> Option<&'static str> {
+pub fn supersede(group: &mut Group<Tally>, alloc: Global) -> Option<&'static str> {
     if !assign_to(group, alloc, &[1, 2], 2) {
         Some("the master gives ballot 2")
     } else if !let_all_come(group, WAITING) {
@@ -129,7 +129,7 @@ const TAKEN_OVER: &[TallyCommand] = &[
 
 /// Checks that node 1 answers a command and stops, and node 2 answers the next one. Returns the
 /// first step that fails.
-pub fn takes_over(group: &mut Group<Tally>, alloc: Global) -> Option<&'static str> {
+pub fn stop_and_take_over(group: &mut Group<Tally>, alloc: Global) -> Option<&'static str> {
     if !propose_and_settle(group, 1, 2) {
         Some("node 1 takes a command")
     } else if !stop_and_activate_2(group, alloc) {
@@ -172,7 +172,7 @@ const LEFT_BEHIND: &[Row] = &[
 
 /// Checks that the longer log of node 1 is replaced after the change to primary 2. Returns the
 /// first step that fails.
-pub fn is_replaced(group: &mut Group<Tally>, alloc: Global) -> Option<&'static str> {
+pub fn replace_log(group: &mut Group<Tally>, alloc: Global) -> Option<&'static str> {
     if !propose(group, 1, 2) {
         Some("node 1 takes a command")
     } else if !propose(group, 1, 3) {

@@ -23,7 +23,7 @@ const COMMITTED: &[Row] = &[(Arrives(2), Sent(3), Left(1), Agreed(1))];
 
 /// Checks that two members cut what they applied, and no more; node 2 applies it only with the
 /// Commit. Returns the first step that fails.
-pub fn cuts_what_is_applied(group: &mut Group<Tally>) -> Option<&'static str> {
+pub fn cut_what_is_applied(group: &mut Group<Tally>) -> Option<&'static str> {
     if !propose(group, 1, 2) {
         Some("node 1 takes a command")
     } else if let_happen(group, &Event::Cut(1)) {
@@ -67,7 +67,7 @@ const CHANGE: &[Row] = &[
 
 /// Checks that node 1 cuts its log, and node 2 takes over from its snapshot and counts on from 2.
 /// Returns the first step that fails.
-pub fn takes_over_from_a_snapshot(group: &mut Group<Tally>, alloc: Global) -> Option<&'static str> {
+pub fn take_over_from_a_snapshot(group: &mut Group<Tally>, alloc: Global) -> Option<&'static str> {
     if !propose(group, 1, 2) {
         Some("node 1 takes a command")
     } else if !cut(group, 1) {
@@ -77,7 +77,7 @@ pub fn takes_over_from_a_snapshot(group: &mut Group<Tally>, alloc: Global) -> Op
     } else if !let_all_come(group, CHANGE) {
         Some("the messages of the change come as the rows say")
     } else {
-        counts_on(group)
+        count_on(group)
     }
 }
 
@@ -93,7 +93,7 @@ const HELD_BY_BOTH: &[Row] = &[
 ];
 
 // Checks that node 2 adds 3 to the total of the snapshot. Returns the first step that fails.
-fn counts_on(group: &mut Group<Tally>) -> Option<&'static str> {
+fn count_on(group: &mut Group<Tally>) -> Option<&'static str> {
     if !propose(group, 2, 3) {
         Some("node 2 takes a command")
     } else if !let_all_come(group, HELD_BY_BOTH) {

@@ -10,7 +10,7 @@ use std::test::Fail;
 
 // Checks that there is no node 0 or 3, no message, and no backup that takes a proposal. Returns the
 // first step that fails.
-fn idles_at_first(group: &mut Group<Tally>) -> Option<&'static str> {
+fn idle_at_first(group: &mut Group<Tally>) -> Option<&'static str> {
     if let_happen(group, &Event::Propose(0, TallyCommand::Add(1))) {
         Some("node 0 takes no command")
     } else if let_happen(group, &Event::Propose(2, TallyCommand::Add(1))) {
@@ -38,7 +38,7 @@ fn run_on(group: &mut Group<Tally>) -> bool {
 
 // Checks that node 2, which has stopped, does nothing, and a run continues after that. Returns the
 // first step that fails.
-fn idles_stopped(group: &mut Group<Tally>) -> Option<&'static str> {
+fn idle_when_stopped(group: &mut Group<Tally>) -> Option<&'static str> {
     if let_happen(group, &Event::Crash(2)) {
         Some("node 2 stops once")
     } else if let_happen(group, &Event::Tick(2)) {
@@ -54,8 +54,8 @@ fn idles_stopped(group: &mut Group<Tally>) -> Option<&'static str> {
 
 /// Checks that what cannot happen is idle, at first and once node 2 has stopped. Returns the first
 /// step that fails.
-pub fn is_idle_where_nothing_can_happen(group: &mut Group<Tally>) -> Option<&'static str> {
-    if let Some(step) = idles_at_first(group) {
+pub fn idle_where_nothing_can_happen(group: &mut Group<Tally>) -> Option<&'static str> {
+    if let Some(step) = idle_at_first(group) {
         return Some(step);
     }
     if !propose(group, 1, 2) {
@@ -63,7 +63,7 @@ pub fn is_idle_where_nothing_can_happen(group: &mut Group<Tally>) -> Option<&'st
     } else if !let_happen(group, &Event::Crash(2)) {
         Some("node 2 stops")
     } else {
-        idles_stopped(group)
+        idle_when_stopped(group)
     }
 }
 

@@ -51,7 +51,7 @@ fn let_two_take_over(group: &mut Group<Tally>, alloc: Global) -> bool {
 
 /// Checks that a command is answered or counted, and two nodes take over; at the second try if
 /// memory ran out at the first. Returns the first step that fails.
-pub fn serves_on(group: &mut Group<Tally>, alloc: Global) -> Option<&'static str> {
+pub fn serve_on(group: &mut Group<Tally>, alloc: Global) -> Option<&'static str> {
     answer(group, 1, 2);
     if !is_whole_or_counted(group) {
         Some("the command is answered, or one loss is counted")
@@ -130,7 +130,7 @@ fn take_over(group: &mut Group<Tally>, alloc: Global) -> bool {
 
 /// Checks that a log is cut and its snapshot goes over, or one loss is counted; what left is right
 /// in any case. Returns the first step that fails.
-pub fn cuts_on(group: &mut Group<Tally>, alloc: Global) -> Option<&'static str> {
+pub fn cut_on(group: &mut Group<Tally>, alloc: Global) -> Option<&'static str> {
     propose_and_cut(group);
     let is_given = take_over(group, alloc) || take_over(group, alloc);
     answer(group, 2, 3);

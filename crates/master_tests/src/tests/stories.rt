@@ -46,20 +46,20 @@ pub enum Fault {
 // Returns the first step that fails in a run, in words.
 fn step_of(alloc: Global, group: &mut Group<Tally>, run: Run) -> Option<&'static str> {
     match run {
-        Run::WaitsForAll => answers::waits_for_all(group),
-        Run::AgreesOnOne => answers::agrees_on_one(group),
-        Run::CountsAlone => answers::counts_alone(group),
-        Run::Changes => changes::is_changed(group, alloc),
-        Run::IsSuperseded => changes::is_superseded(group, alloc),
-        Run::TakesOver => changes::takes_over(group, alloc),
-        Run::IsReplaced => changes::is_replaced(group, alloc),
-        Run::Cuts => cutting::cuts_what_is_applied(group),
-        Run::TakesASnapshot => cutting::takes_over_from_a_snapshot(group, alloc),
-        Run::IsIdle => idle::is_idle_where_nothing_can_happen(group),
-        Run::ServesOn => memory::serves_on(group, alloc),
-        Run::CutsOn => memory::cuts_on(group, alloc),
-        Run::ServesInTurn => takeovers::serves_in_turn(group, alloc),
-        Run::LeavesLate => takeovers::leaves_late(group, alloc),
+        Run::WaitsForAll => answers::wait_for_all(group),
+        Run::AgreesOnOne => answers::agree_on_one(group),
+        Run::CountsAlone => answers::count_alone(group),
+        Run::Changes => changes::change_members(group, alloc),
+        Run::IsSuperseded => changes::supersede(group, alloc),
+        Run::TakesOver => changes::stop_and_take_over(group, alloc),
+        Run::IsReplaced => changes::replace_log(group, alloc),
+        Run::Cuts => cutting::cut_what_is_applied(group),
+        Run::TakesASnapshot => cutting::take_over_from_a_snapshot(group, alloc),
+        Run::IsIdle => idle::idle_where_nothing_can_happen(group),
+        Run::ServesOn => memory::serve_on(group, alloc),
+        Run::CutsOn => memory::cut_on(group, alloc),
+        Run::ServesInTurn => takeovers::serve_in_turn(group, alloc),
+        Run::LeavesLate => takeovers::output_late(group, alloc),
     }
 }
 

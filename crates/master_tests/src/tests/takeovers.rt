@@ -108,7 +108,7 @@ fn serve_next(
 
 /// Has twelve primaries, 2 to 13, serve one after another. Each is given the ballot of its own
 /// number. Returns the first step that fails.
-pub fn serves_in_turn(group: &mut Group<Tally>, alloc: Global) -> Option<&'static str> {
+pub fn serve_in_turn(group: &mut Group<Tally>, alloc: Global) -> Option<&'static str> {
     let mut course = Course {
         next: 0,
         agreed: 0,
@@ -166,7 +166,7 @@ fn activate_ballot_2(group: &mut Group<Tally>, alloc: Global) -> bool {
 
 /// Checks that once ballot 2 is active the output of place 2 leaves, and then that of place 0.
 /// Returns the first step that fails.
-pub fn leaves_late(group: &mut Group<Tally>, alloc: Global) -> Option<&'static str> {
+pub fn output_late(group: &mut Group<Tally>, alloc: Global) -> Option<&'static str> {
     if !activate_ballot_2(group, alloc) {
         Some("node 1 takes a command, and ballot 2 is active")
     } else if !propose(group, 2, 3) {

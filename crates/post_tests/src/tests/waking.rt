@@ -144,7 +144,11 @@ fn is_woken<R: Wait + Clock>(rt: &R, peer: &Peer) -> Option<bool> {
 
 // Queues seventeen messages for node 1, which dozes then. Returns whether a thread that queued one
 // should do the node's turn, and whether the node's own thread is woken.
-fn helped<R: Wait + Clock>(rt: &R, alloc: Global, cluster: &Cluster) -> Option<(bool, bool)> {
+fn queue_and_doze<R: Wait + Clock>(
+    rt: &R,
+    alloc: Global,
+    cluster: &Cluster,
+) -> Option<(bool, bool)> {
     let peer = cluster.node(1)?;
     for _ in 0..17u8 {
         if !assign(rt, alloc, cluster, 1) {
@@ -160,7 +164,10 @@ fn helped<R: Wait + Clock>(rt: &R, alloc: Global, cluster: &Cluster) -> Option<(
 #[test]
 fn a_node_with_much_to_do_is_woken(rt: HostRuntime) -> Result<(), Fail> {
     let cluster = two_nodes(rt.alloc())?;
-    assert_eq!(rt; helped(&rt, rt.alloc(), &cluster), Some((false, true)));
+    assert_eq!(rt;
+        queue_and_doze(&rt, rt.alloc(), &cluster),
+        Some((false, true))
+    );
     Ok(())
 }
 
@@ -181,7 +188,7 @@ fn a_wake_before_the_sleep_ends_it(rt: HostRuntime) -> Result<(), Fail> {
 }
 
 // Sleeps twenty times for no time, and nobody wakes the node. Says whether that ends in time.
-fn wakes_alone<R: Wait + Clock>(rt: &R, peer: &Peer) -> Option<bool> {
+fn sleep_in_time<R: Wait + Clock>(rt: &R, peer: &Peer) -> Option<bool> {
     let start = Instant::now(rt).ok()?;
     for _ in 0..20u8 {
         peer.sleep(rt, Duration::from_millis(0));
@@ -194,7 +201,7 @@ fn wakes_alone<R: Wait + Clock>(rt: &R, peer: &Peer) -> Option<bool> {
 fn a_sleep_of_no_time_ends(rt: HostRuntime) -> Result<(), Fail> {
     let cluster = two_nodes(rt.alloc())?;
     let woken = match cluster.node(1) {
-        Some(peer) => wakes_alone(&rt, peer),
+        Some(peer) => sleep_in_time(&rt, peer),
         None => None,
     };
     assert_eq!(rt; woken, Some(true));

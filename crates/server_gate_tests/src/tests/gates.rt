@@ -216,21 +216,26 @@ impl Bar {
         *self.open.lock(rt) = open;
     }
 
-    // Returns the first step of `holds` that fails with a subscriber and a publisher.
-    fn passes<R>(&self, rt: &R, listener: Option<&Listener>) -> Result<(), Fault>
+    // Returns the first step of `hold_node_three` that fails with a subscriber and a publisher.
+    fn hold_with_fresh<R>(&self, rt: &R, listener: Option<&Listener>) -> Result<(), Fault>
     where
         R: AllocGlobal + Wait + Net<Stream = TcpStream>,
     {
         let mut heard = Heard::new(rt);
         match named(Pair::join(rt, listener, false), "two clients come") {
-            Ok(mut pair) => self.holds(rt, &mut pair, &mut heard),
+            Ok(mut pair) => self.hold_node_three(rt, &mut pair, &mut heard),
             Err(fault) => Err(fault),
         }
     }
 
     // Checks that a publication at QoS 2 is answered, and comes to its subscriber, but neither
     // while node 3 is held. Returns the first step that fails.
-    fn holds<R: Wait>(&self, rt: &R, pair: &mut Pair, heard: &mut Heard) -> Result<(), Fault> {
+    fn hold_node_three<R: Wait>(
+        &self,
+        rt: &R,
+        pair: &mut Pair,
+        heard: &mut Heard,
+    ) -> Result<(), Fault> {
         named(pair.subscribe(), "SUBACK comes")?;
         self.set(rt, true);
         let held = hold_back(pair);
@@ -274,7 +279,7 @@ impl Watched for Bar {
         R: AllocGlobal + Wait + Clock + Net<Stream = TcpStream>,
     {
         match self.load {
-            Load::One => self.passes(rt, listener),
+            Load::One => self.hold_with_fresh(rt, listener),
             Load::Packets => first_fault_of_places(rt, self, cluster, listener),
             Load::Bytes => first_fault_of_bytes(rt, self, cluster, listener),
         }

@@ -22,13 +22,13 @@ where
     R: AllocGlobal + Wait + Clock + Net<Stream = TcpStream>,
 {
     match Flood::new(rt.alloc()) {
-        Ok(mut flood) => waits_with(rt, bar, cluster, listener, &mut flood),
+        Ok(mut flood) => wait_with(rt, bar, cluster, listener, &mut flood),
         Err(_) => Err(Fault::new("there is memory for a flood")),
     }
 }
 
 // Returns the first step that fails with this flood.
-fn waits_with<R>(
+fn wait_with<R>(
     rt: &R,
     bar: &Bar,
     cluster: &Cluster,
@@ -39,11 +39,11 @@ where
     R: Wait + Clock + Net<Stream = TcpStream>,
 {
     let mut stream = named(join(rt, listener, b'a', false), "a client comes")?;
-    waits(rt, bar, cluster, flood, &mut stream)
+    wait_on(rt, bar, cluster, flood, &mut stream)
 }
 
 // Returns the first step that fails with this client.
-fn waits<R: Wait + Clock>(
+fn wait_on<R: Wait + Clock>(
     rt: &R,
     bar: &Bar,
     cluster: &Cluster,
@@ -96,13 +96,13 @@ where
     R: AllocGlobal + Wait + Clock + Net<Stream = TcpStream>,
 {
     match large_publish(rt.alloc()) {
-        Ok(large) => holding_back(rt, bar, cluster, listener, large.as_slice()),
+        Ok(large) => fill_with(rt, bar, cluster, listener, large.as_slice()),
         Err(_) => Err(Fault::new("there is memory for a publication")),
     }
 }
 
 // Returns the first step that fails with this publication.
-fn holding_back<R>(
+fn fill_with<R>(
     rt: &R,
     bar: &Bar,
     cluster: &Cluster,
@@ -113,14 +113,14 @@ where
     R: Wait + Clock + Net<Stream = TcpStream>,
 {
     let mut stream = named(join(rt, listener, b's', false), "a client comes")?;
-    let held = holding_back_on(rt, bar, cluster, large, &mut stream);
+    let held = fill_on(rt, bar, cluster, large, &mut stream);
     let visited = named(visit(rt, listener), "another client is answered then");
     held.and(visited)
 }
 
 // Returns the first step that fails while a member is held. A write is given up after a second, as
 // the socket is full.
-fn holding_back_on<R: Wait + Clock>(
+fn fill_on<R: Wait + Clock>(
     rt: &R,
     bar: &Bar,
     cluster: &Cluster,

@@ -43,14 +43,14 @@ where
         return Err(Fault::new("there is a listener"));
     };
     match shows {
-        Shows::Closed => closes(rt, listener),
+        Shows::Closed => close_listener(rt, listener),
         Shows::Index => unless(has_index(rt, listener), "an index is free"),
         Shows::Shut | Shows::Ended => come_and_end(rt, listener, shows),
     }
 }
 
 // Checks that a listener is open, and closes it.
-fn closes<R>(rt: &R, listener: &Listener) -> Result<(), Fault>
+fn close_listener<R>(rt: &R, listener: &Listener) -> Result<(), Fault>
 where
     R: Wait + Clock + Net<Stream = TcpStream>,
 {
@@ -76,14 +76,14 @@ where
     R: AllocGlobal + Wait + Clock + Net<Stream = TcpStream>,
 {
     let mut client = named(open(rt, Some(listener)), "a client comes")?;
-    match accepted(rt, listener) {
-        Some(link) => sees_end(rt, &link, &mut client, shows),
+    match accept_next(rt, listener) {
+        Some(link) => end_and_await(rt, &link, &mut client, shows),
         None => Err(Fault::new("the client is accepted")),
     }
 }
 
 // Returns the connection of the next client, which has come.
-fn accepted<R>(rt: &R, listener: &Listener) -> Option<Arc<Link, Global>>
+fn accept_next<R>(rt: &R, listener: &Listener) -> Option<Arc<Link, Global>>
 where
     R: AllocGlobal + Wait + Clock,
 {
@@ -93,16 +93,16 @@ where
 
 // Ends the stream of a connection, and awaits that its client sees that. The connection is not
 // dropped before, which would end the stream, too.
-fn sees_end<R>(rt: &R, link: &Link, client: &mut TcpStream, shows: Shows) -> Result<(), Fault>
+fn end_and_await<R>(rt: &R, link: &Link, client: &mut TcpStream, shows: Shows) -> Result<(), Fault>
 where
     R: Wait,
 {
-    unless(ends(rt, link, shows), "the connection has its token")?;
+    unless(end_stream(rt, link, shows), "the connection has its token")?;
     named(hear_end(client), "the client sees the end")
 }
 
 // Ends the stream of a connection. False if its token is not there.
-fn ends<R: Wait>(rt: &R, link: &Link, shows: Shows) -> bool {
+fn end_stream<R: Wait>(rt: &R, link: &Link, shows: Shows) -> bool {
     if !matches!(shows, Shows::Ended) {
         link.shut();
         return true;

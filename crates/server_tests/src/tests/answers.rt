@@ -79,27 +79,27 @@ fn ended_in_time<R: Clock>(rt: &R, start: Instant) -> bool {
 
 /// Sends 32,768 PINGREQ in one write, which are answered by as many PINGRESP and nothing else.
 /// Returns the first step that fails.
-pub(super) fn flooding<R>(rt: &R, listener: Option<&Listener>) -> Result<(), Fault>
+pub(super) fn flood_in_one_write<R>(rt: &R, listener: Option<&Listener>) -> Result<(), Fault>
 where
     R: AllocGlobal + Net<Stream = TcpStream>,
 {
     match Flood::new(rt.alloc()) {
-        Ok(mut flood) => flooding_with(rt, listener, &mut flood),
+        Ok(mut flood) => flood_with(rt, listener, &mut flood),
         Err(_) => Err(Fault::new("there is memory for a flood")),
     }
 }
 
 // Returns the first step that fails with this flood by a client that joins for it.
-fn flooding_with<R>(rt: &R, listener: Option<&Listener>, flood: &mut Flood) -> Result<(), Fault>
+fn flood_with<R>(rt: &R, listener: Option<&Listener>, flood: &mut Flood) -> Result<(), Fault>
 where
     R: Net<Stream = TcpStream>,
 {
     let mut stream = named(join(rt, listener, b'a', false), "a client is accepted")?;
-    flooding_on(&mut stream, flood)
+    flood_on(&mut stream, flood)
 }
 
 // Returns the first step that fails with this flood on a stream.
-fn flooding_on(stream: &mut TcpStream, flood: &mut Flood) -> Result<(), Fault> {
+fn flood_on(stream: &mut TcpStream, flood: &mut Flood) -> Result<(), Fault> {
     named(flood.send_to(stream, 1), "32,768 PINGREQ are sent")?;
     named(flood.hear_from(stream, 1), "as many PINGRESP come")
 }

@@ -183,7 +183,7 @@ where
 
 /// Has 200 clients come one after another, each once the one before has left. All are accepted.
 /// Returns the first step that fails.
-pub(super) fn coming_and_going<R>(rt: &R, listener: Option<&Listener>) -> Result<(), Fault>
+pub(super) fn come_in_turn<R>(rt: &R, listener: Option<&Listener>) -> Result<(), Fault>
 where
     R: Net<Stream = TcpStream>,
 {
@@ -223,11 +223,11 @@ where
         join(rt, listener, b'd', false),
         "the client that never reads is accepted",
     )?;
-    hearing_beside(rt, listener, &mut deaf)
+    hear_beside(rt, listener, &mut deaf)
 }
 
 // Returns the first step that fails with a subscriber that gets 50 MB, while this one never reads.
-fn hearing_beside<R>(rt: &R, listener: Option<&Listener>, deaf: &mut TcpStream) -> Result<(), Fault>
+fn hear_beside<R>(rt: &R, listener: Option<&Listener>, deaf: &mut TcpStream) -> Result<(), Fault>
 where
     R: AllocGlobal + Net<Stream = TcpStream>,
 {
@@ -239,11 +239,11 @@ where
         Pair::join(rt, listener, false),
         "a subscriber and a publisher are accepted",
     )?;
-    hearing_by(rt.alloc(), &mut pair)
+    hear_by(rt.alloc(), &mut pair)
 }
 
 // Returns the first step that fails with fifty publications of 1 MB between these two.
-fn hearing_by(alloc: Global, pair: &mut Pair) -> Result<(), Fault> {
+fn hear_by(alloc: Global, pair: &mut Pair) -> Result<(), Fault> {
     named(pair.subscribe(), "the subscriber subscribes")?;
     match Large::new(alloc) {
         Ok(mut large) => named(

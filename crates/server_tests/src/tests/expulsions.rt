@@ -33,7 +33,7 @@ fn sessions_are_expelled(rt: HostRuntime) {
 /// Ends the session of client `h` while it is connected and while it is away: each time it finds no
 /// session and nothing of before. Another client that is away gets all that was published. Returns
 /// the first step that fails.
-pub(super) fn expelling<R>(
+pub(super) fn expel_twice<R>(
     rt: &R,
     cluster: &Cluster,
     listener: Option<&Listener>,
@@ -49,11 +49,11 @@ where
         Pair::join(rt, listener, false),
         "the subscriber and the publisher are accepted",
     )?;
-    expelling_of(rt, cluster, listener, &mut pair)
+    expel_twice_of(rt, cluster, listener, &mut pair)
 }
 
 // Returns the first step that fails with two Expels of the subscriber of this pair.
-fn expelling_of<R>(
+fn expel_twice_of<R>(
     rt: &R,
     cluster: &Cluster,
     listener: Option<&Listener>,

@@ -9,7 +9,7 @@ use std::thread::Threads;
 use std::time::Clock;
 
 // Returns what comes of serving at listeners of these numbers; none if they do not listen.
-fn served<R>(rt: &R, numbers: &[u8]) -> Option<Result<bool, ServeError>>
+fn try_to_serve<R>(rt: &R, numbers: &[u8]) -> Option<Result<bool, ServeError>>
 where
     R: AllocGlobal + Threads + Wait + Clock + Sync,
     R: Net<Listener = TcpListener, Stream = TcpStream>,
@@ -27,7 +27,7 @@ where
 fn numbers_of_listeners_are_refused(rt: HostRuntime) {
     for numbers in [[1, 1].as_slice(), [1, 16].as_slice(), [0, 1].as_slice()] {
         assert_eq!(rt;
-            served(&rt, numbers),
+            try_to_serve(&rt, numbers),
             Some(Err(ServeError::BadMembers)),
             "{numbers:?}"
         );

@@ -1,9 +1,9 @@
 // Rows: what clients do with nodes that serve them.
 
-use super::answers::{flooding, silence};
-use super::crowds::{coming_and_going, deaf_one, never_reading, silent_ones, sixty};
-use super::expulsions::expelling;
-use super::takeovers::{moving, taking_over};
+use super::answers::{flood_in_one_write, silence};
+use super::crowds::{come_in_turn, deaf_one, never_reading, silent_ones, sixty};
+use super::expulsions::expel_twice;
+use super::takeovers::{move_session, take_over};
 use server::{Cluster, Listener};
 use server_clients::{Fault, named, visit};
 use std::net::{Net, TcpStream};
@@ -58,14 +58,14 @@ where
     match row {
         Row::Visits => named(visit(rt, first), "all that it sends is answered"),
         Row::Silence => silence(rt, first),
-        Row::Flood => flooding(rt, first),
+        Row::Flood => flood_in_one_write(rt, first),
         Row::Sixty => sixty(rt, first),
-        Row::ComeAndGo => coming_and_going(rt, first),
+        Row::ComeAndGo => come_in_turn(rt, first),
         Row::SilentOnes => silent_ones(rt, first),
         Row::Deaf => deaf_one(rt, first),
         Row::NeverReads => never_reading(rt, first),
-        Row::Moves => moving(rt, cluster, listeners),
-        Row::Expels => expelling(rt, cluster, first),
-        Row::TakesOver => taking_over(rt, cluster, listeners),
+        Row::Moves => move_session(rt, cluster, listeners),
+        Row::Expels => expel_twice(rt, cluster, first),
+        Row::TakesOver => take_over(rt, cluster, listeners),
     }
 }

@@ -35,7 +35,11 @@ const FOUND: [u8; 14] = [0x20, 2, 1, 0, 0x3C, 8, 0, 3, 0x74, 0x2F, 0x31, 0, 1, 0
 /// Gives ballot 2 with node 2 as sole member while client `a` has not finished a handshake with
 /// node 1. The client finds its session at node 2, and is sent the publication again. Returns the
 /// first step that fails.
-pub(super) fn moving<R>(rt: &R, cluster: &Cluster, listeners: &[Listener]) -> Result<(), Fault>
+pub(super) fn move_session<R>(
+    rt: &R,
+    cluster: &Cluster,
+    listeners: &[Listener],
+) -> Result<(), Fault>
 where
     R: AllocGlobal + Wait + Clock + Net<Stream = TcpStream>,
 {
@@ -65,16 +69,16 @@ where
 
 /// Publishes four times, while node 1 crashes and node 2 takes over: the subscriber gets each
 /// publication once, in order. Returns the first step that fails.
-pub(super) fn taking_over<R>(rt: &R, cluster: &Cluster, listeners: &[Listener]) -> Result<(), Fault>
+pub(super) fn take_over<R>(rt: &R, cluster: &Cluster, listeners: &[Listener]) -> Result<(), Fault>
 where
     R: AllocGlobal + Wait + Clock + Net<Stream = TcpStream>,
 {
     let mut heard = Heard::new(rt);
-    taking_over_by(rt, cluster, listeners, &mut heard)
+    take_over_by(rt, cluster, listeners, &mut heard)
 }
 
 // Does the same with a subscriber that has not accepted anything.
-fn taking_over_by<R>(
+fn take_over_by<R>(
     rt: &R,
     cluster: &Cluster,
     listeners: &[Listener],

@@ -20,7 +20,7 @@ fn publication_at_last(alloc: Global) -> Option<Publication> {
 
 // Adds a publication: whether there is room for one less then, and as much as before if memory was
 // refused.
-fn is_added(alloc: Global, session: &mut Session) -> Option<bool> {
+fn add_one(alloc: Global, session: &mut Session) -> Option<bool> {
     let room = session.room();
     match session.enqueue(publication_at_last(alloc)?) {
         Ok(()) => Some(session.room().saturating_add(1) == room),
@@ -32,7 +32,7 @@ fn is_added(alloc: Global, session: &mut Session) -> Option<bool> {
 }
 
 // Says whether these are sent next, and nothing is if memory was refused.
-fn sends(alloc: Global, session: &mut Session, wanted: &[Sent]) -> bool {
+fn send_next(alloc: Global, session: &mut Session, wanted: &[Sent]) -> bool {
     let mut out = Vec::new(alloc);
     let is_sent = session.fill(16, &mut out).is_ok()
         || (out.is_empty() && session.fill(16, &mut out).is_ok());
@@ -40,7 +40,7 @@ fn sends(alloc: Global, session: &mut Session, wanted: &[Sent]) -> bool {
 }
 
 // Says whether these are sent again, and nothing is if memory was refused.
-fn sends_again(alloc: Global, session: &Session, wanted: &[Sent]) -> bool {
+fn send_again(alloc: Global, session: &Session, wanted: &[Sent]) -> bool {
     let mut out = Vec::new(alloc);
     let is_sent = session.resend(&mut out).is_ok()
         || (out.is_empty() && session.resend(&mut out).is_ok());
@@ -70,15 +70,15 @@ fn is_received(session: &mut Session) -> bool {
 
 // Returns the first step that fails, in words.
 fn first_fault(alloc: Global, session: &mut Session) -> Option<&'static str> {
-    if !(0..3).all(|_| is_added(alloc, session) == Some(true)) {
+    if !(0..3).all(|_| add_one(alloc, session) == Some(true)) {
         Some("three publications are added, each once")
-    } else if !sends(alloc, session, &[New(1), New(2), New(3)]) {
+    } else if !send_next(alloc, session, &[New(1), New(2), New(3)]) {
         Some("the three are sent")
-    } else if !sends(alloc, session, &[]) {
+    } else if !send_next(alloc, session, &[]) {
         Some("nothing is sent twice")
     } else if !is_released(alloc, session) {
         Some("the PUBREC of the first is answered, one of identifier 9 is not")
-    } else if !sends_again(alloc, session, &[Pubrel(1), Again(2), Again(3)]) {
+    } else if !send_again(alloc, session, &[Pubrel(1), Again(2), Again(3)]) {
         Some("PUBREL of the first and the other two are sent again")
     } else if !is_received(session) {
         Some("identifier 7 comes for the first time, and then again")

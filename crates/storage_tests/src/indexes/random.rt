@@ -101,7 +101,7 @@ fn granted_alike(alloc: Global, both: &Both, topic: &str) -> Result<usize, Came>
 
 // Makes the call of the next number for this client, filter and topic. Returns how many rows were
 // granted, or how the answers differ.
-fn called_with(
+fn call_with(
     alloc: Global,
     both: &mut Both,
     numbers: &mut Numbers,
@@ -133,7 +133,7 @@ fn called_with(
 }
 
 // Makes the call of the next number for what is named so, in the same way.
-fn called_alike(
+fn call_both(
     alloc: Global,
     both: &mut Both,
     numbers: &mut Numbers,
@@ -146,7 +146,7 @@ fn called_alike(
     let Ok(filter) = Filter::new(alloc, filter) else {
         return Err(Came::Nothing);
     };
-    called_with(alloc, both, numbers, &client, &filter, topic)
+    call_with(alloc, both, numbers, &client, &filter, topic)
 }
 
 // Returns the client, the filter and the topic of the next numbers.
@@ -163,7 +163,7 @@ fn first_fault(alloc: Global, both: &mut Both, rows: &mut usize) -> Option<Fault
     let mut numbers = Numbers::new(23);
     for number in 0..CALLS {
         let names = next_names(&mut numbers);
-        match called_alike(alloc, both, &mut numbers, names) {
+        match call_both(alloc, both, &mut numbers, names) {
             Ok(found) => *rows = rows.saturating_add(found),
             Err(came) => {
                 return Some(Fault {
@@ -178,7 +178,7 @@ fn first_fault(alloc: Global, both: &mut Both, rows: &mut usize) -> Option<Fault
 }
 
 // Returns the first call that the two indexes do not answer alike, and how many rows were granted.
-fn called_in_turn(alloc: Global) -> (Option<Fault>, usize) {
+fn call_in_turn(alloc: Global) -> (Option<Fault>, usize) {
     let mut rows: usize = 0;
     let mut both = Both {
         list: ListIndex::new(alloc),
@@ -190,7 +190,7 @@ fn called_in_turn(alloc: Global) -> (Option<Fault>, usize) {
 
 #[test]
 fn list_and_tree_answer_many_calls_alike(rt: HostRuntime) {
-    let (fault, rows) = called_in_turn(rt.alloc());
+    let (fault, rows) = call_in_turn(rt.alloc());
     assert_eq!(rt; fault, None);
     assert!(rt; rows > 5_000, "{rows}");
 }
