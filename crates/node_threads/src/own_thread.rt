@@ -157,7 +157,7 @@ impl<'a, J: NodeNaming, S: Stated<J>, G: Gate> Shared<'a, J, S, G> {
         for item in items {
             self.send_queued(rt, lane, item);
         }
-        self.take_all(rt, lane);
+        self.take_until_empty(rt, lane);
     }
 
     // Sends what was queued for the node by its lane. It only calls `send`: what it requires shows

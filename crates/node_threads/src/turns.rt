@@ -27,7 +27,7 @@ impl<'a, J: NodeNaming, S: Stated<J>, G: Gate> Shared<'a, J, S, G> {
         ensures { lane.new ≡ all_met (record lane.old { sent = lane.old.sent ++ item ∷ [] }) }
     {
         self.send(rt, lane, item);
-        self.take_all(rt, lane);
+        self.take_until_empty(rt, lane);
     }
 
     /// Sends an item by a lane. If the inbox is full, takes what waits there first.
@@ -41,17 +41,17 @@ impl<'a, J: NodeNaming, S: Stated<J>, G: Gate> Shared<'a, J, S, G> {
                 Ok(()) => return,
                 Err(back) => unsent = back,
             }
-            self.take_all(rt, lane);
+            self.take_until_empty(rt, lane);
         }
         unreachable!()
     }
 
     /// Takes items until the inbox is empty, with all that this lane sent.
-    pub(crate) fn take_all<R: Wait + Clock>(&self, rt: &R, lane: &mut Lane<Item, J>)
+    pub(crate) fn take_until_empty<R: Wait + Clock>(&self, rt: &R, lane: &mut Lane<Item, J>)
         ensures { lane.new ≡ all_met lane.old }
     {
         for _ in rt.forever() {
-            if !self.take_permitted(rt, lane) {
+            if !self.take_with_permit(rt, lane) {
                 return;
             }
         }
@@ -60,14 +60,14 @@ impl<'a, J: NodeNaming, S: Stated<J>, G: Gate> Shared<'a, J, S, G> {
 
     // Takes at most as many items as one permit allows. Returns whether more may wait. The gate is
     // asked for the permit before, while the node's state is not locked.
-    fn take_permitted<R: Wait + Clock>(&self, rt: &R, lane: &mut Lane<Item, J>) -> bool
+    fn take_with_permit<R: Wait + Clock>(&self, rt: &R, lane: &mut Lane<Item, J>) -> bool
         ensures more { result ≡ true → lane.new ≡ lane.old }
 
         // If none waits, all was taken that the lane sent.
         ensures none { result ≡ false → lane.new ≡ all_met lane.old }
     {
         let permit = self.node.pass(rt);
-        let more = self.take_locked(rt, &permit, lane);
+        let more = self.take_and_queue_given(rt, &permit, lane);
         self.node.done(rt, permit);
         more
     }
@@ -75,7 +75,12 @@ impl<'a, J: NodeNaming, S: Stated<J>, G: Gate> Shared<'a, J, S, G> {
     // Takes items under one lock, at most as many as the permit allows. Returns whether more may
     // wait. What the node has for others is queued for them while the lock is held, so that it
     // keeps the order of the node's steps. The status is shown then, too.
-    fn take_locked<R: Wait>(&self, rt: &R, permit: &Permit<'_>, lane: &mut Lane<Item, J>) -> bool
+    fn take_and_queue_given<R: Wait>(
+        &self,
+        rt: &R,
+        permit: &Permit<'_>,
+        lane: &mut Lane<Item, J>,
+    ) -> bool
         ensures more { result ≡ true → lane.new ≡ lane.old }
         ensures none { result ≡ false → lane.new ≡ all_met lane.old }
     {
@@ -86,7 +91,7 @@ impl<'a, J: NodeNaming, S: Stated<J>, G: Gate> Shared<'a, J, S, G> {
         if state.inbox_number() != lane.inbox_number() || !permit.is_for(state) {
             return true;
         }
-        let (more, given) = take_up_to(rt, self.alloc, state, permit, lane);
+        let (more, given) = take_as_permitted(rt, self.alloc, state, permit, lane);
         self.context.peer.show(rt, state.status());
         self.context.cluster.queue_given(rt, state, given);
         // The node's own thread has the log cut.
@@ -99,7 +104,7 @@ impl<'a, J: NodeNaming, S: Stated<J>, G: Gate> Shared<'a, J, S, G> {
 
 // Takes items until the inbox is empty, at most as many as the permit allows. Returns whether more
 // may wait, and what the node's steps gave.
-fn take_up_to<J: NodeNaming, R: Wait>(
+fn take_as_permitted<J: NodeNaming, R: Wait>(
     rt: &R,
     alloc: Global,
     node: &mut NodeState<J>,

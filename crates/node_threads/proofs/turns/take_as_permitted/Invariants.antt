@@ -2,7 +2,7 @@ use Rattle.std.proofs.Common.{◌≡◌}
 use Rattle.post.specs.lists.Lists.{Each}
 use Rattle.post.specs.outbox.Queued.{WasGiven}
 use Rattle.node_threads.specs.Turns.{Turns}
-use Rattle.node_threads.proofs.turns.take_up_to.Given as goal
+use Rattle.node_threads.proofs.turns.take_as_permitted.Given as goal
 
 abbrev pub invariant-loop : goal.invariant-loop
 invariant-loop g l = record {

@@ -4,7 +4,7 @@ use Rattle.node.specs.declared.Item.{Item}
 use Rattle.node_threads.specs.Turns.Turns.{takes}
 use Rattle.node_threads.proofs.GivenBySteps.{given_more}
 use Rattle.node_threads.proofs.TurnsEnd.{found_none, given_none}
-use Rattle.node_threads.proofs.turns.take_up_to.Goals as goal
+use Rattle.node_threads.proofs.turns.take_as_permitted.Goals as goal
 
 pub loop-init : goal.loop-init
 loop-init g c = record {

@@ -1,5 +1,5 @@
 use Rattle.std.proofs.Common.{◌≡◌}
-use Rattle.node_threads.proofs.shared.Shared.take_all.Given as goal
+use Rattle.node_threads.proofs.shared.Shared.take_until_empty.Given as goal
 
 abbrev pub invariant-loop : goal.invariant-loop
 invariant-loop g l = record {
