@@ -3,4 +3,4 @@ pub mod LastRows
 pub mod OwnersOfLast
 pub mod Writing
 pub mod StandsForLists
-pub mod HeldAnew
+pub mod PutAnew

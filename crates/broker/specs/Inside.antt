@@ -34,10 +34,10 @@ state_read (window, rows, retained) =
 
 -- the QoS of each filter of a session, the last of a filter counting
 abbrev pub granted_last : List GrantedFilter → List ℕ → Option QoS
-granted_last held = update_all bytes_eq (λ _. None) held
+granted_last subscriptions = update_all bytes_eq (λ _. None) subscriptions
 
 -- the filters of all these sessions are put in, client by client
-abbrev pub all_held : Sessions → Content → Content
-all_held [] content = content
-all_held (row ∷ rows) content =
-    all_held rows (with_client_filters content row.0 (granted_last row.1.state.subscriptions))
+abbrev pub all_put : Sessions → Content → Content
+all_put [] content = content
+all_put (row ∷ rows) content =
+    all_put rows (with_client_filters content row.0 (granted_last row.1.state.subscriptions))

@@ -13,7 +13,7 @@ ghost use Rattle.broker_form.specs.Form.{broker_at, retained_at};
 ghost use Rattle.broker_form.specs.Follows.{is_after, topic_follows};
 ghost use Rattle.broker_tables.specs.Tables.{IsTied, state_in};
 ghost use Rattle.retained.specs.Retained.{IsRising};
-ghost use Rattle.broker.specs.Inside.{AreOwned, state_read, all_held, granted_last};
+ghost use Rattle.broker.specs.Inside.{AreOwned, state_read, all_put, granted_last};
 
 use crate::reading::{read_head, read_topic};
 use crate::rows::Rows;
@@ -125,7 +125,7 @@ fn index_of(
     sessions: &BTreeMap<ClientId, ClientRow>,
 ) -> Result<TreeIndex, AllocError>
     ensures { IfOk result
-        (λ index. content_of index ≡ all_held sessions.now.entries no_subscriptions) }
+        (λ index. content_of index ≡ all_put sessions.now.entries no_subscriptions) }
 {
     let mut list = ListIndex::new(alloc);
     for (client, row) in sessions {
@@ -139,18 +139,18 @@ fn filters_of(alloc: Global, session: &Session) -> Result<BTreeMap<Filter, QoS>,
     ensures { IfOk result
         (λ filters. get (slice_cmp nat_cmp) filters ≡ granted_last session.now.subscriptions) }
 {
-    let held = held_of(alloc, session)?;
-    let filters = BTreeMap::from_iter(alloc, held)?;
+    let granted = subscriptions_of(alloc, session)?;
+    let filters = BTreeMap::from_iter(alloc, granted)?;
     Ok(filters)
 }
 
 // Returns a session's subscriptions, in order.
-fn held_of(alloc: Global, session: &Session) -> Result<Vec<(Filter, QoS)>, AllocError>
-    ensures { IfOk result (λ held. held.items ≡ session.now.subscriptions) }
+fn subscriptions_of(alloc: Global, session: &Session) -> Result<Vec<(Filter, QoS)>, AllocError>
+    ensures { IfOk result (λ granted. granted.items ≡ session.now.subscriptions) }
 {
-    let mut held = Vec::with_capacity(alloc, session.subscription_count())?;
+    let mut granted = Vec::with_capacity(alloc, session.subscription_count())?;
     for (filter, qos) in session.subscriptions() {
-        held.push((filter.clone()?, *qos))?;
+        granted.push((filter.clone()?, *qos))?;
     }
-    Ok(held)
+    Ok(granted)
 }

@@ -28,18 +28,18 @@ use Rattle.broker_base.proofs.QueueAfter.{sound_entries}
 
 -- ---- room
 
-all_held : (es : List Entry) → length (busy_ids es) + length (waiting_of es) ≡ length (filter is_unfinished es)
-all_held [] = refl
-all_held (Entry.Waits made p ∷ es) = omega (arith, all_held es)
-all_held (Entry.Started made p id start ∷ es) = omega (arith, all_held es)
-all_held (Entry.Released made p id start release ∷ es) = omega (arith, all_held es)
-all_held (Entry.Finished made p id start release finish ∷ es) = all_held es
+all_put : (es : List Entry) → length (busy_ids es) + length (waiting_of es) ≡ length (filter is_unfinished es)
+all_put [] = refl
+all_put (Entry.Waits made p ∷ es) = omega (arith, all_put es)
+all_put (Entry.Started made p id start ∷ es) = omega (arith, all_put es)
+all_put (Entry.Released made p id start release ∷ es) = omega (arith, all_put es)
+all_put (Entry.Finished made p id start release finish ∷ es) = all_put es
 
 held_is : (n : ℕ) (es : List Entry) → Sound n es → length (flights_below n es) + length (waiting_of es) ≡ length (filter is_unfinished es)
 held_is n es s =
     ap (λ k. k + length (waiting_of es))
     (sym (length-map (flights_below n es) (λ (flight : Flight). flight.0)) ∙ same_length (ids_of (flights_below n es)) (busy_ids es) (same_ids n es s.below))
-    ∙ all_held es
+    ∙ all_put es
 
 pub room_is : (limits : Limits) (past : Past) (c : Client) → room limits.entries (queue_of (length past) (entries_of limits past c)) ≡ room_of limits past c
 room_is limits past c = ap (λ k. limits.entries - k) (held_is (length past) (entries_of limits past c) (sound_entries limits past c))

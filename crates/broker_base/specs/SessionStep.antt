@@ -24,14 +24,14 @@ use Rattle.broker_spec.specs.declared.command.Command.TheVariants as commands
 abbrev pub copies_with : Command → Mark → RetainedTopics → Client → List GrantedFilter →
     List Publication
 copies_with (commands.Packet connection (packets.Publish publish)) (Mark.Taken sender)
-    content client held =
+    content client subscriptions =
     copy_of (publication_of publish) (option_map (lower_qos (publication_of publish).qos)
-    (granted_qos (publication_of publish).topic held))
+    (granted_qos (publication_of publish).topic subscriptions))
 copies_with (commands.Packet connection (packets.Subscribe subscribe)) (Mark.Granted sender which)
-    content client held =
+    content client subscriptions =
     if same_client sender client
     then copies_for_all content (granted_of subscribe.filters which) else []
-copies_with _ _ content client held = []
+copies_with _ _ content client subscriptions = []
 
 -- a queue is filled only while there is a connection
 abbrev pub filled_on : Option ConnectionName → ℕ → List Flight → List Publication → Queue

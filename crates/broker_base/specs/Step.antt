@@ -21,13 +21,14 @@ use Rattle.broker_spec.specs.declared.command.Output.{Output}
 -- Whether a command concerns this client's session with these subscriptions, apart from the end of
 -- its connection: its client sent it, or it is a taken publication that matches one of them.
 abbrev pub is_about : Command → Mark → Client → List GrantedFilter → Bool
-is_about (commands.Connect connection sender clean) Mark.Accepted client held =
+is_about (commands.Connect connection sender clean) Mark.Accepted client subscriptions =
     same_client sender client
-is_about (commands.Packet connection (packets.Publish publish)) (Mark.Taken sender) client held =
-    same_client sender client || is_some (granted_qos publish.topic held)
-is_about command (Mark.Granted sender which) client held = same_client sender client
-is_about command (Mark.Handled sender) client held = same_client sender client
-is_about _ _ client held = false
+is_about (commands.Packet connection (packets.Publish publish)) (Mark.Taken sender)
+    client subscriptions =
+    same_client sender client || is_some (granted_qos publish.topic subscriptions)
+is_about command (Mark.Granted sender which) client subscriptions = same_client sender client
+is_about command (Mark.Handled sender) client subscriptions = same_client sender client
+is_about _ _ client subscriptions = false
 
 -- whether a place touches a client's session; every other session stays as it is
 abbrev pub touches : Place → Client → ClientSession → Bool

@@ -13,7 +13,7 @@ use Rattle.broker_base.specs.State.{State, empty_state}
 use Rattle.broker_base.specs.Step.{step, state_from, steps_from}
 use Rattle.broker_spec.specs.RowWords.{nth, b, connect, gets, sends, connack, publish, unsubscribe}
 use Rattle.broker_spec.specs.RowWords.{numbers, delivered, small}
-use Rattle.broker_spec.specs.MoreRows.{held_two, publishes_xyz, makes_room}
+use Rattle.broker_spec.specs.MoreRows.{queued_two, publishes_xyz, makes_room}
 use Rattle.broker_spec.specs.WindowRows.{routed, seventy}
 use Rattle.broker_spec.specs.declared.command.Command.{Command}
 use Rattle.broker_spec.specs.declared.command.Command.TheVariants as commands
@@ -29,7 +29,7 @@ StepsGive limits first later earlier next answers =
 -- a full queue refuses y; once there is room, each is answered, and the subscriber gets y and z
 abbrev pub StepsRefuseAndGoOn : Type 0
 StepsRefuseAndGoOn =
-    StepsGive (small 3 16) 16 16 (held_two ++ publishes_xyz 2 false ++ makes_room)
+    StepsGive (small 3 16) 16 16 (queued_two ++ publishes_xyz 2 false ++ makes_room)
     (publishes_xyz 4 true)
     ((sends 4 (packets.Pubrec 1) ∷ [])
     ∷ (sends 4 (packets.Pubrec 2)

@@ -47,55 +47,56 @@ CopiesFindRoom =
 -- whether a filter is granted to this session: it is not one too many, and there is room for its
 -- copies
 abbrev pub is_granted_in : Limits → RetainedTopics → SessionState → Subscription → Bool
-is_granted_in limits content held new =
+is_granted_in limits content session new =
     not
-    (is_one_too_many limits held.subscriptions new
-    || nat_lt (room limits.entries held.queue) (entries_for content new))
+    (is_one_too_many limits session.subscriptions new
+    || nat_lt (room limits.entries session.queue) (entries_for content new))
 
 -- the session after one filter
 abbrev pub subscribed_by : Limits → ℕ → RetainedTopics → SessionState → Subscription → SessionState
-subscribed_by limits window content held new =
-    if is_granted_in limits content held new then subscribed_to window content (new ∷ []) held
-    else held
+subscribed_by limits window content session new =
+    if is_granted_in limits content session new then subscribed_to window content (new ∷ []) session
+    else session
 
 -- the packets that it is sent after one filter
 abbrev pub sent_by : Limits → ℕ → RetainedTopics → SessionState → Subscription → List Packet
-sent_by limits window content held new =
-    if is_granted_in limits content held new
-    then copies_sent window (copies_for content new) held.queue
+sent_by limits window content session new =
+    if is_granted_in limits content session new
+    then copies_sent window (copies_for content new) session.queue
     else []
 
 -- which filters are granted, each of the session that those before it left
 abbrev pub granted_in_turn : Limits → ℕ → RetainedTopics → SessionState → List Subscription →
     List Bool
-granted_in_turn limits window content held (new ∷ more) =
-    is_granted_in limits content held new
-    ∷ granted_in_turn limits window content (subscribed_by limits window content held new) more
-granted_in_turn limits window content held [] = []
+granted_in_turn limits window content session (new ∷ more) =
+    is_granted_in limits content session new
+    ∷ granted_in_turn limits window content (subscribed_by limits window content session new) more
+granted_in_turn limits window content session [] = []
 
 -- the session after all filters of a SUBSCRIBE, one after another
 abbrev pub subscribed_in_turn : Limits → ℕ → RetainedTopics → SessionState → List Subscription →
     SessionState
-subscribed_in_turn limits window content held (new ∷ more) =
-    subscribed_in_turn limits window content (subscribed_by limits window content held new) more
-subscribed_in_turn limits window content held [] = held
+subscribed_in_turn limits window content session (new ∷ more) =
+    subscribed_in_turn limits window content (subscribed_by limits window content session new) more
+subscribed_in_turn limits window content session [] = session
 
 -- the packets that are sent for all filters of a SUBSCRIBE, one after another
 abbrev pub sent_in_turn : Limits → ℕ → RetainedTopics → SessionState → List Subscription →
     List Packet
-sent_in_turn limits window content held (new ∷ more) =
-    sent_by limits window content held new
-    ++ sent_in_turn limits window content (subscribed_by limits window content held new) more
-sent_in_turn limits window content held [] = []
+sent_in_turn limits window content session (new ∷ more) =
+    sent_by limits window content session new
+    ++ sent_in_turn limits window content (subscribed_by limits window content session new) more
+sent_in_turn limits window content session [] = []
 
 -- one pass over the filters decides, subscribes and sends as the step at a SUBSCRIBE does
 abbrev pub SubscribesInTurn : Type 0
 SubscribesInTurn =
-    (limits : Limits) → (window : ℕ) → (content : RetainedTopics) → (held : SessionState) →
+    (limits : Limits) → (window : ℕ) → (content : RetainedTopics) → (session : SessionState) →
     (filters : List Subscription) →
-    let which = granted_in_turn limits window content held filters in
-    (grants limits content held.subscriptions (room limits.entries held.queue) filters ≡ which)
-    × (subscribed_to window content (granted_of filters which) held
-    ≡ subscribed_in_turn limits window content held filters)
-    × (copies_sent window (copies_for_all content (granted_of filters which)) held.queue
-    ≡ sent_in_turn limits window content held filters)
+    let which = granted_in_turn limits window content session filters in
+    (grants limits content session.subscriptions (room limits.entries session.queue) filters
+    ≡ which)
+    × (subscribed_to window content (granted_of filters which) session
+    ≡ subscribed_in_turn limits window content session filters)
+    × (copies_sent window (copies_for_all content (granted_of filters which)) session.queue
+    ≡ sent_in_turn limits window content session filters)

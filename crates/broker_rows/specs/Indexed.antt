@@ -22,7 +22,8 @@ content_in sessions client filter = subscribed_in filter (session_in client sess
 
 -- these filters are subscribed, one by one (MQTT 3.8.4)
 abbrev pub all_set : List ℕ → List GrantedFilter → Content → Content
-all_set client (held ∷ more) content = all_set client more (with_row content client held.0 held.1)
+all_set client (subscription ∷ more) content =
+    all_set client more (with_row content client subscription.0 subscription.1)
 all_set client [] content = content
 
 -- these filters are unsubscribed, one by one (MQTT 3.10.4)

@@ -33,16 +33,19 @@ use Rattle.broker_rows.specs.Served.{ServesClient, with_session, with_content}
 -- and what may start then starts; PUBREC releases one; PUBREL removes an identifier that was
 -- received; UNSUBSCRIBE removes filters.
 abbrev pub handled_state : ℕ → Packet → SessionState → SessionState
-handled_state window (packets.Puback id) held =
-    with_queue (filled window (with_flights (on_puback id held.queue.in_flight) held.queue)) held
-handled_state window (packets.Pubrec id) held =
-    with_queue (with_flights (on_pubrec id held.queue.in_flight) held.queue) held
-handled_state window (packets.Pubcomp id) held =
-    with_queue (filled window (with_flights (on_pubcomp id held.queue.in_flight) held.queue)) held
-handled_state window (packets.Pubrel id) held = with_received (without_id id held.received) held
-handled_state window (packets.Unsubscribe unsubscribe) held =
-    with_filters (without_filters unsubscribe.filters held.subscriptions) held
-handled_state window _ held = held
+handled_state window (packets.Puback id) session =
+    with_queue (filled window (with_flights (on_puback id session.queue.in_flight) session.queue))
+    session
+handled_state window (packets.Pubrec id) session =
+    with_queue (with_flights (on_pubrec id session.queue.in_flight) session.queue) session
+handled_state window (packets.Pubcomp id) session =
+    with_queue (filled window (with_flights (on_pubcomp id session.queue.in_flight) session.queue))
+    session
+handled_state window (packets.Pubrel id) session =
+    with_received (without_id id session.received) session
+handled_state window (packets.Unsubscribe unsubscribe) session =
+    with_filters (without_filters unsubscribe.filters session.subscriptions) session
+handled_state window _ session = session
 
 -- a packet that is handled writes that to its sender's session, and only its sender is answered
 abbrev pub HandledStep : Type 0
@@ -63,17 +66,17 @@ HandledStep =
 -- a session whose client is granted these filters: each is set, and the copies of what is retained
 -- come (MQTT 3.8.4)
 abbrev pub subscribed_to : ℕ → RetainedTopics → List Subscription → SessionState → SessionState
-subscribed_to window content granted held =
-    with_filters (with_subscriptions (map as_granted granted) held.subscriptions)
-    (with_queue (copies_left window (copies_for_all content granted) held.queue) held)
+subscribed_to window content granted session =
+    with_filters (with_subscriptions (map as_granted granted) session.subscriptions)
+    (with_queue (copies_left window (copies_for_all content granted) session.queue) session)
 
 -- the packets that answer a SUBSCRIBE if these of its filters are granted: SUBACK, then the copies
 -- of what is retained (MQTT 3.8.4)
 abbrev pub subscribe_answers : ℕ → RetainedTopics → Subscribe → List Bool → SessionState →
     List Packet
-subscribe_answers window content subscribe which held =
+subscribe_answers window content subscribe which session =
     packets.Suback (record { id = subscribe.id; codes = codes_of subscribe.filters which })
-    ∷ copies_sent window (copies_for_all content (granted_of subscribe.filters which)) held.queue
+    ∷ copies_sent window (copies_for_all content (granted_of subscribe.filters which)) session.queue
 
 -- SUBSCRIBE sets the filters that are granted, and its client is sent what is retained of them
 -- (MQTT 3.8.4)

@@ -28,12 +28,12 @@ c = codes "c"
 -- a client's row, with this in its session
 abbrev pub row : Client → Bool → Option ConnectionName → List GrantedFilter → List ℕ → Queue →
     Client × ClientSession
-row client clean connection held received queue = (
+row client clean connection subscriptions received queue = (
   client,
   record {
     clean = clean;
     connection = connection;
-    state = record { subscriptions = held; received = received; queue = queue };
+    state = record { subscriptions = subscriptions; received = received; queue = queue };
   },
 )
 
@@ -97,7 +97,7 @@ EachOwnsItsConnection =
     × (without_owner (Some (nth 1)) (owners_in three) (nth 2) ≡ Some c)
     × (with_owner (nth 1) c (owners_in three) (nth 1) ≡ Some c)
 
--- a filter is held character by character, replaced, given up, and dropped with its client
+-- a filter is compared character by character, replaced, given up, and dropped with its client
 abbrev pub EachHoldsItsFilters : Type 0
 EachHoldsItsFilters =
     (content_in three b (codes "t/#") ≡ Some qualities.AtLeastOnce)

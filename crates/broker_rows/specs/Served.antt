@@ -26,7 +26,8 @@ with_session client session state =
 
 -- a client's session with this content, and all else as it was
 abbrev pub with_content : SessionState → ClientSession → ClientSession
-with_content held kept = record { clean = kept.clean; connection = kept.connection; state = held }
+with_content session kept =
+    record { clean = kept.clean; connection = kept.connection; state = session }
 
 -- a session whose connection is over: a clean one is over with it (MQTT 3.1.2.4)
 abbrev pub left_off : ClientSession → Option ClientSession

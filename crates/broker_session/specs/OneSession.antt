@@ -21,14 +21,14 @@ is_handshake _ = false
 
 -- what its sender is sent for a step of a handshake
 abbrev pub handshake_sends : ℕ → Packet → SessionState → List Packet
-handshake_sends window (packets.Puback id) held =
-    fill_sends window (on_puback id held.queue.in_flight) held.queue.waiting
-handshake_sends window (packets.Pubrec id) held =
-    pubrec_sends id (on_pubrec id held.queue.in_flight)
-handshake_sends window (packets.Pubrel id) held = packets.Pubcomp id ∷ []
-handshake_sends window (packets.Pubcomp id) held =
-    fill_sends window (on_pubcomp id held.queue.in_flight) held.queue.waiting
-handshake_sends window _ held = []
+handshake_sends window (packets.Puback id) session =
+    fill_sends window (on_puback id session.queue.in_flight) session.queue.waiting
+handshake_sends window (packets.Pubrec id) session =
+    pubrec_sends id (on_pubrec id session.queue.in_flight)
+handshake_sends window (packets.Pubrel id) session = packets.Pubcomp id ∷ []
+handshake_sends window (packets.Pubcomp id) session =
+    fill_sends window (on_pubcomp id session.queue.in_flight) session.queue.waiting
+handshake_sends window _ session = []
 
 -- what a client whose session continues is sent of it (MQTT 4.4)
 abbrev pub sent_to_resumed : ℕ → Option ClientSession → List Packet

@@ -15,8 +15,8 @@ use Rattle.broker_spec.specs.declared.command.Output.TheVariants.{Close}
 -- ---- a full queue: a session holds three entries
 
 -- b is offline and holds two entries
-abbrev pub held_two : List Command
-held_two = subscribed_at qualities.ExactlyOnce ++ commands.Lost (nth 1) ∷ publications 2
+abbrev pub queued_two : List Command
+queued_two = subscribed_at qualities.ExactlyOnce ++ commands.Lost (nth 1) ∷ publications 2
 
 -- a sends x, y and z at QoS 2 on the nth connection
 abbrev pub publishes_xyz : ℕ → Bool → List Command
@@ -32,13 +32,13 @@ makes_room = connect 3 b ∷ gets 3 (packets.Puback 1) ∷ gets 3 (packets.Pubac
 -- x takes the last room; y is refused and its connection closed, so that z is not taken before it
 abbrev pub FullQueueRefuses : Type 0
 FullQueueRefuses =
-    AreAnswered (small 3 16) held_two (publishes_xyz 2 false)
+    AreAnswered (small 3 16) queued_two (publishes_xyz 2 false)
     ((sends 2 (packets.Pubrec 1) ∷ []) ∷ (Close (nth 2) ∷ []) ∷ [] ∷ [])
 
 -- once there is room, the three sent again are each answered, and b gets y and z
 abbrev pub FullQueueGoesOn : Type 0
 FullQueueGoesOn =
-    AreAnswered (small 3 16) (held_two ++ publishes_xyz 2 false ++ makes_room)
+    AreAnswered (small 3 16) (queued_two ++ publishes_xyz 2 false ++ makes_room)
     (publishes_xyz 4 true)
     ((sends 4 (packets.Pubrec 1) ∷ [])
     ∷ (sends 4 (packets.Pubrec 2)
@@ -51,7 +51,8 @@ abbrev pub FullQueueKeepsTheOrder : Type 0
 FullQueueKeepsTheOrder =
     map (λ entry. (publication_in entry).payload)
     (entries_of (small 3 16)
-    (past_of (small 3 16) (held_two ++ publishes_xyz 2 false ++ makes_room ++ publishes_xyz 4 true))
+    (past_of (small 3 16)
+    (queued_two ++ publishes_xyz 2 false ++ makes_room ++ publishes_xyz 4 true))
     b)
     ≡ codes "o" ∷ codes "o" ∷ codes "x" ∷ codes "y" ∷ codes "z" ∷ []
 

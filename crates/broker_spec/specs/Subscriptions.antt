@@ -20,8 +20,8 @@ as_granted subscription = (subscription.filter, subscription.qos)
 
 -- the QoS at which a session's list has exactly this filter
 abbrev pub qos_asked : List ℕ → List GrantedFilter → Option QoS
-qos_asked filter (held ∷ more) =
-    if bytes_eq filter held.0 then Some held.1 else qos_asked filter more
+qos_asked filter (subscription ∷ more) =
+    if bytes_eq filter subscription.0 then Some subscription.1 else qos_asked filter more
 qos_asked filter [] = None
 
 -- the elements of the list that are granted
@@ -33,13 +33,15 @@ granted_of _ _ = []
 -- the subscriptions after a SUBSCRIBE or UNSUBSCRIBE of the client
 abbrev pub filters_after : Command → Mark → Client → List GrantedFilter → List GrantedFilter
 filters_after (commands.Packet connection (packets.Subscribe subscribe)) (Mark.Granted sender which)
-    client held =
+    client subscriptions =
     if same_client sender client
-    then with_subscriptions (map as_granted (granted_of subscribe.filters which)) held else held
+    then with_subscriptions (map as_granted (granted_of subscribe.filters which)) subscriptions
+    else subscriptions
 filters_after (commands.Packet connection (packets.Unsubscribe unsubscribe)) (Mark.Handled sender)
-    client held =
-    if same_client sender client then without_filters unsubscribe.filters held else held
-filters_after _ _ client held = held
+    client subscriptions =
+    if same_client sender client then without_filters unsubscribe.filters subscriptions
+    else subscriptions
+filters_after _ _ client subscriptions = subscriptions
 
 -- The subscriptions of a client's session: each filter with the QoS of its last granting, unless it
 -- was removed since; in the order in which they were first granted.

@@ -41,7 +41,7 @@ pub(crate) fn append_matching(
 {
     match filter.as_topic() {
         Ok(Some(topic)) => append_topic(topics, topic, entries),
-        // Where the text cannot be shared, the filter is held against all topics.
+        // Where the text cannot be shared, the filter is matched with all topics.
         Ok(None) | Err(_) => append_in_range(topics, filter, entries),
     }
 }

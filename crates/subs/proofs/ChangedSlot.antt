@@ -30,7 +30,7 @@ held_of r c o = option_and_then (λ node. clients_at node r c) o
 pub same_shape : (old new : Slab Node) → new.slots ≡ old.slots → shape_of new ≡ shape_of old
 same_shape old new e = λ i. record {
   child = λ k l. child_of l (gets k i);
-  held = λ k r c. held_of r c (gets k i);
+  asked = λ k r c. held_of r c (gets k i);
   used = λ k. is_some (gets k i);
 }
   where
@@ -41,7 +41,7 @@ module _ (old new : Slab Node) (n : ℕ) where
   pub opened : (node : Node) → get old n ≡ None → Updates old new n (Some node) → HoldsNothing node → AddsNode (shape_of old) (shape_of new) n
   opened node vacant updates empty = record {
     child = λ i k l. children k l i;
-    held = λ i k r c. rows k r c i;
+    asked = λ i k r c. rows k r c i;
     free = ap is_some vacant;
     used = λ k. ap is_some (get_after old new n (Some node) updates k) ∙ some (k == n) (get old k);
   }
@@ -57,23 +57,23 @@ module _ (old new : Slab Node) (n : ℕ) where
           by true e = empty.child l ∙ sym (ap (child_of l) (self old n k None vacant e))
           by false e = refl
 
-      rows : (k : ℕ) (r : Bool) (c : List ℕ) → (shape_of new).held k r c ≡ (shape_of old).held k r c
+      rows : (k : ℕ) (r : Bool) (c : List ℕ) → (shape_of new).asked k r c ≡ (shape_of old).asked k r c
       rows k r c = ap (held_of r c) (get_after old new n (Some node) updates k) ∙ by (k == n) refl
         where
           by : (v : Bool) → (k == n) ≡ v → held_of r c (cond v (Some node) (get old k)) ≡ held_of r c (get old k)
-          by true e = empty.held r c ∙ sym (ap (held_of r c) (self old n k None vacant e))
+          by true e = empty.asked r c ∙ sym (ap (held_of r c) (self old n k None vacant e))
           by false e = refl
 
   pub bare_of : (node : Node) → get new n ≡ Some node → HoldsNothing node → IsBare (shape_of new) n
   bare_of node is empty = record {
     child = λ l. ap (child_of l) is ∙ empty.child l;
-    held = λ r c. ap (held_of r c) is ∙ empty.held r c;
+    asked = λ r c. ap (held_of r c) is ∙ empty.asked r c;
   }
 
   pub closed : Updates old new n None → IsBare (shape_of old) n → FreesNode (shape_of old) (shape_of new) n
   closed updates bare = record {
     child = λ i k l. children k l i;
-    held = λ i k r c. rows k r c i;
+    asked = λ i k r c. rows k r c i;
     used = λ k. ap is_some (get_after old new n None updates k) ∙ some (k == n) (get old k);
   }
     where
@@ -88,11 +88,11 @@ module _ (old new : Slab Node) (n : ℕ) where
           by true e = sym (ap (λ x. child_of l (get old x)) (eqb-true k n e) ∙ bare.child l)
           by false e = refl
 
-      rows : (k : ℕ) (r : Bool) (c : List ℕ) → (shape_of new).held k r c ≡ (shape_of old).held k r c
+      rows : (k : ℕ) (r : Bool) (c : List ℕ) → (shape_of new).asked k r c ≡ (shape_of old).asked k r c
       rows k r c = ap (held_of r c) (get_after old new n None updates k) ∙ by (k == n) refl
         where
           by : (v : Bool) → (k == n) ≡ v → held_of r c (cond v None (get old k)) ≡ held_of r c (get old k)
-          by true e = sym (ap (λ x. held_of r c (get old x)) (eqb-true k n e) ∙ bare.held r c)
+          by true e = sym (ap (λ x. held_of r c (get old x)) (eqb-true k n e) ∙ bare.asked r c)
           by false e = refl
 
   module _ (was is : Node) (there : get old n ≡ Some was) (updates : Updates old new n (Some is)) where
@@ -110,7 +110,7 @@ module _ (old new : Slab Node) (n : ℕ) where
         by true e = (λ i. same i l) ∙ sym (ap (child_of l) (self old n k (Some was) there e))
         by false e = refl
 
-    rows_same : clients_at is ≡ clients_at was → (k : ℕ) (r : Bool) (c : List ℕ) → (shape_of new).held k r c ≡ (shape_of old).held k r c
+    rows_same : clients_at is ≡ clients_at was → (k : ℕ) (r : Bool) (c : List ℕ) → (shape_of new).asked k r c ≡ (shape_of old).asked k r c
     rows_same same k r c = ap (held_of r c) (get_after old new n (Some is) updates k) ∙ by (k == n) refl
       where
         by : (v : Bool) → (k == n) ≡ v → held_of r c (cond v (Some is) (get old k)) ≡ held_of r c (get old k)
@@ -120,14 +120,14 @@ module _ (old new : Slab Node) (n : ℕ) where
     pub stayed : child_in is ≡ child_in was → clients_at is ≡ clients_at was → shape_of new ≡ shape_of old
     stayed children rows = λ i. record {
       child = λ k l. children_same children k l i;
-      held = λ k r c. rows_same rows k r c i;
+      asked = λ k r c. rows_same rows k r c i;
       used = λ k. used_same k i;
     }
 
     pub linked : (level : List ℕ) (below : Option ℕ) → SetsChild (child_in was) (child_in is) level below → clients_at is ≡ clients_at was → Links (shape_of old) (shape_of new) n level below
     linked level below sets rows = record {
       child = children;
-      held = λ i k r c. rows_same rows k r c i;
+      asked = λ i k r c. rows_same rows k r c i;
       used = λ i k. used_same k i;
     }
       where
@@ -142,10 +142,10 @@ module _ (old new : Slab Node) (n : ℕ) where
     written rest client kept sets children = record {
       child = λ i k l. children_same children k l i;
       used = λ i k. used_same k i;
-      held = rows;
+      asked = rows;
     }
       where
-        rows : (k : ℕ) (r : Bool) (c : List ℕ) → (shape_of new).held k r c ≡ cond ((k == n) && (same_side rest r && bytes_eq client c)) kept ((shape_of old).held k r c)
+        rows : (k : ℕ) (r : Bool) (c : List ℕ) → (shape_of new).asked k r c ≡ cond ((k == n) && (same_side rest r && bytes_eq client c)) kept ((shape_of old).asked k r c)
         rows k r c = ap (held_of r c) (get_after old new n (Some is) updates k) ∙ by (k == n) refl
           where
             by : (v : Bool) → (k == n) ≡ v → held_of r c (cond v (Some is) (get old k)) ≡ cond (v && (same_side rest r && bytes_eq client c)) kept (held_of r c (get old k))
@@ -156,10 +156,10 @@ module _ (old new : Slab Node) (n : ℕ) where
     filled rest kept sets children = record {
       child = λ i k l. children_same children k l i;
       used = λ i k. used_same k i;
-      held = rows;
+      asked = rows;
     }
       where
-        rows : (k : ℕ) (r : Bool) (c : List ℕ) → (shape_of new).held k r c ≡ cond ((k == n) && same_side rest r) (kept c) ((shape_of old).held k r c)
+        rows : (k : ℕ) (r : Bool) (c : List ℕ) → (shape_of new).asked k r c ≡ cond ((k == n) && same_side rest r) (kept c) ((shape_of old).asked k r c)
         rows k r c = ap (held_of r c) (get_after old new n (Some is) updates k) ∙ by (k == n) refl
           where
             by : (v : Bool) → (k == n) ≡ v → held_of r c (cond v (Some is) (get old k)) ≡ cond (v && same_side rest r) (kept c) (held_of r c (get old k))

@@ -11,9 +11,9 @@ use Rattle.subs.specs.Changes.{Links, AddsNode, FreesNode, IsBare}
 use Rattle.subs.proofs.Ways.{rows_below}
 use Rattle.subs.proofs.Linked.{free_unreached, tree_opened, tree_linked, rows_linked, led_new}
 
--- rows if children and held rows are the same
-pub same_rows : (old new : Shape) (root : Option ℕ) → new.child ≡ old.child → new.held ≡ old.held → rows new root ≡ rows old root
-same_rows old new root child held = λ i. rows (record { child = child i; held = held i; used = old.used }) root
+-- rows if children and rows of nodes are the same
+pub same_rows : (old new : Shape) (root : Option ℕ) → new.child ≡ old.child → new.asked ≡ old.asked → rows new root ≡ rows old root
+same_rows old new root child asked = λ i. rows (record { child = child i; asked = asked i; used = old.used }) root
 
 -- a number that is reached is used once more are used
 pub still_used : (old mid : Shape) (root : Option ℕ) (at n : ℕ) → IsTree old.child old.used root → IsReachedNode old.child root at → AddsNode old mid n → mid.used at ≡ true
@@ -45,7 +45,7 @@ made old mid new root at n level tree reached none opens bare links =
     let used : mid.used n ≡ true = opens.used n ∙ first (n == n) (old.used n) (eq-eqb n n refl) in
     record {
       tree = tree_linked mid new root at n level opened links missing used bare unreached there;
-      rows = rows_linked mid new root at n level opened links missing used bare unreached there ∙ same_rows old mid root opens.child opens.held;
+      rows = rows_linked mid new root at n level opened links missing used bare unreached there ∙ same_rows old mid root opens.child opens.asked;
       leads = λ path h. led_new mid new root at n level opened links missing used bare unreached there path (way path h);
     }
   where
@@ -60,9 +60,9 @@ pub unmade :
     → IsTree new.child new.used root × (rows new root ≡ rows old root)
 unmade old mid last new root n tree opens same closes =
     let child : new.child ≡ old.child = closes.child ∙ ap (λ s. s.child) same ∙ opens.child in
-    let held : new.held ≡ old.held = closes.held ∙ ap (λ s. s.held) same ∙ opens.held in (
+    let asked : new.asked ≡ old.asked = closes.asked ∙ ap (λ s. s.asked) same ∙ opens.asked in (
       subst (λ (ch : Children). IsTree ch new.used root) (sym child) (record { one_way = tree.one_way; used = used }),
-      same_rows old new root child held,
+      same_rows old new root child asked,
     )
   where
     used : (p : Levels) (m : ℕ) → led old.child root p ≡ Some m → new.used m ≡ true
@@ -92,5 +92,5 @@ pub none_after : (s : Shape) (root : Option ℕ) (path : Levels) (at : ℕ) (l :
     → led s.child root path ≡ Some at → is_all l ls ≡ false → s.child at l ≡ None → rows s root (path ++ l ∷ ls) c ≡ None
 none_after s root path at l ls c way other none =
     rows_below s root path at l ls c way
-    ∙ ap (λ v. cond v (s.held at true c) (option_and_then (λ b. asked_below s b ls c) (s.child at l))) other
+    ∙ ap (λ v. cond v (s.asked at true c) (option_and_then (λ b. asked_below s b ls c) (s.child at l))) other
     ∙ ap (option_and_then (λ b. asked_below s b ls c)) none

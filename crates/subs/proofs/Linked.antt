@@ -4,7 +4,7 @@ use Rattle.std.specs.Prelude.{option_and_then}
 use Rattle.std.specs.Cmp.Lexicographic.{bytes_decides}
 use Rattle.std.proofs.lemmas.Bool.{true≢false, and_parts, eq-eqb, eqb-true}
 use Rattle.topics.specs.Text.{Levels}
-use Rattle.subs.specs.Shape.{Children, Held, Shape, rows}
+use Rattle.subs.specs.Shape.{Children, AskedAt, Shape, rows}
 use Rattle.subs.specs.Ways.{reach, led, slot, IsTree}
 use Rattle.subs.specs.Changes.{Links, AddsNode, IsBare}
 use Rattle.subs.proofs.Ways.{led_more, row_at, rows_are}
@@ -147,20 +147,20 @@ module _ (old new : Shape) (root : Option ℕ) (at n : ℕ) (level : List ℕ)
   rows_linked = λ i f c. go f c i
     where
       by : (f : Levels) (c : List ℕ) (o w : Option ℕ) → led new.child root (slot f).0 ≡ o → led old.child root (slot f).0 ≡ w
-          → row_at old.held o (slot f).1 c ≡ row_at old.held w (slot f).1 c
+          → row_at old.asked o (slot f).1 c ≡ row_at old.asked w (slot f).1 c
       by f c None None e h = refl
       by f c None (Some m) e h = let both : Some m ≡ None = sym (led_further (slot f).0 m h) ∙ e in absurd cc
       by f c (Some m) w e h =
-          elim (led_back (slot f).0 m e) as (λ _. old.held m (slot f).1 c ≡ row_at old.held w (slot f).1 c) [
-            | inl was ↦ ap (λ x. row_at old.held x (slot f).1 c) (sym was ∙ h)
+          elim (led_back (slot f).0 m e) as (λ _. old.asked m (slot f).1 c ≡ row_at old.asked w (slot f).1 c) [
+            | inl was ↦ ap (λ x. row_at old.asked x (slot f).1 c) (sym was ∙ h)
             | inr is ↦
                 let gone : None ≡ w = sym none ∙ sym (led_more old.child root is.0 level at is.1) ∙ ap (led old.child root) (sym is.2) ∙ h in
-                ap (λ x. old.held x (slot f).1 c) is.3 ∙ bare.held (slot f).1 c ∙ ap (λ x. row_at old.held x (slot f).1 c) gone
+                ap (λ x. old.asked x (slot f).1 c) is.3 ∙ bare.asked (slot f).1 c ∙ ap (λ x. row_at old.asked x (slot f).1 c) gone
           ]
 
       go : (f : Levels) (c : List ℕ) → rows new root f c ≡ rows old root f c
       go f c =
           rows_are new root f c
-          ∙ ap (λ (h : Held). row_at h (led new.child root (slot f).0) (slot f).1 c) links.held
+          ∙ ap (λ (h : AskedAt). row_at h (led new.child root (slot f).0) (slot f).1 c) links.asked
           ∙ by f c (led new.child root (slot f).0) (led old.child root (slot f).0) refl refl
           ∙ sym (rows_are old root f c)

@@ -10,8 +10,8 @@ use Rattle.subs.specs.Changes.{IsBare}
 use Rattle.subs.specs.Inside.{clients_at, child_in, shape_of}
 use Rattle.subs.specs.Walk.{greatest, found_at}
 
-pub held_is : (nodes : Slab Node) (n : ℕ) (node : Node) → get nodes n ≡ Some node → (r : Bool) → (shape_of nodes).held n r ≡ clients_at node r
-held_is nodes n node h r = λ i c. option_and_then (λ x. clients_at x r c) (h i)
+pub asked_is : (nodes : Slab Node) (n : ℕ) (node : Node) → get nodes n ≡ Some node → (r : Bool) → (shape_of nodes).asked n r ≡ clients_at node r
+asked_is nodes n node h r = λ i c. option_and_then (λ x. clients_at x r c) (h i)
 
 pub child_is : (nodes : Slab Node) (n : ℕ) (node : Node) → get nodes n ≡ Some node → (l : List ℕ) → (shape_of nodes).child n l ≡ child_in node l
 child_is nodes n node h l = ap (λ o. option_and_then (λ x. child_in x l) o) h
@@ -20,14 +20,14 @@ child_is nodes n node h l = ap (λ o. option_and_then (λ x. child_in x l) o) h
 pub bare_none : (nodes : Slab Node) (n : ℕ) → get nodes n ≡ None → IsBare (shape_of nodes) n
 bare_none nodes n h = record {
   child = λ l. ap (λ o. option_and_then (λ x. child_in x l) o) h;
-  held = λ r c. ap (λ o. option_and_then (λ x. clients_at x r c) o) h;
+  asked = λ r c. ap (λ o. option_and_then (λ x. clients_at x r c) o) h;
 }
 
 -- nothing is found at an empty node
 found_nothing : (s : Shape) (n : ℕ) (ls : Levels) (c : List ℕ) → IsBare s n → found_at s n ls c ≡ None
-found_nothing s n [] c bare = ap₂ greatest (bare.held true c) (bare.held false c)
+found_nothing s n [] c bare = ap₂ greatest (bare.asked true c) (bare.asked false c)
 found_nothing s n (l ∷ ls) c bare =
-    ap₂ greatest (bare.held true c)
+    ap₂ greatest (bare.asked true c)
     (ap₂ greatest
     (ap (λ o. option_and_then (λ b. found_at s b ls c) o) (bare.child l))
     (ap (λ o. option_and_then (λ b. found_at s b ls c) o) (bare.child (codes "+"))))

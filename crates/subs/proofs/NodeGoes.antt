@@ -3,7 +3,7 @@ use Rattle.std.proofs.Common.{◌≡◌, ◌≢◌, ℕ, List, [], ◌∷◌, �
 use Rattle.std.specs.Prelude.{option_and_then}
 use Rattle.std.proofs.lemmas.List.{append_assoc}
 use Rattle.topics.specs.Text.{Levels}
-use Rattle.subs.specs.Shape.{Children, Held, Shape, rows}
+use Rattle.subs.specs.Shape.{Children, AskedAt, Shape, rows}
 use Rattle.subs.specs.Ways.{reach, led, IsTree, IsReachedNode}
 use Rattle.subs.specs.Changes.{Links, FreesNode, IsBare}
 use Rattle.subs.proofs.Ways.{led_append, led_more}
@@ -63,7 +63,7 @@ ways_join old mid new root at n level some first second path after k way here =
 pub bare_after : (old mid : Shape) (at n : ℕ) (level : List ℕ) → IsBare old n → Links old mid at level None → IsBare mid n
 bare_after old mid at n level bare links = record {
   child = λ l. links.child n l ∙ either ((n == at) && bytes_eq level l) (old.child n l) (bare.child l);
-  held = λ r c. ap (λ (h : Held). h n r c) links.held ∙ bare.held r c;
+  asked = λ r c. ap (λ (h : AskedAt). h n r c) links.asked ∙ bare.asked r c;
 }
   where
     either : (v : Bool) (o : Option ℕ) → o ≡ None → cond v None o ≡ None

@@ -31,7 +31,7 @@ turned x y =
 
 -- a node of empty maps
 pub empty_node : (node : Node) → rows_as_list node.here ≡ [] → rows_as_list node.rest ≡ [] → node.named.entries ≡ [] → node.plus ≡ None → HoldsNothing node
-empty_node node here rest named plus = record { child = child; held = held }
+empty_node node here rest named plus = record { child = child; asked = asked }
   where
     child : (level : List ℕ) → child_in node level ≡ None
     child level = by (bytes_eq level (codes "+"))
@@ -40,9 +40,9 @@ empty_node node here rest named plus = record { child = child; held = held }
         by true = ap number_of plus
         by false = ap (λ es. number_of (lookup (is_at (λ key. slice_cmp nat_cmp level key.items)) es)) named
 
-    held : (r : Bool) (client : List ℕ) → clients_at node r client ≡ None
-    held true client = ap (λ es. lookup (is_at (slice_cmp nat_cmp client)) es) rest
-    held false client = ap (λ es. lookup (is_at (slice_cmp nat_cmp client)) es) here
+    asked : (r : Bool) (client : List ℕ) → clients_at node r client ≡ None
+    asked true client = ap (λ es. lookup (is_at (slice_cmp nat_cmp client)) es) rest
+    asked false client = ap (λ es. lookup (is_at (slice_cmp nat_cmp client)) es) here
 
 -- the child that is looked for
 pub plus_child : (node : Node) (level : List ℕ) → bytes_eq level (codes "+") ≡ true → number_of node.plus ≡ child_in node level

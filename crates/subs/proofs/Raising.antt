@@ -154,31 +154,31 @@ greatest_either (Some p) (Some r) q is =
 -- ---- whom a walk gives something
 
 module _ (s : Shape) where
-  pub rest_gives : (node : ℕ) (topic : Levels) → GivesSome (s.held node true) → GivesSome (found_at s node topic)
+  pub rest_gives : (node : ℕ) (topic : Levels) → GivesSome (s.asked node true) → GivesSome (found_at s node topic)
   rest_gives node [] h =
-      let r = greatest_left (s.held node true h.0) (s.held node false h.0) h.1 h.2 in
+      let r = greatest_left (s.asked node true h.0) (s.asked node false h.0) h.1 h.2 in
       (h.0, r.0, r.1)
   rest_gives node (level ∷ rest) h =
-      let r = greatest_left (s.held node true h.0)
+      let r = greatest_left (s.asked node true h.0)
       (greatest (found_below s node level rest h.0) (found_below s node (codes "+") rest h.0)) h.1 h.2 in
       (h.0, r.0, r.1)
 
-  pub here_gives : (node : ℕ) → GivesSome (s.held node false) → GivesSome (found_at s node [])
+  pub here_gives : (node : ℕ) → GivesSome (s.asked node false) → GivesSome (found_at s node [])
   here_gives node h =
-      let r = greatest_right (s.held node true h.0) (s.held node false h.0) h.1 h.2 in
+      let r = greatest_right (s.asked node true h.0) (s.asked node false h.0) h.1 h.2 in
       (h.0, r.0, r.1)
 
   pub below_gives : (node : ℕ) (level : List ℕ) (rest : Levels) → GivesSome (found_below s node level rest) → GivesSome (found_at s node (level ∷ rest))
   below_gives node level rest h =
       let one = greatest_left (found_below s node level rest h.0) (found_below s node (codes "+") rest h.0) h.1 h.2 in
-      let r = greatest_right (s.held node true h.0)
+      let r = greatest_right (s.asked node true h.0)
       (greatest (found_below s node level rest h.0) (found_below s node (codes "+") rest h.0)) one.0 one.1 in
       (h.0, r.0, r.1)
 
   pub plus_gives : (node : ℕ) (level : List ℕ) (rest : Levels) → GivesSome (found_below s node (codes "+") rest) → GivesSome (found_at s node (level ∷ rest))
   plus_gives node level rest h =
       let one = greatest_right (found_below s node level rest h.0) (found_below s node (codes "+") rest h.0) h.1 h.2 in
-      let r = greatest_right (s.held node true h.0)
+      let r = greatest_right (s.asked node true h.0)
       (greatest (found_below s node level rest h.0) (found_below s node (codes "+") rest h.0)) one.0 one.1 in
       (h.0, r.0, r.1)
 

@@ -34,8 +34,8 @@ module _ (old new : Shape) (n : ℕ) (opens : AddsNode old new n) (bare : IsBare
       either false = refl
 
       go : (f : Levels) (c : List ℕ) → asked_below new n f c ≡ None
-      go [] c = bare.held false c
+      go [] c = bare.asked false c
       go (l ∷ ls) c =
-          ap (λ o. cond (is_all l ls) o (option_and_then (λ b. asked_below new b ls c) (new.child n l))) (bare.held true c)
+          ap (λ o. cond (is_all l ls) o (option_and_then (λ b. asked_below new b ls c) (new.child n l))) (bare.asked true c)
           ∙ ap (λ o. cond (is_all l ls) None (option_and_then (λ b. asked_below new b ls c) o)) (bare.child l)
           ∙ either (is_all l ls)

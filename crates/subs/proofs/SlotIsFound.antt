@@ -15,11 +15,11 @@ use Rattle.subs.proofs.Written.{written}
 pub from_root : (child : Children) (root : Option ℕ) (at : ℕ) (p : Levels) → root ≡ Some at → led child root p ≡ reach child at p
 from_root child root at p is = ap (λ r. led child r p) is
 
-pub row_found : (s : Shape) (root : Option ℕ) (f : Levels) (at : ℕ) (c : List ℕ) → led s.child root (slot f).0 ≡ Some at → rows s root f c ≡ s.held at (slot f).1 c
-row_found s root f at c way = rows_are s root f c ∙ ap (λ o. row_at s.held o (slot f).1 c) way
+pub row_found : (s : Shape) (root : Option ℕ) (f : Levels) (at : ℕ) (c : List ℕ) → led s.child root (slot f).0 ≡ Some at → rows s root f c ≡ s.asked at (slot f).1 c
+row_found s root f at c way = rows_are s root f c ∙ ap (λ o. row_at s.asked o (slot f).1 c) way
 
 pub row_missing : (s : Shape) (root : Option ℕ) (f : Levels) (c : List ℕ) → led s.child root (slot f).0 ≡ None → rows s root f c ≡ None
-row_missing s root f c way = rows_are s root f c ∙ ap (λ o. row_at s.held o (slot f).1 c) way
+row_missing s root f c way = rows_are s root f c ∙ ap (λ o. row_at s.asked o (slot f).1 c) way
 
 -- nothing goes if there was nothing
 pub nothing_goes : (a : Asked) (filter : Levels) (client : List ℕ) → a filter client ≡ None → a ≡ asked_with a filter client None
@@ -44,5 +44,5 @@ pub written_at :
 written_at old new root f at rest client kept tree way side writes =
     written old new root f at client kept tree way (subst (λ (r : Bool). WritesRow old new at r client kept) side writes)
 
-pub row_of : (s : Shape) (root : Option ℕ) (f : Levels) (at : ℕ) (rest : Bool) (c : List ℕ) → led s.child root (slot f).0 ≡ Some at → rest ≡ (slot f).1 → rows s root f c ≡ s.held at rest c
-row_of s root f at rest c way side = row_found s root f at c way ∙ ap (λ r. s.held at r c) (sym side)
+pub row_of : (s : Shape) (root : Option ℕ) (f : Levels) (at : ℕ) (rest : Bool) (c : List ℕ) → led s.child root (slot f).0 ≡ Some at → rest ≡ (slot f).1 → rows s root f c ≡ s.asked at rest c
+row_of s root f at rest c way side = row_found s root f at c way ∙ ap (λ r. s.asked at r c) (sym side)

@@ -166,7 +166,7 @@ module _ (s : Shape) where
             | true ↦ λ e. absurd (true≢false (sym (wild 35 (l ∷ ls) is (hash_first l ls ((bytes_decides l (codes "#")).0 (and_parts _ _ e).0))) ∙ no.0))
             | false ↦ λ e.
                 let parts = matching l ls t ts e match in
-                let kept : option_and_then (λ b. asked_below s b ls client) (s.child root l) ≡ Some qos = sym (ap (λ b. cond b (s.held root true client) (option_and_then (λ b. asked_below s b ls client) (s.child root l))) e) ∙ h in
+                let kept : option_and_then (λ b. asked_below s b ls client) (s.child root l) ≡ Some qos = sym (ap (λ b. cond b (s.asked root true client) (option_and_then (λ b. asked_below s b ls client) (s.child root l))) e) ∙ h in
                 elim parts.0 as (λ _. (found : QoS) × (found_named s root (t ∷ ts) client ≡ Some found) × (qos_number qos ≤ qos_number found)) [
                   | inl plus ↦ absurd (true≢false (sym (wild 43 (l ∷ ls) is (plus_first l ls plus)) ∙ no.1))
                   | inr same ↦

@@ -4,7 +4,7 @@ use Rattle.std.specs.Prelude.{option_and_then}
 use Rattle.std.specs.Cmp.Lexicographic.{bytes_decides}
 use Rattle.std.proofs.lemmas.Bool.{true≢false, and_parts, eq-eqb, eqb-true}
 use Rattle.topics.specs.Text.{Levels}
-use Rattle.subs.specs.Shape.{Children, Held, Shape, rows}
+use Rattle.subs.specs.Shape.{Children, AskedAt, Shape, rows}
 use Rattle.subs.specs.Ways.{reach, led, slot, IsTree}
 use Rattle.subs.specs.Changes.{Links, FreesNode, IsBare}
 use Rattle.subs.proofs.Ways.{led_more, row_at, rows_are}
@@ -139,19 +139,19 @@ module _ (old mid new : Shape) (root : Option ℕ) (at n : ℕ) (level : List �
   rows_unlinked = λ i f c. go f c i
     where
       by : (f : Levels) (c : List ℕ) (o w : Option ℕ) → led mid.child root (slot f).0 ≡ o → led old.child root (slot f).0 ≡ w
-          → row_at old.held o (slot f).1 c ≡ row_at old.held w (slot f).1 c
-      by f c (Some m) w e h = ap (λ x. row_at old.held x (slot f).1 c) (sym (led_before (slot f).0 m e) ∙ h)
+          → row_at old.asked o (slot f).1 c ≡ row_at old.asked w (slot f).1 c
+      by f c (Some m) w e h = ap (λ x. row_at old.asked x (slot f).1 c) (sym (led_before (slot f).0 m e) ∙ h)
       by f c None None e h = refl
       by f c None (Some m) e h =
-          elim (led_after (slot f).0 m h) as (λ _. None ≡ old.held m (slot f).1 c) [
+          elim (led_after (slot f).0 m h) as (λ _. None ≡ old.asked m (slot f).1 c) [
             | inl left ↦ let both : Some m ≡ None = sym left ∙ e in absurd cc
-            | inr is ↦ sym (ap (λ x. old.held x (slot f).1 c) is ∙ bare.held (slot f).1 c)
+            | inr is ↦ sym (ap (λ x. old.asked x (slot f).1 c) is ∙ bare.asked (slot f).1 c)
           ]
 
       go : (f : Levels) (c : List ℕ) → rows new root f c ≡ rows old root f c
       go f c =
           rows_are new root f c
-          ∙ ap (λ (h : Held). row_at h (led new.child root (slot f).0) (slot f).1 c) (closes.held ∙ links.held)
-          ∙ ap (λ (ch : Children). row_at old.held (led ch root (slot f).0) (slot f).1 c) same_child
+          ∙ ap (λ (h : AskedAt). row_at h (led new.child root (slot f).0) (slot f).1 c) (closes.asked ∙ links.asked)
+          ∙ ap (λ (ch : Children). row_at old.asked (led ch root (slot f).0) (slot f).1 c) same_child
           ∙ by f c (led mid.child root (slot f).0) (led old.child root (slot f).0) refl refl
           ∙ sym (rows_are old root f c)

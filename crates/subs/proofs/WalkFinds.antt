@@ -68,7 +68,7 @@ module _ (s : Shape) where
   Origin node topic client qos =
       (filter : Levels) × (asked_below s node filter client ≡ Some qos) × (matches_rest filter topic ≡ true) × AreClean filter
 
-  from_rest : (node : ℕ) (topic : Levels) (client : List ℕ) (qos : QoS) → s.held node true client ≡ Some qos → Origin node topic client qos
+  from_rest : (node : ℕ) (topic : Levels) (client : List ℕ) (qos : QoS) → s.asked node true client ≡ Some qos → Origin node topic client qos
   from_rest node [] client qos is = (codes "#" ∷ [], is, refl, clean_hash)
   from_rest node (t ∷ ts) client qos is = (codes "#" ∷ [], is, refl, clean_hash)
 
@@ -88,7 +88,7 @@ module _ (s : Shape) where
           let r = after m is in
           let all : is_all level r.0 ≡ false = not_all level r.0 (no_hash level plain) in (
             r.0,
-            ap (λ b. cond b (s.held node true client) (option_and_then (λ b. asked_below s b r.0 client) (s.child node level))) all
+            ap (λ b. cond b (s.asked node true client) (option_and_then (λ b. asked_below s b r.0 client) (s.child node level))) all
                 ∙ ap (option_and_then (λ b. asked_below s b r.0 client)) e ∙ r.1,
             rw (no_hash level plain, no_plus level plain, same level) r.2,
             (clean, r.3),
@@ -109,14 +109,14 @@ module _ (s : Shape) where
 
   pub found_origin : (node : ℕ) (topic : Levels) (client : List ℕ) (qos : QoS) → bare topic ≡ true → AreClean topic → found_at s node topic client ≡ Some qos → Origin node topic client qos
   found_origin node [] client qos plain clean found =
-      elim (greatest_either (s.held node true client) (s.held node false client) qos found) as (λ _. Origin node [] client qos) [
+      elim (greatest_either (s.asked node true client) (s.asked node false client) qos found) as (λ _. Origin node [] client qos) [
         | inl is ↦ from_rest node [] client qos is
         | inr is ↦ ([], is, refl, tt)
       ]
   found_origin node (t ∷ ts) client qos plain clean found =
       let both = and_parts (has_no_wildcard t) (bare ts) plain in
       let after : (below : ℕ) → found_at s below ts client ≡ Some qos → Origin below ts client qos = λ below is. found_origin below ts client qos both.1 clean.1 is in
-      elim (greatest_either (s.held node true client) (greatest (found_below s node t ts client) (found_below s node (codes "+") ts client)) qos found) as (λ _. Origin node (t ∷ ts) client qos) [
+      elim (greatest_either (s.asked node true client) (greatest (found_below s node t ts client) (found_below s node (codes "+") ts client)) qos found) as (λ _. Origin node (t ∷ ts) client qos) [
         | inl is ↦ from_rest node (t ∷ ts) client qos is
         | inr is ↦
             elim (greatest_either (found_below s node t ts client) (found_below s node (codes "+") ts client) qos is) as (λ _. Origin node (t ∷ ts) client qos) [
@@ -143,7 +143,7 @@ module _ (s : Shape) where
       go None e is = absurd cc
       go (Some m) e is = let r = after m is in (r.0, ap (option_and_then (λ b. found_at s b topic client)) e ∙ r.1, r.2)
 
-  rest_reached : (node : ℕ) (topic : Levels) (client : List ℕ) (qos : QoS) → s.held node true client ≡ Some qos → Reaches node topic client qos
+  rest_reached : (node : ℕ) (topic : Levels) (client : List ℕ) (qos : QoS) → s.asked node true client ≡ Some qos → Reaches node topic client qos
   rest_reached node [] client qos is = greatest_left _ _ qos is
   rest_reached node (t ∷ ts) client qos is = greatest_left _ _ qos is
 
@@ -152,9 +152,9 @@ module _ (s : Shape) where
   found_reaches node [] (t ∷ ts) client qos is match = absurd cc
   found_reaches node (level ∷ filter) [] client qos is match =
       rest_reached node [] client qos
-      (sym (ap (λ b. cond b (s.held node true client) (option_and_then (λ b. asked_below s b filter client) (s.child node level))) match) ∙ is)
+      (sym (ap (λ b. cond b (s.asked node true client) (option_and_then (λ b. asked_below s b filter client) (s.child node level))) match) ∙ is)
   found_reaches node (level ∷ filter) (t ∷ ts) client qos is match =
-      elim (is_all level filter) as (λ v. is_all level filter ≡ v → cond v (s.held node true client) (option_and_then (λ b. asked_below s b filter client) (s.child node level)) ≡ Some qos → Reaches node (t ∷ ts) client qos) [
+      elim (is_all level filter) as (λ v. is_all level filter ≡ v → cond v (s.asked node true client) (option_and_then (λ b. asked_below s b filter client) (s.child node level)) ≡ Some qos → Reaches node (t ∷ ts) client qos) [
         | true ↦ λ e k. rest_reached node (t ∷ ts) client qos k
         | false ↦ λ e k.
             let parts = matching level filter t ts e match in
@@ -164,7 +164,7 @@ module _ (s : Shape) where
               | inl plus ↦ greatest_right (found_below s node t ts client) (found_below s node (codes "+") ts client) below.0 (ap (λ l. found_below s node l ts client) (sym plus) ∙ below.1)
               | inr named ↦ greatest_left (found_below s node t ts client) (found_below s node (codes "+") ts client) below.0 (ap (λ l. found_below s node l ts client) (sym named) ∙ below.1)
             ] in
-            let outer = greatest_right (s.held node true client) (greatest (found_below s node t ts client) (found_below s node (codes "+") ts client)) inner.0 inner.1 in
+            let outer = greatest_right (s.asked node true client) (greatest (found_below s node t ts client) (found_below s node (codes "+") ts client)) inner.0 inner.1 in
             let first = below.2 in
             let second = inner.2 in
             let third = outer.2 in

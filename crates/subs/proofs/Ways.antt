@@ -6,7 +6,7 @@ use Rattle.std.proofs.lemmas.Bool.{true≢false, and_parts}
 use Rattle.topics.specs.Text.{Levels}
 use Rattle.topics.specs.Matching.{is_all}
 use Rattle.packet_base.specs.declared.qos.QoS.{QoS}
-use Rattle.subs.specs.Shape.{Children, Held, Shape, asked_below, rows}
+use Rattle.subs.specs.Shape.{Children, AskedAt, Shape, asked_below, rows}
 use Rattle.subs.specs.Ways.{reach, led, slot}
 use Rattle.subs.specs.Inside.{same_levels}
 
@@ -75,26 +75,26 @@ one_filter f g way side = sym (filter_is f) ∙ ap₂ filter_of way side ∙ fil
 
 -- ---- the rows of a filter are at its slot
 
-abbrev pub row_at : Held → Option ℕ → Bool → List ℕ → Option QoS
-row_at held node rest client = option_and_then (λ at. held at rest client) node
+abbrev pub row_at : AskedAt → Option ℕ → Bool → List ℕ → Option QoS
+row_at asked node rest client = option_and_then (λ at. asked at rest client) node
 
-pub asked_is : (s : Shape) (at : ℕ) (f : Levels) (c : List ℕ) → asked_below s at f c ≡ row_at s.held (reach s.child at (slot f).0) (slot f).1 c
+pub asked_is : (s : Shape) (at : ℕ) (f : Levels) (c : List ℕ) → asked_below s at f c ≡ row_at s.asked (reach s.child at (slot f).0) (slot f).1 c
 asked_is s at [] c = refl
 asked_is s at (l ∷ ls) c = by (is_all l ls) (go (s.child at l) (λ b. asked_is s b ls c))
   where
-    go : (o : Option ℕ) → ((b : ℕ) → asked_below s b ls c ≡ row_at s.held (reach s.child b (slot ls).0) (slot ls).1 c)
-        → option_and_then (λ b. asked_below s b ls c) o ≡ row_at s.held (option_and_then (λ b. reach s.child b (slot ls).0) o) (slot ls).1 c
+    go : (o : Option ℕ) → ((b : ℕ) → asked_below s b ls c ≡ row_at s.asked (reach s.child b (slot ls).0) (slot ls).1 c)
+        → option_and_then (λ b. asked_below s b ls c) o ≡ row_at s.asked (option_and_then (λ b. reach s.child b (slot ls).0) o) (slot ls).1 c
     go None more = refl
     go (Some b) more = more b
 
     by : (v : Bool)
-        → option_and_then (λ b. asked_below s b ls c) (s.child at l) ≡ row_at s.held (reach s.child at (l ∷ (slot ls).0)) (slot ls).1 c
-        → cond v (s.held at true c) (option_and_then (λ b. asked_below s b ls c) (s.child at l))
-        ≡ (let p = cond {A = Levels × Bool} v ([], true) (l ∷ (slot ls).0, (slot ls).1) in row_at s.held (reach s.child at p.0) p.1 c)
+        → option_and_then (λ b. asked_below s b ls c) (s.child at l) ≡ row_at s.asked (reach s.child at (l ∷ (slot ls).0)) (slot ls).1 c
+        → cond v (s.asked at true c) (option_and_then (λ b. asked_below s b ls c) (s.child at l))
+        ≡ (let p = cond {A = Levels × Bool} v ([], true) (l ∷ (slot ls).0, (slot ls).1) in row_at s.asked (reach s.child at p.0) p.1 c)
     by true h = refl
     by false h = h
 
-pub rows_are : (s : Shape) (root : Option ℕ) (f : Levels) (c : List ℕ) → rows s root f c ≡ row_at s.held (led s.child root (slot f).0) (slot f).1 c
+pub rows_are : (s : Shape) (root : Option ℕ) (f : Levels) (c : List ℕ) → rows s root f c ≡ row_at s.asked (led s.child root (slot f).0) (slot f).1 c
 rows_are s None f c = refl
 rows_are s (Some at) f c = asked_is s at f c
 
@@ -115,7 +115,7 @@ rows_below s (Some r) p at l ls c h = go p r h
     go : (q : Levels) (k : ℕ) → reach s.child k q ≡ Some at → asked_below s k (q ++ l ∷ ls) c ≡ asked_below s at (l ∷ ls) c
     go [] k h = let is : k ≡ at = cc in ap (λ n. asked_below s n (l ∷ ls) c) is
     go (x ∷ q) k h =
-        ap (λ b. cond b (s.held k true c) (option_and_then (λ n. asked_below s n (q ++ l ∷ ls) c) (s.child k x))) (front x q)
+        ap (λ b. cond b (s.asked k true c) (option_and_then (λ n. asked_below s n (q ++ l ∷ ls) c) (s.child k x))) (front x q)
         ∙ on (s.child k x) (λ n e. go q n e) h
       where
         on : (o : Option ℕ) → ((n : ℕ) → reach s.child n q ≡ Some at → asked_below s n (q ++ l ∷ ls) c ≡ asked_below s at (l ∷ ls) c)

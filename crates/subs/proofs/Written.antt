@@ -77,17 +77,17 @@ pub written :
 written old new root f at client kept tree way writes = λ i g c. go g c i
   where
     by : (g : Levels) (c : List ℕ) (o : Option ℕ) → led old.child root (slot g).0 ≡ o
-        → row_at new.held o (slot g).1 c ≡ cond (same_levels f g && bytes_eq client c) kept (row_at old.held o (slot g).1 c)
+        → row_at new.asked o (slot g).1 c ≡ cond (same_levels f g && bytes_eq client c) kept (row_at old.asked o (slot g).1 c)
     by g c None e = ap (λ b. cond (b && bytes_eq client c) kept None) (sym (no_slot old root f at way g e))
     by g c (Some k) e =
-        writes.held k (slot g).1 c
-        ∙ ap (λ b. cond b kept (old.held k (slot g).1 c))
+        writes.asked k (slot g).1 c
+        ∙ ap (λ b. cond b kept (old.asked k (slot g).1 c))
         (grouped (k == at) (same_side (slot f).1 (slot g).1) (bytes_eq client c) ∙ ap (λ b. b && bytes_eq client c) (one_slot old root f at tree way g k e))
 
     go : (g : Levels) (c : List ℕ) → rows new root g c ≡ asked_with (rows old root) f client kept g c
     go g c =
         rows_are new root g c
-        ∙ ap (λ (ch : Children). row_at new.held (led ch root (slot g).0) (slot g).1 c) writes.child
+        ∙ ap (λ (ch : Children). row_at new.asked (led ch root (slot g).0) (slot g).1 c) writes.child
         ∙ by g c (led old.child root (slot g).0) refl
         ∙ ap (λ q. cond (same_levels f g && bytes_eq client c) kept q) (sym (rows_are old root g c))
 
@@ -102,17 +102,17 @@ pub filled :
 filled old new root f at rest kept tree way side fills = λ i g c. go g c i
   where
     by : (g : Levels) (c : List ℕ) (o : Option ℕ) → led old.child root (slot g).0 ≡ o
-        → row_at new.held o (slot g).1 c ≡ cond (same_levels f g) (kept c) (row_at old.held o (slot g).1 c)
+        → row_at new.asked o (slot g).1 c ≡ cond (same_levels f g) (kept c) (row_at old.asked o (slot g).1 c)
     by g c None e = ap (λ b. cond b (kept c) None) (sym (no_slot old root f at way g e))
     by g c (Some k) e =
-        fills.held k (slot g).1 c
-        ∙ ap (λ r. cond ((k == at) && same_side r (slot g).1) (kept c) (old.held k (slot g).1 c)) side
-        ∙ ap (λ b. cond b (kept c) (old.held k (slot g).1 c)) (one_slot old root f at tree way g k e)
+        fills.asked k (slot g).1 c
+        ∙ ap (λ r. cond ((k == at) && same_side r (slot g).1) (kept c) (old.asked k (slot g).1 c)) side
+        ∙ ap (λ b. cond b (kept c) (old.asked k (slot g).1 c)) (one_slot old root f at tree way g k e)
 
     go : (g : Levels) (c : List ℕ) → rows new root g c ≡ with_rows (rows old root) f kept g c
     go g c =
         rows_are new root g c
-        ∙ ap (λ (ch : Children). row_at new.held (led ch root (slot g).0) (slot g).1 c) fills.child
+        ∙ ap (λ (ch : Children). row_at new.asked (led ch root (slot g).0) (slot g).1 c) fills.child
         ∙ by g c (led old.child root (slot g).0) refl
         ∙ ap (λ q. cond (same_levels f g) (kept c) q) (sym (rows_are old root g c))
 

@@ -40,44 +40,44 @@ pub record WritesRow (old new : Shape) (at : ℕ) (rest : Bool) (client : List �
     (kept : Option QoS) : Type 0 where
   pub child : new.child ≡ old.child
   pub used : new.used ≡ old.used
-  pub held :
+  pub asked :
       (node : ℕ) (side : Bool) (other : List ℕ)
-      → new.held node side other
+      → new.asked node side other
       ≡ (if (node == at) && (same_side rest side && bytes_eq client other) then kept
-      else old.held node side other)
+      else old.asked node side other)
 
 -- the rows on one side of a node are replaced
 pub record Fills (old new : Shape) (at : ℕ) (rest : Bool)
     (kept : List ℕ → Option QoS) : Type 0 where
   pub child : new.child ≡ old.child
   pub used : new.used ≡ old.used
-  pub held :
+  pub asked :
       (node : ℕ) (side : Bool) (client : List ℕ)
-      → new.held node side client
-      ≡ (if (node == at) && same_side rest side then kept client else old.held node side client)
+      → new.asked node side client
+      ≡ (if (node == at) && same_side rest side then kept client else old.asked node side client)
 
 -- a child of one node is changed
 pub record Links (old new : Shape) (at : ℕ) (level : List ℕ) (below : Option ℕ) : Type 0 where
   pub child : (node : ℕ) (other : List ℕ)
       → new.child node other
       ≡ (if (node == at) && bytes_eq level other then below else old.child node other)
-  pub held : new.held ≡ old.held
+  pub asked : new.asked ≡ old.asked
   pub used : new.used ≡ old.used
 
 -- a number that was not used names an empty node
 pub record AddsNode (old new : Shape) (at : ℕ) : Type 0 where
   pub child : new.child ≡ old.child
-  pub held : new.held ≡ old.held
+  pub asked : new.asked ≡ old.asked
   pub free : old.used at ≡ false
   pub used : (node : ℕ) → new.used node ≡ ((node == at) || old.used node)
 
 -- the node holds nothing
 pub record IsBare (shape : Shape) (at : ℕ) : Type 0 where
   pub child : (level : List ℕ) → shape.child at level ≡ None
-  pub held : (side : Bool) (client : List ℕ) → shape.held at side client ≡ None
+  pub asked : (side : Bool) (client : List ℕ) → shape.asked at side client ≡ None
 
 -- the number of an empty node is free
 pub record FreesNode (old new : Shape) (at : ℕ) : Type 0 where
   pub child : new.child ≡ old.child
-  pub held : new.held ≡ old.held
+  pub asked : new.asked ≡ old.asked
   pub used : (node : ℕ) → new.used node ≡ (not (node == at) && old.used node)

@@ -40,8 +40,8 @@ all_rows_put (group ∷ groups) content =
 -- these filters of a client are set, one by one
 abbrev pub filters_set : List ℕ → Filters → Content → Content
 filters_set client [] content = content
-filters_set client (held ∷ more) content =
-    filters_set client more (with_row content client held.0 held.1)
+filters_set client (subscription ∷ more) content =
+    filters_set client more (with_row content client subscription.0 subscription.1)
 
 -- the filters of all clients are set
 abbrev pub clients_set : Clients → Content → Content

@@ -30,7 +30,7 @@ abbrev pub shape_of : slab.Slab Node → Shape
 shape_of nodes =
     record {
       child = λ at level. option_and_then (λ node. child_in node level) (slab.get nodes at);
-      held =
+      asked =
           λ at rest client. option_and_then (λ node. clients_at node rest client)
           (slab.get nodes at);
       used = λ at. is_some (slab.get nodes at);
@@ -71,4 +71,4 @@ cleared client filters before other_client filter =
 -- the node has no row and no child
 pub record HoldsNothing (node : Node) : Type 0 where
   pub child : (level : List ℕ) → child_in node level ≡ None
-  pub held : (rest : Bool) (client : List ℕ) → clients_at node rest client ≡ None
+  pub asked : (rest : Bool) (client : List ℕ) → clients_at node rest client ≡ None

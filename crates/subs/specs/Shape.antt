@@ -11,20 +11,20 @@ abbrev pub Children : Type 0
 Children = ℕ → List ℕ → Option ℕ
 
 -- at a node the clients of the filter that ends there, and (at true) of the one with `#` after it
-abbrev pub Held : Type 0
-Held = ℕ → Bool → List ℕ → Option QoS
+abbrev pub AskedAt : Type 0
+AskedAt = ℕ → Bool → List ℕ → Option QoS
 
 -- nodes as functions of their numbers
 pub record Shape : Type 0 where
   pub child : Children
-  pub held : Held
+  pub asked : AskedAt
   pub used : ℕ → Bool
 
 -- the QoS at which the client asked for the filter of these levels, below a node
 abbrev pub asked_below : Shape → ℕ → Levels → List ℕ → Option QoS
-asked_below shape at [] client = shape.held at false client
+asked_below shape at [] client = shape.asked at false client
 asked_below shape at (level ∷ rest) client =
-    if is_all level rest then shape.held at true client
+    if is_all level rest then shape.asked at true client
     else option_and_then (λ below. asked_below shape below rest client) (shape.child at level)
 
 -- the QoS at which the client asked for the filter of these levels, below the root, if there is one

@@ -30,9 +30,9 @@ GivesSome given = (client : List ℕ) × (qos : QoS) × (given client ≡ Some q
 
 -- the greatest QoS of the client's filters below a node that match these levels of a topic
 abbrev pub found_at : Shape → ℕ → Levels → List ℕ → Option QoS
-found_at shape at [] client = greatest (shape.held at true client) (shape.held at false client)
+found_at shape at [] client = greatest (shape.asked at true client) (shape.asked at false client)
 found_at shape at (level ∷ rest) client =
-    greatest (shape.held at true client)
+    greatest (shape.asked at true client)
     (greatest
     (option_and_then (λ below. found_at shape below rest client) (shape.child at level))
     (option_and_then (λ below. found_at shape below rest client) (shape.child at (codes "+"))))

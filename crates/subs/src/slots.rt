@@ -104,7 +104,7 @@ pub(crate) fn set_at(
         (shape_of nodes.new) slot.node.number slot.rest client.now (Some qos)) }
     ensures err { OnErr result (shape_of nodes.new ≡ shape_of nodes.old) }
     ensures absent { OnErr result
-        ((shape_of nodes.old).held slot.node.number slot.rest client.now ≡ None) }
+        ((shape_of nodes.old).asked slot.node.number slot.rest client.now ≡ None) }
 {
     match nodes.get_mut(slot.node.number) {
         Some(node) => node.set(alloc, slot.rest, client, qos),
@@ -127,7 +127,7 @@ pub(crate) fn put_at(nodes: &mut Slab<Node>, slot: Slot, rows: Rows)
 pub(crate) fn clear_at(nodes: &mut Slab<Node>, slot: Slot, client: &ClientId) -> bool
     requires { (shape_of nodes.old).used slot.node.number ≡ true }
     ensures found { result
-        ≡ is_some ((shape_of nodes.old).held slot.node.number slot.rest client.now) }
+        ≡ is_some ((shape_of nodes.old).asked slot.node.number slot.rest client.now) }
     ensures after { WritesRow (shape_of nodes.old)
         (shape_of nodes.new) slot.node.number slot.rest client.now None }
 {

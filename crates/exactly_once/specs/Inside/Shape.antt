@@ -1,4 +1,4 @@
--- What every story keeps besides its two handshakes, and what is left to show for each event.
+-- What every story keeps besides its two handshakes, and when it is sound.
 use Rattle.std.specs.Prelude.{◌≡◌, ◌≤◌, ◌⊎◌, Bool, true, false, List, [], ◌∷◌, Option, Some, None}
 use Rattle.packet.specs.declared.connack.Connack.TheVariants as connacks
 use Rattle.packet.specs.declared.packet.Packet.{Packet}

@@ -1,4 +1,4 @@
--- The map is made of all that was held.
+-- The map is made of all that is granted.
 use Rattle.std.proofs.Common.{rules, ◌∙◌, ap, None}
 use Rattle.std.specs.BTreeMap.{IsFromIterResult}
 use Rattle.std.specs.Map.{update_all}
@@ -12,8 +12,8 @@ use Rattle.broker.proofs.thawing.filters_of.Goals as goal
 pub returns : goal.returns
 returns c =
     let ran = c.in_ok-filters.ensures.ran in
-    let made = made_of (λ held. IsFromIterResult (slice_cmp nat_cmp) held c.in_ok-filters.filters) ran.1 ran.3
-    (YieldsList-from_vec c.in_ok-held.held.items ran.2.0 (search rules)) ran.4 in
+    let made = made_of (λ granted. IsFromIterResult (slice_cmp nat_cmp) granted c.in_ok-filters.filters) ran.1 ran.3
+    (YieldsList-from_vec c.in_ok-granted.granted.items ran.2.0 (search rules)) ran.4 in
     (λ i f. made.0 f i)
-    ∙ ap (λ e. update_all e (λ _. None) c.in_ok-held.held.items) same_tests
-    ∙ ap granted_last c.in_ok-held.ensures
+    ∙ ap (λ e. update_all e (λ _. None) c.in_ok-granted.granted.items) same_tests
+    ∙ ap granted_last c.in_ok-granted.ensures

@@ -2,8 +2,8 @@
 use Rattle.std.proofs.Common.{◌≡◌}
 use Rattle.broker_tables.specs.subs_base.Content.{no_subscriptions}
 use Rattle.broker_tables.specs.subs_base.ListIndex.{content_of}
-use Rattle.broker.specs.Inside.{all_held}
+use Rattle.broker.specs.Inside.{all_put}
 use Rattle.broker.proofs.thawing.index_of.Given as goal
 
 abbrev pub invariant-loop-client : goal.invariant-loop-client
-invariant-loop-client l = all_held l.client-iterator (content_of l.list) ≡ all_held l.sessions.entries no_subscriptions
+invariant-loop-client l = all_put l.client-iterator (content_of l.list) ≡ all_put l.sessions.entries no_subscriptions

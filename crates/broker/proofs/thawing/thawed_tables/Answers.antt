@@ -1,7 +1,7 @@
 use Rattle.std.proofs.Common.{◌∙◌, arith}
 use Rattle.std.proofs.lemmas.Result.{IfOk-at_ok}
 use Rattle.broker_form.specs.FormLaws.{IsUsualState}
-use Rattle.broker.proofs.HeldAnew.{held_anew}
+use Rattle.broker.proofs.PutAnew.{put_anew}
 use Rattle.broker.proofs.thawing.thawed_tables.Goals as goal
 
 pub returns-clause-tied : goal.returns-clause-tied
@@ -11,5 +11,5 @@ returns-clause-tied c =
     record {
       owners = c.in_ok-window.ensures.owned;
       index = c.in_ok-index.ensures
-          ∙ held_anew c.in_ok-window.rows.sessions.entries usual.0.sound.by_client usual.0.sound.sessions;
+          ∙ put_anew c.in_ok-window.rows.sessions.entries usual.0.sound.by_client usual.0.sound.sessions;
     }

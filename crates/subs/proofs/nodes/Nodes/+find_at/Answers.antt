@@ -7,7 +7,7 @@ use Rattle.subs.specs.Inside.{shape_of}
 use Rattle.subs.specs.Walk.{greatest, Raises, GivesSome, found_at, found_after}
 use Rattle.subs.proofs.TextCut.{path}
 use Rattle.subs.proofs.NodeSets.{number_of, plus_child}
-use Rattle.subs.proofs.NodeAt.{held_is, child_is, bare_none, nothing_raised}
+use Rattle.subs.proofs.NodeAt.{asked_is, child_is, bare_none, nothing_raised}
 use Rattle.subs.proofs.ContentOfTree.{anyhow}
 use Rattle.subs.proofs.Raising.{both_raise, then_ok, rest_gives, here_gives, below_gives, plus_gives}
 use Rattle.subs.proofs.nodes.Nodes.+find_at.Goals as goal
@@ -19,31 +19,31 @@ find_at-returns-in_default-clause-ok t c client =
 
 pub find_at-returns-in_err-raise_all-clause-some : goal.find_at-returns-in_err-raise_all-clause-some
 find_at-returns-in_err-raise_all-clause-some t c =
-    let held = held_is c.args.self.now.slab c.args.at.number c.in-Some.node.now (sym c.in-Some.ensures) true in
+    let asked = asked_is c.args.self.now.slab c.args.at.number c.in-Some.node.now (sym c.in-Some.ensures) true in
     anyhow c.from_residual.result
     (rest_gives (shape_of c.args.self.now.slab) c.args.at.number (levels_of c.args.topic)
-    (subst (λ (g : List ℕ → Option QoS). GivesSome g) (sym held) c.in_err-raise_all.ensures.some))
+    (subst (λ (g : List ℕ → Option QoS). GivesSome g) (sym asked) c.in_err-raise_all.ensures.some))
 
 pub find_at-returns-in_default-topic-clause-ok : goal.find_at-returns-in_default-topic-clause-ok
 find_at-returns-in_default-topic-clause-ok t c =
     let s = shape_of c.args.self.now.slab in
-    let held = held_is c.args.self.now.slab c.args.at.number c.in-Some.node.now (sym c.in-Some.ensures) in
+    let asked = asked_is c.args.self.now.slab c.args.at.number c.in-Some.node.now (sym c.in-Some.ensures) in
     then_ok c.raise_all-in_default-topic.result
     (λ h.
     subst (λ (f : Levels). Raises c.args.found.now c.raise_all-in_default-topic.new.found (found_at s c.args.at.number f)) (sym (ap levels_of c.in_default-topic.is))
-    (both_raise c.args.found.now c.raise_all.new.found c.raise_all-in_default-topic.new.found (s.held c.args.at.number true) (s.held c.args.at.number false)
-    (subst (λ (g : List ℕ → Option QoS). Raises c.args.found.now c.raise_all.new.found g) (sym (held true)) c.in_ok-raise_all.ensures.ok)
-    (subst (λ (g : List ℕ → Option QoS). Raises c.raise_all.new.found c.raise_all-in_default-topic.new.found g) (sym (held false)) h)))
+    (both_raise c.args.found.now c.raise_all.new.found c.raise_all-in_default-topic.new.found (s.asked c.args.at.number true) (s.asked c.args.at.number false)
+    (subst (λ (g : List ℕ → Option QoS). Raises c.args.found.now c.raise_all.new.found g) (sym (asked true)) c.in_ok-raise_all.ensures.ok)
+    (subst (λ (g : List ℕ → Option QoS). Raises c.raise_all.new.found c.raise_all-in_default-topic.new.found g) (sym (asked false)) h)))
     c.raise_all-in_default-topic.ensures.ok
 
 pub find_at-returns-in_default-topic-clause-some : goal.find_at-returns-in_default-topic-clause-some
 find_at-returns-in_default-topic-clause-some t c =
     let s = shape_of c.args.self.now.slab in
-    let held = held_is c.args.self.now.slab c.args.at.number c.in-Some.node.now (sym c.in-Some.ensures) false in
+    let asked = asked_is c.args.self.now.slab c.args.at.number c.in-Some.node.now (sym c.in-Some.ensures) false in
     on_err c.raise_all-in_default-topic.result
     (λ h.
     subst (λ (f : Levels). GivesSome (found_at s c.args.at.number f)) (sym (ap levels_of c.in_default-topic.is))
-    (here_gives s c.args.at.number (subst (λ (g : List ℕ → Option QoS). GivesSome g) (sym held) h)))
+    (here_gives s c.args.at.number (subst (λ (g : List ℕ → Option QoS). GivesSome g) (sym asked) h)))
     c.raise_all-in_default-topic.ensures.some
 
 pub find_at-returns-in_err-find_after-clause-some : goal.find_at-returns-in_err-find_after-clause-some
@@ -61,7 +61,7 @@ pub find_at-returns-clause-ok : goal.find_at-returns-clause-ok
 find_at-returns-clause-ok t c =
     let s = shape_of c.args.self.now.slab in
     let there = sym c.in-Some.ensures in
-    let held = held_is c.args.self.now.slab c.args.at.number c.in-Some.node.now there true in
+    let asked = asked_is c.args.self.now.slab c.args.at.number c.in-Some.node.now there true in
     let named : s.child c.args.at.number c.split_level.result.0.now ≡ number_of c.child.result =
     child_is c.args.self.now.slab c.args.at.number c.in-Some.node.now there c.split_level.result.0.now ∙ sym c.child.ensures in
     let plus : s.child c.args.at.number (codes "+") ≡ number_of c.in-Some.node.now.plus =
@@ -71,9 +71,9 @@ find_at-returns-clause-ok t c =
     subst (λ (f : Levels). Raises c.args.found.now c.find_after-2.new.found (found_at s c.args.at.number f))
     (sym (path c.args.topic c.in-Some-topic.text c.split_level.result.0.now c.split_level.result.1 (record { some = c.in-Some-topic.is; cut = c.split_level.ensures })))
     (both_raise c.args.found.now c.raise_all.new.found c.find_after-2.new.found
-    (s.held c.args.at.number true)
+    (s.asked c.args.at.number true)
     (λ client. greatest (found_after s (s.child c.args.at.number c.split_level.result.0.now) (levels_of c.split_level.result.1) client) (found_after s (s.child c.args.at.number (codes "+")) (levels_of c.split_level.result.1) client))
-    (subst (λ (g : List ℕ → Option QoS). Raises c.args.found.now c.raise_all.new.found g) (sym held) c.in_ok-raise_all.ensures.ok)
+    (subst (λ (g : List ℕ → Option QoS). Raises c.args.found.now c.raise_all.new.found g) (sym asked) c.in_ok-raise_all.ensures.ok)
     (both_raise c.raise_all.new.found c.find_after.new.found c.find_after-2.new.found
     (found_after s (s.child c.args.at.number c.split_level.result.0.now) (levels_of c.split_level.result.1))
     (found_after s (s.child c.args.at.number (codes "+")) (levels_of c.split_level.result.1))

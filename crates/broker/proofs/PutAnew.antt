@@ -20,15 +20,15 @@ use Rattle.broker_tables.proofs.of_broker_rows.ConnectSteps.{no_session}
 use Rattle.broker_tables.proofs.of_broker_rows.publications.GreatestGranted.{none_held}
 use Rattle.broker_tables.proofs.of_broker_rows.maps.FiltersHeld.{bytes_back}
 use Rattle.broker_tables.proofs.of_broker_rows.maps.ContentOfStart.{same_bytes}
-use Rattle.broker.specs.Inside.{all_held, granted_last}
+use Rattle.broker.specs.Inside.{all_put, granted_last}
 
 -- the first of two that is there
 abbrev first_of : {A : Type 0} → Option A → Option A → Option A
 first_of (Some a) other = Some a
 first_of None other = other
 
--- each filter is held once
-last_once : (held : List GrantedFilter) (g : List ℕ → Option QoS) (f : List ℕ) → AreFiltersApart held → update_all bytes_eq g held f ≡ first_of (qos_asked f held) (g f)
+-- each filter is subscribed once
+last_once : (subscriptions : List GrantedFilter) (g : List ℕ → Option QoS) (f : List ℕ) → AreFiltersApart subscriptions → update_all bytes_eq g subscriptions f ≡ first_of (qos_asked f subscriptions) (g f)
 last_once [] g f apart = refl
 last_once (new ∷ more) g f apart = last_once more (update bytes_eq g new.0 (Some new.1)) f apart.1 ∙ by (bytes_eq f new.0) refl
   where
@@ -40,8 +40,8 @@ last_once (new ∷ more) g f apart = last_once more (update bytes_eq g new.0 (So
     by true e = ap₂ (λ b o. first_of o (cond b (Some new.1) (g f))) (bytes_back new.0 f ∙ e) (once e)
     by false e = ap (λ b. first_of (qos_asked f more) (cond b (Some new.1) (g f))) (bytes_back new.0 f ∙ e)
 
-held_is : (held : List GrantedFilter) (f : List ℕ) → AreFiltersApart held → granted_last held f ≡ qos_asked f held
-held_is held f apart = last_once held (λ _. None) f apart ∙ alone (qos_asked f held)
+last_is : (subscriptions : List GrantedFilter) (f : List ℕ) → AreFiltersApart subscriptions → granted_last subscriptions f ≡ qos_asked f subscriptions
+last_is subscriptions f apart = last_once subscriptions (λ _. None) f apart ∙ alone (qos_asked f subscriptions)
   where
     alone : (o : Option QoS) → first_of o None ≡ o
     alone (Some q) = refl
@@ -52,12 +52,12 @@ abbrev pick : List ℕ → Option ClientSession → Option QoS → Option QoS
 pick f (Some kept) o = qos_asked f kept.state.subscriptions
 pick f None o = o
 
-held_at : (rows : Sessions) (content : Content) (c f : List ℕ) → AreByClient rows → AllSound rows →
-    all_held rows content c f ≡ pick f (session_in c rows) (content c f)
+put_at : (rows : Sessions) (content : Content) (c f : List ℕ) → AreByClient rows → AllSound rows →
+    all_put rows content c f ≡ pick f (session_in c rows) (content c f)
 unfolding IsStrictlySortedBy
-held_at [] content c f by_client sound = refl
-held_at (row ∷ rows) content c f by_client sound =
-    held_at rows (with_client_filters content row.0 (granted_last row.1.state.subscriptions)) c f by_client.1 sound.1
+put_at [] content c f by_client sound = refl
+put_at (row ∷ rows) content c f by_client sound =
+    put_at rows (with_client_filters content row.0 (granted_last row.1.state.subscriptions)) c f by_client.1 sound.1
     ∙ by (same_client c row.0) refl (same_bytes c row.0)
   where
     by : (b : Bool) → same_client c row.0 ≡ b → bytes_eq row.0 c ≡ same_client c row.0 →
@@ -66,15 +66,15 @@ held_at (row ∷ rows) content c f by_client sound =
     by true e same =
         ap₂ (λ o b. pick f o (cond b (granted_last row.1.state.subscriptions f) (content c f)))
         (no_session c rows (subst (λ (z : Client). ComesBefore z rows) (sym (same_is c row.0 e)) by_client.0)) (same ∙ e)
-        ∙ held_is row.1.state.subscriptions f sound.0.filters
+        ∙ last_is row.1.state.subscriptions f sound.0.filters
     by false e same =
         ap (λ b. pick f (session_in c rows) (cond b (granted_last row.1.state.subscriptions f) (content c f))) (same ∙ e)
 
-pub held_anew : (rows : Sessions) → AreByClient rows → AllSound rows → all_held rows no_subscriptions ≡ content_in rows
-held_anew rows by_client sound = λ i c f. go c f i
+pub put_anew : (rows : Sessions) → AreByClient rows → AllSound rows → all_put rows no_subscriptions ≡ content_in rows
+put_anew rows by_client sound = λ i c f. go c f i
   where
-    go : (c f : List ℕ) → all_held rows no_subscriptions c f ≡ content_in rows c f
-    go c f = held_at rows no_subscriptions c f by_client sound ∙ ends (session_in c rows)
+    go : (c f : List ℕ) → all_put rows no_subscriptions c f ≡ content_in rows c f
+    go c f = put_at rows no_subscriptions c f by_client sound ∙ ends (session_in c rows)
       where
         ends : (o : Option ClientSession) → pick f o None ≡ subscribed_in f o
         ends (Some kept) = refl
