@@ -4,4 +4,6 @@ mod echoing;
 mod gates;
 mod inboxes;
 mod nodes;
+mod starts;
+mod taken;
 mod two_nodes;

@@ -2,7 +2,8 @@
 
 ghost use Rattle.std.specs.Prelude.{◌≡◌};
 
-use super::nodes::{Start, fresh_two, send};
+use super::nodes::send;
+use super::starts::{Start, fresh_two};
 use mailbox::Lane;
 use node::{Gate, Item, Node, NodeNaming, NodeState, Report, Stated};
 use std::alloc::Global;

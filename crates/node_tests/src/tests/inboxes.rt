@@ -11,38 +11,66 @@ use std::test::Fail;
 use std::thread;
 use std::thread::Threads;
 
-// What is done with an inbox, and the result of it. A lane is meant by its index.
-#[derive(Clone, Copy)]
-enum Act<'a> {
+// What is done with the receiver of an inbox and the lanes of it, or of the other one. A lane is
+// meant by its index.
+#[derive(Clone, Copy, Debug, PartialEq, Eq)]
+enum Act {
     // A lane sends this item.
     Send(usize, u64),
     // A lane sends the numbers from 0 on, this many.
     SendMany(usize, u64),
-    // This item of a lane comes back.
-    HandBack(usize, u64),
     // How many items a lane has sent.
-    Count(usize, u64),
-    // What is taken.
-    Take(Option<(u8, u64)>),
-    // How many lanes there are.
-    Lanes(usize),
-    // The lanes are all of the inbox, and without the first they are not.
-    HasAll,
-    // How many items of each lane were taken before, and those that are left over.
-    Settle(&'a [u64], &'a [(u8, u64)]),
+    Count(usize),
+    // An item is taken.
+    Take,
+    // How many lanes there are, and whether they are all of the inbox.
+    Lanes,
+    // What the receiver and the first lane meet at.
+    Meet,
+    // What is not taken is taken out.
+    Settle,
 }
 
-// Sends an item, with a receipt of what the lane itself knows: what comes back, or none without
-// that lane.
-fn send<J: Naming, R: Wait>(
-    rt: &R,
-    lanes: &mut [Lane<u64, J>],
-    index: usize,
-    item: u64,
-) -> Option<Result<(), u64>> {
-    let lane = lanes.get_mut(index)?;
+// What came of an act.
+#[derive(Clone, Copy, Debug, PartialEq, Eq)]
+enum Came {
+    // Nothing: not all was sent, or there is no such lane or inbox, or memory ran out.
+    Nothing,
+    // It was sent.
+    Sent,
+    // This item came back.
+    Back(u64),
+    // The lane has sent this many items.
+    Count(u64),
+    // This was taken.
+    Took(Option<(u8, u64)>),
+    // How many lanes the receiver says there are, and how many there are. Then whether these are
+    // all of the inbox, and whether they are not without the first.
+    Lanes(usize, usize, bool, bool),
+    // This many items were taken of the lane; none if the inbox is not its own.
+    Met(Option<u64>),
+    // How many items of the first three lanes were taken before, and the first three that are left
+    // over (zeros after the last), with how many these are.
+    Settled([u64; 3], [(u8, u64); 3], usize),
+}
+
+// Whose receiver and whose lanes are meant, by the indexes of two inboxes, the act, and what is to
+// come of it.
+type Row = ((usize, usize), Act, Came);
+
+// The row at this index, and what came; no row if there was no memory for the inboxes.
+type Fault = (usize, Option<Row>, Came);
+
+// Sends an item, with a receipt of what the lane itself knows.
+fn send<J: Naming, R: Wait>(rt: &R, lanes: &mut [Lane<u64, J>], index: usize, item: u64) -> Came {
+    let Some(lane) = lanes.get_mut(index) else {
+        return Came::Nothing;
+    };
     let receipt = lane.receipt();
-    Some(lane.send(rt, item, receipt))
+    match lane.send(rt, item, receipt) {
+        Ok(()) => Came::Sent,
+        Err(back) => Came::Back(back),
+    }
 }
 
 // Takes an item, with a receipt of what the receiver itself knows.
@@ -51,134 +79,12 @@ fn take<J: Naming, R: Wait>(rt: &R, receiver: &mut Receiver<u64, J>) -> Option<(
     receiver.take(rt, receipt)
 }
 
-// Says whether an item is sent, or comes back.
-fn send_and_compare<J: Naming, R: Wait>(
-    rt: &R,
-    lanes: &mut [Lane<u64, J>],
-    index: usize,
-    item: u64,
-    wanted: Result<(), u64>,
-) -> bool {
-    send(rt, lanes, index, item) == Some(wanted)
-}
-
 // Says whether all lanes but the first are not all of the inbox.
 fn lacks_one<J: Naming>(receiver: &Receiver<u64, J>, lanes: &[Lane<u64, J>]) -> bool {
     match lanes {
         [_, rest @ ..] => !receiver.has_all(rest),
         [] => false,
     }
-}
-
-// Says whether the inbox is settled so.
-fn settle<J: Naming, R: Wait>(
-    rt: &R,
-    alloc: Global,
-    receiver: &mut Receiver<u64, J>,
-    lanes: &mut [Lane<u64, J>],
-    counts: &[u64],
-    left: &[(u8, u64)],
-) -> bool {
-    let Ok(mut counted) = Vec::from_elem(alloc, 0u64, receiver.lanes()) else {
-        return false;
-    };
-    let Ok(mut over) = Vec::with_capacity(alloc, MAX_ITEMS) else {
-        return false;
-    };
-    if !receiver.has_all(lanes) {
-        return false;
-    }
-    receiver.take_rest(rt, lanes, counted.as_mut_slice(), &mut over);
-    counted.as_slice() == counts && over.as_slice() == left
-}
-
-// Says whether an act has its result.
-fn is_right<J: Naming, R: Wait>(
-    rt: &R,
-    alloc: Global,
-    receiver: &mut Receiver<u64, J>,
-    lanes: &mut [Lane<u64, J>],
-    act: Act<'_>,
-) -> bool {
-    match act {
-        Act::Send(index, item) => send_and_compare(rt, lanes, index, item, Ok(())),
-        Act::SendMany(index, count) => {
-            (0..count).all(|item| send_and_compare(rt, lanes, index, item, Ok(())))
-        }
-        Act::HandBack(index, item) => send_and_compare(rt, lanes, index, item, Err(item)),
-        Act::Count(index, count) => lanes.get(index).map(Lane::count) == Some(count),
-        Act::Take(wanted) => take(rt, receiver) == wanted,
-        Act::Lanes(count) => receiver.lanes() == count && lanes.len() == count,
-        Act::HasAll => receiver.has_all(lanes) && lacks_one(receiver, lanes),
-        Act::Settle(counts, left) => settle(rt, alloc, receiver, lanes, counts, left),
-    }
-}
-
-// Does the rows with an inbox of this many lanes. Returns the first row whose result differs.
-fn first_fault<J: Naming, R: Wait>(
-    rt: &R,
-    alloc: Global,
-    inbox: Inbox<u64>,
-    lanes: u8,
-    rows: &[Act<'_>],
-) -> Option<usize>
-    requires named { inbox ≡ J.inbox_of 1 }
-    requires lanes { (1 ≤ lanes) × (lanes ≤ 16) }
-{
-    match inbox.named::<J>(1, lanes) {
-        Ok((mut receiver, mut lanes)) => rows.iter().position(|row| {
-            !is_right(rt, alloc, &mut receiver, lanes.as_mut_slice(), *row)
-        }),
-        Err(_) => Some(0),
-    }
-}
-
-const FULL: &[Act<'static>] = &[
-    Act::SendMany(0, 1_024),
-    Act::HandBack(0, 5),
-    Act::Take(Some((0, 0))),
-    Act::Send(0, 5),
-    Act::Count(0, 1_025),
-];
-
-#[test]
-fn a_full_inbox_hands_back(rt: HostRuntime) -> Result<(), Fail> {
-    let inbox = Inbox::new(rt.alloc())?;
-    let fault = first_fault::<Brand, HostRuntime>(&rt, rt.alloc(), inbox, 1, FULL);
-    assert_eq!(rt; fault, None);
-    Ok(())
-}
-
-const LEFT: &[Act<'static>] = &[
-    Act::Lanes(3),
-    Act::Send(0, 10),
-    Act::Send(2, 20),
-    Act::Send(0, 11),
-    Act::Send(2, 21),
-    Act::Send(2, 22),
-    Act::Take(Some((0, 10))),
-    Act::Take(Some((2, 20))),
-    Act::HasAll,
-    Act::Settle(&[1, 0, 1], &[(0, 11), (2, 21), (2, 22)]),
-];
-
-#[test]
-fn what_is_left_over_is_listed(rt: HostRuntime) -> Result<(), Fail> {
-    let inbox = Inbox::new(rt.alloc())?;
-    let fault = first_fault::<Brand, HostRuntime>(&rt, rt.alloc(), inbox, 3, LEFT);
-    assert_eq!(rt; fault, None);
-    Ok(())
-}
-
-// What is done with two inboxes, meant by their indexes, of one lane each, and the result of it.
-#[derive(Clone, Copy)]
-enum Call {
-    // The lane of an inbox sends an item.
-    Send(usize, u64),
-    // What is taken from an inbox.
-    Take(usize, Option<(u8, u64)>),
-    // What the receiver of an inbox and the lane of another, or the same, meet at.
-    Meet(usize, usize, Option<u64>),
 }
 
 // Returns the inbox of a receiver and the first lane, if their numbers say that it is the same one.
@@ -191,6 +97,64 @@ fn meet<J: Naming>(receiver: &mut Receiver<u64, J>, lanes: &mut [Lane<u64, J>]) 
     }
 }
 
+// Takes out what is not taken.
+fn settle<J: Naming, R: Wait>(
+    rt: &R,
+    alloc: Global,
+    receiver: &mut Receiver<u64, J>,
+    lanes: &mut [Lane<u64, J>],
+) -> Came {
+    let Ok(mut counted) = Vec::from_elem(alloc, 0u64, receiver.lanes()) else {
+        return Came::Nothing;
+    };
+    let Ok(mut over) = Vec::with_capacity(alloc, MAX_ITEMS) else {
+        return Came::Nothing;
+    };
+    if !receiver.has_all(lanes) {
+        return Came::Nothing;
+    }
+    receiver.take_rest(rt, lanes, counted.as_mut_slice(), &mut over);
+    let (mut counts, mut left) = ([0u64; 3], [(0u8, 0u64); 3]);
+    for (to, count) in counts.iter_mut().zip(counted.as_slice()) {
+        *to = *count;
+    }
+    for (to, item) in left.iter_mut().zip(over.as_slice()) {
+        *to = *item;
+    }
+    Came::Settled(counts, left, over.len())
+}
+
+// Does an act, and returns what came of it.
+fn perform<J: Naming, R: Wait>(
+    rt: &R,
+    alloc: Global,
+    receiver: &mut Receiver<u64, J>,
+    lanes: &mut [Lane<u64, J>],
+    act: Act,
+) -> Came {
+    match act {
+        Act::Send(index, item) => send(rt, lanes, index, item),
+        Act::SendMany(index, count) => {
+            if (0..count).all(|item| send(rt, lanes, index, item) == Came::Sent) {
+                Came::Sent
+            } else {
+                Came::Nothing
+            }
+        }
+        Act::Count(index) => match lanes.get(index) {
+            Some(lane) => Came::Count(lane.count()),
+            None => Came::Nothing,
+        },
+        Act::Take => Came::Took(take(rt, receiver)),
+        Act::Lanes => {
+            let (all, lacking) = (receiver.has_all(lanes), lacks_one(receiver, lanes));
+            Came::Lanes(receiver.lanes(), lanes.len(), all, lacking)
+        }
+        Act::Meet => Came::Met(meet(receiver, lanes)),
+        Act::Settle => settle(rt, alloc, receiver, lanes),
+    }
+}
+
 // The receivers and the lanes of two inboxes, each with a lock of its own.
 #[derive(Drop)]
 struct Two<J: Naming> {
@@ -199,88 +163,130 @@ struct Two<J: Naming> {
 }
 
 impl<J: Naming> Two<J> {
-    // Says whether the lane of the inbox at this index sends an item.
-    fn send<R: Wait>(&self, rt: &R, at: usize, item: u64) -> bool {
-        match self.lanes.get(at) {
-            Some(lanes) => send_and_compare(rt, lanes.lock(rt).as_mut_slice(), 0, item, Ok(())),
-            None => false,
+    // Does the act of a row, and returns what came of it.
+    fn perform<R: Wait>(&self, rt: &R, alloc: Global, row: Row) -> Came {
+        let ((at, lanes_at), act, _) = row;
+        match (self.receivers.get(at), self.lanes.get(lanes_at)) {
+            (Some(receiver), Some(lanes)) => perform(
+                rt,
+                alloc,
+                &mut receiver.lock(rt),
+                lanes.lock(rt).as_mut_slice(),
+                act,
+            ),
+            _ => Came::Nothing,
         }
     }
 
-    // Takes the item that came first to the inbox at this index, with its lane.
-    fn take<R: Wait>(&self, rt: &R, at: usize) -> Option<(u8, u64)> {
-        take(rt, &mut self.receivers.get(at)?.lock(rt))
-    }
-
-    // Returns how many items were taken of a lane, which may be that of the other inbox.
-    fn meet<R: Wait>(&self, rt: &R, at: usize, lane_at: usize) -> Option<u64> {
-        match (self.receivers.get(at), self.lanes.get(lane_at)) {
-            (Some(receiver), Some(lanes)) => {
-                meet(&mut receiver.lock(rt), lanes.lock(rt).as_mut_slice())
+    // Returns the first row of whose act comes something else.
+    fn first_fault<R: Wait>(&self, rt: &R, alloc: Global, rows: &[Row]) -> Option<Fault> {
+        for (at, row) in rows.iter().enumerate() {
+            let came = self.perform(rt, alloc, *row);
+            if came != row.2 {
+                return Some((at, Some(*row), came));
             }
-            _ => None,
         }
-    }
-
-    // Says whether a call has its result.
-    fn is_right<R: Wait>(&self, rt: &R, call: Call) -> bool {
-        match call {
-            Call::Send(at, item) => self.send(rt, at, item),
-            Call::Take(at, wanted) => self.take(rt, at) == wanted,
-            Call::Meet(at, lane_at, wanted) => self.meet(rt, at, lane_at) == wanted,
-        }
+        None
     }
 }
 
-// Does the rows with two inboxes. Returns the first row whose result differs.
+// Returns the first row, with two inboxes, of whose act comes something else. The first inbox has
+// this many lanes, and the second has one.
 fn first_fault_of_two<J: Naming, R: Wait>(
     rt: &R,
+    alloc: Global,
     first: Inbox<u64>,
     second: Inbox<u64>,
-    rows: &[Call],
-) -> Option<usize>
+    lanes: u8,
+    rows: &[Row],
+) -> Option<Fault>
     requires first { first ≡ J.inbox_of 1 }
     requires second { second ≡ J.inbox_of 2 }
+    requires lanes { (1 ≤ lanes) × (lanes ≤ 16) }
 {
-    let Ok((first, first_lanes)) = first.named::<J>(1, 1) else {
+    let Ok((first, first_lanes)) = first.named::<J>(1, lanes) else {
         drop(second);
-        return Some(0);
+        return Some((0, None, Came::Nothing));
     };
     let Ok((second, second_lanes)) = second.named::<J>(2, 1) else {
         drop(first);
         drop(first_lanes);
-        return Some(0);
+        return Some((0, None, Came::Nothing));
     };
     let two = Two {
         receivers: [Mutex::new(first), Mutex::new(second)],
         lanes: [Mutex::new(first_lanes), Mutex::new(second_lanes)],
     };
-    let fault = rows.iter().position(|call| !two.is_right(rt, *call));
+    let fault = two.first_fault(rt, alloc, rows);
     drop(two);
     fault
 }
 
-const MET: &[Call] = &[
-    Call::Send(0, 7),
-    Call::Send(0, 8),
-    Call::Send(0, 9),
-    Call::Send(1, 70),
-    Call::Take(0, Some((0, 7))),
-    Call::Take(0, Some((0, 8))),
-    Call::Meet(0, 0, Some(2)),
-    Call::Meet(1, 1, Some(0)),
-    Call::Meet(0, 1, None),
-    Call::Meet(1, 0, None),
-    Call::Take(0, Some((0, 9))),
-    Call::Take(0, None),
-    Call::Take(1, Some((0, 70))),
+const FULL: [Row; 5] = [
+    ((0, 0), Act::SendMany(0, 1_024), Came::Sent),
+    ((0, 0), Act::Send(0, 5), Came::Back(5)),
+    ((0, 0), Act::Take, Came::Took(Some((0, 0)))),
+    ((0, 0), Act::Send(0, 5), Came::Sent),
+    ((0, 0), Act::Count(0), Came::Count(1_025)),
+];
+
+#[test]
+fn a_full_inbox_hands_back(rt: HostRuntime) -> Result<(), Fail> {
+    let first = Inbox::new(rt.alloc())?;
+    let second = Inbox::new(rt.alloc())?;
+    let rows = FULL;
+    let fault = first_fault_of_two::<Brand, HostRuntime>(&rt, rt.alloc(), first, second, 1, &rows);
+    assert_eq!(rt; fault, None);
+    Ok(())
+}
+
+// What the lanes send that is not taken.
+const OVER: [(u8, u64); 3] = [(0, 11), (2, 21), (2, 22)];
+
+const LEFT: [Row; 9] = [
+    ((0, 0), Act::Send(0, 10), Came::Sent),
+    ((0, 0), Act::Send(2, 20), Came::Sent),
+    ((0, 0), Act::Send(0, 11), Came::Sent),
+    ((0, 0), Act::Send(2, 21), Came::Sent),
+    ((0, 0), Act::Send(2, 22), Came::Sent),
+    ((0, 0), Act::Take, Came::Took(Some((0, 10)))),
+    ((0, 0), Act::Take, Came::Took(Some((2, 20)))),
+    ((0, 0), Act::Lanes, Came::Lanes(3, 3, true, true)),
+    ((0, 0), Act::Settle, Came::Settled([1, 0, 1], OVER, 3)),
+];
+
+#[test]
+fn what_is_left_over_is_listed(rt: HostRuntime) -> Result<(), Fail> {
+    let first = Inbox::new(rt.alloc())?;
+    let second = Inbox::new(rt.alloc())?;
+    let rows = LEFT;
+    let fault = first_fault_of_two::<Brand, HostRuntime>(&rt, rt.alloc(), first, second, 3, &rows);
+    assert_eq!(rt; fault, None);
+    Ok(())
+}
+
+const MET: [Row; 13] = [
+    ((0, 0), Act::Send(0, 7), Came::Sent),
+    ((0, 0), Act::Send(0, 8), Came::Sent),
+    ((0, 0), Act::Send(0, 9), Came::Sent),
+    ((1, 1), Act::Send(0, 70), Came::Sent),
+    ((0, 0), Act::Take, Came::Took(Some((0, 7)))),
+    ((0, 0), Act::Take, Came::Took(Some((0, 8)))),
+    ((0, 0), Act::Meet, Came::Met(Some(2))),
+    ((1, 1), Act::Meet, Came::Met(Some(0))),
+    ((0, 1), Act::Meet, Came::Met(None)),
+    ((1, 0), Act::Meet, Came::Met(None)),
+    ((0, 0), Act::Take, Came::Took(Some((0, 9)))),
+    ((0, 0), Act::Take, Came::Took(None)),
+    ((1, 1), Act::Take, Came::Took(Some((0, 70)))),
 ];
 
 #[test]
 fn a_lane_meets_its_items(rt: HostRuntime) -> Result<(), Fail> {
     let first = Inbox::new(rt.alloc())?;
     let second = Inbox::new(rt.alloc())?;
-    let fault = first_fault_of_two::<Brand, HostRuntime>(&rt, first, second, MET);
+    let rows = MET;
+    let fault = first_fault_of_two::<Brand, HostRuntime>(&rt, rt.alloc(), first, second, 1, &rows);
     assert_eq!(rt; fault, None);
     Ok(())
 }
@@ -303,12 +309,16 @@ fn pour<J: Naming, R: Wait>(rt: &R, lane: &mut Lane<u64, J>) {
     }
 }
 
+// An item that is not in order: its lane, its number, and the one that was to come of that lane;
+// none if no item was to come.
+type Stray = (u8, u64, Option<u64>);
+
 // Returns the first item that is not the next number of its lane, of four lanes whose numbers come
 // from 0 on with none left out.
 fn first_fault_of_four<J: Naming, R: Wait>(
     rt: &R,
     receiver: &mut Receiver<u64, J>,
-) -> Option<(u8, u64)> {
+) -> Option<Stray> {
     let mut next = [0u64; 4];
     for _ in rt.forever() {
         if next == [POURED; 4] {
@@ -319,14 +329,15 @@ fn first_fault_of_four<J: Naming, R: Wait>(
             continue;
         };
         let Some(wanted) = next.get_mut(usize::from(lane)) else {
-            return Some((lane, item));
+            return Some((lane, item, None));
         };
         if *wanted != item {
-            return Some((lane, item));
+            return Some((lane, item, Some(*wanted)));
         }
         *wanted = wanted.wrapping_add(1);
     }
-    take(rt, receiver)
+    let (lane, item) = take(rt, receiver)?;
+    Some((lane, item, None))
 }
 
 // Sends all numbers by two lanes at once.
@@ -345,7 +356,7 @@ fn pour_and_take<J: Naming + Send, R: Threads + Wait + Sync>(
     receiver: &mut Receiver<u64, J>,
     first: &mut Lane<u64, J>,
     second: &mut Lane<u64, J>,
-) -> Option<(u8, u64)> {
+) -> Option<Stray> {
     let ((), fault) = thread::join(
         rt,
         || pour_two(rt, first, second),
@@ -359,11 +370,11 @@ fn pour_and_take<J: Naming + Send, R: Threads + Wait + Sync>(
 fn pour_four<J: Naming + Send, R: Threads + Wait + Sync + Abort>(
     rt: &R,
     inbox: Inbox<u64>,
-) -> Option<(u8, u64)>
+) -> Option<Stray>
     requires { inbox ≡ J.inbox_of 1 }
 {
     let Ok((mut receiver, mut lanes)) = inbox.named::<J>(1, 4) else {
-        return Some((4, 0));
+        return Some((4, 0, None));
     };
     let mut fourth = lanes.pop().expect(rt, "four lanes");
     let mut third = lanes.pop().expect(rt, "four lanes");

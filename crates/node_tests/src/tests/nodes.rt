@@ -3,11 +3,10 @@
 
 ghost use Rattle.std.specs.Prelude.{◌≡◌, ◌≤◌};
 
-use mailbox::{Inbox, Lane};
-use node::{
-    Config, Handed, Item, Members, NoGate, Node, NodeCore, NodeNaming, NodeState, Piece, Port,
-    Report,
-};
+use super::starts::{Start, fresh};
+use super::taken::{Came, SILENT, Sent, take_one};
+use mailbox::Lane;
+use node::{Handed, Item, NoGate, Node, NodeNaming, NodeState, Piece, Port, Report};
 use std::alloc::Global;
 use std::marker::Brand;
 use std::sync::Wait;
@@ -18,12 +17,19 @@ const CONNECT: &[u8] = &[
     0x10, 0x0D, 0x00, 0x04, 0x4D, 0x51, 0x54, 0x54, 0x04, 0x00, 0x00, 0x3C, 0x00, 0x01, 0x61,
 ];
 
-const ACCEPTED: &[u8] = &[0x20, 0x02, 0x00, 0x00];
+// CONNACK 0 without a session present, on a connection that is open.
+const ACCEPTED: Came = Came::HandedOver(Some(Handed::Open), 4, [0x20, 0x02, 0x00, 0x00]);
+
+// Nothing, on a connection that is open.
+const UNANSWERED: Came = Came::HandedOver(Some(Handed::Open), 0, [0; 4]);
+
+// Node 2 is to append the CONNECT at place 0 of ballot 1, says node 1.
+const APPEND: Sent = Sent::Connect(2, 1, (1, 0), (1, 1));
 
 const PORT: Port = Port(1);
 
-// What is done with a node, and the result of it. A lane is meant by its index.
-#[derive(Clone, Copy)]
+// What is done with a node, or asked of it. A lane is meant by its index.
+#[derive(Clone, Copy, Debug, PartialEq, Eq)]
 enum Act<'a> {
     // A lane sends that the connection is opened.
     Open(usize),
@@ -31,78 +37,42 @@ enum Act<'a> {
     Bytes(usize, &'a [u8]),
     // A lane sends a tick of this time.
     Tick(usize, u64),
-    // Whether an item is taken. It has no effect on other nodes.
-    Take(bool),
+    // An item is taken.
+    Take,
     // How many items of a lane were taken.
-    Meet(usize, u64),
-    // The node holds this many commands.
-    Held(u64),
-    // What is handed over for the connection, which is open.
-    HandOver(&'a [u8]),
+    Meet(usize),
+    // How many commands the node holds.
+    Held,
+    // What is handed over for the connection.
+    HandOver,
 }
+
+// An act, and what is to come of it.
+type Row = (Act<'static>, Came);
+
+// A report as it is shown: how many items of the first two lanes were taken, and the lanes of the
+// first two that are left over (zeros after the last), with how many these are.
+type Shape = ([u64; 2], [u8; 2], usize);
 
 // What differs from a run.
 #[derive(Clone, Copy, Debug, PartialEq, Eq)]
 enum Fault {
-    // The act at this index.
-    Act(usize),
-    // The report at the end.
-    Report,
+    // The row at this index, and what came of its act.
+    Row(usize, Row, Came),
+    // The report at the end: what was to be taken, what was to be left over, and what came; none if
+    // the lanes are not those of the node.
+    Report(&'static [u64], &'static [(u8, u64)], Option<Shape>),
     // There was no memory for the node.
     Start,
 }
 
 // How many lanes a node has, what is done with it, how many items of each lane it took at the end,
 // and the lanes and times of the ticks that are left over.
-struct Run<'a> {
+struct Run {
     lanes: u8,
-    acts: &'a [Act<'a>],
-    taken: &'a [u64],
-    left: &'a [(u8, u64)],
-}
-
-/// An inbox with what its node is at first.
-#[derive(Drop)]
-pub(super) struct Start {
-    pub(super) inbox: Inbox<Item>,
-    pub(super) core: NodeCore,
-}
-
-// Returns an unused inbox, and the node of this number, the sole member of ballot 1.
-fn fresh(alloc: Global, number: u8) -> Result<Start, Fail>
-    requires { (1 ≤ number) × (number ≤ 15) }
-{
-    let inbox = Inbox::new(alloc)?;
-    match sole(alloc, number) {
-        Ok(core) => Ok(Start { inbox, core }),
-        Err(fail) => {
-            drop(inbox);
-            Err(fail)
-        }
-    }
-}
-
-/// Returns an unused inbox and a node for each of the numbers 1 and 2.
-pub(super) fn fresh_two(alloc: Global) -> Result<(Start, Start), Fail> {
-    let first = fresh(alloc, 1)?;
-    match fresh(alloc, 2) {
-        Ok(second) => Ok((first, second)),
-        Err(fail) => {
-            drop(first);
-            Err(fail)
-        }
-    }
-}
-
-// Returns this node, the sole member of ballot 1.
-fn sole(alloc: Global, number: u8) -> Result<NodeCore, Fail>
-    requires { (1 ≤ number) × (number ≤ 15) }
-{
-    let config = Config {
-        members: Members::from_slice(alloc, &[number])?,
-        primary: number,
-    };
-    Ok(NodeCore::new(alloc, number, &config)?)
+    rows: &'static [Row],
+    taken: &'static [u64],
+    left: &'static [(u8, u64)],
 }
 
 /// Sends an item by a lane, and returns whether it was sent.
@@ -144,18 +114,6 @@ fn send_bytes<J: NodeNaming, R: Wait>(
     }
 }
 
-/// Takes an item, and returns whether there was one as wanted, with no effect on other nodes.
-pub(super) fn take_one<J: NodeNaming, R: Wait>(
-    rt: &R,
-    alloc: Global,
-    state: &mut NodeState<J>,
-    wanted: bool,
-) -> bool {
-    let mut effects = Vec::new(alloc);
-    let receipt = state.receipt();
-    state.take_one(rt, &mut effects, receipt) == wanted && effects.is_empty()
-}
-
 /// Returns how many items of a lane were taken, if the numbers say that it is a lane of the node's
 /// inbox.
 pub(super) fn met<J: NodeNaming>(
@@ -171,49 +129,66 @@ pub(super) fn met<J: NodeNaming>(
     }
 }
 
-// Has a node hand over what it queued for the connection, which takes it away. Says whether it is
-// these bytes, and the connection is open.
-fn hand_over<J: NodeNaming>(alloc: Global, state: &mut NodeState<J>, bytes: &[u8]) -> bool {
-    let mut out = Vec::new(alloc);
-    state.outgoing(PORT, &mut out) == Ok(Handed::Open) && out.as_slice() == bytes
+/// Returns that an item was sent, or that it was not.
+pub(super) fn sent(is_sent: bool) -> Came {
+    if is_sent { Came::Sent } else { Came::Nothing }
 }
 
-// Says whether an act has its result.
-fn is_right<J: NodeNaming, R: Wait>(
+// Has a node hand over what it queued for the connection, which takes it away.
+fn hand_over<J: NodeNaming>(alloc: Global, state: &mut NodeState<J>) -> Came {
+    let mut out = Vec::new(alloc);
+    let handed = state.outgoing(PORT, &mut out).ok();
+    let mut front = [0; 4];
+    for (to, byte) in front.iter_mut().zip(out.as_slice()) {
+        *to = *byte;
+    }
+    Came::HandedOver(handed, out.len(), front)
+}
+
+// Does an act, and returns what came of it.
+fn perform<J: NodeNaming, R: Wait>(
     rt: &R,
     alloc: Global,
     state: &mut NodeState<J>,
     lanes: &mut [Lane<Item, J>],
     act: Act<'_>,
-) -> bool {
+) -> Came {
     match act {
-        Act::Open(index) => send(rt, lanes, index, Item::Opened(PORT, 0)),
-        Act::Bytes(index, bytes) => send_bytes(rt, alloc, lanes, index, bytes),
-        Act::Tick(index, now) => send(rt, lanes, index, Item::Tick(now)),
-        Act::Take(wanted) => take_one(rt, alloc, state, wanted),
-        Act::Meet(index, wanted) => met(state, lanes, index) == Some(wanted),
-        Act::Held(wanted) => state.status().held == wanted,
-        Act::HandOver(bytes) => hand_over(alloc, state, bytes),
+        Act::Open(index) => sent(send(rt, lanes, index, Item::Opened(PORT, 0))),
+        Act::Bytes(index, bytes) => sent(send_bytes(rt, alloc, lanes, index, bytes)),
+        Act::Tick(index, now) => sent(send(rt, lanes, index, Item::Tick(now))),
+        Act::Take => take_one(rt, alloc, state),
+        Act::Meet(index) => Came::Met(met(state, lanes, index)),
+        Act::Held => Came::Held(state.status().held),
+        Act::HandOver => hand_over(alloc, state),
     }
 }
 
-// Returns the index of the first act whose result differs. The node's lock is held until the end,
+// Returns the first row of whose act comes something else. The node's lock is held until the end,
 // so a lane that waited for it would wait for ever.
-fn first_fault_of_acts<J: NodeNaming, R: Wait>(
+fn first_fault_of_rows<J: NodeNaming, R: Wait>(
     rt: &R,
     alloc: Global,
     node: &Node<'_, J, NodeState<J>, NoGate>,
     lanes: &mut [Lane<Item, J>],
-    acts: &[Act<'_>],
-) -> Option<usize> {
+    rows: &[Row],
+) -> Option<Fault> {
     let mut guard = node.lock(rt);
     let state = &mut *guard;
-    acts.iter()
-        .position(|act| !is_right(rt, alloc, state, lanes, *act))
+    let mut fault = None;
+    for (at, row) in rows.iter().enumerate() {
+        if fault.is_none() {
+            let came = perform(rt, alloc, state, lanes, row.0);
+            if came != row.1 {
+                fault = Some(Fault::Row(at, *row, came));
+            }
+        }
+    }
+    fault
 }
 
 // Says whether a report is that of a run.
-fn is_report_of(report: &Report, run: &Run<'_>) -> bool {
+fn is_report_of(report: &Report, run: &Run) -> bool {
     report.taken.as_slice() == run.taken
         && report.left.len() == run.left.len()
         && report.left.iter().zip(run.left).all(|((lane, item), (wanted, time))| {
@@ -221,30 +196,38 @@ fn is_report_of(report: &Report, run: &Run<'_>) -> bool {
         })
 }
 
-// Says whether the node's report is that of the run, once its lanes send no more.
+// Returns a report as it is shown.
+fn reported(report: &Report) -> Shape {
+    let (mut taken, mut left) = ([0u64; 2], [0u8; 2]);
+    for (to, count) in taken.iter_mut().zip(report.taken.as_slice()) {
+        *to = *count;
+    }
+    for (to, (lane, _)) in left.iter_mut().zip(report.left.as_slice()) {
+        *to = *lane;
+    }
+    (taken, left, report.left.len())
+}
+
+// Returns what differs of the node's report, once its lanes send no more.
 fn close<J: NodeNaming, R: Wait>(
     rt: &R,
     node: Node<'_, J, NodeState<J>, NoGate>,
     lanes: &mut [Lane<Item, J>],
-    run: &Run<'_>,
-) -> bool {
+    run: &Run,
+) -> Option<Fault> {
     if node.has_all(lanes) {
         let report = node.close(rt, lanes);
         let is_told = is_report_of(&report, run);
+        let shown = reported(&report);
         drop(report);
-        is_told
+        if is_told {
+            None
+        } else {
+            Some(Fault::Report(run.taken, run.left, Some(shown)))
+        }
     } else {
         drop(node);
-        false
-    }
-}
-
-// Returns what differs from a run, by the first act that does and by whether the report is right.
-fn fault_of(act: Option<usize>, is_reported: bool) -> Option<Fault> {
-    match act {
-        Some(index) => Some(Fault::Act(index)),
-        None if is_reported => None,
-        None => Some(Fault::Report),
+        Some(Fault::Report(run.taken, run.left, None))
     }
 }
 
@@ -254,12 +237,12 @@ fn first_fault_with<J: NodeNaming, R: Wait>(
     alloc: Global,
     state: NodeState<J>,
     lanes: &mut [Lane<Item, J>],
-    run: &Run<'_>,
+    run: &Run,
 ) -> Option<Fault> {
     match Node::start(alloc, state, None::<&NoGate>) {
         Ok(node) => {
-            let act = first_fault_of_acts(rt, alloc, &node, lanes, run.acts);
-            fault_of(act, close(rt, node, lanes, run))
+            let fault = first_fault_of_rows(rt, alloc, &node, lanes, run.rows);
+            fault.or(close(rt, node, lanes, run))
         }
         Err(_) => Some(Fault::Start),
     }
@@ -270,7 +253,7 @@ fn first_fault<J: NodeNaming, R: Wait>(
     rt: &R,
     alloc: Global,
     start: Start,
-    run: &Run<'_>,
+    run: &Run,
 ) -> Option<Fault>
     requires inbox { start.inbox ≡ J.inbox_of 1 }
     requires first { start.core ≡ J.first_of 1 }
@@ -292,16 +275,16 @@ fn first_fault<J: NodeNaming, R: Wait>(
 }
 
 // What a lane sends is taken, one item at a time, and the answer is sent.
-const IN_ORDER: &Run<'static> = &Run {
+const IN_ORDER: &Run = &Run {
     lanes: 1,
-    acts: &[
-        Act::Open(0),
-        Act::Bytes(0, CONNECT),
-        Act::Take(true),
-        Act::Take(true),
-        Act::Take(false),
-        Act::HandOver(ACCEPTED),
-        Act::Held(1),
+    rows: &[
+        (Act::Open(0), Came::Sent),
+        (Act::Bytes(0, CONNECT), Came::Sent),
+        (Act::Take, SILENT),
+        (Act::Take, SILENT),
+        (Act::Take, Came::NoItem(0)),
+        (Act::HandOver, ACCEPTED),
+        (Act::Held, Came::Held(1)),
     ],
     taken: &[2],
     left: &[],
@@ -309,24 +292,48 @@ const IN_ORDER: &Run<'static> = &Run {
 
 #[test]
 fn items_are_taken_in_their_order(rt: HostRuntime) -> Result<(), Fail> {
-    let start = fresh(rt.alloc(), 1)?;
+    let start = fresh(rt.alloc(), 1, &[1])?;
     let fault = first_fault::<Brand, HostRuntime>(&rt, rt.alloc(), start, IN_ORDER);
+    assert_eq!(rt; fault, None);
+    Ok(())
+}
+
+// The primary of two members sends the other one what it appends, and the answer waits until that
+// one holds it.
+const APPENDS: &Run = &Run {
+    lanes: 1,
+    rows: &[
+        (Act::Open(0), Came::Sent),
+        (Act::Bytes(0, CONNECT), Came::Sent),
+        (Act::Take, SILENT),
+        (Act::Take, Came::Took(1, Some(APPEND))),
+        (Act::HandOver, UNANSWERED),
+        (Act::Held, Came::Held(1)),
+    ],
+    taken: &[2],
+    left: &[],
+};
+
+#[test]
+fn what_a_step_sends_is_given_out(rt: HostRuntime) -> Result<(), Fail> {
+    let start = fresh(rt.alloc(), 1, &[1, 2])?;
+    let fault = first_fault::<Brand, HostRuntime>(&rt, rt.alloc(), start, APPENDS);
     assert_eq!(rt; fault, None);
     Ok(())
 }
 
 // A lane sends three items while another thread has the node. Two of them are taken then, and the
 // third is left over.
-const BESIDE: &Run<'static> = &Run {
+const BESIDE: &Run = &Run {
     lanes: 1,
-    acts: &[
-        Act::Tick(0, 1),
-        Act::Tick(0, 2),
-        Act::Tick(0, 3),
-        Act::Meet(0, 0),
-        Act::Take(true),
-        Act::Take(true),
-        Act::Meet(0, 2),
+    rows: &[
+        (Act::Tick(0, 1), Came::Sent),
+        (Act::Tick(0, 2), Came::Sent),
+        (Act::Tick(0, 3), Came::Sent),
+        (Act::Meet(0), Came::Met(Some(0))),
+        (Act::Take, SILENT),
+        (Act::Take, SILENT),
+        (Act::Meet(0), Came::Met(Some(2))),
     ],
     taken: &[2],
     left: &[(0, 3)],
@@ -334,24 +341,24 @@ const BESIDE: &Run<'static> = &Run {
 
 #[test]
 fn send_waits_for_no_lock(rt: HostRuntime) -> Result<(), Fail> {
-    let start = fresh(rt.alloc(), 1)?;
+    let start = fresh(rt.alloc(), 1, &[1])?;
     let fault = first_fault::<Brand, HostRuntime>(&rt, rt.alloc(), start, BESIDE);
     assert_eq!(rt; fault, None);
     Ok(())
 }
 
 // Of two lanes' items two are taken, and the others left over.
-const LEFT: &Run<'static> = &Run {
+const LEFT: &Run = &Run {
     lanes: 2,
-    acts: &[
-        Act::Tick(0, 1),
-        Act::Tick(0, 2),
-        Act::Tick(1, 5),
-        Act::Tick(0, 3),
-        Act::Meet(0, 0),
-        Act::Take(true),
-        Act::Take(true),
-        Act::Meet(0, 2),
+    rows: &[
+        (Act::Tick(0, 1), Came::Sent),
+        (Act::Tick(0, 2), Came::Sent),
+        (Act::Tick(1, 5), Came::Sent),
+        (Act::Tick(0, 3), Came::Sent),
+        (Act::Meet(0), Came::Met(Some(0))),
+        (Act::Take, SILENT),
+        (Act::Take, SILENT),
+        (Act::Meet(0), Came::Met(Some(2))),
     ],
     taken: &[2, 0],
     left: &[(1, 5), (0, 3)],
@@ -359,7 +366,7 @@ const LEFT: &Run<'static> = &Run {
 
 #[test]
 fn what_is_not_taken_is_left_over(rt: HostRuntime) -> Result<(), Fail> {
-    let start = fresh(rt.alloc(), 1)?;
+    let start = fresh(rt.alloc(), 1, &[1])?;
     let fault = first_fault::<Brand, HostRuntime>(&rt, rt.alloc(), start, LEFT);
     assert_eq!(rt; fault, None);
     Ok(())

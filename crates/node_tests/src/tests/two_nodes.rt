@@ -2,7 +2,9 @@
 
 ghost use Rattle.std.specs.Prelude.{◌≡◌};
 
-use super::nodes::{Start, fresh_two, met, send, take_one};
+use super::nodes::{met, send, sent};
+use super::starts::{Start, fresh_two};
+use super::taken::{Came, SILENT, take_one};
 use mailbox::Lane;
 use node::{Item, NodeNaming, NodeState};
 use std::alloc::Global;
@@ -10,17 +12,22 @@ use std::marker::Brand;
 use std::sync::{Mutex, Wait};
 use std::test::Fail;
 
-// What is done with two nodes, meant by their indexes, of one lane each, and the result of it.
-#[derive(Clone, Copy)]
+// What is done with two nodes, meant by their indexes, of one lane each.
+#[derive(Clone, Copy, Debug, PartialEq, Eq)]
 enum Call {
     // The lane of a node sends a tick of this time.
     Send(usize, u64),
-    // Whether a node takes an item.
-    Take(usize, bool),
-    // How many items of a node's lane another node took, or the same; none if the lane is not its
-    // own.
-    Meet(usize, usize, Option<u64>),
+    // A node takes an item.
+    Take(usize),
+    // How many items a node took of the lane of another node, or of its own.
+    Meet(usize, usize),
 }
+
+// A call, and what is to come of it.
+type Row = (Call, Came);
+
+// The row at this index, and what came of its call; no row if there was no memory for the nodes.
+type Fault = (usize, Option<Row>, Came);
 
 // Two nodes and their lanes, each with a lock of its own.
 #[derive(Drop)]
@@ -38,11 +45,11 @@ impl<J: NodeNaming> Two<J> {
         }
     }
 
-    // Says whether the node at this index takes an item, or finds none.
-    fn take<R: Wait>(&self, rt: &R, alloc: Global, at: usize, wanted: bool) -> bool {
+    // Has the node at this index take an item.
+    fn take<R: Wait>(&self, rt: &R, alloc: Global, at: usize) -> Came {
         match self.nodes.get(at) {
-            Some(node) => take_one(rt, alloc, &mut node.lock(rt), wanted),
-            None => false,
+            Some(node) => take_one(rt, alloc, &mut node.lock(rt)),
+            None => Came::Nothing,
         }
     }
 
@@ -56,24 +63,35 @@ impl<J: NodeNaming> Two<J> {
         }
     }
 
-    // Says whether a call has its result.
-    fn is_right<R: Wait>(&self, rt: &R, alloc: Global, call: Call) -> bool {
+    // Makes a call, and returns what came of it.
+    fn call<R: Wait>(&self, rt: &R, alloc: Global, call: Call) -> Came {
         match call {
-            Call::Send(at, now) => self.send(rt, at, now),
-            Call::Take(at, wanted) => self.take(rt, alloc, at, wanted),
-            Call::Meet(at, lane_at, wanted) => self.meet(rt, at, lane_at) == wanted,
+            Call::Send(at, now) => sent(self.send(rt, at, now)),
+            Call::Take(at) => self.take(rt, alloc, at),
+            Call::Meet(at, lane_at) => Came::Met(self.meet(rt, at, lane_at)),
         }
+    }
+
+    // Returns the first row of whose call comes something else.
+    fn first_fault<R: Wait>(&self, rt: &R, alloc: Global, rows: &[Row]) -> Option<Fault> {
+        for (at, row) in rows.iter().enumerate() {
+            let came = self.call(rt, alloc, row.0);
+            if came != row.1 {
+                return Some((at, Some(*row), came));
+            }
+        }
+        None
     }
 }
 
-// Does the rows with two nodes. Returns the first row whose result differs.
+// Returns the first row, with two nodes, of whose call comes something else.
 fn first_fault_of_two<J: NodeNaming, R: Wait>(
     rt: &R,
     alloc: Global,
     first: Start,
     second: Start,
-    calls: &[Call],
-) -> Option<usize>
+    rows: &[Row],
+) -> Option<Fault>
     requires inbox { first.inbox ≡ J.inbox_of 1 }
     requires core { first.core ≡ J.first_of 1 }
     requires other_inbox { second.inbox ≡ J.inbox_of 2 }
@@ -86,12 +104,12 @@ fn first_fault_of_two<J: NodeNaming, R: Wait>(
             NodeState::new(receiver, first.core),
             lanes,
             second,
-            calls,
+            rows,
         ),
         Err(_) => {
             drop(first.core);
             drop(second);
-            Some(0)
+            Some((0, None, Came::Nothing))
         }
     }
 }
@@ -104,8 +122,8 @@ fn first_fault_with<J: NodeNaming, R: Wait>(
     state: NodeState<J>,
     lanes: Vec<Lane<Item, J>>,
     second: Start,
-    calls: &[Call],
-) -> Option<usize>
+    rows: &[Row],
+) -> Option<Fault>
     requires inbox { second.inbox ≡ J.inbox_of 2 }
     requires core { second.core ≡ J.first_of 2 }
 {
@@ -116,9 +134,7 @@ fn first_fault_with<J: NodeNaming, R: Wait>(
                 nodes: [Mutex::new(state), Mutex::new(other)],
                 lanes: [Mutex::new(lanes), Mutex::new(other_lanes)],
             };
-            let fault = calls
-                .iter()
-                .position(|call| !two.is_right(rt, alloc, *call));
+            let fault = two.first_fault(rt, alloc, rows);
             drop(two);
             fault
         }
@@ -126,31 +142,31 @@ fn first_fault_with<J: NodeNaming, R: Wait>(
             drop(second.core);
             drop(state);
             drop(lanes);
-            Some(0)
+            Some((0, None, Came::Nothing))
         }
     }
 }
 
-const MET: &[Call] = &[
-    Call::Send(0, 1),
-    Call::Send(0, 2),
-    Call::Send(0, 3),
-    Call::Send(1, 5),
-    Call::Send(1, 6),
-    Call::Meet(0, 0, Some(0)),
-    Call::Meet(1, 1, Some(0)),
-    Call::Take(0, true),
-    Call::Take(0, true),
-    Call::Take(1, true),
-    Call::Meet(0, 0, Some(2)),
-    Call::Meet(1, 1, Some(1)),
-    Call::Meet(0, 1, None),
-    Call::Meet(1, 0, None),
-    Call::Take(0, true),
-    Call::Take(0, false),
-    Call::Meet(0, 0, Some(3)),
-    Call::Take(1, true),
-    Call::Meet(1, 1, Some(2)),
+const MET: &[Row] = &[
+    (Call::Send(0, 1), Came::Sent),
+    (Call::Send(0, 2), Came::Sent),
+    (Call::Send(0, 3), Came::Sent),
+    (Call::Send(1, 5), Came::Sent),
+    (Call::Send(1, 6), Came::Sent),
+    (Call::Meet(0, 0), Came::Met(Some(0))),
+    (Call::Meet(1, 1), Came::Met(Some(0))),
+    (Call::Take(0), SILENT),
+    (Call::Take(0), SILENT),
+    (Call::Take(1), SILENT),
+    (Call::Meet(0, 0), Came::Met(Some(2))),
+    (Call::Meet(1, 1), Came::Met(Some(1))),
+    (Call::Meet(0, 1), Came::Met(None)),
+    (Call::Meet(1, 0), Came::Met(None)),
+    (Call::Take(0), SILENT),
+    (Call::Take(0), Came::NoItem(0)),
+    (Call::Meet(0, 0), Came::Met(Some(3))),
+    (Call::Take(1), SILENT),
+    (Call::Meet(1, 1), Came::Met(Some(2))),
 ];
 
 // One lane of each of two nodes sends items, of which some are taken.
