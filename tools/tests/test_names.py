@@ -111,10 +111,13 @@ class Checkouts(ToolTest):
             lines = ([*it.split("/"), sums[it], "refused\n"] for it in sorted(found))
             return "".join("\t".join(it) for it in lines)
 
-        tried = "docs/planted/tried.txt"
-        self.put({f"old/{tried}": rows(edits, edits | {"low/changed_before": "old: e"})})
+        tried, caught = "docs/planted/tried.txt", "docs/planted/caught.txt"
+        self.put({f"old/{tried}": rows(edits, edits | {"low/changed_before": "old: e"}),
+            f"new/{caught}": rows(["low/moved", "low/renamed"], edits)})
         self.words = ["carry", "old", "new"]
         self.assertEqual(self.ended(), (["high moved: moved from low moved", "high new: new",
             "3 verdicts, 1 over changed texts"], 0))
         wanted = rows(["low/kept", "low/renamed", "high/moved"], later)
         self.assertEqual((self.top / "new" / tried).read_text(encoding="utf-8"), wanted)
+        wanted = rows(["high/moved", "low/renamed"], later)
+        self.assertEqual((self.top / "new" / caught).read_text(encoding="utf-8"), wanted)
