@@ -82,6 +82,14 @@ class Fits(ToolTest):
         self.put({SENTENCES: "use Rattle\nuse Rattle\n"})
         self.shows(f"{FAULT}: 2 times: use Rattle", f"{FAULT}: 0 times: Rattle")
 
+    def test_names_a_row_of_another_text_and_one_of_no_edit(self):
+        *_, crate, edit = FAULT.split("/")
+        name, lists = edit.removesuffix(".edit"), "docs/planted/{}.txt"
+        self.put({lists.format("tried"): f"{crate}\t{name}\tother\n{crate}\tgone\tother\n",
+            lists.format("caught"): f"{crate}\t{name}\tother\n"})
+        self.shows(f"{lists.format('tried')}: {crate} gone: for no edit that is there",
+            f"{lists.format('caught')}: {crate} {name}: for no edit that is there")
+
 
 class Checkouts(ToolTest):
     count, table = "", "low Words Word Term\n"
