@@ -10,6 +10,7 @@ DOUBLE = "pub {0} : ℕ → ℕ\n{0} {1} = {1} + {1}\n"
 CODE = "const MOST: usize = 7;\nfn keep()\n    ensures {{ {} }}\n{{\n    rest();\n}}\n"
 SCRIPTS = "crates/example_scripts/src/scripts.rt"
 SCRIPT, TRANSCRIPT = "examples/greeting.script", "examples/greeting.transcript"
+COPY = "crates/high/stdout"
 CONTRACTS, REFUSALS = "docs/CONTRACTS.md", "docs/REFUSALS.md"
 REFUSING, HELP = "crates/low/src/refusal.rt", "crates/command_line/src/commands.rt"
 
@@ -41,8 +42,9 @@ class Twins(ToolTest):
 
 
 class Scripts(ToolTest):
-    words, count = ["scripts"], ""
+    words, count, tables = ["scripts"], "", {"COPIES": {COPY: TRANSCRIPT}}
     files = {
+        COPY: "one\ntwo\n",
         SCRIPTS: 'pub const GREETING: [&str; 2] = [\n    "say \\"one\\"\\n\\\n    say two\\n",\n'
             '    "one\\n\\\n    two\\n",\n];\n',
         SCRIPT: 'say "one"\nsay two\n',
@@ -51,8 +53,9 @@ class Scripts(ToolTest):
 
     def test_names_the_first_line_that_differs(self):
         self.shows_edits(
+            (COPY, "two", "too", f"{COPY}:2: differs from {TRANSCRIPT}"),
             (SCRIPTS, "say two", "say no", f"{SCRIPT}:2: differs from GREETING in {SCRIPTS}"),
-            (TRANSCRIPT, "one", "won", f"{TRANSCRIPT}:1: differs from GREETING in {SCRIPTS}"),
+            (SCRIPTS, "    two", "    to", f"{TRANSCRIPT}:2: differs from GREETING in {SCRIPTS}"),
         )
 
     def test_names_a_text_that_stands_on_one_side_only(self):
