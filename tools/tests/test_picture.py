@@ -14,7 +14,7 @@ WRITTEN = [
     ("docs/MAP.md", "| 2 code | world | events | headline |", "| 2 code | world | events | |"),
     ("docs/HEADLINE.md", "four arguments | 2 | 6 | 2 |", "four arguments | 2 | 6 | 1 |"),
     ("docs/PROVED.md", "| world | 1 | 1 | `run` |", "| world | 1 | 0 | |"),
-    (STATUS, "`proved`; 0 files", "`proved`; 1 files"),
+    (STATUS, "src 0, specs 0", "src 1, specs 0"),
     ("README.md", "4 lines, 6 with all that it names, 3", "4 lines, 5 with all that it names, 3"),
     ("docs/plots/architecture.svg", "2 code", "2 codes"),
 ]
@@ -29,7 +29,8 @@ class Picture(ToolTest):
         "docs/MAP.md": MARK("map"),
         "docs/HEADLINE.md": MARK("believed"),
         "docs/PROVED.md": MARK("unclaimed"),
-        STATUS: "Last proved as a whole: `proved`; 9 files of crates changed\n",
+        STATUS: "Last proved as a whole: `proved`. Changed since:\n"
+            "src 9, specs 0, proofs 0, tests 0\n",
         "README.md": "0 lines, 0 with all that it names, 0 with its premise\n",
         **{f"crates/{it}/src/lib.rt": "" for it in ("exactly_once", "headline", "world_tests")},
         CODE: "pub fn run()\n{}\n",
