@@ -1,7 +1,7 @@
-// Memory that is refused. Each test runs with each of its allocations failing in turn: a command
-// that is refused leaves the replica as it was, and is taken at the second try; if applying it runs
-// out of memory, the replica has stopped for good; a message for which memory runs out is lost and
-// counted.
+// Memory that is refused. `tools/refused-memory` lets each allocation of a test fail in turn; in
+// the gate none fails. A command that is refused leaves the replica as it was, and is taken at the
+// second try; if applying it runs out of memory, the replica has stopped for good; a message for
+// which memory runs out is lost and counted.
 
 use ballot::{Effect, ProposeError, Replica, Role};
 use ballot_replicas::{appends, gives, logs, made, shows};

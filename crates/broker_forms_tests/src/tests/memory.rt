@@ -1,6 +1,6 @@
-// Memory that is refused. Each test runs with each of its allocations failing in turn: a call
-// reports that it is out of memory or answers as it does with memory, and what it was to append to
-// is as it was.
+// Memory that is refused. `tools/refused-memory` lets each allocation of a test fail in turn; in
+// the gate none fails. A call reports that it is out of memory or answers as it does with memory,
+// and what it was to append to is as it was.
 
 use super::giving::{Event, ONE_ENTRY, ONE_SESSION, is_frozen, is_given};
 use broker::BrokerMachine;

@@ -1,6 +1,6 @@
-// Memory that is refused. Each test runs with each of its allocations failing in turn: a call
-// answers `Memory` and has changed nothing, or the client is as after `lose_connection`; if the
-// call is made again, all is as it is with memory.
+// Memory that is refused. `tools/refused-memory` lets each allocation of a test fail in turn; in
+// the gate none fails. A call answers `Memory` and has changed nothing, or the client is as after
+// `lose_connection`; if the call is made again, all is as it is with memory.
 
 use super::handshakes::taken;
 use super::row::*;

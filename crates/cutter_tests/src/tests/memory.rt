@@ -1,6 +1,6 @@
-// Memory that is refused to a cutter. The test runs with each of its allocations failing in turn: a
-// call answers `Memory` and leaves the cutter as it was, or gives the answer that it gives with
-// memory.
+// Memory that is refused to a cutter. `tools/refused-memory` lets each allocation of a test fail in
+// turn; in the gate none fails. A call answers `Memory` and leaves the cutter as it was, or gives
+// the answer that it gives with memory.
 
 use super::cutting::STREAM;
 use super::spelling::write;

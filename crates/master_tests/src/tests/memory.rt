@@ -1,5 +1,6 @@
-// Memory that is refused. Each test runs with each of its allocations failing in turn: at most one
-// step is counted, what was half done is undone, and the group continues to serve.
+// Memory that is refused. `tools/refused-memory` lets each allocation of a test fail in turn; in
+// the gate none fails. At most one step is counted, what was half done is undone, and the group
+// continues to serve.
 
 use super::groups::*;
 use super::stories::{Run, first_fault_if_opened};

@@ -1,5 +1,6 @@
-// Memory that is refused, in the conversations of `clients`. Run with each allocation failing in
-// turn: all results are as usual, or one loss is counted.
+// Memory that is refused, in the conversations of `clients`. `tools/refused-memory` lets each
+// allocation of a test fail in turn; in the gate none fails. All results are as usual, or one loss
+// is counted.
 
 use super::clients::TABLES;
 use super::row::{Act, Row, SHOWN, bring, front_of, primary, shown, take};

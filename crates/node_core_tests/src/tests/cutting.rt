@@ -353,7 +353,7 @@ fn came_instead_of_fresh(alloc: Global) -> Option<Came> {
     }
 }
 
-// Run with each allocation failing in turn.
+// For `tools/refused-memory`, which lets each allocation fail in turn.
 #[test]
 fn a_refused_snapshot_is_counted(rt: HostRuntime) {
     assert_eq!(rt; came_instead_of_fresh(rt.alloc()), None);

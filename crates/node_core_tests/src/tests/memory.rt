@@ -1,6 +1,6 @@
-// Memory that is refused. Each test runs with each of its allocations failing in turn: a step that
-// runs out of memory counts a loss; if none is counted, all results are as usual; and what is still
-// open then has all that it is to be sent.
+// Memory that is refused. `tools/refused-memory` lets each allocation of a test fail in turn; in
+// the gate none fails. A step that runs out of memory counts a loss; if none is counted, all
+// results are as usual; and what is still open then has all that it is to be sent.
 
 use super::handling::{ACCEPTED, CONNECT_A, CONNECT_B, bring, primary, take};
 use node_core::{Handed, Item, NodeCore, Port};

@@ -1,5 +1,6 @@
-// Memory that is refused. Each test runs with each of its allocations failing in turn: a call
-// answers `Memory`, or the answer that it gives with memory, and nothing else.
+// Memory that is refused. `tools/refused-memory` lets each allocation of a test fail in turn; in
+// the gate none fails. A call answers `Memory`, or the answer that it gives with memory, and
+// nothing else.
 
 use super::spelling::write;
 use packet::*;

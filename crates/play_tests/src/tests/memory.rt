@@ -1,5 +1,6 @@
-// Memory that is refused, in the script `answer_waits_for_the_backup`. Run with each allocation
-// failing in turn: it is played as usual, or reported to have run out of memory.
+// Memory that is refused, in the script `answer_waits_for_the_backup`. `tools/refused-memory` lets
+// each allocation of a test fail in turn; in the gate none fails. It is played as usual, or
+// reported to have run out of memory.
 
 use example_scripts::ANSWER_WAITS_FOR_THE_BACKUP;
 use play::{PlayError, play};

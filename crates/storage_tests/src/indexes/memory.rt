@@ -1,6 +1,6 @@
-// Memory that is refused. Each test runs with each of its allocations failing in turn: a call that
-// runs out of memory leaves the index, and the rows, as they were, and does its work when it is
-// made again.
+// Memory that is refused. `tools/refused-memory` lets each allocation of a test fail in turn; in
+// the gate none fails. A call that runs out of memory leaves the index, and the rows, as they were,
+// and does its work when it is made again.
 
 use crate::indexes::calls::{Grant, are_wanted};
 use packet::QoS::{AtLeastOnce, AtMostOnce, ExactlyOnce};

@@ -1,6 +1,6 @@
-// Memory that is refused. Each test runs with each of its allocations failing in turn: a text is
-// made, or `Memory` is answered and it is made at the second try; a text that is refused for a
-// fault is refused for it as usual; and a match takes no memory.
+// Memory that is refused. `tools/refused-memory` lets each allocation of a test fail in turn; in
+// the gate none fails. A text is made, or `Memory` is answered and it is made at the second try; a
+// text that is refused for a fault is refused for it as usual; and a match takes no memory.
 
 use super::asking::{filter_fault, topic_fault};
 use std::alloc::Global;

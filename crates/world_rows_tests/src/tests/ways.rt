@@ -305,7 +305,7 @@ fn is_reported(world: &mut World, client: &ClientId) -> bool {
     }
 }
 
-// Runs with each allocation failing in turn. Without memory for the world nothing is asked of it.
+// For `tools/refused-memory`. Without memory for the world nothing is asked of it.
 #[test]
 fn a_way_out_without_memory_is_refused_or_counted(rt: HostRuntime) {
     let is_reported = answer(rt.alloc(), &[], "a", Asked::IsReported).unwrap_or(true);

@@ -1,6 +1,7 @@
 // Memory that is refused, in the events of the script `answer_waits_for_the_backup` of the folder
-// `examples`, and in a cut of the primary's log after them. Run with each allocation failing in
-// turn: a step that runs out of memory counts a loss, and otherwise all comes as usual.
+// `examples`, and in a cut of the primary's log after them. `tools/refused-memory` lets each
+// allocation of a test fail in turn; in the gate none fails. A step that runs out of memory counts
+// a loss, and otherwise all comes as usual.
 
 use crate::tests::opening::{named, opened};
 use std::alloc::Global;
