@@ -21,7 +21,7 @@ pub enum Input<C> {
     Ticked,
 }
 
-/// Lets a replica that runs take an input. Returns whether memory sufficed.
+/// Lets a replica that runs take an input. Returns whether nothing was lost.
 pub fn step_replica<M: Machine>(
     replica: &mut Replica<M>,
     input: Input<M::Command>,

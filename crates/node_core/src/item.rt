@@ -14,7 +14,7 @@ pub enum Item {
     /// It is this time: the replica repeats what others may have missed, and connections whose keep
     /// alive has expired are closed.
     Tick(u64),
-    /// A stream was opened, at this time.
+    /// A stream was opened, at this time, which no node reads.
     Opened(Port, u64),
     /// Bytes arrived on it, at this time.
     Bytes(Port, Piece, u64),

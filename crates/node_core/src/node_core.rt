@@ -168,8 +168,9 @@ impl NodeCore {
     }
 
     /// Takes an item and appends the messages to other nodes that follow from it. If memory runs
-    /// out, a connection is closed or not accepted, or a message is lost, and the step is counted.
-    /// Each connection that stays open has everything that was queued for it.
+    /// out, a connection is closed or not accepted, a message, a cut or an Expel is lost, or the
+    /// replica stops; the step is counted. Each connection that stays open has everything that was
+    /// queued for it.
     pub fn step(&mut self, item: Item, effects: &mut Vec<Effect<Command, Output>>)
         ensures { ItemStepOrLost self.old item self.new effects.old.items effects.new.items }
     {

@@ -29,7 +29,8 @@ use crate::unsubscribe::Unsubscribe;
 use packet_base::{Header, PacketId, Reader, Stop, put_number};
 use std::alloc::{AllocError, Global};
 
-/// The most bytes of a body, after the Remaining Length. It is this broker's own limit.
+/// The most bytes of a body, after the Remaining Length. It is this broker's own limit: with the
+/// first byte and three of length a packet has at most 2^20 bytes.
 pub const MAX_BODY: usize = 1_048_572;
 
 /// A Control Packet (MQTT 2). What MQTT's table of packets does not allow cannot be built, except

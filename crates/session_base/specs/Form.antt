@@ -1,5 +1,5 @@
 -- How the parts of a session are read from bytes: numbers, publications, filters, and entries in
--- flight. They are the same in both forms.
+-- flight. They are the same in both forms of a frozen broker.
 use Rattle.std.specs.Prelude.{ℕ, ◌+◌, Bool, not, ◌==◌, nat_lt, nat_le, if◌then◌else◌, List}
 use Rattle.std.specs.Prelude.{length, Result, Ok}
 use Rattle.std.specs.Int.{w32, from_be_bytes}

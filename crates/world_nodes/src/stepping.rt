@@ -10,7 +10,7 @@ use node_core::{Command, Item, Message, NodeCore};
 use std::alloc::Global;
 
 /// Lets a node take an item; its messages are put after those that were sent. Returns whether
-/// memory sufficed.
+/// nothing was lost.
 pub fn step_node(
     alloc: Global,
     node: &mut NodeCore,
@@ -27,7 +27,7 @@ pub fn step_node(
 }
 
 /// Lets a node ignore the message of a number, as in `step_node`: no copy of it is made. Returns
-/// whether memory sufficed.
+/// whether nothing was lost.
 pub fn pass_over(
     alloc: Global,
     node: &mut NodeCore,

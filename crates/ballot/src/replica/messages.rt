@@ -17,7 +17,7 @@ use machine::{Halted, Machine};
 
 impl<M: Machine> Replica<M> {
     /// Takes a message of another node. A message for whose effect on the log there is no memory is
-    /// lost.
+    /// lost. `Halted` comes exactly if the replica has stopped, before or in this call.
     pub fn on(
         &mut self,
         message: Message<M::Command>,
