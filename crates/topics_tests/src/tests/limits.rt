@@ -5,45 +5,45 @@ use std::alloc::Global;
 use std::test::*;
 use topics::MalformedKind;
 
-// A text that repeats a part this many times, and its fault.
+// A text that repeats a part this many times, and of which kind it is malformed.
 type Row<'a> = (&'a str, usize, Option<MalformedKind>);
 
-// Returns the fault, as a Topic Filter, of a text that repeats a part; `Memory` also if there is
-// none for the text.
-fn fault_of_filter(alloc: Global, part: &str, count: usize) -> Option<MalformedKind> {
+// Returns of which kind a text that repeats a part is malformed as a Topic Filter; `Memory` also if
+// there is none for the text.
+fn kind_of_filter(alloc: Global, part: &str, count: usize) -> Option<MalformedKind> {
     match part.repeat(alloc, count) {
         Ok(text) => filter_fault(alloc, &text),
         Err(_) => Some(MalformedKind::Memory),
     }
 }
 
-// Returns its fault as a Topic Name.
-fn fault_of_topic(alloc: Global, part: &str, count: usize) -> Option<MalformedKind> {
+// Returns of which kind it is malformed as a Topic Name.
+fn kind_of_topic(alloc: Global, part: &str, count: usize) -> Option<MalformedKind> {
     match part.repeat(alloc, count) {
         Ok(text) => topic_fault(alloc, &text),
         Err(_) => Some(MalformedKind::Memory),
     }
 }
 
-// Returns the first row whose fault as a Topic Filter differs from the wanted one, with that fault.
+// Returns the first row whose kind as a Topic Filter differs from the wanted one, with that kind.
 fn first_fault_of_filters<'a>(alloc: Global, rows: &[Row<'a>]) -> Option<Row<'a>> {
     for row in rows {
         let (part, count, wanted) = *row;
-        let fault = fault_of_filter(alloc, part, count);
-        if fault != wanted {
-            return Some((part, count, fault));
+        let kind = kind_of_filter(alloc, part, count);
+        if kind != wanted {
+            return Some((part, count, kind));
         }
     }
     None
 }
 
-// Returns the first row whose fault as a Topic Name differs from the wanted one, with that fault.
+// Returns the first row whose kind as a Topic Name differs from the wanted one, with that kind.
 fn first_fault_of_topics<'a>(alloc: Global, rows: &[Row<'a>]) -> Option<Row<'a>> {
     for row in rows {
         let (part, count, wanted) = *row;
-        let fault = fault_of_topic(alloc, part, count);
-        if fault != wanted {
-            return Some((part, count, fault));
+        let kind = kind_of_topic(alloc, part, count);
+        if kind != wanted {
+            return Some((part, count, kind));
         }
     }
     None
