@@ -20,22 +20,24 @@ ghost use Rattle.storage_tests.specs.Guards.{
 /// Shows that a released entry keeps the place at which it started, and is no longer one that is
 /// sent again (MQTT 4.3.3).
 pub fn released_entries_are_read()
-    ensures start { (p : Publication) → start_place (Entry.Released 1 p 2 3 4) ≡ Some 3 }
-    ensures sent { (p : Publication) → sent_entries (Entry.Released 1 p 2 3 4 ∷ []) ≡ [] }
+    ensures start { (publication : Publication) →
+        start_place (Entry.Released 1 publication 2 3 4) ≡ Some 3 }
+    ensures sent { (publication : Publication) →
+        sent_entries (Entry.Released 1 publication 2 3 4 ∷ []) ≡ [] }
 {}
 
-/// Shows that a publication that removes what is retained needs no room, however much is retained
+/// States that a publication that removes what is retained needs no room, however much is retained
 /// (MQTT 3.3.1.3).
 pub fn removing_needs_no_room()
-    ensures { (limits : Limits) (past : Past) (p : Publication) → p.payload ≡ [] →
-        is_retained_over limits past p ≡ false }
+    ensures { (limits : Limits) (past : Past) (publication : Publication) →
+        publication.payload ≡ [] → is_retained_over limits past publication ≡ false }
 {}
 
-/// Shows that a connection is live only as the current one of a client, so one that is over is not
+/// States that a connection is live only as the current one of a client, so one that is over is not
 /// (MQTT 3.1.4, 3.14.4).
 pub fn live_connections_are_current()
-    ensures { (past : Past) (x : ConnectionName) → IsLive past x →
-        (c : Client) × (current_connection past c ≡ Some x) }
+    ensures { (past : Past) (connection : ConnectionName) → IsLive past connection →
+        (client : Client) × (current_connection past client ≡ Some connection) }
 {}
 
 /// Shows that PUBACK finishes only an entry of QoS 1, and PUBREC and PUBCOMP only one of QoS 2.
