@@ -281,7 +281,7 @@ impl<M: Machine> Replica<M> {
     }
 
     // Appends a command to the log, sends it to the other members and commits what all hold. A call
-    // that fails undoes what it did.
+    // that fails takes back the command and what it sent; after `Halted` the replica has stopped.
     fn add(
         &mut self,
         command: M::Command,

@@ -98,7 +98,7 @@ impl Clients {
         Ok(())
     }
 
-    // Does the command that comes next: whether there was one.
+    // Does the command that comes next. Returns whether there was one.
     fn take_next(&mut self) -> Result<bool> {
         match self.under_way.pop_front() {
             Some(command) => {

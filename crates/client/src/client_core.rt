@@ -32,7 +32,7 @@ pub struct ClientCore {
     pub(crate) stage: Stage,
     /// The number of its session, up to 2^64 - 1; 0 before the first CONNACK 0.
     pub(crate) session: u64,
-    /// Session Present of the last CONNACK 0.
+    /// Whether the last CONNACK 0 had Session Present (MQTT 3.2.2.2).
     pub(crate) present: bool,
     /// The publications that it accepted, and that the caller has not yet taken.
     pub(crate) accepted: Vec<Accepted>,

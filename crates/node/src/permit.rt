@@ -19,7 +19,7 @@ pub struct Permit<'n> {
     taking: Option<u64>,
     // How many items may be taken with it: one if there is a gate, else `MAX_AT_ONCE`.
     most: u32,
-    // The gate opened for it, or there is none.
+    // Whether the gate opened for it, or there is none.
     is_open: bool,
     // Until this is dropped no other taking begins.
     passing: Option<MutexGuard<'n, ()>>,

@@ -35,7 +35,7 @@ pub struct ServedNode<'a, J: NodeNaming, S: Stated<J>, G: Gate> {
     pub(crate) own: Mutex<OwnLane<J>>,
     // The lanes of its connections, while no thread works with them.
     lane_slots: Mutex<LaneSlots<J>>,
-    /// A gate is asked before each taking.
+    /// Whether a gate is asked before each taking.
     pub(crate) is_gated: bool,
     pub(crate) ghost its: { number ≡ shared.context.listener.now.number },
 }

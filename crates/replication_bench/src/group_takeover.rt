@@ -52,7 +52,7 @@ fn serve(group: &mut Group<Tally>, places: u64) -> Result<()> {
     Ok(())
 }
 
-// Proposes the command of a number: whether it was taken. The event is dropped once.
+// Proposes the command of a number. Returns whether it was taken. The event is dropped once.
 fn propose(group: &mut Group<Tally>, number: u64) -> bool {
     let event = proposal(number);
     let happened = group.step(&event).is_ok();

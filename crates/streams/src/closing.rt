@@ -26,7 +26,7 @@ impl Model for Closed {
 /// The threads that wait at a listener for clients.
 #[derive(Drop)]
 pub(crate) struct Waiting {
-    // No more connections are admitted.
+    // Whether no more connections are admitted.
     closed: bool,
     // How many threads wait.
     threads: u32,

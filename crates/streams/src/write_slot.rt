@@ -11,7 +11,7 @@ use std::mem;
 pub(crate) struct WriteSlot {
     // None while a thread writes, and for good once the stream takes no more.
     token: Option<Stream>,
-    // More may have been queued since the thread that writes looked.
+    // Whether more may have been queued since the thread that writes looked.
     again: bool,
 }
 

@@ -36,7 +36,8 @@ pub(crate) enum News {
 pub(crate) struct Caller {
     /// The client, with keep alive 0.
     pub(crate) core: ClientCore,
-    /// Until it is true, a server that has a session of the client is at fault.
+    /// Whether a CONNACK was accepted. Until then a server that has a session of the client is at
+    /// fault.
     pub(crate) was_accepted: bool,
 }
 

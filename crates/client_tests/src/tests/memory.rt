@@ -36,7 +36,7 @@ fn client_at_last(alloc: Global) -> Option<ClientCore> {
     }
 }
 
-// Opens a lost connection again, and drops what is written then: whether memory was found.
+// Opens a lost connection again, and drops what is written then. Returns whether memory was found.
 fn reopen(client: &mut ClientCore, alloc: Global, was_accepted: bool) -> bool {
     let opened = open(client).is_none();
     let accepted = !was_accepted || give(client, PRESENT).is_none();

@@ -176,7 +176,7 @@ fn take<J: Naming, R: Wait>(
     }
 }
 
-// Takes the items of the connection up to the last, at most ten: whether it came.
+// Takes the items of the connection up to the last, at most ten. Returns whether it came.
 fn take_all<J: Naming, R: Wait>(
     rt: &R,
     receiver: &mut Receiver<Item, J>,

@@ -72,8 +72,8 @@ fn a_device_that_takes_nothing_stops_the_write(rt: HostRuntime) {
     assert_eq!(rt; device.faults(), 0);
 }
 
-// Reads a piece and appends it to those that came: whether it is what the call of this number may
-// give.
+// Reads a piece and appends it to those that came. Returns whether it is what the call of this
+// number may give.
 fn read_once(
     device: &mut Counted<Source<'_>>,
     buffer: &mut [u8],

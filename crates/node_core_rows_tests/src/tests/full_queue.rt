@@ -92,7 +92,7 @@ enum QueueFault {
     Step(&'static str, Coming, Shown),
 }
 
-// Lets bytes come on a port: whether no message follows.
+// Lets bytes come on a port. Returns whether no message follows.
 fn let_bytes_come(cutting: Cutting, node: &mut NodeCore, port: u64, bytes: &[u8]) -> bool {
     let_come(cutting.alloc, node, port, bytes, 0, cutting.coming)
 }
@@ -179,7 +179,7 @@ impl Got {
         Some(())
     }
 
-    // Takes what is handed over for a port: whether it was something.
+    // Takes what is handed over for a port. Returns whether it was something.
     fn look(&mut self, alloc: Global, node: &mut NodeCore, port: u64) -> Option<bool> {
         let mut out = Vec::new(alloc);
         node.outgoing(Port(port), &mut out).ok()?;

@@ -127,12 +127,12 @@ pub fn hand_over(alloc: Global, node: &mut NodeCore, port: u64, bytes: &[u8], op
     node.outgoing(Port(port), &mut out) == Ok(answer) && out.as_slice() == bytes
 }
 
-// Takes a piece: whether no message follows.
+// Takes a piece. Returns whether no message follows.
 fn let_come_whole(alloc: Global, node: &mut NodeCore, port: u64, bytes: &[u8], time: u64) -> bool {
     bring(alloc, node, port, bytes, time).is_some_and(|effects| effects.is_empty())
 }
 
-// Takes bytes one by one: whether no message follows.
+// Takes bytes one by one. Returns whether no message follows.
 fn let_come_by_bytes(
     alloc: Global,
     node: &mut NodeCore,
@@ -164,7 +164,7 @@ fn let_come_cut(
     }
 }
 
-/// Takes bytes that come on a port of a sole member: whether no message follows.
+/// Takes bytes that come on a port of a sole member. Returns whether no message follows.
 pub fn let_come(
     alloc: Global,
     node: &mut NodeCore,
@@ -180,7 +180,7 @@ pub fn let_come(
     }
 }
 
-// Lets a row's act come: whether no message follows.
+// Lets a row's act come. Returns whether no message follows.
 fn bring_row(alloc: Global, node: &mut NodeCore, row: &Row<'_>, coming: Coming) -> bool {
     let (time, port, act, _, _) = *row;
     let item = match act {

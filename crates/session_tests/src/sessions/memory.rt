@@ -18,8 +18,8 @@ fn publication_at_last(alloc: Global) -> Option<Publication> {
     }
 }
 
-// Adds a publication: whether there is room for one less then, and as much as before if memory was
-// refused.
+// Adds a publication. Returns whether there is room for one less then, and as much as before if
+// memory was refused.
 fn add_one(alloc: Global, session: &mut Session) -> Option<bool> {
     let room = session.room();
     match session.enqueue(publication_at_last(alloc)?) {

@@ -9,7 +9,7 @@ use retained::{RetainedError, RetainedStore};
 use std::alloc::Global;
 use topics::Filter;
 
-// Puts a publication, again if memory was refused: whether as many topics are kept then as
+// Puts a publication, again if memory was refused. Returns whether as many topics are kept then as
 // expected, and as many as before in between.
 fn is_put(
     alloc: Global,

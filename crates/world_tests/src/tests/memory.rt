@@ -28,8 +28,8 @@ fn put_events(alloc: Global, events: &mut Vec<Event>) -> Option<()> {
     events.push(Event::Cut(1)).ok()
 }
 
-// Lets an event happen: whether it does and leads here, and whether the agreed list did not become
-// shorter.
+// Lets an event happen. Returns whether it does and leads here, and whether the agreed list did not
+// become shorter.
 fn step_and_compare(world: &mut World, event: &Event, wanted: &(u64, u64)) -> (bool, bool) {
     let before = world.agreed_len();
     let happened = world.step(event).is_ok();
