@@ -2,5 +2,6 @@
 
 mod calls;
 pub(crate) mod memory;
+mod putting;
 mod random;
 mod rows;
