@@ -30,7 +30,7 @@ pub fn hand_over_log(pair: &mut Pair, alloc: Global) -> Option<&'static str> {
 #[test]
 fn the_log_goes_over(rt: HostRuntime) {
     assert_eq!(rt;
-        first_fault_of_two(rt.alloc(), &[1], Change::GoesOver),
+        first_fault_of_two(rt.alloc(), &[1], Change::HandOverLog),
         None
     );
 }
@@ -68,7 +68,10 @@ pub fn begin_ballot_two(pair: &mut Pair, alloc: Global) -> Option<&'static str> 
 // A ballot with another primary becomes active and begins with its start, which is committed.
 #[test]
 fn a_new_ballot_begins_with_its_start(rt: HostRuntime) {
-    assert_eq!(rt; first_fault_of_two(rt.alloc(), &[1], Change::Begins), None);
+    assert_eq!(rt;
+        first_fault_of_two(rt.alloc(), &[1], Change::BeginBallotTwo),
+        None
+    );
 }
 
 /// Checks that node 2 is a backup after Superseded, and stays one. Returns the first step that
@@ -93,7 +96,7 @@ pub fn supersede(pair: &mut Pair, alloc: Global) -> Option<&'static str> {
 #[test]
 fn a_superseded_ballot_does_not_begin(rt: HostRuntime) {
     assert_eq!(rt;
-        first_fault_of_two(rt.alloc(), &[1], Change::IsSuperseded),
+        first_fault_of_two(rt.alloc(), &[1], Change::Supersede),
         None
     );
 }
@@ -120,7 +123,7 @@ pub fn replace_log(pair: &mut Pair, alloc: Global) -> Option<&'static str> {
 #[test]
 fn a_longer_log_of_a_stale_primary_is_replaced(rt: HostRuntime) {
     assert_eq!(rt;
-        first_fault_of_two(rt.alloc(), &[1, 2], Change::IsReplaced),
+        first_fault_of_two(rt.alloc(), &[1, 2], Change::ReplaceLog),
         None
     );
 }
@@ -150,7 +153,7 @@ pub fn ask_twice(pair: &mut Pair, alloc: Global) -> Option<&'static str> {
 #[test]
 fn a_new_primary_asks_again(rt: HostRuntime) {
     assert_eq!(rt;
-        first_fault_of_two(rt.alloc(), &[1], Change::AsksAgain),
+        first_fault_of_two(rt.alloc(), &[1], Change::AskTwice),
         None
     );
 }

@@ -53,7 +53,7 @@ pub fn answer_at_once(
 #[test]
 fn a_sole_member_answers_at_once(rt: HostRuntime) {
     assert_eq!(rt;
-        first_fault(rt.alloc(), 1, &[1], 1, Run::AnswersAtOnce),
+        first_fault(rt.alloc(), 1, &[1], 1, Run::AnswerAtOnce),
         None
     );
 }
@@ -99,7 +99,7 @@ pub fn append_and_hear_held(
 #[test]
 fn an_output_leaves_once_all_members_hold_it(rt: HostRuntime) {
     assert_eq!(rt;
-        first_fault(rt.alloc(), 1, &[1, 2], 1, Run::LeavesOnceHeld),
+        first_fault(rt.alloc(), 1, &[1, 2], 1, Run::AppendAndHearHeld),
         None
     );
 }
@@ -148,7 +148,7 @@ pub fn append_and_hear_twice(
 #[test]
 fn a_held_that_comes_twice_changes_nothing(rt: HostRuntime) {
     assert_eq!(rt;
-        first_fault(rt.alloc(), 1, &[1, 2], 1, Run::HearsItAgain),
+        first_fault(rt.alloc(), 1, &[1, 2], 1, Run::AppendAndHearTwice),
         None
     );
 }
@@ -191,7 +191,7 @@ pub fn wait_for_the_first(
 #[test]
 fn a_backup_takes_places_in_order(rt: HostRuntime) {
     assert_eq!(rt;
-        first_fault(rt.alloc(), 2, &[1, 2], 1, Run::WaitsForTheFirst),
+        first_fault(rt.alloc(), 2, &[1, 2], 1, Run::WaitForTheFirst),
         None
     );
 }
@@ -237,7 +237,10 @@ pub fn append_in_silence(
 // A backup that gets a Commit sends nothing, also at a tick, and takes no proposal.
 #[test]
 fn a_backup_is_silent(rt: HostRuntime) {
-    assert_eq!(rt; first_fault(rt.alloc(), 2, &[1, 2], 1, Run::IsSilent), None);
+    assert_eq!(rt;
+        first_fault(rt.alloc(), 2, &[1, 2], 1, Run::AppendInSilence),
+        None
+    );
 }
 
 const TWO_NUMBERS: &[TallyCommand] = &[TallyCommand::Add(2), TallyCommand::Add(3)];
@@ -286,7 +289,7 @@ pub fn send_what_is_lacking(
 #[test]
 fn a_tick_sends_what_is_lacking(rt: HostRuntime) {
     assert_eq!(rt;
-        first_fault(rt.alloc(), 2, &[1, 2, 3], 2, Run::SaysWhatIsLacking),
+        first_fault(rt.alloc(), 2, &[1, 2, 3], 2, Run::SendWhatIsLacking),
         None
     );
 }

@@ -68,7 +68,7 @@ fn go_on(
 
 #[test]
 fn a_sole_member_cuts_its_log_once(rt: HostRuntime) {
-    assert_eq!(rt; first_fault(rt.alloc(), 1, &[1], 1, Run::IsCut), None);
+    assert_eq!(rt; first_fault(rt.alloc(), 1, &[1], 1, Run::CutOnce), None);
 }
 
 /// Checks that a node that is no member takes a log that it can read. A log whose snapshot is no
@@ -121,7 +121,7 @@ fn install(
 #[test]
 fn a_snapshot_is_read_or_lost(rt: HostRuntime) {
     assert_eq!(rt;
-        first_fault(rt.alloc(), 2, &[1], 1, Run::ReadsSnapshots),
+        first_fault(rt.alloc(), 2, &[1], 1, Run::ReadSnapshots),
         None
     );
 }
@@ -169,7 +169,7 @@ fn begin_after(pair: &mut Pair) -> Option<&'static str> {
 #[test]
 fn a_snapshot_goes_over(rt: HostRuntime) {
     assert_eq!(rt;
-        first_fault_of_two(rt.alloc(), &[1], Change::SnapshotGoesOver),
+        first_fault_of_two(rt.alloc(), &[1], Change::HandOverSnapshot),
         None
     );
 }

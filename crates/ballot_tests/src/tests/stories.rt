@@ -9,15 +9,15 @@ use std::alloc::Global;
 /// What a replica is to go through.
 #[derive(Clone, Copy)]
 pub enum Run {
-    AnswersAtOnce,
-    LeavesOnceHeld,
-    HearsItAgain,
-    WaitsForTheFirst,
-    IsSilent,
-    SaysWhatIsLacking,
+    AnswerAtOnce,
+    AppendAndHearHeld,
+    AppendAndHearTwice,
+    WaitForTheFirst,
+    AppendInSilence,
+    SendWhatIsLacking,
     IsNoMember,
-    IsCut,
-    ReadsSnapshots,
+    CutOnce,
+    ReadSnapshots,
 }
 
 /// Why a run or a change fails.
@@ -39,12 +39,12 @@ fn step_of(
     run: Run,
 ) -> Option<&'static str> {
     match run {
-        Run::AnswersAtOnce => commands::answer_at_once(replica, out),
-        Run::LeavesOnceHeld => commands::append_and_hear_held(replica, out),
-        Run::HearsItAgain => commands::append_and_hear_twice(replica, out),
-        Run::WaitsForTheFirst => commands::wait_for_the_first(replica, out),
-        Run::IsSilent => commands::append_in_silence(replica, out),
-        Run::SaysWhatIsLacking => commands::send_what_is_lacking(replica, out),
+        Run::AnswerAtOnce => commands::answer_at_once(replica, out),
+        Run::AppendAndHearHeld => commands::append_and_hear_held(replica, out),
+        Run::AppendAndHearTwice => commands::append_and_hear_twice(replica, out),
+        Run::WaitForTheFirst => commands::wait_for_the_first(replica, out),
+        Run::AppendInSilence => commands::append_in_silence(replica, out),
+        Run::SendWhatIsLacking => commands::send_what_is_lacking(replica, out),
         Run::IsNoMember => {
             if shows(replica, 0, Role::Backup, 0, 0) {
                 None
@@ -52,8 +52,8 @@ fn step_of(
                 Some("it is a backup of ballot 0, and holds no place")
             }
         }
-        Run::IsCut => cutting::cut_once(replica, out),
-        Run::ReadsSnapshots => cutting::read_snapshots(replica, out, alloc),
+        Run::CutOnce => cutting::cut_once(replica, out),
+        Run::ReadSnapshots => cutting::read_snapshots(replica, out, alloc),
     }
 }
 
@@ -89,23 +89,23 @@ pub fn first_fault(
 /// What two nodes are to go through.
 #[derive(Clone, Copy)]
 pub enum Change {
-    GoesOver,
-    Begins,
-    IsSuperseded,
-    IsReplaced,
-    AsksAgain,
-    SnapshotGoesOver,
+    HandOverLog,
+    BeginBallotTwo,
+    Supersede,
+    ReplaceLog,
+    AskTwice,
+    HandOverSnapshot,
 }
 
 // Returns the first step that fails in a change, in words.
 fn step_of_two(alloc: Global, pair: &mut Pair, change: Change) -> Option<&'static str> {
     match change {
-        Change::GoesOver => changes::hand_over_log(pair, alloc),
-        Change::Begins => changes::begin_ballot_two(pair, alloc),
-        Change::IsSuperseded => changes::supersede(pair, alloc),
-        Change::IsReplaced => changes::replace_log(pair, alloc),
-        Change::AsksAgain => changes::ask_twice(pair, alloc),
-        Change::SnapshotGoesOver => cutting::hand_over_snapshot(pair, alloc),
+        Change::HandOverLog => changes::hand_over_log(pair, alloc),
+        Change::BeginBallotTwo => changes::begin_ballot_two(pair, alloc),
+        Change::Supersede => changes::supersede(pair, alloc),
+        Change::ReplaceLog => changes::replace_log(pair, alloc),
+        Change::AskTwice => changes::ask_twice(pair, alloc),
+        Change::HandOverSnapshot => cutting::hand_over_snapshot(pair, alloc),
     }
 }
 
