@@ -37,7 +37,7 @@ PacketsOfTheStream = (fed : List ℕ) (given : List Packet) (stream : Stream)
     → (packets : List Packet) (rest : List ℕ) → CutsInto fed packets rest
     → (later : List Packet) × (packets ≡ given ++ later)
 
--- every list of bytes is cut into packets and a rest that begins with no packet
+-- every list of bytes is split into packets and a rest that begins with no packet
 abbrev pub EveryStreamIsCut : Type 0
 EveryStreamIsCut = (bytes : List ℕ) → AreBytes bytes
     → (packets : List Packet) × (rest : List ℕ) × CutsInto bytes packets rest
@@ -50,7 +50,7 @@ NoPacketIsLeft =
     Takes old (Ok None) new
     → CutsInto fed given old.bytes
 
--- two cutters that were fed the same bytes, cut anywhere, gave the same and hold the same
+-- two cutters that were fed the same bytes, split anywhere, gave the same and hold the same
 abbrev pub CuttingsAgree : Type 0
 CuttingsAgree = (fed : List ℕ) (given others : List Packet)
     (first first_after second second_after : Stream)

@@ -11,7 +11,7 @@ use std::alloc::Global;
 use std::marker::Model;
 use topics::MalformedKind;
 
-/// The bytes of a stream that came and are not taken yet. How the stream is cut into pieces makes
+/// The bytes of a stream that came and are not taken yet. How the stream is split into pieces makes
 /// no difference to the packets that are taken.
 pub struct Cutter {
     // From the first byte of the next packet on.

@@ -5,7 +5,7 @@ ghost use Rattle.cutter.specs.Laws.{OneCut, PacketsOfTheStream};
 
 use packet::no_spelling_begins_another;
 
-/// States that a stream is cut into packets and a rest in one way only.
+/// States that a stream is split into packets and a rest in one way only.
 pub fn one_cut()
     ensures { OneCut }
 {
@@ -20,13 +20,14 @@ pub fn packets_of_the_stream()
     no_spelling_begins_another();
 }
 
-/// States that every list of bytes is cut into packets and a rest that begins with no whole packet.
+/// States that every list of bytes is split into packets and a rest that begins with no whole
+/// packet.
 pub fn every_stream_is_cut()
     ensures { EveryStreamIsCut }
 {}
 
 /// States that after an answer that no whole packet is there, a cutter has given all packets of the
-/// bytes that it was fed and holds the rest. So two that were fed the same bytes, cut anywhere,
+/// bytes that it was fed and holds the rest. So two that were fed the same bytes, split anywhere,
 /// gave the same.
 pub fn no_packet_is_left()
     ensures none { NoPacketIsLeft }

@@ -1,4 +1,4 @@
-//! A stream that is cut into its packets, and what happens out of memory.
+//! A stream that is split into its packets, and what happens out of memory.
 
 mod cutting;
 mod memory;

@@ -4,7 +4,7 @@ ghost use Rattle.node_moves.specs.Pipe.{PipeCarries, PipeGives, PipeGivesNext, P
 ghost use Rattle.node_moves.specs.Pipe.{PipeHasNoFault, PipeOpens};
 
 /// States that packets that are written into a pipe come out of the cutter at its other end in
-/// order, however the bytes in between are cut. None is lost, changed or twice; and the cutter
+/// order, however the bytes in between are split. None is lost, changed or twice; and the cutter
 /// finds no fault.
 pub fn pipes_are_in_order()
     ensures opens { PipeOpens }

@@ -104,9 +104,9 @@ const STREAM: &[u8] = &[
 
 const ANSWERS: &[u8] = &[0x50, 0x02, 0x00, 0x01, 0x70, 0x02, 0x00, 0x01];
 
-// However the stream is cut in two, the answers are the same.
+// However the stream is split in two, the answers are the same.
 #[test]
-fn every_cut_gives_the_same(rt: HostRuntime) {
+fn every_split_gives_the_same(rt: HostRuntime) {
     let rows: [Row<'static>; 2] = [
         (Act::Open, None, CONNECT, 0, 0),
         (Act::Bytes(STREAM), None, ANSWERS, 0, 1),

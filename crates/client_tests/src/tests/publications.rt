@@ -118,7 +118,7 @@ fn last_session(client: &ClientCore) -> (bool, Option<u64>) {
 // What is after its CONNACK is handled by the next call.
 #[test]
 fn a_lost_session_forgets(rt: HostRuntime) {
-    let last = match play_cut(rt.alloc(), FORGETS, None) {
+    let last = match play_split(rt.alloc(), FORGETS, None) {
         Ok(client) => Ok(last_session(&client)),
         Err(fault) => Err(fault),
     };
@@ -131,7 +131,7 @@ fn online(alloc: Global) -> Option<ClientCore> {
         (Act::Open, None, CONNECT, 0, 0),
         (Act::Bytes(ACCEPTED), None, NOTHING, 0, 0),
     ];
-    play_cut(alloc, &rows, None).ok()
+    play_split(alloc, &rows, None).ok()
 }
 
 // Publishes this many bytes on `t/1`.

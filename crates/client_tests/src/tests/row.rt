@@ -43,7 +43,7 @@ pub struct Came {
 pub enum Fault<'a> {
     /// There was no memory for a client.
     NoMemory,
-    /// At this index, with each piece cut after this many bytes or whole, this row did not hold,
+    /// At this index, with each piece split after this many bytes or whole, this row did not hold,
     /// and this came instead.
     Row(usize, Option<usize>, Row<'a>, Came),
 }
@@ -89,8 +89,8 @@ pub fn open(client: &mut ClientCore) -> Option<ClientError> {
 
 // Gives a piece in two parts, of which the first has this many bytes, or all. Returns the first
 // refusal.
-fn give_in_two(client: &mut ClientCore, bytes: &[u8], cut: usize) -> Option<ClientError> {
-    let Some((front, rest)) = bytes.split_at_checked(cut.min(bytes.len())) else {
+fn give_in_two(client: &mut ClientCore, bytes: &[u8], split: usize) -> Option<ClientError> {
+    let Some((front, rest)) = bytes.split_at_checked(split.min(bytes.len())) else {
         return Some(ClientError::TooLarge);
     };
     let first = give(client, front);
@@ -98,10 +98,10 @@ fn give_in_two(client: &mut ClientCore, bytes: &[u8], cut: usize) -> Option<Clie
     first.or(second)
 }
 
-// Gives a piece, whole or cut in two.
-fn give_cut(client: &mut ClientCore, bytes: &[u8], cut: Option<usize>) -> Option<ClientError> {
-    match cut {
-        Some(cut) => give_in_two(client, bytes, cut),
+// Gives a piece, whole or split in two.
+fn give_split(client: &mut ClientCore, bytes: &[u8], split: Option<usize>) -> Option<ClientError> {
+    match split {
+        Some(split) => give_in_two(client, bytes, split),
         None => give(client, bytes),
     }
 }
@@ -147,7 +147,7 @@ pub fn attempt(
     client: &mut ClientCore,
     alloc: Global,
     act: Act<'_>,
-    cut: Option<usize>,
+    split: Option<usize>,
 ) -> Option<ClientError> {
     match act {
         Act::Open => open(client),
@@ -156,7 +156,7 @@ pub fn attempt(
             None
         }
         Act::Disconnect => client.disconnect().err(),
-        Act::Bytes(bytes) => give_cut(client, bytes, cut),
+        Act::Bytes(bytes) => give_split(client, bytes, split),
         Act::Subscribe => subscribe(client, alloc, "t/#"),
         Act::Unsubscribe => unsubscribe(client, alloc, "t/#"),
         Act::Publish(qos, byte) => publish(client, alloc, qos, &[byte]),
@@ -223,40 +223,40 @@ pub fn came_instead(
     client: &mut ClientCore,
     alloc: Global,
     row: &Row<'_>,
-    cut: Option<usize>,
+    split: Option<usize>,
 ) -> Option<Came> {
     let (done, _, _, _, _) = *row;
-    let refusal = attempt(client, alloc, done, cut);
+    let refusal = attempt(client, alloc, done, split);
     came_after(client, alloc, row, refusal)
 }
 
-/// Does the rows with a client that was never connected, each piece of the server whole or cut in
+/// Does the rows with a client that was never connected, each piece of the server whole or split in
 /// two. Fails with the first row whose result differs, and what came.
-pub fn play_cut<'a>(
+pub fn play_split<'a>(
     alloc: Global,
     rows: &[Row<'a>],
-    cut: Option<usize>,
+    split: Option<usize>,
 ) -> Result<ClientCore, Fault<'a>> {
     let Some(mut client) = new_client(alloc) else {
         return Err(Fault::NoMemory);
     };
     for (at, row) in rows.iter().enumerate() {
-        if let Some(came) = came_instead(&mut client, alloc, row, cut) {
-            return Err(Fault::Row(at, cut, *row, came));
+        if let Some(came) = came_instead(&mut client, alloc, row, split) {
+            return Err(Fault::Row(at, split, *row, came));
         }
     }
     Ok(client)
 }
 
-/// Does the rows with every cut of each piece, and at last with none.
+/// Does the rows with every split of each piece, and at last with none.
 pub fn play<'a>(alloc: Global, rows: &[Row<'a>]) -> Result<ClientCore, Fault<'a>> {
-    for cut in 0..LONGEST {
-        play_cut(alloc, rows, Some(cut))?;
+    for split in 0..LONGEST {
+        play_split(alloc, rows, Some(split))?;
     }
-    play_cut(alloc, rows, None)
+    play_split(alloc, rows, None)
 }
 
-/// Returns the first row whose result differs, with some cut or none, and what came.
+/// Returns the first row whose result differs, with some split or none, and what came.
 pub fn first_fault<'a>(alloc: Global, rows: &[Row<'a>]) -> Option<Fault<'a>> {
     play(alloc, rows).err()
 }

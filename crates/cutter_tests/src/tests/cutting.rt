@@ -51,7 +51,7 @@ fn drain(cutter: &mut Cutter, out: &mut Vec<u8>) -> Taken {
 
 // Feeds a piece and takes what is there. Returns what comes after the packets, or why the piece is
 // refused.
-fn cut(cutter: &mut Cutter, piece: &[u8], out: &mut Vec<u8>) -> Taken {
+fn feed(cutter: &mut Cutter, piece: &[u8], out: &mut Vec<u8>) -> Taken {
     match cutter.feed(piece) {
         Ok(()) => drain(cutter, out),
         Err(fault) => Taken::Fault(fault),
@@ -60,9 +60,9 @@ fn cut(cutter: &mut Cutter, piece: &[u8], out: &mut Vec<u8>) -> Taken {
 
 // Feeds pieces and takes what is there. Returns what comes after the packets of the last piece, or
 // of the first one after which it is not that there are no more.
-fn cut_all(cutter: &mut Cutter, pieces: &[&[u8]], out: &mut Vec<u8>) -> Taken {
+fn feed_all(cutter: &mut Cutter, pieces: &[&[u8]], out: &mut Vec<u8>) -> Taken {
     for piece in pieces {
-        let taken = cut(cutter, piece, out);
+        let taken = feed(cutter, piece, out);
         if taken != Taken::NoMore {
             return taken;
         }
@@ -79,8 +79,8 @@ struct Came {
     bytes: [u8; 27],
 }
 
-// A stream that does not give its packets: at which index it was cut in two, or which byte was fed
-// last, which bytes of packets were to come, and what came.
+// A stream that does not give its packets: at which index it was split in two, or which byte was
+// fed last, which bytes of packets were to come, and what came.
 #[derive(Clone, Copy, Debug, PartialEq, Eq)]
 struct Fault {
     at: usize,
@@ -110,17 +110,17 @@ fn came_instead(taken: Taken, out: &[u8]) -> Option<Came> {
     })
 }
 
-// Returns what comes of the stream in these pieces, if it is not cut into its packets.
+// Returns what comes of the stream in these pieces, if it does not give its packets.
 fn came_of_pieces(alloc: Global, pieces: &[&[u8]]) -> Option<Came> {
     let mut cutter = Cutter::new(alloc);
     let mut out = Vec::new(alloc);
-    let taken = cut_all(&mut cutter, pieces, &mut out);
+    let taken = feed_all(&mut cutter, pieces, &mut out);
     came_instead(taken, out.as_slice())
 }
 
-// Returns the first index at which the stream cut in two does not give its packets, and what comes
-// then.
-fn first_fault_of_cuts(alloc: Global, stream: &[u8]) -> Option<Fault> {
+// Returns the first index at which the stream split in two does not give its packets, and what
+// comes then.
+fn first_fault_of_splits(alloc: Global, stream: &[u8]) -> Option<Fault> {
     for at in 0..=stream.len() {
         if let Some(came) = came_of_pieces(alloc, &[&stream[..at], &stream[at..]]) {
             return Some(Fault {
@@ -134,17 +134,17 @@ fn first_fault_of_cuts(alloc: Global, stream: &[u8]) -> Option<Fault> {
 }
 
 #[test]
-fn a_stream_cut_in_two_gives_its_packets(rt: HostRuntime) {
-    assert_eq!(rt; first_fault_of_cuts(rt.alloc(), &STREAM), None);
+fn a_stream_split_in_two_gives_its_packets(rt: HostRuntime) {
+    assert_eq!(rt; first_fault_of_splits(rt.alloc(), &STREAM), None);
 }
 
 // Feeds a stream byte by byte and takes what is there. Returns the index of the last byte that is
 // fed, and what comes after the packets then.
-fn cut_bytes(cutter: &mut Cutter, stream: &[u8], out: &mut Vec<u8>) -> (usize, Taken) {
+fn feed_by_bytes(cutter: &mut Cutter, stream: &[u8], out: &mut Vec<u8>) -> (usize, Taken) {
     let mut last: usize = 0;
     for (at, byte) in stream.iter().enumerate() {
         last = at;
-        let taken = cut(cutter, &[*byte], out);
+        let taken = feed(cutter, &[*byte], out);
         if taken != Taken::NoMore {
             return (at, taken);
         }
@@ -157,7 +157,7 @@ fn cut_bytes(cutter: &mut Cutter, stream: &[u8], out: &mut Vec<u8>) -> (usize, T
 fn first_fault_of_bytes(alloc: Global) -> Option<Fault> {
     let mut cutter = Cutter::new(alloc);
     let mut out = Vec::new(alloc);
-    let (at, taken) = cut_bytes(&mut cutter, &STREAM, &mut out);
+    let (at, taken) = feed_by_bytes(&mut cutter, &STREAM, &mut out);
     match came_instead(taken, out.as_slice()) {
         Some(came) => Some(Fault {
             at,

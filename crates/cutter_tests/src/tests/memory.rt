@@ -43,7 +43,8 @@ fn is_next(cutter: &mut Cutter, out: &mut Vec<u8>) -> bool {
     }
 }
 
-// Cuts a stream in two pieces into its three packets. Returns the first step that fails.
+// Splits a stream, which comes in two pieces, into its three packets. Returns the first step that
+// fails.
 fn first_fault(cutter: &mut Cutter, out: &mut Vec<u8>) -> Option<&'static str> {
     if !feed(cutter, &STREAM[..20]) {
         Some("the first piece is fed")

@@ -67,7 +67,7 @@ const SENT_AGAIN: &[Row<'static>] = &[
 
 // How pieces come.
 #[derive(Clone, Copy)]
-struct Cutting {
+struct Splitting {
     alloc: Global,
     coming: Coming,
 }
@@ -93,13 +93,17 @@ enum QueueFault {
 }
 
 // Lets bytes come on a port. Returns whether no message follows.
-fn let_bytes_come(cutting: Cutting, node: &mut NodeCore, port: u64, bytes: &[u8]) -> bool {
-    let_come(cutting.alloc, node, port, bytes, 0, cutting.coming)
+fn let_bytes_come(splitting: Splitting, node: &mut NodeCore, port: u64, bytes: &[u8]) -> bool {
+    let_come(splitting.alloc, node, port, bytes, 0, splitting.coming)
 }
 
 // Goes through the rows once. Returns the first row whose result differs, and what came.
-fn fault_in(cutting: Cutting, node: &mut NodeCore, rows: &[Row<'static>]) -> Option<QueueFault> {
-    match fault_with(cutting.alloc, node, rows, cutting.coming) {
+fn fault_in(
+    splitting: Splitting,
+    node: &mut NodeCore,
+    rows: &[Row<'static>],
+) -> Option<QueueFault> {
+    match fault_with(splitting.alloc, node, rows, splitting.coming) {
         Some(fault) => Some(QueueFault::Row(fault)),
         None => None,
     }
@@ -107,9 +111,9 @@ fn fault_in(cutting: Cutting, node: &mut NodeCore, rows: &[Row<'static>]) -> Opt
 
 // Fills the queue of the subscriber up to its last place. Returns the first row whose result
 // differs, and what came.
-fn fault_in_filling(cutting: Cutting, node: &mut NodeCore) -> Option<QueueFault> {
+fn fault_in_filling(splitting: Splitting, node: &mut NodeCore) -> Option<QueueFault> {
     for _ in 0..ALL_BUT_ONE {
-        let fault = fault_in(cutting, node, FILLS);
+        let fault = fault_in(splitting, node, FILLS);
         if fault.is_some() {
             return fault;
         }
@@ -188,12 +192,12 @@ impl Got {
     }
 
     // Answers all that came, until nothing comes any more.
-    fn finish(&mut self, cutting: Cutting, node: &mut NodeCore, port: u64) -> Option<()> {
+    fn finish(&mut self, splitting: Splitting, node: &mut NodeCore, port: u64) -> Option<()> {
         for _round in 0..ALL_BUT_ONE {
-            if !let_bytes_come(cutting, node, port, self.answers.as_slice()) {
+            if !let_bytes_come(splitting, node, port, self.answers.as_slice()) {
                 return None;
             }
-            if !self.look(cutting.alloc, node, port)? {
+            if !self.look(splitting.alloc, node, port)? {
                 return Some(());
             }
         }
@@ -211,16 +215,17 @@ fn ends_with_three(payloads: &[u8]) -> bool {
 }
 
 // Says whether the subscriber comes back, and is handed what waited for it.
-fn come_back(cutting: Cutting, node: &mut NodeCore, got: &mut Got) -> bool {
-    take(cutting.alloc, node, Item::Opened(Port(3), 0));
-    let_bytes_come(cutting, node, 3, CONNECT_B) && got.look(cutting.alloc, node, 3) == Some(true)
+fn come_back(splitting: Splitting, node: &mut NodeCore, got: &mut Got) -> bool {
+    take(splitting.alloc, node, Item::Opened(Port(3), 0));
+    let_bytes_come(splitting, node, 3, CONNECT_B)
+        && got.look(splitting.alloc, node, 3) == Some(true)
 }
 
 // Has the subscriber come back and answer the first two. Returns the first step that fails.
-fn first_step(cutting: Cutting, node: &mut NodeCore, got: &mut Got) -> Option<&'static str> {
-    if !come_back(cutting, node, got) {
+fn first_step(splitting: Splitting, node: &mut NodeCore, got: &mut Got) -> Option<&'static str> {
+    if !come_back(splitting, node, got) {
         Some("the subscriber comes back, and is handed what waited")
-    } else if !let_bytes_come(cutting, node, 3, TWO) {
+    } else if !let_bytes_come(splitting, node, 3, TWO) {
         Some("no message follows its answers to the first two")
     } else {
         None
@@ -235,23 +240,23 @@ fn rest_of(alloc: Global, got: &Got) -> Option<Vec<u8>> {
 
 // Says whether the subscriber takes what is handed over then, gives these answers, and answers all
 // that comes after them.
-fn answer_all(cutting: Cutting, node: &mut NodeCore, got: &mut Got, rest: &[u8]) -> bool {
-    got.look(cutting.alloc, node, 3).is_some()
-        && let_bytes_come(cutting, node, 3, rest)
-        && got.finish(cutting, node, 3).is_some()
+fn answer_all(splitting: Splitting, node: &mut NodeCore, got: &mut Got, rest: &[u8]) -> bool {
+    got.look(splitting.alloc, node, 3).is_some()
+        && let_bytes_come(splitting, node, 3, rest)
+        && got.finish(splitting, node, 3).is_some()
 }
 
 // Says whether the subscriber answers all but the first two.
-fn answer_the_rest(cutting: Cutting, node: &mut NodeCore, got: &mut Got) -> bool {
-    match rest_of(cutting.alloc, got) {
-        Some(rest) => answer_all(cutting, node, got, rest.as_slice()),
+fn answer_the_rest(splitting: Splitting, node: &mut NodeCore, got: &mut Got) -> bool {
+    match rest_of(splitting.alloc, got) {
+        Some(rest) => answer_all(splitting, node, got, rest.as_slice()),
         None => false,
     }
 }
 
 // Empties the queue to the subscriber. Returns the first step that fails.
-fn last_step(cutting: Cutting, node: &mut NodeCore, got: &mut Got) -> Option<&'static str> {
-    if !answer_the_rest(cutting, node, got) {
+fn last_step(splitting: Splitting, node: &mut NodeCore, got: &mut Got) -> Option<&'static str> {
+    if !answer_the_rest(splitting, node, got) {
         Some("the subscriber answers the rest")
     } else if !ends_with_three(got.payloads.as_slice()) {
         Some("each of the three comes once, after all others")
@@ -297,41 +302,41 @@ fn fault_of(
 
 // Fills the queue of this node, and has the publisher send three more. Returns the first row whose
 // result differs, and what came.
-fn fault_until_full(cutting: Cutting, node: &mut NodeCore) -> Option<QueueFault> {
-    let away = fault_in(cutting, node, AWAY);
+fn fault_until_full(splitting: Splitting, node: &mut NodeCore) -> Option<QueueFault> {
+    let away = fault_in(splitting, node, AWAY);
     if away.is_some() {
         return away;
     }
-    let filling = fault_in_filling(cutting, node);
+    let filling = fault_in_filling(splitting, node);
     if filling.is_some() {
         return filling;
     }
-    fault_in(cutting, node, FULL)
+    fault_in(splitting, node, FULL)
 }
 
 // Fills the queue of this node, and empties it to its client. Returns the first row or step that
 // fails, and what came.
-fn first_fault(cutting: Cutting, node: &mut NodeCore, got: &mut Got) -> Option<QueueFault> {
-    let full = fault_until_full(cutting, node);
+fn first_fault(splitting: Splitting, node: &mut NodeCore, got: &mut Got) -> Option<QueueFault> {
+    let full = fault_until_full(splitting, node);
     if full.is_some() {
         return full;
     }
-    let back = first_step(cutting, node, got);
+    let back = first_step(splitting, node, got);
     if back.is_some() {
-        return fault_of(back, cutting.coming, node, got);
+        return fault_of(back, splitting.coming, node, got);
     }
-    let sent = fault_in(cutting, node, SENT_AGAIN);
+    let sent = fault_in(splitting, node, SENT_AGAIN);
     if sent.is_some() {
         return sent;
     }
-    let rest = last_step(cutting, node, got);
-    fault_of(rest, cutting.coming, node, got)
+    let rest = last_step(splitting, node, got);
+    fault_of(rest, splitting.coming, node, got)
 }
 
 // Returns the first row or step that fails with a fresh node, to which pieces come so.
 fn first_fault_of_fresh(alloc: Global, coming: Coming) -> Option<QueueFault> {
     match primary(alloc, &[1]) {
-        Some(mut node) => first_fault(Cutting { alloc, coming }, &mut node, &mut Got::new(alloc)),
+        Some(mut node) => first_fault(Splitting { alloc, coming }, &mut node, &mut Got::new(alloc)),
         None => Some(QueueFault::Row(Fault::NoMemory)),
     }
 }
@@ -339,11 +344,11 @@ fn first_fault_of_fresh(alloc: Global, coming: Coming) -> Option<QueueFault> {
 // The longest piece of a publisher: three publications.
 const LONGEST: usize = 30;
 
-// Returns the first row or step that fails, with the first cut, as far as a publisher's pieces are
-// long, and what came.
-fn first_fault_of_cuts(alloc: Global) -> Option<QueueFault> {
-    for cut in 0..=LONGEST {
-        let fault = first_fault_of_fresh(alloc, Coming::Cut(cut));
+// Returns the first row or step that fails, with the first split, as far as a publisher's pieces
+// are long, and what came.
+fn first_fault_of_splits(alloc: Global) -> Option<QueueFault> {
+    for at in 0..=LONGEST {
+        let fault = first_fault_of_fresh(alloc, Coming::Split(at));
         if fault.is_some() {
             return fault;
         }
@@ -353,6 +358,6 @@ fn first_fault_of_cuts(alloc: Global) -> Option<QueueFault> {
 
 #[test]
 fn a_full_queue_keeps_the_order(rt: HostRuntime) {
-    assert_eq!(rt; first_fault_of_cuts(rt.alloc()), None);
+    assert_eq!(rt; first_fault_of_splits(rt.alloc()), None);
     assert_eq!(rt; first_fault_of_fresh(rt.alloc(), Coming::Bytes), None);
 }

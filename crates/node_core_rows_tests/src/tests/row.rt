@@ -25,11 +25,11 @@ pub enum Act<'a> {
 /// open.
 pub type Row<'a> = (u64, u64, Act<'a>, &'a [u8], bool);
 
-/// How a piece comes: whole, cut in two after this many bytes, or byte by byte.
+/// How a piece comes: whole, split in two after this many bytes, or byte by byte.
 #[derive(Clone, Copy, Debug, PartialEq, Eq)]
 pub enum Coming {
     Whole,
-    Cut(usize),
+    Split(usize),
     Bytes,
 }
 
@@ -145,17 +145,17 @@ fn let_come_by_bytes(
         .all(|byte| let_come_whole(alloc, node, port, &[*byte], time))
 }
 
-// Gives bytes in two pieces, of which the first has `cut` bytes, or all. Says whether no message
+// Gives bytes in two pieces, of which the first has `at` bytes, or all. Says whether no message
 // follows.
-fn let_come_cut(
+fn let_come_split(
     alloc: Global,
     node: &mut NodeCore,
     port: u64,
     bytes: &[u8],
     time: u64,
-    cut: usize,
+    at: usize,
 ) -> bool {
-    match bytes.split_at_checked(cut.min(bytes.len())) {
+    match bytes.split_at_checked(at.min(bytes.len())) {
         Some((front, rest)) => {
             let_come_whole(alloc, node, port, front, time)
                 && let_come_whole(alloc, node, port, rest, time)
@@ -175,7 +175,7 @@ pub fn let_come(
 ) -> bool {
     match coming {
         Coming::Whole => let_come_whole(alloc, node, port, bytes, time),
-        Coming::Cut(cut) => let_come_cut(alloc, node, port, bytes, time, cut),
+        Coming::Split(at) => let_come_split(alloc, node, port, bytes, time, at),
         Coming::Bytes => let_come_by_bytes(alloc, node, port, bytes, time),
     }
 }
@@ -274,11 +274,11 @@ fn longest(rows: &[Row<'_>]) -> usize {
     longest
 }
 
-/// Goes through the rows with the pieces whole, cut in two at every byte, and byte by byte. Returns
-/// the first row whose result differs, with which cut, and what came.
+/// Goes through the rows with the pieces whole, split in two at every byte, and byte by byte.
+/// Returns the first row whose result differs, with which split, and what came.
 pub fn first_fault<'a>(alloc: Global, rows: &[Row<'a>]) -> Option<Fault<'a>> {
-    for cut in 0..=longest(rows) {
-        let fault = first_fault_so(alloc, rows, Coming::Cut(cut));
+    for at in 0..=longest(rows) {
+        let fault = first_fault_so(alloc, rows, Coming::Split(at));
         if fault.is_some() {
             return fault;
         }
