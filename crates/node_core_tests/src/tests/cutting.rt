@@ -176,32 +176,56 @@ fn send_log(alloc: Global, two: &mut NodeCore, bytes: &[u8]) -> Option<Effects> 
     Some(tell(alloc, two, 1, Body::State(2, log)))
 }
 
-// Says whether node 2, the sole member of ballot 2, continues from the snapshot of form 1, and its
-// own snapshot is of form 2.
-fn go_on(alloc: Global, two: &mut NodeCore) -> Option<bool> {
-    let asked = send_log(alloc, two, CONNECTED_BEFORE)?;
-    let is_asked = asks_for_2(&asked) && stands_at(two, 1, CONNECTED_BEFORE);
+// Returns the first step that fails as node 2, the sole member of ballot 2, continues from the
+// snapshot of form 1, and makes its own of form 2.
+fn first_fault_from_form_1(alloc: Global, two: &mut NodeCore) -> Option<&'static str> {
+    let Some(asked) = send_log(alloc, two, CONNECTED_BEFORE) else {
+        return Some("there is memory for the snapshot");
+    };
+    if !asks_for_2(&asked) {
+        return Some("node 2 asks for ballot 2");
+    } else if !stands_at(two, 1, CONNECTED_BEFORE) {
+        return Some("the snapshot of form 1 stands at place 1");
+    }
     tell(alloc, two, 0, Body::Activated(2));
-    Some(is_asked && cut(alloc, two, 2, BEGUN))
+    if cut(alloc, two, 2, BEGUN) {
+        None
+    } else {
+        Some("node 2 cuts to form 2")
+    }
 }
 
-// Says whether a snapshot of form 1 is read, and frozen to form 2.
-fn form_1_is_read(alloc: Global, two: &mut NodeCore) -> Option<bool> {
-    tell(alloc, two, 0, ballot_2(alloc, &[2])?);
-    Some(go_on(alloc, two)? && two.losses() == 0)
+// Returns the first step that fails, also if a loss is counted.
+fn first_fault_or_loss(alloc: Global, two: &mut NodeCore) -> Option<&'static str> {
+    let fault = first_fault_from_form_1(alloc, two);
+    if fault.is_none() && two.losses() > 0 {
+        return Some("no loss is counted");
+    }
+    fault
 }
 
-// Says it of a fresh node; none if there is no memory for it.
-fn fresh_reads_form_1(alloc: Global) -> Option<bool> {
+// Returns the first step that fails as node 2 gets ballot 2, and a snapshot of form 1.
+fn first_fault_with_form_1(alloc: Global, two: &mut NodeCore) -> Option<&'static str> {
+    match ballot_2(alloc, &[2]) {
+        Some(ballot) => {
+            tell(alloc, two, 0, ballot);
+            first_fault_or_loss(alloc, two)
+        }
+        None => Some("there is memory for ballot 2"),
+    }
+}
+
+// Returns the first step that fails with a fresh node.
+fn first_fault_of_form_1(alloc: Global) -> Option<&'static str> {
     match node_of(alloc, 2, &[1]) {
-        Some(mut two) => form_1_is_read(alloc, &mut two),
-        None => None,
+        Some(mut two) => first_fault_with_form_1(alloc, &mut two),
+        None => Some("there is memory for node 2"),
     }
 }
 
 #[test]
 fn a_snapshot_of_form_1_is_frozen_to_form_2(rt: HostRuntime) {
-    assert_eq!(rt; fresh_reads_form_1(rt.alloc()), Some(true));
+    assert_eq!(rt; first_fault_of_form_1(rt.alloc()), None);
 }
 
 // Says whether bytes that are no frozen broker count as one lost message more, and have no other
@@ -226,13 +250,11 @@ fn first_fault_of_bytes(alloc: Global, two: &mut NodeCore) -> Option<&'static st
             return Some(*words);
         }
     }
-    if go_on(alloc, two) != Some(true) {
-        Some("the node continues from bytes that it can read")
-    } else if two.losses() != 4 {
-        Some("four messages are lost")
-    } else {
-        None
+    let fault = first_fault_from_form_1(alloc, two);
+    if fault.is_none() && two.losses() != 4 {
+        return Some("four messages are lost");
     }
+    fault
 }
 
 // Returns the same once the node is given ballot 2.
