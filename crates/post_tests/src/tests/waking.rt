@@ -25,14 +25,29 @@ enum Act {
     Take(u8),
 }
 
-// Whether something waits for a node, and whether another thread should do its turn.
-type Shown = (bool, bool);
+// What a node shows.
+#[derive(Clone, Copy, Debug, PartialEq, Eq)]
+struct Shown {
+    // Whether something waits for it.
+    is_wanted: bool,
+    // Whether another thread should do its turn.
+    needs_help: bool,
+}
 
-const IDLE: Shown = (false, false);
+const IDLE: Shown = Shown {
+    is_wanted: false,
+    needs_help: false,
+};
 
-const AWAKE: Shown = (true, false);
+const AWAKE: Shown = Shown {
+    is_wanted: true,
+    needs_help: false,
+};
 
-const ASLEEP: Shown = (true, true);
+const ASLEEP: Shown = Shown {
+    is_wanted: true,
+    needs_help: true,
+};
 
 // What a row shows; what is done; and what nodes 1 and 2 show then.
 const ROWS: &[(&str, Act, (Shown, Shown))] = &[
@@ -87,7 +102,7 @@ fn do_act<R: Wait>(rt: &R, alloc: Global, cluster: &Cluster, act: Act) -> bool {
     }
 }
 
-// Does it to this node, and returns the same.
+// Does the act of a row at this node. Returns whether it has the result of the row.
 fn do_act_at<R: Wait>(rt: &R, alloc: Global, peer: &Peer, act: Act) -> bool {
     match act {
         Act::Doze(_, finds) => peer.doze(rt) == finds,
@@ -100,10 +115,14 @@ fn do_act_at<R: Wait>(rt: &R, alloc: Global, peer: &Peer, act: Act) -> bool {
     }
 }
 
-// Returns what a node shows.
-fn shown<R: Wait>(rt: &R, cluster: &Cluster, node: u8) -> Option<Shown> {
+// Asks a node what it shows. To ask whether it needs help wakes its thread, but only if more than
+// sixteen items wait: in no row are there as many.
+fn ask<R: Wait>(rt: &R, cluster: &Cluster, node: u8) -> Option<Shown> {
     let peer = cluster.node(node)?;
-    Some((peer.is_wanted(rt), peer.wants_help(rt)))
+    Some(Shown {
+        is_wanted: peer.is_wanted(rt),
+        needs_help: peer.wants_help(rt),
+    })
 }
 
 // A row that fails: what it shows, whether that was done, and what the nodes show.
@@ -115,8 +134,8 @@ fn first_fault<R: Wait>(rt: &R, alloc: Global, cluster: &Cluster) -> Option<Faul
         let came = (
             *words,
             do_act(rt, alloc, cluster, *act),
-            shown(rt, cluster, 1),
-            shown(rt, cluster, 2),
+            ask(rt, cluster, 1),
+            ask(rt, cluster, 2),
         );
         if came != (*words, true, Some(*first), Some(*second)) {
             return Some(came);
