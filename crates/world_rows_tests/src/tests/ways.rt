@@ -316,13 +316,13 @@ fn a_way_out_without_memory_is_refused_or_counted(rt: HostRuntime) {
 fn a_client_comes_back(rt: HostRuntime) {
     let alloc = rt.alloc();
     let back = answer(alloc, &[], "a", Asked::ComesBack);
-    assert_eq!(rt; back, Some(true));
+    assert_eq!(rt; back, Some(true), "a comes back");
     let back = answer(alloc, CRASHED, "a", Asked::ComesBack);
-    assert_eq!(rt; back, Some(true));
+    assert_eq!(rt; back, Some(true), "a comes back after a crash");
     let idle = answer(alloc, CRASHED, "a", Asked::IsIdle(&[1]));
-    assert_eq!(rt; idle, Some(true));
+    assert_eq!(rt; idle, Some(true), "a crashed member has no way out");
     let idle = answer(alloc, &[], "z", Asked::IsIdle(&[2]));
-    assert_eq!(rt; idle, Some(true));
+    assert_eq!(rt; idle, Some(true), "an unknown client has no way out");
 }
 
 #[test]
