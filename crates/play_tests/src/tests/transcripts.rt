@@ -2,6 +2,8 @@
 
 use crate::tests::hand::{text_of, transcript_of};
 use example_scripts::SCRIPTS;
+use play::{PlayError, play};
+use std::alloc::Global;
 
 // The messages of an answer come again in the reverse order: the backup acknowledges the place once
 // more, and nothing else happens.
@@ -116,4 +118,17 @@ const IDLE: [&str; 2] = [
 fn an_expel_that_cannot_happen_is_idle(rt: HostRuntime) {
     let played = transcript_of(rt.alloc(), IDLE[0]);
     assert_eq!(rt; text_of(&played), IDLE[1]);
+}
+
+// Plays an event that cannot happen, where the transcript has a line already.
+fn continued(alloc: Global) -> Result<Vec<u8>, PlayError> {
+    let mut transcript = Vec::from_slice(alloc, b"before\n")?;
+    play(alloc, b"world 1 1 1 a\ntick 2\n", &mut transcript)?;
+    Ok(transcript)
+}
+
+#[test]
+fn a_transcript_goes_on_after_what_it_had(rt: HostRuntime) {
+    let played = continued(rt.alloc());
+    assert_eq!(rt; text_of(&played), "before\n0 idle\nend agreed=0 active=1\n");
 }
