@@ -70,8 +70,9 @@ pub fn drawn(alloc: Global, options: &Options, seed: u64) -> Option<Run> {
     })
 }
 
-// Draws events and lets them happen: what does not hold in the end, and how far it came. What is
-// long to drop, here and below, is lent to what has several ways out, and goes by a call of `drop`.
+// Draws events and lets them happen. Returns what does not hold in the end, and how far it came. A
+// value with a long drop is lent to functions with several ways out, and dropped here
+// (`docs/GATE.md`, *Owners*).
 fn play(
     alloc: Global,
     options: &Options,

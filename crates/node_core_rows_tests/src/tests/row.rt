@@ -89,7 +89,7 @@ pub fn primary(alloc: Global, members: &[u8]) -> Option<NodeCore> {
     NodeCore::new(alloc, 1, &config).ok()
 }
 
-/// Takes an item: what is handed out to other nodes.
+/// Takes an item, and returns what is handed out to other nodes.
 pub fn take(alloc: Global, node: &mut NodeCore, item: Item) -> Effects {
     let mut effects = Vec::new(alloc);
     node.step(item, &mut effects);

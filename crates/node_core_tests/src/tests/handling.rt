@@ -45,7 +45,7 @@ pub fn primary(alloc: Global, members: &[u8]) -> Option<NodeCore> {
     node_of(alloc, 1, members)
 }
 
-/// Takes an item: what is handed out to other nodes.
+/// Takes an item, and returns what is handed out to other nodes.
 pub fn take(alloc: Global, node: &mut NodeCore, item: Item) -> Effects {
     let mut effects = Vec::new(alloc);
     node.step(item, &mut effects);

@@ -262,8 +262,8 @@ fn pass_fifty(large: &mut Large, pair: &mut Pair) -> Result<(), Came> {
     Ok(())
 }
 
-/// Has a subscriber with keep alive 10 never read, and say nothing more: it keeps its connection
-/// for a while. Then it loses it to another client. Returns the first step that fails.
+/// Has a subscriber with keep alive 10 never read, and say nothing more. It keeps its place until
+/// its keep alive has ended; then another client is accepted. Returns the first step that fails.
 pub(super) fn deaf_one<R>(rt: &R, listener: Option<&Listener>) -> Result<(), Fault>
 where
     R: AllocGlobal + Wait + Clock + Net<Stream = TcpStream>,
@@ -296,8 +296,8 @@ where
     room_beside(rt, listener, streams.last_mut())
 }
 
-// Returns the first step that fails once 60 are there: 20 MB make the silent one lose its
-// connection.
+// Returns the first step that fails once 60 are there and 20 MB wait for the silent one. Its keep
+// alive ends its connection, and not the 20 MB.
 fn room_beside<R>(
     rt: &R,
     listener: Option<&Listener>,
