@@ -1,8 +1,8 @@
 -- The outcome of a step: the replica after it, and its effects.
-use Rattle.std.specs.Prelude.{ℕ, List, [], ◌++◌, map}
+use Rattle.std.specs.Prelude.{ℕ, Bool, true, false, List, [], ◌++◌, map}
 use Rattle.ballot_base.specs.declared.message.Body.{Body}
 use Rattle.ballot_base.specs.declared.message.Effect.{Effect}
-use Rattle.ballot_base.specs.declared.message.Effect.TheVariants.{To}
+use Rattle.ballot_base.specs.declared.message.Effect.TheVariants.{To, Out}
 use Rattle.ballot_base.specs.declared.status.Progress.{Progress}
 use Rattle.ballot_base.specs.Replica.{ReplicaState}
 
@@ -14,6 +14,11 @@ pub record Outcome (S C O : Type 0) : Type 0 where
 -- nothing changes and there are no effects
 abbrev pub nothing_done : {S C : Type 0} (O : Type 0) → ReplicaState S C → Outcome S C O
 nothing_done O replica = record { state = replica; effects = [] }
+
+-- whether an effect is a message, and not an output
+abbrev pub is_message : {C O : Type 0} → Effect C O → Bool
+is_message (To receiver message) = true
+is_message (Out place output) = false
 
 -- a message of this replica to a node
 abbrev pub message_to : {C : Type 0} (O : Type 0) → ℕ → Body C → ℕ → Effect C O

@@ -12,7 +12,7 @@ use Rattle.packet_world.specs.packet.Verdict.{verdict}
 use Rattle.node_moves.specs.ballot_base.declared.message.Effect.{Effect}
 use Rattle.node_moves.specs.ballot_base.Logs.{places, pushed}
 use Rattle.node_moves.specs.ballot_base.Replica.{CountedReplica, ReplicaState, is_active}
-use Rattle.node_moves.specs.ballot_base.Sending.{Outcome, message_to_followed, sent_first}
+use Rattle.node_moves.specs.ballot_base.Sending.{Outcome, message_to_followed, sent_first, is_message}
 use Rattle.node_moves.specs.ballot_base.declared.message.Body.TheVariants.{Append}
 use Rattle.node_moves.specs.ballot_base.Serving.{added, least, max_places, proposed}
 use Rattle.node_moves.proofs.of_ballot_base.StepRows.{added-is, commit_at-goes, commit_at-stays}
@@ -30,7 +30,7 @@ use Rattle.node_moves.specs.node_core.Core.{CoreState, StepOutcome, rules, serve
 use Rattle.node_moves.specs.node_core.Failing.{loses_all_failed}
 use Rattle.node_moves.specs.node_core.Reading.{changes, open_at, reads, reads_all, reads_next, reads_of, unread_of}
 use Rattle.node_moves.specs.node_core.Step.{node_step, settled}
-use Rattle.node_moves.specs.node_core.Effects.{has_room, is_message, proposes, without_messages, repeated, with_effect, then_also}
+use Rattle.node_moves.specs.node_core.Effects.{has_room, proposes, without_messages, repeated, with_effect, then_also}
 use Rattle.node_moves.proofs.Views.{each_kept}
 use Rattle.escaping.specs.Asking.{ConnectIsProposed, asked_now, proposal_at, with_asked_connect}
 use Rattle.escaping.specs.Delivery.{ReportsItsLosses}

@@ -9,7 +9,7 @@ use Rattle.node_moves.specs.ballot_base.declared.message.Effect.TheVariants.{To,
 use Rattle.node_moves.specs.ballot_base.declared.message.Message.{Message}
 use Rattle.node_moves.specs.ballot_base.Protocol.Input.{Receives}
 use Rattle.node_moves.specs.ballot_base.Replica.{CountedReplica, ReplicaState, is_active}
-use Rattle.node_moves.specs.ballot_base.Sending.{Outcome}
+use Rattle.node_moves.specs.ballot_base.Sending.{Outcome, is_message}
 use Rattle.packet_world.specs.snapshots.World.{outputs}
 use Rattle.packet_world.specs.broker_spec.declared.command.Command.{Command}
 use Rattle.packet_world.specs.broker_spec.declared.command.Output.{Output}
@@ -20,7 +20,7 @@ use Rattle.node_moves.specs.node_connections.Connections.{has_failed}
 use Rattle.node_moves.specs.node_core.Core.{CoreState, StepOutcome, serves}
 use Rattle.node_moves.specs.node_core.Failing.{closes_failed, loses_all_failed, loses_failed, loses_if}
 use Rattle.node_moves.specs.node_core.Step.{node_step, settled}
-use Rattle.node_moves.specs.node_core.Effects.{drives, is_message, after_replica_step, proposes, without_messages, repeated, with_effect, then_also}
+use Rattle.node_moves.specs.node_core.Effects.{drives, after_replica_step, proposes, without_messages, repeated, with_effect, then_also}
 use Rattle.node_moves.proofs.LossesReported.{each_loss_is_reported}
 use Rattle.escaping.specs.Delivery.{AStepIsADelivery, ReportsItsLosses, heard_by}
 

@@ -9,7 +9,8 @@ use Rattle.ballot.specs.ballot_base.declared.message.Effect.TheVariants.{To, Out
 use Rattle.ballot.specs.ballot_base.Losses.{Thinned}
 use Rattle.ballot.specs.ballot_base.Losses.Thinned.{none, keeps, loses}
 use Rattle.snapshots.specs.World.{messages, outputs}
-use Rattle.master.specs.Inside.Losing.{Parted, is_message}
+use Rattle.ballot.specs.ballot_base.Sending.{is_message}
+use Rattle.master.specs.Inside.Losing.{Parted}
 use Rattle.snapshots.proofs.Effects.{messages-append, outputs-append}
 
 -- effects that are parted up to an index

@@ -3,9 +3,10 @@
 ghost use Rattle.std.specs.Prelude.{◌≡◌, ◌≤◌, false, [], ◌∷◌, ◌++◌, length, take, drop};
 ghost use Rattle.std.specs.Prelude.{◌&&◌, if◌then◌else◌};
 ghost use Rattle.ballot.specs.ballot_base.Losses.{one_more};
+ghost use Rattle.ballot.specs.ballot_base.Sending.{is_message};
 ghost use Rattle.std.specs.Bool.{OnTrue, OnFalse};
 ghost use Rattle.snapshots.specs.World.{messages};
-ghost use Rattle.master.specs.Inside.Losing.{InputStepOrLost, Parted, input_of, is_message};
+ghost use Rattle.master.specs.Inside.Losing.{InputStepOrLost, Parted, input_of};
 
 use ballot::{Effect, Message, Replica};
 use machine::Machine;

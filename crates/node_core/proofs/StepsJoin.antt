@@ -7,9 +7,10 @@ use Rattle.std.proofs.lemmas.List.Elements.{filter-append}
 use Rattle.broker_spec.specs.declared.command.Command.{Command}
 use Rattle.broker_spec.specs.declared.command.Output.{Output}
 use Rattle.ballot.specs.ballot_base.declared.message.Effect.{Effect}
+use Rattle.ballot.specs.ballot_base.Sending.{is_message}
 use Rattle.node_core.specs.Core.{CoreState, StepOutcome}
 use Rattle.node_core.specs.Inside.{RunningStep, DoesExactly, DoesOutcome}
-use Rattle.node_core.specs.Effects.{without_messages, then_also, handled_all, with_effect, is_message}
+use Rattle.node_core.specs.Effects.{without_messages, then_also, handled_all, with_effect}
 
 -- nothing was done
 pub turns_idle : (r : RunningStep) (out : List (Effect Command Output)) → DoesOutcome r r out out (without_messages r.core)

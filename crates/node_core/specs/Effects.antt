@@ -1,5 +1,5 @@
 -- What a step of the replica does to a node: outputs are done on connections, messages are sent.
-use Rattle.std.specs.Prelude.{ℕ, zero, suc, Bool, true, false, ◌&&◌, nat_lt, if◌then◌else◌, List, [], ◌++◌, length, filter}
+use Rattle.std.specs.Prelude.{ℕ, zero, suc, Bool, ◌&&◌, nat_lt, if◌then◌else◌, List, [], ◌++◌, length, filter}
 use Rattle.std.specs.List.{fold}
 use Rattle.broker.specs.broker_base.State.{State}
 use Rattle.broker_spec.specs.Connection.{ConnectionName}
@@ -11,7 +11,7 @@ use Rattle.ballot.specs.ballot_base.declared.message.Effect.{Effect}
 use Rattle.ballot.specs.ballot_base.declared.message.Effect.TheVariants.{To, Out}
 use Rattle.ballot.specs.ballot_base.Protocol.{Input, replica_step}
 use Rattle.ballot.specs.ballot_base.Replica.{ReplicaState}
-use Rattle.ballot.specs.ballot_base.Sending.{Outcome, nothing_done}
+use Rattle.ballot.specs.ballot_base.Sending.{Outcome, is_message, nothing_done}
 use Rattle.ballot.specs.ballot_base.Serving.{proposed, max_places}
 use Rattle.node_connections.specs.declared.connection.Connection.{Connection}
 use Rattle.node_connections.specs.Connections.{is_open_named}
@@ -54,11 +54,6 @@ performed_by (outputs.Close name) core = changes_named name closed_connection co
 abbrev pub with_effect : CoreState → Effect Command Output → CoreState
 with_effect core (Out place output) = performed_by output core
 with_effect core (To receiver message) = core
-
--- whether an effect is a message to another node, and not an output
-abbrev pub is_message : Effect Command Output → Bool
-is_message (Out place output) = false
-is_message (To receiver message) = true
 
 -- the effects of a replica's step are handled at once, in order: outputs are done, messages are
 -- sent

@@ -5,12 +5,12 @@ use Rattle.node_moves.specs.ballot_base.declared.config.Config.{Config}
 use Rattle.node_moves.specs.ballot_base.declared.message.Effect.{Effect}
 use Rattle.node_moves.specs.ballot_base.declared.message.Effect.TheVariants.{To, Out}
 use Rattle.node_moves.specs.ballot_base.Replica.{opening}
+use Rattle.node_moves.specs.ballot_base.Sending.{is_message}
 use Rattle.packet_world.specs.broker_spec.declared.command.Command.{Command}
 use Rattle.packet_world.specs.broker_spec.declared.command.Output.{Output}
 use Rattle.packet_world.specs.snapshots.World.{messages}
 use Rattle.packet_world.specs.snapshots.Moments.{opening_nodes}
 use Rattle.node_moves.specs.node_core.Core.{opening_core, rules}
-use Rattle.node_moves.specs.node_core.Effects.{is_message}
 use Rattle.std.specs.List.{filter}
 use Rattle.node_group.specs.Group.{opening_cores, replica_of}
 

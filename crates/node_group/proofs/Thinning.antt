@@ -6,7 +6,7 @@ use Rattle.node_moves.specs.ballot_base.Losses.{Loses, ReplicaStepOrLost, Thinne
 use Rattle.node_moves.specs.ballot_base.Losses.Thinned.{none, keeps, loses}
 use Rattle.node_moves.specs.ballot_base.declared.message.Message.{Message}
 use Rattle.node_moves.specs.ballot_base.Replica.{CountedReplica, ReplicaState}
-use Rattle.node_moves.specs.ballot_base.Sending.{Outcome}
+use Rattle.node_moves.specs.ballot_base.Sending.{Outcome, is_message}
 use Rattle.packet_world.specs.broker_base.State.{State}
 use Rattle.packet_world.specs.broker_spec.declared.command.Command.{Command}
 use Rattle.packet_world.specs.broker_spec.declared.command.Output.{Output}
@@ -14,7 +14,6 @@ use Rattle.packet_world.specs.snapshots.World.{messages, outputs}
 use Rattle.node_moves.specs.node_core.Core.{CoreState, rules}
 use Rattle.node_moves.specs.node_core.Lossy.{HandlesAll}
 use Rattle.node_moves.specs.node_core.Lossy.HandlesAll.{nothing, does, sends, loses as loses_one}
-use Rattle.node_moves.specs.node_core.Effects.{is_message}
 
 abbrev pub Given : Type 0
 Given = List (Effect Command Output)

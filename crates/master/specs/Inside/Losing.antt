@@ -3,7 +3,6 @@ use Rattle.std.specs.Prelude.{ℕ, Bool, true, false, ◌<◌, ◌≡◌, ◌⊎
 use Rattle.machine.specs.Machine.{Rules}
 use Rattle.ballot.specs.ballot_base.declared.message.Message.{Message}
 use Rattle.ballot.specs.ballot_base.declared.message.Effect.{Effect}
-use Rattle.ballot.specs.ballot_base.declared.message.Effect.TheVariants.{To, Out}
 use Rattle.ballot.specs.ballot_base.Losses.{SendsAndAddsNothing, Loses, Thinned, greatest_count, one_more}
 use Rattle.ballot.specs.ballot_base.Protocol.{Input, replica_step}
 use Rattle.ballot.specs.ballot_base.Protocol.Input.{Receives, Proposes, Ticks}
@@ -56,11 +55,6 @@ pub record InputStepOrLost {S C O : Type 0} (rules : Rules S C O) (old : Counted
       IsRead rules old.state input →
       TookExactly rules old input new given
   pub told : new.losses ≡ old.losses → old.losses < greatest_count → whole ≡ true
-
--- whether an effect is a message
-abbrev pub is_message : {C O : Type 0} → Effect C O → Bool
-is_message (To receiver message) = true
-is_message (Out place output) = false
 
 -- messages among effects were moved after those sent before, except some that were lost; none is
 -- lost if there is none
