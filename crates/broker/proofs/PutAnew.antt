@@ -13,14 +13,14 @@ use Rattle.broker_tables.specs.broker_base.State.{Sessions, session_in}
 use Rattle.broker_tables.specs.broker_base.StateLaws.{AllSound, AreByClient}
 use Rattle.broker_spec.proofs.ClientsInOrder.{same_is}
 use Rattle.broker_tables.proofs.of_broker_base.SessionsStayByClient.{ComesBefore}
-use Rattle.broker_tables.specs.subs_base.Content.{Content, no_subscriptions, with_client_filters}
+use Rattle.broker_tables.specs.subs_base.Content.{Content, last_qos_in, no_subscriptions, with_client_filters}
 use Rattle.broker_tables.specs.broker_rows.Indexed.{subscribed_in, content_in}
 use Rattle.broker_spec.specs.Subscriptions.{qos_asked}
 use Rattle.broker_tables.proofs.of_broker_rows.ConnectSteps.{no_session}
 use Rattle.broker_tables.proofs.of_broker_rows.publications.GreatestGranted.{none_held}
 use Rattle.broker_tables.proofs.of_broker_rows.maps.FiltersHeld.{bytes_back}
 use Rattle.broker_tables.proofs.of_broker_rows.maps.ContentOfStart.{same_bytes}
-use Rattle.broker.specs.Inside.{all_put, granted_last}
+use Rattle.broker.specs.Inside.{all_put}
 
 -- the first of two that is there
 abbrev first_of : {A : Type 0} → Option A → Option A → Option A
@@ -40,7 +40,7 @@ last_once (new ∷ more) g f apart = last_once more (update bytes_eq g new.0 (So
     by true e = ap₂ (λ b o. first_of o (cond b (Some new.1) (g f))) (bytes_back new.0 f ∙ e) (once e)
     by false e = ap (λ b. first_of (qos_asked f more) (cond b (Some new.1) (g f))) (bytes_back new.0 f ∙ e)
 
-last_is : (subscriptions : List GrantedFilter) (f : List ℕ) → AreFiltersApart subscriptions → granted_last subscriptions f ≡ qos_asked f subscriptions
+last_is : (subscriptions : List GrantedFilter) (f : List ℕ) → AreFiltersApart subscriptions → last_qos_in subscriptions f ≡ qos_asked f subscriptions
 last_is subscriptions f apart = last_once subscriptions (λ _. None) f apart ∙ alone (qos_asked f subscriptions)
   where
     alone : (o : Option QoS) → first_of o None ≡ o
@@ -57,18 +57,18 @@ put_at : (rows : Sessions) (content : Content) (c f : List ℕ) → AreByClient 
 unfolding IsStrictlySortedBy
 put_at [] content c f by_client sound = refl
 put_at (row ∷ rows) content c f by_client sound =
-    put_at rows (with_client_filters content row.0 (granted_last row.1.state.subscriptions)) c f by_client.1 sound.1
+    put_at rows (with_client_filters content row.0 (last_qos_in row.1.state.subscriptions)) c f by_client.1 sound.1
     ∙ by (same_client c row.0) refl (same_bytes c row.0)
   where
     by : (b : Bool) → same_client c row.0 ≡ b → bytes_eq row.0 c ≡ same_client c row.0 →
-        pick f (session_in c rows) (cond (bytes_eq row.0 c) (granted_last row.1.state.subscriptions f) (content c f))
+        pick f (session_in c rows) (cond (bytes_eq row.0 c) (last_qos_in row.1.state.subscriptions f) (content c f))
         ≡ pick f (if b then Some row.1 else session_in c rows) (content c f)
     by true e same =
-        ap₂ (λ o b. pick f o (cond b (granted_last row.1.state.subscriptions f) (content c f)))
+        ap₂ (λ o b. pick f o (cond b (last_qos_in row.1.state.subscriptions f) (content c f)))
         (no_session c rows (subst (λ (z : Client). ComesBefore z rows) (sym (same_is c row.0 e)) by_client.0)) (same ∙ e)
         ∙ last_is row.1.state.subscriptions f sound.0.filters
     by false e same =
-        ap (λ b. pick f (session_in c rows) (cond b (granted_last row.1.state.subscriptions f) (content c f))) (same ∙ e)
+        ap (λ b. pick f (session_in c rows) (cond b (last_qos_in row.1.state.subscriptions f) (content c f))) (same ∙ e)
 
 pub put_anew : (rows : Sessions) → AreByClient rows → AllSound rows → all_put rows no_subscriptions ≡ content_in rows
 put_anew rows by_client sound = λ i c f. go c f i

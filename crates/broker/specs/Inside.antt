@@ -1,11 +1,8 @@
 -- Definitions of private calls.
-use Rattle.std.specs.Prelude.{◌≡◌, ℕ, ◌<◌, length, List, [], ◌∷◌, Option, None, bytes_eq}
-use Rattle.std.specs.Map.{update_all}
+use Rattle.std.specs.Prelude.{◌≡◌, ℕ, ◌<◌, length, List, [], ◌∷◌}
 use Rattle.std.specs.List.{AllByRecursion}
-use Rattle.packet_base.specs.declared.qos.QoS.{QoS}
 use Rattle.retained.specs.Retained.{RetainedTopics}
-use Rattle.session_base.specs.Subscriptions.{GrantedFilter}
-use Rattle.broker_tables.specs.subs_base.Content.{Content, with_client_filters}
+use Rattle.broker_tables.specs.subs_base.Content.{Content, last_qos_in, with_client_filters}
 use Rattle.session_base.specs.FormLaws.{HasForm}
 use Rattle.broker_spec.specs.Connection.{ConnectionName}
 use Rattle.broker_tables.specs.broker_base.State.{Sessions, State}
@@ -32,12 +29,8 @@ abbrev pub state_read : ℕ × Rows × RetainedTopics → State
 state_read (window, rows, retained) =
     record { window = window; sessions = rows.sessions.entries; retained = retained }
 
--- the QoS of each filter of a session, the last of a filter counting
-abbrev pub granted_last : List GrantedFilter → List ℕ → Option QoS
-granted_last subscriptions = update_all bytes_eq (λ _. None) subscriptions
-
 -- the filters of all these sessions are put in, client by client
 abbrev pub all_put : Sessions → Content → Content
 all_put [] content = content
 all_put (row ∷ rows) content =
-    all_put rows (with_client_filters content row.0 (granted_last row.1.state.subscriptions))
+    all_put rows (with_client_filters content row.0 (last_qos_in row.1.state.subscriptions))

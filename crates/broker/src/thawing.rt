@@ -7,13 +7,13 @@ ghost use Rattle.std.specs.Ordering.{nat_cmp};
 ghost use Rattle.packet_base.specs.Outcome.{Gives, Reads};
 ghost use Rattle.packet_base.specs.Reading.{number_at};
 ghost use Rattle.session_base.specs.Counted.{counted_items_at, items_after, last_of, AddsItem};
-ghost use Rattle.broker_tables.specs.subs_base.Content.{no_subscriptions};
+ghost use Rattle.broker_tables.specs.subs_base.Content.{last_qos_in, no_subscriptions};
 ghost use Rattle.broker_tables.specs.subs_base.ListIndex.{content_of};
 ghost use Rattle.broker_form.specs.Form.{broker_at, retained_at};
 ghost use Rattle.broker_form.specs.Follows.{is_after, topic_follows};
 ghost use Rattle.broker_tables.specs.Tables.{IsTied, state_in};
 ghost use Rattle.retained.specs.Retained.{IsRising};
-ghost use Rattle.broker.specs.Inside.{AreOwned, state_read, all_put, granted_last};
+ghost use Rattle.broker.specs.Inside.{AreOwned, state_read, all_put};
 
 use crate::reading::{read_head, read_topic};
 use crate::rows::Rows;
@@ -137,7 +137,7 @@ fn index_of(
 // Returns a session's subscriptions by the bytes of their filters.
 fn filters_of(alloc: Global, session: &Session) -> Result<BTreeMap<Filter, QoS>, AllocError>
     ensures { IfOk result
-        (λ filters. get (slice_cmp nat_cmp) filters ≡ granted_last session.now.subscriptions) }
+        (λ filters. get (slice_cmp nat_cmp) filters ≡ last_qos_in session.now.subscriptions) }
 {
     let granted = subscriptions_of(alloc, session)?;
     let filters = BTreeMap::from_iter(alloc, granted)?;

@@ -17,12 +17,12 @@ use Rattle.std.proofs.lemmas.Map.Keys.{sorted_tail, IsDistinct-from_sorted}
 use Rattle.std.proofs.lemmas.Map.Made.{lookup-map_values, update_all_distinct, update_all_none}
 use Rattle.packet_base.specs.declared.qos.QoS.{QoS}
 use Rattle.topics.specs.Text.{levels}
-use Rattle.subs_base.specs.Content.{Content, no_subscriptions, with_row}
+use Rattle.subs_base.specs.Content.{Content, last_qos_in, no_subscriptions, with_row}
 use Rattle.subs_base.specs.ListIndex.{Filters, Clients, at, content_of}
 use Rattle.subs_base.specs.Inside.{listed, AreOrdered}
 use Rattle.subs.specs.declared.group.Group.{Group}
 use Rattle.subs.specs.declared.group.Group.TheVariants.{One}
-use Rattle.subs.specs.Gathered.{Groups, last_row_of, rows_of_group, groups_as_lists, gathered, all_rows_put, filters_set, clients_set}
+use Rattle.subs.specs.Gathered.{Groups, rows_of_group, groups_as_lists, gathered, all_rows_put, filters_set, clients_set}
 use Rattle.subs.specs.declared.rows.Rows.{Rows}
 use Rattle.subs.specs.declared.rows.Rows.TheVariants as kept
 use Rattle.subs.specs.Rows.{qos_of_client}
@@ -33,12 +33,12 @@ use Rattle.subs.proofs.RowsSet.{one_at}
 
 -- what a client has among rows, if there are any
 abbrev pub of_rows : List ℕ → Option (List (List ℕ × QoS)) → Option QoS
-of_rows c o = option_and_then (λ rows. last_row_of rows c) o
+of_rows c o = option_and_then (λ rows. last_qos_in rows c) o
 
 -- ---- one more row
 
 abbrev in_group : List ℕ → Option Group → Option QoS
-in_group c o = option_and_then (λ group. last_row_of (rows_of_group group) c) o
+in_group c o = option_and_then (λ group. last_qos_in (rows_of_group group) c) o
 
 gathered_held : (es : List (List ℕ × Group)) (c f : List ℕ) → gathered (groups_as_lists es) c f ≡ in_group c (lookup (bytes_eq f) es)
 gathered_held es c f = ap (of_rows c) (lookup-map_values rows_of_group (bytes_eq f) es) ∙ opened (lookup (bytes_eq f) es)
@@ -50,7 +50,7 @@ gathered_held es c f = ap (of_rows c) (lookup-map_values rows_of_group (bytes_eq
 pub row_added :
     (old new : List (List ℕ × Group)) (filter : List ℕ) (row : List ℕ × QoS) (rows : Group)
     → ((f : List ℕ) → lookup (bytes_eq f) new ≡ cond (bytes_eq filter f) (Some rows) (lookup (bytes_eq f) old))
-    → ((c : List ℕ) → last_row_of (rows_of_group rows) c ≡ cond (bytes_eq row.0 c) (Some row.1) (in_group c (lookup (bytes_eq filter) old)))
+    → ((c : List ℕ) → last_qos_in (rows_of_group rows) c ≡ cond (bytes_eq row.0 c) (Some row.1) (in_group c (lookup (bytes_eq filter) old)))
     → gathered (groups_as_lists new) ≡ with_row (gathered (groups_as_lists old)) row.0 filter row.1
 row_added old new filter row rows outer inner = λ i c f. go c f i
   where
@@ -81,17 +81,17 @@ row_added old new filter row rows outer inner = λ i c f. go c f i
 pub row_pushed :
     (old : List (List ℕ × Group)) (filter : List ℕ) (row : List ℕ × QoS) (was is : Group)
     → Some was ≡ lookup (bytes_eq filter) old → rows_of_group is ≡ rows_of_group was ++ row ∷ []
-    → (c : List ℕ) → last_row_of (rows_of_group is) c ≡ cond (bytes_eq row.0 c) (Some row.1) (in_group c (lookup (bytes_eq filter) old))
+    → (c : List ℕ) → last_qos_in (rows_of_group is) c ≡ cond (bytes_eq row.0 c) (Some row.1) (in_group c (lookup (bytes_eq filter) old))
 row_pushed old filter row was is there items c =
-    ap (λ rows. last_row_of rows c) items
-    ∙ sym (update_all_push bytes_eq (λ _. None) (last_row_of (rows_of_group was)) (rows_of_group was) row c refl)
+    ap (λ rows. last_qos_in rows c) items
+    ∙ sym (update_all_push bytes_eq (λ _. None) (last_qos_in (rows_of_group was)) (rows_of_group was) row c refl)
     ∙ ap (λ o. cond (bytes_eq row.0 c) (Some row.1) (in_group c o)) there
 
 -- it is the first of the filter
 pub row_first :
     (old : List (List ℕ × Group)) (filter : List ℕ) (row : List ℕ × QoS)
     → None ≡ lookup (bytes_eq filter) old
-    → (c : List ℕ) → last_row_of (rows_of_group (One row.0 row.1)) c ≡ cond (bytes_eq row.0 c) (Some row.1) (in_group c (lookup (bytes_eq filter) old))
+    → (c : List ℕ) → last_qos_in (rows_of_group (One row.0 row.1)) c ≡ cond (bytes_eq row.0 c) (Some row.1) (in_group c (lookup (bytes_eq filter) old))
 row_first old filter row none c =
     ap (λ o. cond (bytes_eq row.0 c) (Some row.1) (in_group c o)) none
 
@@ -182,12 +182,12 @@ same_tests = λ i x y. sym (texts_ties x y) i
 pub group_put :
     (old new : Asked) (text filter : List ℕ) (list : List (List ℕ × QoS)) (rows : Rows)
     → text ≡ filter
-    → qos_of_client rows ≡ last_row_of list
+    → qos_of_client rows ≡ last_qos_in list
     → new ≡ with_rows old (levels text) (qos_of_client rows)
-    → at_texts new ≡ (λ c f. cond (bytes_eq filter f) (last_row_of list c) (at_texts old c f))
+    → at_texts new ≡ (λ c f. cond (bytes_eq filter f) (last_qos_in list c) (at_texts old c f))
 group_put old new text filter list rows is made after = λ i c f. go c f i
   where
-    go : (c f : List ℕ) → new (levels f) c ≡ cond (bytes_eq filter f) (last_row_of list c) (old (levels f) c)
+    go : (c f : List ℕ) → new (levels f) c ≡ cond (bytes_eq filter f) (last_qos_in list c) (old (levels f) c)
     go c f =
         ap (λ (a : Asked). a (levels f) c) after
         ∙ ap (λ b. cond b (qos_of_client rows c) (old (levels f) c)) (same_text text f ∙ ap (λ t. bytes_eq t f) is)
@@ -197,10 +197,10 @@ group_put old new text filter list rows is made after = λ i c f. go c f i
 pub map_made :
     (list : List (List ℕ × QoS)) (clients : BTreeMap (List ℕ) QoS)
     → ((q : List ℕ) → get (slice_cmp nat_cmp) clients q ≡ update_all (eq_by_cmp (slice_cmp nat_cmp)) (λ _. None) list q)
-    → qos_of_client (kept.Many clients) ≡ last_row_of list
+    → qos_of_client (kept.Many clients) ≡ last_qos_in list
 map_made list clients made = λ i q. (made q ∙ ap (λ e. update_all e (λ _. None) list q) same_tests) i
 
-pub one_made : (client : List ℕ) (qos : QoS) → qos_of_client (kept.One client qos) ≡ last_row_of ((client, qos) ∷ [])
+pub one_made : (client : List ℕ) (qos : QoS) → qos_of_client (kept.One client qos) ≡ last_qos_in ((client, qos) ∷ [])
 one_made client qos = λ i q. one_at client qos q i
 
 put_in_turn : (gs : Groups) (g : List ℕ → Option (List (List ℕ × QoS))) (c f : List ℕ) →
@@ -210,7 +210,7 @@ put_in_turn (e ∷ gs) g c f =
     ap (λ content. all_rows_put gs content c f) (λ i d h. into (bytes_eq e.0 h) d h i)
     ∙ put_in_turn gs (update bytes_eq g e.0 (Some e.1)) c f
   where
-    into : (b : Bool) (d h : List ℕ) → cond b (last_row_of e.1 d) (of_rows d (g h)) ≡ of_rows d (cond b (Some e.1) (g h))
+    into : (b : Bool) (d h : List ℕ) → cond b (last_qos_in e.1 d) (of_rows d (g h)) ≡ of_rows d (cond b (Some e.1) (g h))
     into true d h = refl
     into false d h = refl
 

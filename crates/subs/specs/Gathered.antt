@@ -1,16 +1,12 @@
 -- The rows of each filter, gathered before the nodes are made.
 use Rattle.std.specs.Prelude.{ℕ, List, [], ◌∷◌, bytes_eq, Option, None, option_and_then}
 use Rattle.std.specs.Prelude.{if◌then◌else◌, map}
-use Rattle.std.specs.Map.{lookup, update_all}
+use Rattle.std.specs.Map.{lookup}
 use Rattle.packet_base.specs.declared.qos.QoS.{QoS}
-use Rattle.subs_base.specs.Content.{Content, with_row}
+use Rattle.subs_base.specs.Content.{Content, last_qos_in, with_row}
 use Rattle.subs_base.specs.ListIndex.{Filters, Clients}
 use Rattle.subs.specs.declared.group.Group.{Group}
 use Rattle.subs.specs.declared.group.Group.TheVariants as kinds
-
--- rows as they came: the last of a client counts
-abbrev pub last_row_of : List (List ℕ × QoS) → List ℕ → Option QoS
-last_row_of rows = update_all bytes_eq (λ _. None) rows
 
 -- each filter with its rows
 abbrev pub Groups : Type 0
@@ -28,13 +24,13 @@ groups_as_lists entries = map (λ entry. (entry.0, rows_of_group entry.1)) entri
 -- the QoS at each client and filter
 abbrev pub gathered : Groups → Content
 gathered groups client filter =
-    option_and_then (λ rows. last_row_of rows client) (lookup (bytes_eq filter) groups)
+    option_and_then (λ rows. last_qos_in rows client) (lookup (bytes_eq filter) groups)
 
 -- these rows are put in, filter by filter
 abbrev pub all_rows_put : Groups → Content → Content
 all_rows_put [] content = content
 all_rows_put (group ∷ groups) content =
-    all_rows_put groups (λ client filter. if bytes_eq group.0 filter then last_row_of group.1 client
+    all_rows_put groups (λ client filter. if bytes_eq group.0 filter then last_qos_in group.1 client
     else content client filter)
 
 -- these filters of a client are set, one by one

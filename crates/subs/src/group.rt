@@ -1,7 +1,8 @@
 // The rows of one filter while a list is gathered.
 
 ghost use Rattle.std.specs.Prelude.{◌≡◌, ◌++◌, ◌∷◌, [], OnOk, IfOk};
-ghost use Rattle.subs.specs.Gathered.{rows_of_group, last_row_of};
+ghost use Rattle.subs_base.specs.Content.{last_qos_in};
+ghost use Rattle.subs.specs.Gathered.{rows_of_group};
 ghost use Rattle.subs.specs.Rows.{qos_of_client};
 
 use crate::rows::Rows;
@@ -33,7 +34,7 @@ impl Group {
 
     /// Returns the same rows by their clients; of each client the last row counts.
     pub(crate) fn into_rows(self, alloc: Global) -> Result<Rows, AllocError>
-        ensures { IfOk result (λ rows. qos_of_client rows ≡ last_row_of (rows_of_group self)) }
+        ensures { IfOk result (λ rows. qos_of_client rows ≡ last_qos_in (rows_of_group self)) }
     {
         match self {
             Group::One(client, qos) => Ok(Rows::One(client, qos)),

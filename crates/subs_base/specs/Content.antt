@@ -1,5 +1,6 @@
 -- What an index of subscriptions shows: who asked for which filter, at which QoS (MQTT 3.8.4).
 use Rattle.std.specs.Prelude.{ℕ, ◌&&◌, if◌then◌else◌, List, bytes_eq, Option, Some, None}
+use Rattle.std.specs.Map.{update_all}
 use Rattle.packet_base.specs.declared.qos.QoS.{QoS}
 
 -- at each client and filter the QoS of its subscription, and `None` if there is none
@@ -31,3 +32,7 @@ without_client content client other filter =
 abbrev pub with_client_filters : Content → List ℕ → (List ℕ → Option QoS) → Content
 with_client_filters content client asked other filter =
     if bytes_eq client other then asked filter else content other filter
+
+-- the QoS of each text in a list of rows, the last row of a text counting
+abbrev pub last_qos_in : List (List ℕ × QoS) → List ℕ → Option QoS
+last_qos_in rows = update_all bytes_eq (λ _. None) rows

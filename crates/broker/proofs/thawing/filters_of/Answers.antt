@@ -6,7 +6,7 @@ use Rattle.std.specs.Cmp.Lexicographic.{slice_cmp}
 use Rattle.std.specs.Ordering.{nat_cmp}
 use Rattle.std.proofs.lemmas.Iterator.Adapters.{YieldsList-from_vec}
 use Rattle.subs.proofs.RowsGathered.{made_of, same_tests}
-use Rattle.broker.specs.Inside.{granted_last}
+use Rattle.broker_tables.specs.subs_base.Content.{last_qos_in}
 use Rattle.broker.proofs.thawing.filters_of.Goals as goal
 
 pub returns : goal.returns
@@ -16,4 +16,4 @@ returns c =
     (YieldsList-from_vec c.in_ok-granted.granted.items ran.2.0 (search rules)) ran.4 in
     (λ i f. made.0 f i)
     ∙ ap (λ e. update_all e (λ _. None) c.in_ok-granted.granted.items) same_tests
-    ∙ ap granted_last c.in_ok-granted.ensures
+    ∙ ap last_qos_in c.in_ok-granted.ensures

@@ -4,14 +4,15 @@ use Rattle.std.specs.BTreeMap.{IsFromIterResult}
 use Rattle.std.specs.Cmp.Lexicographic.{slice_cmp}
 use Rattle.std.specs.Ordering.{nat_cmp}
 use Rattle.std.proofs.lemmas.Iterator.Adapters.{YieldsList-from_vec}
-use Rattle.subs.specs.Gathered.{rows_of_group, last_row_of}
+use Rattle.subs_base.specs.Content.{last_qos_in}
+use Rattle.subs.specs.Gathered.{rows_of_group}
 use Rattle.subs.proofs.RowsGathered.{made_of, map_made, one_made}
 use Rattle.subs.proofs.group.Group.into_rows.Goals as goal
 
 pub returns-in-One : goal.returns-in-One
 returns-in-One c =
     one_made c.in-One.client c.in-One.qos
-    ∙ ap (λ g. last_row_of (rows_of_group g)) (sym c.in-One.is)
+    ∙ ap (λ g. last_qos_in (rows_of_group g)) (sym c.in-One.is)
 
 pub returns-in_ok-clients-in-More : goal.returns-in_ok-clients-in-More
 returns-in_ok-clients-in-More c =
@@ -19,4 +20,4 @@ returns-in_ok-clients-in-More c =
     let made = made_of (λ rows. IsFromIterResult (slice_cmp nat_cmp) rows c.in_ok-clients-in-More.clients) ran.1 ran.3
     (YieldsList-from_vec c.in-More.rows.items ran.2.0 (search rules)) ran.4 in
     map_made c.in-More.rows.items c.in_ok-clients-in-More.clients made.0
-    ∙ ap (λ g. last_row_of (rows_of_group g)) (sym c.in-More.is)
+    ∙ ap (λ g. last_qos_in (rows_of_group g)) (sym c.in-More.is)
