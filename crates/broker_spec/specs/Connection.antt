@@ -8,6 +8,10 @@ pub record ConnectionName : Type 0 where
   pub ballot : ℕ
   pub count : ℕ
 
+-- the first connection of the first ballot
+abbrev pub first_connection : ConnectionName
+first_connection = record { ballot = 1; count = 1 }
+
 -- the greatest number of a connection in its ballot
 abbrev pub max_count : ℕ
 max_count = MAX_COUNT

@@ -5,7 +5,7 @@ use Rattle.escaping.specs.broker_spec.Answers.{close_outputs, connect_answers, w
 use Rattle.escaping.specs.broker_spec.AnswersInOrder.{answers_of}
 use Rattle.escaping.specs.broker_spec.declared.command.Command.TheVariants as commands
 use Rattle.escaping.specs.broker_spec.Commands.{past_of, place_of, usual_limits}
-use Rattle.escaping.specs.broker_spec.Connection.{ConnectionName}
+use Rattle.escaping.specs.broker_spec.Connection.{ConnectionName, first_connection}
 use Rattle.escaping.specs.broker_spec.Marks.{connect_mark}
 use Rattle.escaping.specs.broker_spec.declared.command.Output.{Output}
 use Rattle.escaping.specs.broker_spec.Owner.{clients}
@@ -15,7 +15,7 @@ use Rattle.escaping.specs.broker_spec.Sends.{resent_outputs}
 use Rattle.escaping.specs.broker_spec.Times.{entries_of}
 use Rattle.escaping.proofs.of_broker_spec.ClientsInOrder.{same_self}
 use Rattle.escaping.proofs.ComesBack.{at_connect, gives_after, nobody_owns, none_current}
-use Rattle.world_nodes.specs.Asking.{first_connection, is_welcome, welcomes_back}
+use Rattle.world_nodes.specs.Asking.{is_welcome, welcomes_back}
 use Rattle.escaping_nodes.specs.Opened.{WelcomedAreKept}
 
 -- a session is there and not clean

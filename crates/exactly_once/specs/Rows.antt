@@ -6,7 +6,7 @@ use Rattle.packet.specs.declared.subscribe.Subscribe.{Subscribe}
 use Rattle.packet.specs.declared.packet.Packet.TheVariants as packets
 use Rattle.session_base.specs.declared.publication.Publication.{Publication}
 use Rattle.session_base.specs.Publication.{publish_for}
-use Rattle.broker_spec.specs.Connection.{ConnectionName}
+use Rattle.broker_spec.specs.Connection.{ConnectionName, first_connection}
 use Rattle.broker_spec.specs.Place.{Client}
 use Rattle.broker_spec.specs.declared.command.Command.{Command}
 use Rattle.broker_spec.specs.declared.command.Command.TheVariants as commands
@@ -15,13 +15,9 @@ use Rattle.broker_spec.specs.declared.command.Command.TheVariants as commands
 abbrev pub writer : Client
 writer = 119 ∷ []
 
--- the writer's connection in the first ballot
-abbrev pub first_name : ConnectionName
-first_name = record { ballot = 1; count = 1 }
-
 -- the writer's connection in the second ballot
-abbrev pub second_name : ConnectionName
-second_name = record { ballot = 2; count = 1 }
+abbrev pub second_connection : ConnectionName
+second_connection = record { ballot = 2; count = 1 }
 
 -- what the writer publishes: one byte at QoS 2
 abbrev pub news : Publication
@@ -36,13 +32,13 @@ asks_for_news =
 -- once
 abbrev pub commands_there : List Command
 commands_there =
-    commands.Packet second_name (packets.Pubcomp 1)
-    ∷ commands.Packet second_name (packets.Pubrel 1)
-    ∷ commands.Packet second_name (packets.Pubrec 1)
-    ∷ commands.Packet second_name (packets.Publish (publish_for true 1 news))
-    ∷ commands.Connect second_name writer false
+    commands.Packet second_connection (packets.Pubcomp 1)
+    ∷ commands.Packet second_connection (packets.Pubrel 1)
+    ∷ commands.Packet second_connection (packets.Pubrec 1)
+    ∷ commands.Packet second_connection (packets.Publish (publish_for true 1 news))
+    ∷ commands.Connect second_connection writer false
     ∷ commands.Start 2
-    ∷ commands.Packet first_name (packets.Publish (publish_for false 1 news))
-    ∷ commands.Packet first_name (packets.Subscribe asks_for_news)
-    ∷ commands.Connect first_name writer false
+    ∷ commands.Packet first_connection (packets.Publish (publish_for false 1 news))
+    ∷ commands.Packet first_connection (packets.Subscribe asks_for_news)
+    ∷ commands.Connect first_connection writer false
     ∷ []

@@ -8,7 +8,8 @@ use Rattle.packet.specs.Spelling.{IsPacket, spelling}
 use Rattle.client_base.specs.Connected.{new_connection}
 use Rattle.client_base.specs.Handled.{lost}
 use Rattle.client_base.specs.Keeper.{Keeper, new_keeper}
-use Rattle.exactly_once.specs.Rows.{first_name, writer}
+use Rattle.exactly_once.specs.Rows.{writer}
+use Rattle.broker_spec.specs.Connection.{first_connection}
 use Rattle.exactly_once.specs.Sides.{ClientConnection}
 use Rattle.node_core.specs.declared.item.Item.TheVariants.{Opened}
 use Rattle.byte_world.specs.node_connections.Connections.{fresh}
@@ -41,7 +42,7 @@ abbrev pub keeper_opens : Keeper
 keeper_opens = record (lost (new_keeper writer)) { is_open = true }
 
 abbrev pub its_connection : ClientConnection
-its_connection = new_connection writer first_name
+its_connection = new_connection writer first_connection
 
 abbrev pub keeper_served : Keeper
 keeper_served = record keeper_opens { is_online = true; was_served = true }
@@ -55,7 +56,7 @@ row_opens =
     let t = turned (opening_group 1 one_node) 0 (takes (Opened the_port 0)) core_at_first core_opened refl tt it_opens in
     record {
       group = t.does.after;
-      trail = goes_on opened (connects 0 0 (new_client writer) the_port 0 t.does core_opened (fresh the_port first_name) refl refl t.stands refl connect_whole);
+      trail = goes_on opened (connects 0 0 (new_client writer) the_port 0 t.does core_opened (fresh the_port first_connection) refl refl t.stands refl connect_whole);
       stands = t.stands;
     }
 

@@ -34,7 +34,8 @@ use Rattle.node_core.specs.Step.{with_next_connection, settled}
 use Rattle.node_core.specs.Effects.{changes_named, proposes, repeated}
 use Rattle.byte_world.specs.node_moves.Moves.{done}
 use Rattle.byte_world.specs.node_moves.Moves.NodeCall.{takes, gives}
-use Rattle.exactly_once.specs.Rows.{asks_for_news, first_name, news, writer}
+use Rattle.exactly_once.specs.Rows.{asks_for_news, news, writer}
+use Rattle.broker_spec.specs.Connection.{first_connection}
 use Rattle.headline.specs.Rows.{list_done, one_node, said}
 use Rattle.headline.proofs.RowGoes.{the_port}
 
@@ -42,7 +43,7 @@ abbrev pub core_at_first : CoreState
 core_at_first = opening_core 1 one_node
 
 abbrev pub core_opened : CoreState
-core_opened = record core_at_first { last_name = first_name; connections = fresh the_port first_name ∷ [] }
+core_opened = record core_at_first { last_name = first_connection; connections = fresh the_port first_connection ∷ [] }
 
 -- it has done these commands, and has these bytes to hand over
 abbrev pub serving : List Command → List ℕ → CoreState
@@ -51,7 +52,7 @@ serving log pending =
       replica = record core_opened.replica {
         state = record core_opened.replica.state { log = record { base = 0; snapshot = []; rest = log }; committed = length log; machine = replay rules log };
       };
-      connections = record (fresh the_port first_name) { stage = Proposed; pending = pending } ∷ [];
+      connections = record (fresh the_port first_connection) { stage = Proposed; pending = pending } ∷ [];
     }
 
 -- ---- packets, and the commands that they become
@@ -72,7 +73,7 @@ abbrev pub publish : Packet
 publish = packets.Publish (publish_for false 1 news)
 
 abbrev pub list_connected : List Command
-list_connected = commands.Connect first_name writer false ∷ []
+list_connected = commands.Connect first_connection writer false ∷ []
 
 abbrev pub list_subscribed : List Command
 list_subscribed = list_connected ++ said subscribe ∷ []

@@ -10,7 +10,8 @@ use Rattle.client_base.specs.Keeper.{Own}
 use Rattle.session_base.specs.declared.publication.Publication.{Publication}
 use Rattle.session_base.specs.Publication.{publish_for}
 use Rattle.exactly_once.specs.Acceptance.{accepted_on}
-use Rattle.exactly_once.specs.Rows.{asks_for_news, first_name, news, writer}
+use Rattle.exactly_once.specs.Rows.{asks_for_news, news, writer}
+use Rattle.broker_spec.specs.Connection.{first_connection}
 use Rattle.node_core.specs.Core.{CoreState}
 use Rattle.byte_world.specs.Steps.{Reached}
 use Rattle.byte_world.specs.World.{ClientPipes, ByteWorld}
@@ -35,12 +36,12 @@ pub record AClientIsServed : Type 0 where
 
 -- a packet on the first connection, as a command
 abbrev pub said : Packet → Command
-said packet = commands.Packet first_name packet
+said packet = commands.Packet first_connection packet
 
 -- the list of commands, oldest first
 abbrev pub list_done : List Command
 list_done =
-    commands.Connect first_name writer false
+    commands.Connect first_connection writer false
     ∷ said (packets.Subscribe asks_for_news)
     ∷ said (packets.Publish (publish_for false 1 news))
     ∷ said (packets.Pubrel 1)

@@ -20,7 +20,8 @@ use Rattle.exactly_once.specs.client_base.Written.{plain, written_publish}
 use Rattle.exactly_once.specs.client_base.Connected.{opening_connect}
 use Rattle.exactly_once.specs.Sides.{ClientConnection}
 use Rattle.exactly_once.specs.Story.StoryStep.{subscribes, publishes_one, loses}
-use Rattle.exactly_once.specs.Rows.{writer, first_name, second_name, news, asks_for_news}
+use Rattle.exactly_once.specs.Rows.{writer, second_connection, news, asks_for_news}
+use Rattle.exactly_once.specs.broker_spec.Connection.{first_connection}
 use Rattle.packet_world.specs.World.{End, ClientEnds, PacketWorld}
 use Rattle.packet_world.specs.Steps.{Reached}
 use Rattle.packet_world.specs.Steps.PacketWorldStep.{calls, opens as gets_connection, handles, reads, answers, closes, agrees, agrees_else}
@@ -36,7 +37,7 @@ within_by n m e = grind (arith, e)
 abbrev first_one : ClientConnection
 first_one =
     record {
-      name = first_name;
+      name = first_connection;
       written = opening_connect writer ∷ plain (packets.Subscribe asks_for_news) ∷ written_publish false 0 1 news ∷ [];
       taken = 3;
       handled = 2;
@@ -70,15 +71,15 @@ first_end =
 abbrev lost_world : PacketWorld
 lost_world =
     record {
-      agreed = commands.Connect first_name writer false ∷ commands.Packet first_name (packets.Subscribe asks_for_news)
-          ∷ commands.Packet first_name (packets.Publish (publish_for false 1 news)) ∷ commands.Start 2 ∷ [];
+      agreed = commands.Connect first_connection writer false ∷ commands.Packet first_connection (packets.Subscribe asks_for_news)
+          ∷ commands.Packet first_connection (packets.Publish (publish_for false 1 news)) ∷ commands.Start 2 ∷ [];
       clients = (let c : ClientEnds = record { keeper = lost_one; connections = first_one ∷ []; ends = first_end ∷ [] } in c) ∷ [];
     }
 
 until_lost : Reached (writer ∷ []) lost_world
 unfolding past_from current_connection session_of named subscriptions_of received_of retained_publications entries_of
 until_lost =
-    let e0 = goes_on begins (gets_connection 0 _ first_name 0 refl (refl, tt) (within_by _ _ refl)) in
+    let e0 = goes_on begins (gets_connection 0 _ first_connection 0 refl (refl, tt) (within_by _ _ refl)) in
     let e1 = goes_on e0 (reads 0 0 _ _ _ (record { client = refl; connection = refl; end = refl }) refl (less_by _ _ refl)) in
     let e2 = goes_on e1 (agrees 0 0 _ _ _ _ (record { client = refl; connection = refl; end = refl }) (less_by _ _ refl) refl) in
     let e3 = goes_on e2 (answers 0 0 _ _ _ _ (record { client = refl; connection = refl; end = refl }) refl refl) in
@@ -99,7 +100,7 @@ until_lost =
 abbrev second_one : ClientConnection
 second_one =
     record {
-      name = second_name;
+      name = second_connection;
       written = opening_connect writer ∷ written_publish true 0 1 news ∷ plain (packets.Pubrec 1) ∷ [];
       taken = 2;
       handled = 2;
@@ -121,12 +122,12 @@ second_end =
 
 abbrev list_again : List Command
 list_again =
-    commands.Connect first_name writer false
-    ∷ commands.Packet first_name (packets.Subscribe asks_for_news)
-    ∷ commands.Packet first_name (packets.Publish (publish_for false 1 news))
+    commands.Connect first_connection writer false
+    ∷ commands.Packet first_connection (packets.Subscribe asks_for_news)
+    ∷ commands.Packet first_connection (packets.Publish (publish_for false 1 news))
     ∷ commands.Start 2
-    ∷ commands.Connect second_name writer false
-    ∷ commands.Packet second_name (packets.Publish (publish_for true 1 news))
+    ∷ commands.Connect second_connection writer false
+    ∷ commands.Packet second_connection (packets.Publish (publish_for true 1 news))
     ∷ []
 
 abbrev again_world : PacketWorld
@@ -139,7 +140,7 @@ again_world =
 until_again : Reached (writer ∷ []) again_world
 unfolding past_from current_connection session_of named subscriptions_of received_of retained_publications entries_of
 until_again =
-    let e0 = goes_on until_lost (gets_connection 0 _ second_name 4 refl (refl, tt) (within_by _ _ refl)) in
+    let e0 = goes_on until_lost (gets_connection 0 _ second_connection 4 refl (refl, tt) (within_by _ _ refl)) in
     let e1 = goes_on e0 (reads 0 0 _ _ _ (record { client = refl; connection = refl; end = refl }) refl (less_by _ _ refl)) in
     let e2 = goes_on e1 (agrees 0 0 _ _ _ _ (record { client = refl; connection = refl; end = refl }) (less_by _ _ refl) refl) in
     let e3 = goes_on e2 (answers 0 0 _ _ _ _ (record { client = refl; connection = refl; end = refl }) refl refl) in
@@ -161,7 +162,7 @@ released_one =
 abbrev released_world : PacketWorld
 released_world =
     record {
-      agreed = list_again ++ commands.Packet second_name (packets.Pubrec 1) ∷ [];
+      agreed = list_again ++ commands.Packet second_connection (packets.Pubrec 1) ∷ [];
       clients = (let c : ClientEnds = record {
         keeper = record back_one { own = Own.Released 0 news 1 ∷ []; releases = 1 ∷ []; received = [] };
         connections = released_one ∷ first_one ∷ [];

@@ -16,7 +16,8 @@ use Rattle.master.proofs.of_snapshots.MomentsAgree.{logs_are_cut_right}
 use Rattle.node_core.specs.Core.{CoreState, CountedCore, rules}
 use Rattle.byte_world.specs.node_group.Group.{moment_of_nodes, replica_of}
 use Rattle.byte_world.proofs.of_node_group.Placed.{get_mapped}
-use Rattle.world_nodes.specs.Asking.{first_connection, is_welcome, whole_log_in, whole_log_of, welcomes_back}
+use Rattle.byte_world.specs.broker_spec.Connection.{first_connection}
+use Rattle.world_nodes.specs.Asking.{is_welcome, whole_log_in, whole_log_of, welcomes_back}
 use Rattle.world_nodes.specs.Running.{numbered_node}
 use Rattle.world_nodes.specs.Inside.{HaveCounted}
 use Rattle.world_nodes.specs.Nodes.{NodesState}

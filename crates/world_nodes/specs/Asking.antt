@@ -7,7 +7,7 @@ use Rattle.packet.specs.declared.connack.Connack.TheVariants.{Accepted}
 use Rattle.packet.specs.declared.packet.Packet.TheVariants.{Connack}
 use Rattle.byte_world.specs.broker_spec.declared.command.Command.{Command}
 use Rattle.byte_world.specs.broker_spec.declared.command.Command.TheVariants as commands
-use Rattle.byte_world.specs.broker_spec.Connection.{ConnectionName}
+use Rattle.byte_world.specs.broker_spec.Connection.{first_connection}
 use Rattle.byte_world.specs.broker_spec.declared.command.Output.{Output}
 use Rattle.byte_world.specs.broker_spec.declared.command.Output.TheVariants.{Send}
 use Rattle.byte_world.specs.broker_spec.Place.{Client}
@@ -23,10 +23,6 @@ whole_log_in archive (Some node) = whole_log archive node.core.replica.state.log
 -- the whole log of the node of a number
 abbrev pub whole_log_of : NodesState → ℕ → List Command
 whole_log_of state node = whole_log_in state.archive (numbered_node state.nodes node)
-
--- the name of the first connection of ballot 1
-abbrev pub first_connection : ConnectionName
-first_connection = record { ballot = 1; count = 1 }
 
 -- whether an output is a CONNACK 0 with session present
 abbrev pub is_present : Output → Bool

@@ -4,7 +4,8 @@ ghost use Rattle.std.specs.Prelude.{◌≡◌, ◌<◌, ◌++◌, ◌↔◌, [],
 ghost use Rattle.master.specs.agreement.MasterState.{refusal};
 ghost use Rattle.master.specs.machine.Machine.{replay_from};
 ghost use Rattle.node_core.specs.Core.{CountedCore, rules};
-ghost use Rattle.world_nodes.specs.Asking.{first_connection, is_present, is_welcome, whole_log_of, welcomes_back};
+ghost use Rattle.byte_world.specs.broker_spec.Connection.{first_connection};
+ghost use Rattle.world_nodes.specs.Asking.{is_present, is_welcome, whole_log_of, welcomes_back};
 ghost use Rattle.world_nodes.specs.Running.{numbered_node};
 
 use crate::nodes::Nodes;
