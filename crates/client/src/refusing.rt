@@ -1,15 +1,15 @@
 // Which calls a client refuses.
 
-ghost use Rattle.std.specs.Prelude.{ℕ, ◌≡◌, ◌+◌, false, if◌then◌else◌, length, min};
+ghost use Rattle.std.specs.Prelude.{ℕ, ◌≡◌, false};
 ghost use Rattle.std.specs.Option.{is_some};
 ghost use Rattle.packet.specs.declared.packet.Packet.TheVariants as packets;
-ghost use Rattle.session_base.specs.Publication.{is_answered, publish_for};
+ghost use Rattle.session_base.specs.Publication.{publish_for};
 ghost use Rattle.client_base.specs.Publishing.{is_over_limit, publish_refusal};
 ghost use Rattle.client_base.specs.Steps.{request_refusal};
 
 use crate::client_core::ClientCore;
 use packet::{MAX_BODY, QoS};
-use session_base::Publication;
+use session_base::{Publication, body_length};
 
 impl ClientCore {
     /// Says whether [`ClientCore::publish`] refuses a publication for another cause than `Memory`.
@@ -37,21 +37,5 @@ fn is_long(publication: &Publication) -> bool
     ensures { (id : ℕ) → result
         ≡ is_over_limit (packets.Publish (publish_for false id publication.now)) }
 {
-    body_len(publication) > MAX_BODY
-}
-
-// Returns how many bytes its body has: the topic with two bytes for its length, two for an
-// identifier at QoS 1 and 2, and the payload.
-fn body_len(publication: &Publication) -> usize
-    ensures { result ≡ min (2 + length publication.now.topic
-        + (if is_answered publication.now.qos then 2 else 0) + length publication.now.payload)
-        usize.MAX }
-{
-    let id = if publication.qos == QoS::AtMostOnce {
-        0
-    } else {
-        2
-    };
-    let names = 2 + publication.topic.as_str().len() + id;
-    names.saturating_add(publication.payload.as_slice().len())
+    body_length(publication) > MAX_BODY
 }
