@@ -2,6 +2,7 @@
 use Rattle.std.specs.Prelude.{ℕ, ◌+◌, ◌-◌, ◌≤◌, Bool, ◌&&◌, nat_le, min, if◌then◌else◌, Option, Some, None}
 use Rattle.node_core.specs.declared.Status.{Status}
 use Rattle.node_core.specs.ballot_base.Replica.{is_active}
+use Rattle.devices.specs.declared.counted.TheConstants.{PIECE_BYTES}
 use Rattle.node.specs.declared.intake.TheConstants.{MAX_ENTERING, MAX_OPEN, MAX_OPEN_BYTES}
 
 -- What a node takes from its clients. `entering` bytes are in transit to it. Of those that it took,
@@ -38,9 +39,10 @@ admits taking = nat_le (open_places taking.status) max_open
     && (nat_le (taking.earlier + taking.later) max_open_bytes
     && nat_le taking.entering max_entering)
 
--- how many bytes there are at most of both: 64 MiB, 256 KiB, and one piece
+-- how many bytes there are at most of both: what may be there when one more piece is admitted, and
+-- that piece
 abbrev pub max_taken : ℕ
-max_taken = 67436544
+max_taken = max_open_bytes + max_entering + PIECE_BYTES
 
 -- the bound of all that a node took and is not known to be agreed, together with what is in transit
 abbrev pub IsBounded : IntakeView → Type 0
