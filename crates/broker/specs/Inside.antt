@@ -1,5 +1,5 @@
 -- Definitions of private calls.
-use Rattle.std.specs.Prelude.{◌≡◌, ℕ, ◌<◌, length, List, [], ◌∷◌}
+use Rattle.std.specs.Prelude.{◌≡◌, ℕ, ◌^◌, ◌<◌, length, List, [], ◌∷◌}
 use Rattle.std.specs.List.{AllByRecursion}
 use Rattle.retained.specs.Retained.{RetainedTopics}
 use Rattle.broker_tables.specs.subs_base.Content.{Content, last_qos_in, with_client_filters}
@@ -16,7 +16,7 @@ AreRows rows = AllByRecursion (λ row. HasForm row.1.state) rows
 
 -- the length of each payload fits four bytes
 abbrev pub ArePayloads : RetainedTopics → Type 0
-ArePayloads content = AllByRecursion (λ row. length row.1.payload < 4294967296) content
+ArePayloads content = AllByRecursion (λ row. length row.1.payload < 2 ^ 32) content
 
 -- the map of connections holds those of the sessions
 abbrev pub AreOwned : Rows → Type 0

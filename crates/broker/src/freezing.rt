@@ -1,6 +1,6 @@
 // A broker's tables as bytes, form 2.
 
-ghost use Rattle.std.specs.Prelude.{◌≡◌, ◌<◌, ◌++◌, length, OnErr, OnOk};
+ghost use Rattle.std.specs.Prelude.{◌≡◌, ◌^◌, ◌<◌, ◌++◌, length, OnErr, OnOk};
 ghost use Rattle.std.specs.List.{flat_map, AllByRecursion};
 ghost use Rattle.session_base.specs.FormLaws.{HasForm};
 ghost use Rattle.broker_spec.specs.Commands.{usual_limits};
@@ -127,7 +127,7 @@ fn write_topic(
     kept: &RetainedPublication,
     bytes: &mut Vec<u8>,
 ) -> Result<(), AllocError>
-    requires { length kept.now.payload < 4294967296 }
+    requires { length kept.now.payload < 2 ^ 32 }
     ensures { OnOk result
         (bytes.new.items ≡ bytes.old.items ++ retained_bytes (topic.now, kept.now)) }
 {

@@ -1,12 +1,12 @@
 -- What publishing does to a client, and when it is refused (MQTT 4.3).
-use Rattle.std.specs.Prelude.{ℕ, Bool, false, not, ◌&&◌, nat_lt, if◌then◌else◌, [], ◌∷◌, ◌++◌}
+use Rattle.std.specs.Prelude.{ℕ, Bool, false, not, ◌+◌, ◌&&◌, nat_lt, if◌then◌else◌, [], ◌∷◌, ◌++◌}
 use Rattle.std.specs.Prelude.{length, Option, Some, None}
 use Rattle.packet.specs.declared.packet.Packet.{Packet}
 use Rattle.packet.specs.declared.packet.Packet.TheVariants as packets
 use Rattle.packet.specs.Spelling.{body, max_body}
 use Rattle.session_base.specs.declared.publication.Publication.{Publication}
 use Rattle.session_base.specs.Publication.{publish_for, is_answered}
-use Rattle.session_base.specs.Identifiers.{least_free}
+use Rattle.session_base.specs.Identifiers.{least_free, max_id}
 use Rattle.client_base.specs.declared.error.ClientError.{ClientError}
 use Rattle.client_base.specs.declared.error.ClientError.TheVariants as errors
 use Rattle.client_base.specs.declared.unacknowledged_publication.UnacknowledgedPublication.{UnacknowledgedPublication}
@@ -19,7 +19,7 @@ next_id state = least_free (used_ids state)
 
 -- whether an identifier is free for the next publication or request
 abbrev pub has_free_id : ClientState → Bool
-has_free_id state = nat_lt (next_id state) 65536
+has_free_id state = nat_lt (next_id state) (max_id + 1)
 
 -- the most publications that a client keeps
 abbrev pub max_kept : ℕ
