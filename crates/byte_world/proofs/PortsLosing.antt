@@ -28,10 +28,11 @@ use Rattle.node_group.specs.node_core.LossyProposals.{Declines, ProposesCommand}
 use Rattle.node_group.specs.node_core.LossyProposals.Declines.{no_room, forgets, stops}
 use Rattle.node_group.specs.node_core.Lossy.HandlesAll.{nothing, does, sends, loses}
 use Rattle.node_group.specs.node_core.LossyStep.{ActsOn, HoldsBytes, LosesAllFailed, AcceptsConnection, ReadsPackets, RunsOn, DoesItem}
-use Rattle.node_group.specs.node_core.LossyReading.{TakesOr, TakesFirstPacket, ClosesConnection, EndsConnection, EndsSilent, LosesFailed, ReadsNext, Shuts}
-use Rattle.node_group.specs.node_core.LossyReading.EndsConnection.{none_open, unproposed, proposed}
-use Rattle.node_group.specs.node_core.LossyReading.EndsSilent.{none_silent, ends_one}
-use Rattle.node_group.specs.node_core.LossyReading.LosesFailed.{none_failed, tells_one}
+use Rattle.node_group.specs.node_core.LossyEndings.{EndsConnection, EndsSilent, LosesFailed}
+use Rattle.node_group.specs.node_core.LossyReading.{TakesOr, TakesFirstPacket, ClosesConnection, ReadsNext, Shuts}
+use Rattle.node_group.specs.node_core.LossyEndings.EndsConnection.{none_open, unproposed, proposed}
+use Rattle.node_group.specs.node_core.LossyEndings.EndsSilent.{none_silent, ends_one}
+use Rattle.node_group.specs.node_core.LossyEndings.LosesFailed.{none_failed, tells_one}
 use Rattle.node_group.specs.node_core.LossyReading.ReadsNext.{waits, first, later, refuses, ends}
 use Rattle.node_group.specs.node_core.Reading.{changes, open_at, connect_refused, unread_of}
 use Rattle.node_group.specs.node_core.Step.{with_next_connection}

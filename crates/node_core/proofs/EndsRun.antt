@@ -17,10 +17,11 @@ use Rattle.node_core.specs.KeepAlive.{lowest_silent}
 use Rattle.node_core.specs.Lossy.{Account, Then, without_effects}
 use Rattle.node_core.specs.LossyProposals.{Declines, ProposesCommand}
 use Rattle.node_core.specs.LossyStep.{HoldsBytes}
-use Rattle.node_core.specs.LossyReading.{TakesOr, EndsConnection, EndsSilent, LosesFailed, Shuts}
-use Rattle.node_core.specs.LossyReading.EndsConnection.{none_open, unproposed, proposed}
-use Rattle.node_core.specs.LossyReading.EndsSilent.{none_silent, ends_one}
-use Rattle.node_core.specs.LossyReading.LosesFailed.{none_failed, tells_one}
+use Rattle.node_core.specs.LossyEndings.{EndsConnection, EndsSilent, LosesFailed}
+use Rattle.node_core.specs.LossyReading.{TakesOr, Shuts}
+use Rattle.node_core.specs.LossyEndings.EndsConnection.{none_open, unproposed, proposed}
+use Rattle.node_core.specs.LossyEndings.EndsSilent.{none_silent, ends_one}
+use Rattle.node_core.specs.LossyEndings.LosesFailed.{none_failed, tells_one}
 use Rattle.node_core.specs.Reading.{changes, open_at}
 use Rattle.node_core.proofs.Accounts.{ran_as, ran_without_effects, ran_then}
 use Rattle.node_core.proofs.Answering.{as_proposes}

@@ -22,8 +22,9 @@ use Rattle.node_connections.specs.Fronts.{FrontNeedsMemory, HasNoPacket}
 use Rattle.node_connections.specs.Fronts.{TakesFront}
 use Rattle.node_core.specs.Inside.{TakesPacket, StepPartOrLost, ReportsLost}
 use Rattle.node_core.specs.Lossy.{without_effects}
-use Rattle.node_core.specs.LossyReading.{TakesFirstPacket, ProposesConnect, EndsConnection, MayEnd, ReadsNext, ProposesPacket}
-use Rattle.node_core.specs.LossyReading.EndsConnection.{none_open}
+use Rattle.node_core.specs.LossyEndings.{EndsConnection}
+use Rattle.node_core.specs.LossyReading.{TakesFirstPacket, ProposesConnect, MayEnd, ReadsNext, ProposesPacket}
+use Rattle.node_core.specs.LossyEndings.EndsConnection.{none_open}
 use Rattle.node_core.specs.LossyReading.ReadsNext.{waits, first, later, refuses, ends}
 use Rattle.node_core.specs.Reading.{changes, open_at, connect_refused}
 use Rattle.node_core.proofs.Accounts.{ran_as, ran_without_effects}

@@ -24,12 +24,13 @@ use Rattle.node_core.specs.Losses.{DoesNothing, IsHeardQuietly, IsIgnored, Reads
 use Rattle.node_core.specs.Lossy.{Account, Drives, Repeated, without_effects}
 use Rattle.node_core.specs.Lossy.HandlesAll.{nothing}
 use Rattle.node_core.specs.LossyStep.{ActsOn, LosesAllFailed, ReadsPackets, DoesItem}
-use Rattle.node_core.specs.LossyReading.{EndsSilent, ReadsNext}
+use Rattle.node_core.specs.LossyEndings.{EndsSilent}
+use Rattle.node_core.specs.LossyReading.{ReadsNext}
 use Rattle.ballot.specs.ballot_base.Cutting.{can_cut}
 use Rattle.node_core.specs.LossyProposals.Declines.{no_room}
 use Rattle.node_core.specs.LossyStep.LogCutOrLost.{nothing_to_cut}
-use Rattle.node_core.specs.LossyReading.EndsConnection.{none_open}
-use Rattle.node_core.specs.LossyReading.EndsSilent.{none_silent}
+use Rattle.node_core.specs.LossyEndings.EndsConnection.{none_open}
+use Rattle.node_core.specs.LossyEndings.EndsSilent.{none_silent}
 use Rattle.node_core.specs.Reading.{changes, port_closed, open_at, reads_all, reads_next, unread_of}
 use Rattle.node_core.specs.Step.{accepts_connection, acts_on, cuts, with_next_connection, does_item}
 use Rattle.node_core.specs.Effects.{drives, after_replica_step, without_messages, repeated, then_also}

@@ -7,6 +7,7 @@ pub mod KeepAlive
 pub mod Losses
 pub mod Lossy
 pub mod LossyProposals
+pub mod LossyEndings
 pub mod LossyReading
 pub mod LossyStep
 pub mod Reading

@@ -1,6 +1,5 @@
--- How a connection ends, and how its next packet is read, if memory may run out.
+-- How the next packet of a connection is read, if memory may run out.
 use Rattle.std.specs.Prelude.{◌≡◌, ◌⊎◌, ℕ, true, false, List, Option, Some, None, Ok, Err}
-use Rattle.std.specs.List.{find}
 use Rattle.node_connections.specs.packet_base.declared.stop.Stop.TheVariants as stops
 use Rattle.node_connections.specs.packet_base.declared.refusal_code.RefusalCode.{RefusalCode}
 use Rattle.packet.specs.declared.packet.Packet.{Packet}
@@ -12,49 +11,14 @@ use Rattle.broker_spec.specs.declared.command.Command.{Command}
 use Rattle.broker_spec.specs.declared.command.Command.TheVariants as commands
 use Rattle.node_connections.specs.declared.port.Port.{Port}
 use Rattle.node_connections.specs.declared.connection.Connection.{Connection}
-use Rattle.node_connections.specs.Connections.{has_failed, is_first, is_proposed}
+use Rattle.node_connections.specs.Connections.{is_first}
 use Rattle.node_connections.specs.ConnectionChanges.{noted_proposed, closed_connection, failing, left_with}
 use Rattle.node_connections.specs.Fronts.{FrontNeedsMemory, HasNoPacket}
 use Rattle.node_core.specs.Core.{CoreState}
-use Rattle.node_core.specs.Failing.{closes_failed}
-use Rattle.node_core.specs.KeepAlive.{lowest_silent}
 use Rattle.node_core.specs.Lossy.{Account, TakesCommand, Then, without_effects}
-use Rattle.node_core.specs.LossyProposals.{Declines, ProposesCommand}
+use Rattle.node_core.specs.LossyEndings.{EndsConnection}
+use Rattle.node_core.specs.LossyProposals.{Declines}
 use Rattle.node_core.specs.Reading.{changes, open_at, connect_refused}
-
--- the connection of a port is closed as lost, and reported to the broker if its Connect was
--- proposed
-pub data EndsConnection (port : Port) (core : CoreState) (did : Account) : Type 0 where
-  -- no connection is open at the port
-  none_open : open_at port core ≡ None → did ≡ without_effects core → EndsConnection port core did
-  -- its Connect was not proposed
-  unproposed : (connection : Connection) → open_at port core ≡ Some connection →
-      is_proposed connection.stage ≡ false →
-      did ≡ without_effects (changes port closed_connection core) → EndsConnection port core did
-  -- its Connect was proposed, so its loss is proposed too
-  proposed : (connection : Connection) → open_at port core ≡ Some connection →
-      is_proposed connection.stage ≡ true →
-      ProposesCommand (commands.Lost connection.name) (changes port closed_connection core) did →
-      EndsConnection port core did
-
--- the silent connection with the lowest port ends
-pub data EndsSilent (now : ℕ) (core : CoreState) (did : Account) : Type 0 where
-  -- no connection is silent
-  none_silent : lowest_silent now core.connections ≡ None → did ≡ without_effects core →
-      EndsSilent now core did
-  -- the one at this port ends
-  ends_one : (port : Port) → lowest_silent now core.connections ≡ Some port →
-      EndsConnection port core did → EndsSilent now core did
-
--- the first connection that failed is reported to the broker
-pub data LosesFailed (core : CoreState) (did : Account) : Type 0 where
-  -- no connection failed
-  none_failed : find has_failed core.connections ≡ None → did ≡ without_effects core →
-      LosesFailed core did
-  -- the loss of this one is proposed
-  tells_one : (connection : Connection) → find has_failed core.connections ≡ Some connection →
-      ProposesCommand (commands.Lost connection.name) (closes_failed core) did →
-      LosesFailed core did
 
 -- a command is taken, or otherwise this is done
 abbrev pub TakesOr : Command → (CoreState → Account → Type 0) → CoreState → Account → Type 0

@@ -17,7 +17,8 @@ use Rattle.node_core.specs.Lossy.{Account, Drives, Repeated, Then, without_effec
 use Rattle.node_core.specs.LossyProposals.{ProposesCommand}
 use Rattle.node_core.specs.Reading.{changes, open_at, unread_of}
 use Rattle.node_core.specs.Step.{crashed, with_next_connection, settled, with_cut}
-use Rattle.node_core.specs.LossyReading.{EndsConnection, EndsSilent, LosesFailed, ReadsNext}
+use Rattle.node_core.specs.LossyEndings.{EndsConnection, EndsSilent, LosesFailed}
+use Rattle.node_core.specs.LossyReading.{ReadsNext}
 
 -- ---- an item
 

@@ -12,7 +12,8 @@ ghost use Rattle.node_core.specs.Losses.{DoesNothing, IsHeardQuietly, ReadsNone,
 ghost use Rattle.node_core.specs.Lossy.{without_effects};
 ghost use Rattle.node_core.specs.LossyProposals.{ProposesCommand};
 ghost use Rattle.node_core.specs.LossyStep.{ActsOn, EndsAllSilent, HoldsBytes, LosesAllFailed, ReadsPackets, DoesItem};
-ghost use Rattle.node_core.specs.LossyReading.{ProposesConnect, EndsConnection, LosesFailed, ReadsNext, ProposesPacket};
+ghost use Rattle.node_core.specs.LossyEndings.{EndsConnection, LosesFailed};
+ghost use Rattle.node_core.specs.LossyReading.{ProposesConnect, ReadsNext, ProposesPacket};
 ghost use Rattle.node_core.specs.Failing.{loses_all_failed, loses_failed};
 ghost use Rattle.node_core.specs.KeepAlive.{ends_all_silent};
 ghost use Rattle.node_core.specs.Reading.{connect_proposed, takes_first_packet, changes, port_closed, open_at, reads_all, reads_next, proposes_packet};

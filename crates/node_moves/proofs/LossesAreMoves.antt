@@ -12,9 +12,10 @@ use Rattle.node_core.specs.node_connections.ConnectionChanges.{closed_connection
 use Rattle.node_core.specs.Core.{CoreState, StepOutcome}
 use Rattle.node_core.specs.Lossy.{Account, both_accounts, without_effects}
 use Rattle.node_core.specs.LossyStep.{LogCutOrLost, HoldsBytes, LosesAllFailed, AcceptsConnection, DoesItem}
-use Rattle.node_core.specs.LossyReading.{EndsSilent, ReadsNext}
+use Rattle.node_core.specs.LossyEndings.{EndsSilent}
+use Rattle.node_core.specs.LossyReading.{ReadsNext}
 use Rattle.node_core.specs.LossyStep.LogCutOrLost.{nothing_to_cut, cuts_log as cuts_log_at, forgets_cut}
-use Rattle.node_core.specs.LossyReading.EndsConnection.{none_open, unproposed, proposed}
+use Rattle.node_core.specs.LossyEndings.EndsConnection.{none_open, unproposed, proposed}
 use Rattle.node_core.specs.Reading.{changes, open_at, unread_of}
 use Rattle.node_core.specs.Step.{crashed, with_next_connection, settled, with_cut}
 use Rattle.node_moves.specs.Ends.{piece_on}

@@ -21,10 +21,11 @@ use Rattle.node_core.specs.Lossy.{Account, Repeated, Then, without_effects}
 use Rattle.node_core.specs.LossyProposals.{Declines, ProposesCommand}
 use Rattle.node_core.specs.LossyProposals.Declines.{no_room, forgets as forgets_it, stops}
 use Rattle.node_core.specs.LossyStep.{LosesAllFailed}
-use Rattle.node_core.specs.LossyReading.{TakesOr, TakesFirstPacket, ClosesConnection, EndsConnection, EndsSilent, LosesFailed, ReadsNext, Shuts}
-use Rattle.node_core.specs.LossyReading.EndsConnection.{none_open, unproposed, proposed}
-use Rattle.node_core.specs.LossyReading.EndsSilent.{none_silent, ends_one}
-use Rattle.node_core.specs.LossyReading.LosesFailed.{none_failed, tells_one}
+use Rattle.node_core.specs.LossyEndings.{EndsConnection, EndsSilent, LosesFailed}
+use Rattle.node_core.specs.LossyReading.{TakesOr, TakesFirstPacket, ClosesConnection, ReadsNext, Shuts}
+use Rattle.node_core.specs.LossyEndings.EndsConnection.{none_open, unproposed, proposed}
+use Rattle.node_core.specs.LossyEndings.EndsSilent.{none_silent, ends_one}
+use Rattle.node_core.specs.LossyEndings.LosesFailed.{none_failed, tells_one}
 use Rattle.node_core.specs.LossyReading.ReadsNext.{waits, first, later, refuses as refuses_it, ends}
 use Rattle.node_core.specs.Reading.{changes, open_at, connect_refused}
 use Rattle.node_core.specs.Effects.{without_messages}

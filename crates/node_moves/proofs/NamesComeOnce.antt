@@ -30,10 +30,11 @@ use Rattle.node_core.specs.LossyProposals.{Declines, ProposesCommand}
 use Rattle.node_core.specs.LossyProposals.Declines.{no_room, forgets, stops}
 use Rattle.node_core.specs.Lossy.HandlesAll.{nothing, does, sends, loses}
 use Rattle.node_core.specs.LossyStep.{ActsOn, HoldsBytes, RunsOn, DoesItem}
-use Rattle.node_core.specs.LossyReading.{TakesOr, TakesFirstPacket, ClosesConnection, EndsConnection, EndsSilent, LosesFailed, ReadsNext, Shuts}
-use Rattle.node_core.specs.LossyReading.EndsConnection.{none_open, unproposed, proposed}
-use Rattle.node_core.specs.LossyReading.EndsSilent.{none_silent, ends_one}
-use Rattle.node_core.specs.LossyReading.LosesFailed.{none_failed, tells_one}
+use Rattle.node_core.specs.LossyEndings.{EndsConnection, EndsSilent, LosesFailed}
+use Rattle.node_core.specs.LossyReading.{TakesOr, TakesFirstPacket, ClosesConnection, ReadsNext, Shuts}
+use Rattle.node_core.specs.LossyEndings.EndsConnection.{none_open, unproposed, proposed}
+use Rattle.node_core.specs.LossyEndings.EndsSilent.{none_silent, ends_one}
+use Rattle.node_core.specs.LossyEndings.LosesFailed.{none_failed, tells_one}
 use Rattle.node_core.specs.LossyReading.ReadsNext.{waits, first, later, refuses, ends}
 use Rattle.node_core.specs.Reading.{changes, open_at, connect_refused, unread_of}
 use Rattle.node_core.specs.Step.{crashed, next_name, with_next_connection, settled, with_cut}

@@ -7,6 +7,7 @@ pub use Rattle.node_core.specs.KeepAlive
 pub use Rattle.node_core.specs.Losses
 pub use Rattle.node_core.specs.Lossy
 pub use Rattle.node_core.specs.LossyProposals
+pub use Rattle.node_core.specs.LossyEndings
 pub use Rattle.node_core.specs.LossyReading
 pub use Rattle.node_core.specs.LossyStep
 pub use Rattle.node_core.specs.Reading

@@ -3,7 +3,7 @@ use Rattle.node_core.specs.Inside.{StepPartOrLost, DoesOutcome}
 use Rattle.node_core.specs.KeepAlive.{ends_silent}
 use Rattle.node_core.specs.Lossy.{Repeated}
 use Rattle.node_core.specs.LossyStep.{EndsAllSilent}
-use Rattle.node_core.specs.LossyReading.{EndsSilent}
+use Rattle.node_core.specs.LossyEndings.{EndsSilent}
 use Rattle.node_core.specs.Effects.{repeated}
 use Rattle.node_core.proofs.Accounts.{ran_as, ran_enough, ran_more, ran_none}
 use Rattle.node_core.proofs.EndsRun.{idle_silent, ran_silent}

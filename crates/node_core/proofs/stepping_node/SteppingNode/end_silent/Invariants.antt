@@ -1,7 +1,7 @@
 use Rattle.node_core.specs.Inside.{StepPartOrLost, DoesOutcome}
 use Rattle.node_core.specs.KeepAlive.{ends_silent}
 use Rattle.node_core.specs.Lossy.{Repeated}
-use Rattle.node_core.specs.LossyReading.{EndsSilent}
+use Rattle.node_core.specs.LossyEndings.{EndsSilent}
 use Rattle.node_core.specs.Effects.{repeated}
 use Rattle.node_core.proofs.stepping_node.SteppingNode.end_silent.Given as goal
 

@@ -3,7 +3,7 @@ use Rattle.node_core.specs.Failing.{loses_failed}
 use Rattle.node_core.specs.Inside.{StepPartOrLost, DoesOutcome}
 use Rattle.node_core.specs.Lossy.{Repeated}
 use Rattle.node_core.specs.LossyStep.{LosesAllFailed}
-use Rattle.node_core.specs.LossyReading.{LosesFailed}
+use Rattle.node_core.specs.LossyEndings.{LosesFailed}
 use Rattle.node_core.specs.Effects.{repeated}
 use Rattle.node_core.proofs.Accounts.{ran_as, ran_enough, ran_more, ran_none}
 use Rattle.node_core.proofs.Failures.{none_again}

@@ -4,7 +4,7 @@ use Rattle.node_connections.specs.Connections.{has_failed}
 use Rattle.node_core.specs.Failing.{loses_failed}
 use Rattle.node_core.specs.Inside.{StepPartOrLost, DoesOutcome}
 use Rattle.node_core.specs.Lossy.{Repeated}
-use Rattle.node_core.specs.LossyReading.{LosesFailed}
+use Rattle.node_core.specs.LossyEndings.{LosesFailed}
 use Rattle.node_core.specs.Effects.{repeated}
 use Rattle.node_core.proofs.stepping_node.SteppingNode.report_failed.Given as goal
 
