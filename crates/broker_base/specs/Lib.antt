@@ -21,7 +21,7 @@ pub use Rattle.broker_spec.specs.LimitRows
 pub use Rattle.broker_spec.specs.RoomRows
 pub use Rattle.broker_spec.specs.Logged
 pub use Rattle.broker_spec.specs.Marks
-pub use Rattle.broker_spec.specs.MoreRows
+pub use Rattle.broker_spec.specs.FullQueueRows
 pub use Rattle.broker_spec.specs.WindowRows
 pub use Rattle.broker_spec.specs.OriginLaws
 pub use Rattle.broker_spec.specs.Owner

@@ -13,7 +13,7 @@ use Rattle.broker_base.specs.State.{State, empty_state}
 use Rattle.broker_base.specs.Step.{step, state_from, steps_from}
 use Rattle.broker_spec.specs.RowWords.{nth, b, connect, gets, sends, connack, publish, unsubscribe}
 use Rattle.broker_spec.specs.RowWords.{numbers, delivered, small}
-use Rattle.broker_spec.specs.MoreRows.{queued_two, publishes_xyz, makes_room}
+use Rattle.broker_spec.specs.FullQueueRows.{queued_two, publishes_xyz, makes_room}
 use Rattle.broker_spec.specs.WindowRows.{routed, seventy}
 use Rattle.broker_spec.specs.declared.command.Command.{Command}
 use Rattle.broker_spec.specs.declared.command.Command.TheVariants as commands

@@ -11,7 +11,8 @@ pub mod Laws
 pub mod LimitRows
 pub mod Logged
 pub mod Marks
-pub mod MoreRows
+pub mod FullQueueRows
+pub mod PacketRows
 pub mod WindowRows
 pub mod OriginLaws
 pub mod Owner

@@ -5,9 +5,9 @@ ghost use Rattle.broker_spec.specs.Rows.{OlderConnectionIsSilent, SubscribeIsGra
 ghost use Rattle.broker_spec.specs.Rows.{PublishReachesTheSubscriber, RepeatBeforePubrel};
 ghost use Rattle.broker_spec.specs.Rows.{DupAfterPubrel, PubrelTwice};
 ghost use Rattle.broker_spec.specs.Rows.{RetainedAtSubscribe, TwoFiltersOnePublication};
-ghost use Rattle.broker_spec.specs.MoreRows.{FullQueueRefuses, FullQueueGoesOn};
-ghost use Rattle.broker_spec.specs.MoreRows.{FullQueueKeepsTheOrder, PingAndUnsubscribe};
-ghost use Rattle.broker_spec.specs.MoreRows.{ViolationsClose};
+ghost use Rattle.broker_spec.specs.FullQueueRows.{FullQueueRefuses, FullQueueGoesOn};
+ghost use Rattle.broker_spec.specs.FullQueueRows.{FullQueueKeepsTheOrder};
+ghost use Rattle.broker_spec.specs.PacketRows.{PingAndUnsubscribe, ViolationsClose};
 ghost use Rattle.broker_spec.specs.WindowRows.{PubackFreesItsIdentifier};
 ghost use Rattle.broker_spec.specs.WindowRows.{WideWindowSendsAll, WindowOf64, WindowGrowsAtStart};
 ghost use Rattle.broker_spec.specs.LimitRows.{LimitsAre, NamesAre, FifthSessionIsRefused};

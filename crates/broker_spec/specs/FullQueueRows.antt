@@ -1,18 +1,15 @@
--- More worked examples: a full queue, PINGREQ and UNSUBSCRIBE, and violations.
+-- Worked examples of a full queue: the session of b holds three entries.
 use Rattle.std.specs.Prelude.{◌≡◌, ℕ, Bool, true, false, List, [], ◌∷◌, ◌++◌, map, codes}
 use Rattle.retained.specs.packet_base.declared.qos.QoS.TheVariants as qualities
 use Rattle.packet.specs.declared.delivery.Delivery.TheVariants as deliveries
-use Rattle.packet.specs.declared.packet.Packet.{Packet}
 use Rattle.packet.specs.declared.packet.Packet.TheVariants as packets
-use Rattle.broker_spec.specs.Commands.{usual_limits, past_of}
+use Rattle.broker_spec.specs.Commands.{past_of}
 use Rattle.broker_spec.specs.Readings.{publication_in}
 use Rattle.broker_spec.specs.Times.{entries_of}
-use Rattle.broker_spec.specs.RowWords.{AreAnswered, a, b, nth, connect, gets, sends, connack, publish, suback, unsubscribe, subscribed_at, publications, small}
+use Rattle.broker_spec.specs.RowWords.{AreAnswered, a, b, nth, connect, gets, sends, publish, subscribed_at, publications, small}
 use Rattle.broker_spec.specs.declared.command.Command.{Command}
 use Rattle.broker_spec.specs.declared.command.Command.TheVariants as commands
 use Rattle.broker_spec.specs.declared.command.Output.TheVariants.{Close}
-
--- ---- a full queue: a session holds three entries
 
 -- b is offline and holds two entries
 abbrev pub queued_two : List Command
@@ -55,29 +52,3 @@ FullQueueKeepsTheOrder =
     (queued_two ++ publishes_xyz 2 false ++ makes_room ++ publishes_xyz 4 true))
     b)
     ≡ codes "o" ∷ codes "o" ∷ codes "x" ∷ codes "y" ∷ codes "z" ∷ []
-
--- ---- pings, unsubscribing, violations
-
--- PINGREQ is answered by PINGRESP, and UNSUBSCRIBE by UNSUBACK with or without the subscription
--- (MQTT 3.10.4, 3.12.4)
-abbrev pub PingAndUnsubscribe : Type 0
-PingAndUnsubscribe =
-    AreAnswered usual_limits (subscribed_at qualities.ExactlyOnce)
-    (gets 1 packets.Pingreq ∷ gets 1 (unsubscribe 3) ∷ gets 1 (unsubscribe 3) ∷ [])
-    ((sends 1 packets.Pingresp ∷ []) ∷ (sends 1 (packets.Unsuback 3) ∷ [])
-    ∷ (sends 1 (packets.Unsuback 3) ∷ []) ∷ [])
-
--- a packet closes b's connection, and what comes after it has no effect
-abbrev pub ClosesItsSender : Packet → Type 0
-ClosesItsSender packet =
-    AreAnswered usual_limits (subscribed_at qualities.ExactlyOnce)
-    (gets 1 packet ∷ gets 1 packets.Pingreq ∷ [])
-    ((Close (nth 1) ∷ []) ∷ [] ∷ [])
-
--- a second CONNECT, DISCONNECT, and what only a server sends (MQTT-3.1.0-2, MQTT 3.14.4, 4.8)
-abbrev pub ViolationsClose : Type 0
-ViolationsClose =
-    ClosesItsSender (packets.Connect (record { client = b; clean = false; keep_alive = 60 }))
-    × ClosesItsSender packets.Disconnect × ClosesItsSender (connack false)
-    × ClosesItsSender (suback 1 qualities.ExactlyOnce)
-    × ClosesItsSender (packets.Unsuback 1) × ClosesItsSender packets.Pingresp
