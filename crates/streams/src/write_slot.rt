@@ -11,8 +11,8 @@ use std::mem;
 pub(crate) struct WriteSlot {
     // None while a thread writes, and for good once the stream takes no more.
     token: Option<Stream>,
-    // Whether more may have been queued since the thread that writes looked.
-    again: bool,
+    // Whether the thread that writes has to look again, since more may have been queued.
+    has_to_look: bool,
 }
 
 impl WriteSlot {
@@ -20,11 +20,11 @@ impl WriteSlot {
 
     /// Returns the slot that keeps the token of this stream.
     pub(crate) fn new(token: Stream) -> WriteSlot
-        ensures { result ≡ record { token = Some token; again = false } }
+        ensures { result ≡ record { token = Some token; has_to_look = false } }
     {
         WriteSlot {
             token: Some(token),
-            again: false,
+            has_to_look: false,
         }
     }
 
@@ -33,10 +33,10 @@ impl WriteSlot {
     pub(crate) fn take(&mut self, port: Port) -> Option<WriteToken>
         ensures its { IfSome result (λ token. IsTokenOf port token) }
         ensures takes { result ≡ token_of port self.old.token }
-        ensures leaves { self.new ≡ record { token = None; again = is_none self.old.token } }
+        ensures leaves { self.new ≡ record { token = None; has_to_look = is_none self.old.token } }
     {
         let token = mem::replace(&mut self.token, None);
-        self.again = token.is_none();
+        self.has_to_look = token.is_none();
         let token = token?;
         if token.tap().port() != port {
             return None;
@@ -48,13 +48,15 @@ impl WriteSlot {
     /// again.
     pub(crate) fn put_back(&mut self, token: WriteToken) -> Option<WriteToken>
         ensures same { IfSome result (λ kept. kept ≡ token) }
-        ensures puts { self.old.again ≡ false → self.new ≡ record self.old { token = Some token } }
-        ensures gives { self.old.again ≡ false → result ≡ None }
-        ensures looks { self.old.again ≡ true → self.new ≡ record self.old { again = false } }
-        ensures keeps { self.old.again ≡ true → result ≡ Some token }
+        ensures puts { self.old.has_to_look ≡ false →
+            self.new ≡ record self.old { token = Some token } }
+        ensures gives { self.old.has_to_look ≡ false → result ≡ None }
+        ensures looks { self.old.has_to_look ≡ true →
+            self.new ≡ record self.old { has_to_look = false } }
+        ensures keeps { self.old.has_to_look ≡ true → result ≡ Some token }
     {
-        if self.again {
-            self.again = false;
+        if self.has_to_look {
+            self.has_to_look = false;
             return Some(token);
         }
         self.token = Some(token.into_stream());
