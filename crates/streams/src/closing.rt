@@ -27,7 +27,7 @@ impl Model for Closed {
 #[derive(Drop)]
 pub(crate) struct Waiting {
     // Whether no more connections are admitted.
-    closed: bool,
+    is_closed: bool,
     // How many threads wait.
     threads: u32,
 }
@@ -35,30 +35,30 @@ pub(crate) struct Waiting {
 impl Waiting {
     /// Returns the state of a listener that is open, at which no thread waits.
     pub(crate) fn new() -> Waiting
-        ensures { result ≡ record { closed = false; threads = 0 } }
+        ensures { result ≡ record { is_closed = false; threads = 0 } }
     {
         Waiting {
-            closed: false,
+            is_closed: false,
             threads: 0,
         }
     }
 
     /// Admits no more connections. Returns the witness for the listener of this number.
     pub(crate) fn close(&mut self, number: u8) -> Closed
-        ensures closes { self.new ≡ record self.old { closed = true } }
+        ensures closes { self.new ≡ record self.old { is_closed = true } }
         ensures witness { result ≡ number }
     {
-        self.closed = true;
+        self.is_closed = true;
         Closed { number }
     }
 
     /// Returns the witness for the listener of this number, if it is closed.
     pub(crate) fn closed(&self, number: u8) -> Option<Closed>
         ensures some { IfSome result (λ closed. closed ≡ number) }
-        ensures seen { IfSome result (λ _. self.now.closed ≡ true) }
-        ensures none { IfNone result (self.now.closed ≡ false) }
+        ensures seen { IfSome result (λ _. self.now.is_closed ≡ true) }
+        ensures none { IfNone result (self.now.is_closed ≡ false) }
     {
-        if self.closed {
+        if self.is_closed {
             Some(Closed { number })
         } else {
             None
@@ -68,11 +68,11 @@ impl Waiting {
     /// Counts one more thread that waits. The error is the witness that the listener of this number
     /// is closed.
     pub(crate) fn begin(&mut self, number: u8) -> Result<(), Closed>
-        ensures admits { OnOk result (self.old.closed ≡ false) }
+        ensures admits { OnOk result (self.old.is_closed ≡ false) }
         ensures counts { OnOk result
             (self.new ≡ record self.old { threads = min (self.old.threads + 1) (2 ^ 32 - 1) }) }
         ensures witness { IfErr result (λ closed. closed ≡ number) }
-        ensures seen { OnErr result (self.old.closed ≡ true) }
+        ensures seen { OnErr result (self.old.is_closed ≡ true) }
         ensures same { OnErr result (self.new ≡ self.old) }
     {
         if let Some(closed) = self.closed(number) {
@@ -85,10 +85,10 @@ impl Waiting {
     /// Counts one thread fewer that waits. The error is the witness that the listener of this
     /// number is closed.
     pub(crate) fn end(&mut self, number: u8) -> Result<(), Closed>
-        ensures admits { OnOk result (self.old.closed ≡ false) }
+        ensures admits { OnOk result (self.old.is_closed ≡ false) }
         ensures counts { self.new ≡ record self.old { threads = self.old.threads - 1 } }
         ensures witness { IfErr result (λ closed. closed ≡ number) }
-        ensures seen { OnErr result (self.old.closed ≡ true) }
+        ensures seen { OnErr result (self.old.is_closed ≡ true) }
     {
         self.threads = self.threads.saturating_sub(1);
         match self.closed(number) {
