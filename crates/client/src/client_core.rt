@@ -33,7 +33,7 @@ pub struct ClientCore {
     /// The number of its session, up to 2^64 - 1; 0 before the first CONNACK 0.
     pub(crate) session: u64,
     /// Whether the last CONNACK 0 had Session Present (MQTT 3.2.2.2).
-    pub(crate) present: bool,
+    pub(crate) session_present: bool,
     /// The publications that it accepted, and that the caller has not yet taken.
     pub(crate) accepted: Vec<Accepted>,
     /// The bytes of the server that were not read yet.
@@ -56,7 +56,7 @@ impl Drop for ClientCore {
             requests: _requests,
             stage: _stage,
             session: _,
-            present: _,
+            session_present: _,
             accepted: _accepted,
             cutter: _cutter,
             out: _out,
@@ -81,7 +81,7 @@ impl Model for ClientCore {
         requests = core.requests.items;
         stage = core.stage;
         session = core.session;
-        present = core.present;
+        session_present = core.session_present;
         accepted = core.accepted.items;
       };
       unread = core.cutter;
@@ -107,7 +107,7 @@ impl ClientCore {
             requests: Vec::new(alloc),
             stage: Stage::Closed,
             session: 0,
-            present: false,
+            session_present: false,
             accepted: Vec::new(alloc),
             cutter: Cutter::new(alloc),
             out: Vec::new(alloc),

@@ -53,7 +53,7 @@ impl ClientCore {
         if !present && self.session > 0 {
             self.discard();
             self.stage = Stage::Online;
-            self.present = present;
+            self.session_present = present;
             return Err(ClientError::SessionLost);
         }
         self.resend()?;
@@ -61,7 +61,7 @@ impl ClientCore {
             self.session = 1;
         }
         self.stage = Stage::Online;
-        self.present = present;
+        self.session_present = present;
         Ok(())
     }
 

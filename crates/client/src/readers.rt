@@ -70,8 +70,8 @@ impl ClientCore {
     /// Says whether the server reported, on the last accepted connection, that it has a session of
     /// this client; false before the first.
     pub fn is_session_present(&self) -> bool
-        ensures { result ≡ self.now.state.present }
+        ensures { result ≡ self.now.state.session_present }
     {
-        self.present
+        self.session_present
     }
 }

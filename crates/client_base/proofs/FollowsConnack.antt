@@ -45,7 +45,7 @@ resent_same keeper state s =
 -- all of it is sent then
 all_stand : (keeper : Keeper) (state : ClientState) (present : Bool) → KeeperStandsFor keeper state → nat_lt 0 state.session ≡ true → keeper.is_open ≡ true
     → KeeperStandsFor (record keeper { own = sent_all keeper.own; is_online = true; was_served = true })
-    (record state { sent = state.sent ++ state.unsent; unsent = []; stage = stages.Online; present = present })
+    (record state { sent = state.sent ++ state.unsent; unsent = []; stage = stages.Online; session_present = present })
 all_stand keeper state present s served up =
     record {
       client = s.client;
@@ -110,7 +110,7 @@ settled_side side kept =
 abbrev settled_turn : Bool → ClientState → Option ClientError → ClientOutcome
 settled_turn present kept refusal =
     record {
-      state = record kept { sent = kept.sent ++ kept.unsent; unsent = []; stage = stages.Online; present = present };
+      state = record kept { sent = kept.sent ++ kept.unsent; unsent = []; stage = stages.Online; session_present = present };
       writes = resent kept;
       refusal = refusal;
     }

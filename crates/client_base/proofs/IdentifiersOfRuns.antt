@@ -24,7 +24,7 @@ kept_joined i [] others = omega arith
 kept_joined i (k ∷ kept) others = let ih = kept_joined i kept others in omega (arith, ih)
 
 abbrev all_sent : Bool → ClientState → ClientState
-all_sent present kept = record kept { sent = kept.sent ++ kept.unsent; unsent = []; stage = stages.Online; present = present }
+all_sent present kept = record kept { sent = kept.sent ++ kept.unsent; unsent = []; stage = stages.Online; session_present = present }
 
 sent_all_once : (present : Bool) (kept : ClientState) → AreOnce kept → AreOnce (all_sent present kept)
 sent_all_once present kept few = fewer kept (all_sent present kept) (λ i. let m = kept_joined i kept.sent kept.unsent in omega (arith, m)) few

@@ -55,7 +55,7 @@ confirmed present state =
         sent = kept.sent ++ kept.unsent;
         unsent = [];
         stage = stages.Online;
-        present = present;
+        session_present = present;
       };
       writes = resent kept;
       refusal = if lacking then Some errors.SessionLost else None;

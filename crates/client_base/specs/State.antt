@@ -22,7 +22,7 @@ pub record ClientState : Type 0 where
   pub requests : List Request  -- not answered yet
   pub stage : Stage
   pub session : ℕ  -- its number, 0 before the first CONNACK 0
-  pub present : Bool  -- session present of the last CONNACK 0
+  pub session_present : Bool  -- of the last CONNACK 0 (MQTT 3.2.2.2)
   pub accepted : List Accepted  -- not taken out yet
 
 -- a client that never was connected
@@ -38,7 +38,7 @@ new_client_state client keep_alive =
       requests = [];
       stage = stages.Closed;
       session = 0;
-      present = false;
+      session_present = false;
       accepted = [];
     }
 

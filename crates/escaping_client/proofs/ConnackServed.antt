@@ -82,7 +82,7 @@ module _ (piece : List ℕ) (old : Core) (whole : verdict piece ≡ Ok (connack,
           let turn = turn_is packet t r in
           let state = done.0 ∙ ap (λ (u : ClientOutcome). u.state) turn in
           inr (record {
-            served = record { online = ap (λ (k : ClientState). is_online k.stage) state; present = ap (λ (k : ClientState). k.present) state };
+            served = record { online = ap (λ (k : ClientState). is_online k.stage) state; present = ap (λ (k : ClientState). k.session_present) state };
             read = ap (λ (x : Stream). x.bytes) done.2 ∙ (reads_it packet t r).1;
           })
       by (inr z) = absurd (ok_not_err (verdict s.unread.bytes) (packet, t.unread.bytes) stops.More reads.0.1 (nothing_more s z.read))

@@ -13,7 +13,7 @@ use Rattle.client.specs.packet.declared.packet.Packet.TheVariants as packets
 -- the client's last CONNACK was a 0 with session present, and the client is online
 pub record IsServed (core : Core) : Type 0 where
   pub online : is_online core.state.stage ≡ true
-  pub present : core.state.present ≡ true
+  pub present : core.state.session_present ≡ true
 
 -- bytes that are a CONNACK 0 with session present, on a connection that was opened and on which
 -- nothing came yet, are taken unless memory runs out

@@ -31,7 +31,7 @@ after_bytes core called =
 
 -- before the first accepted connection the server had no session of the client
 abbrev pub IsFirst : CallerView → Core → Type 0
-IsFirst called core = called.was_accepted ≡ false → core.state.present ≡ false
+IsFirst called core = called.was_accepted ≡ false → core.state.session_present ≡ false
 
 -- the client was asked for this publication and took it, and nothing changed except its keeper
 abbrev pub IsAsked : Publication → CallerView → CallerView → Type 0

@@ -38,7 +38,7 @@ pub record IsOnline (name : List ℕ) (old new : WorldState) : Type 0 where
   pub core : Core
   pub client : core_named name new.clients ≡ Some core
   pub online : is_online core.state.stage ≡ true
-  pub present : core.state.present ≡ true
+  pub present : core.state.session_present ≡ true
   pub nodes : new.nodes ≡ old.nodes
 
 module _ (name : List ℕ) (i at number node : ℕ) (core : Core) (up down : List ℕ) (b : Bool) (w : WorldState) (s : IsNewest i at number node core up down b w) (positive : 0 < number)

@@ -63,7 +63,7 @@ pub record HasEscaped (name : Client) (old new : WorldState) : Type 0 where
   pub core : Core
   pub client : core_named name new.clients ≡ Some core
   pub online : is_online core.state.stage ≡ true
-  pub present : core.state.present ≡ true
+  pub present : core.state.session_present ≡ true
 
 -- whatever happened before, if none of these events loses anything
 abbrev pub LeadsClientOut : Client → WorldState → List Event → Type 0

@@ -67,7 +67,7 @@ resent_fits state fits =
 
 confirmed_where : (lacking : Bool) (present : Bool) (state : ClientState) → CanGoOut state →
     let kept = if lacking then discarded state else numbered state in
-    Each IsPacket (resent kept) × CanGoOut (record kept { sent = kept.sent ++ kept.unsent; unsent = []; stage = stages.Online; present = present })
+    Each IsPacket (resent kept) × CanGoOut (record kept { sent = kept.sent ++ kept.unsent; unsent = []; stage = stages.Online; session_present = present })
 confirmed_where true present state fits =
     (tt, record { keep_alive = fits.keep_alive; client = fits.client; released = tt; sent = tt; unsent = tt })
 confirmed_where false present state fits = (
