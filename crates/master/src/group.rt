@@ -293,11 +293,11 @@ impl<M: Machine> Group<M> {
         let from = self.left.len();
         let before = self.sent.len();
         let replica = &mut self.nodes[at];
-        let had_memory = step_replica(replica, input, &mut self.left);
+        let whole = step_replica(replica, input, &mut self.left);
         let kept = part(&mut self.left, &mut self.sent, from);
         self.told.count_from(&self.sent, before);
         self.next.count_from(&self.sent, before);
-        self.losses = counted(self.losses, had_memory, kept);
+        self.losses = counted(self.losses, whole, kept);
     }
 
     // Returns how long the log of a node is; 0 if the node is unknown.

@@ -36,8 +36,8 @@ impl World {
         ensures meets { EventResultOrLost (Event.CarryUp number count) self.old result self.new }
         ensures once { CountsOnce self.old self.new }
     {
-        let had = self.carry_to_node(slot, number, count)?;
-        if had {
+        let whole = self.carry_to_node(slot, number, count)?;
+        if whole {
             self.gather(slot.node);
         } else {
             self.count_loss();
@@ -52,7 +52,7 @@ impl World {
         requires positive { 0 < number }
         ensures goes { IsTrace self.old self.new }
         ensures carries { IfOk result
-            (λ had. CarriesUpOnWhere had number slot count self.old self.new) }
+            (λ whole. CarriesUpOnWhere whole number slot count self.old self.new) }
         ensures still { self.new.losses ≡ self.old.losses }
         ensures idle { OnErr result (CannotCarryUpOn slot count self.old) }
         ensures same { OnErr result (self.new ≡ self.old) }
@@ -79,19 +79,19 @@ impl World {
             return Err(Idle);
         };
         match carry_down_on(&mut self.clients[slot.client].piped, slot.at, count) {
-            Ok(had) => {
-                self.count_unless(had);
+            Ok(whole) => {
+                self.count_unless(whole);
                 Ok(())
             }
             Err(idle) => Err(idle),
         }
     }
 
-    // Counts a loss unless there was memory.
-    fn count_unless(&mut self, had_memory: bool)
-        ensures { self.new ≡ (if had_memory then self.old else with_one_loss self.old) }
+    // Counts a loss unless what was done was whole.
+    fn count_unless(&mut self, whole: bool)
+        ensures { self.new ≡ (if whole then self.old else with_one_loss self.old) }
     {
-        if !had_memory {
+        if !whole {
             self.count_loss();
         }
     }

@@ -67,11 +67,11 @@ CarriesDownWhere whole count old new =
 
 -- it holds the connection at this index, some bytes wait there, and it receives them, with memory
 -- for all or not; or that is impossible
-pub record CarriesDownOn (had : Bool) (at count : ℕ) (old new : Piped) : Type 0 where
+pub record CarriesDownOn (whole : Bool) (at count : ℕ) (old new : Piped) : Type 0 where
   pub held : (is_holding old && (suc at == length old.ways)) ≡ true
   pub some : (way : Way) → slice_get old.ways at ≡ Some way → IsNoPart count way.down → ⊥
-  pub carries : CarriesDownWhere had count old new
-  pub lost : had ≡ false → CarriesDown count old (Err errors.Memory) new
+  pub carries : CarriesDownWhere whole count old new
+  pub lost : whole ≡ false → CarriesDown count old (Err errors.Memory) new
 
 -- it does not hold the connection at this index, or too few bytes wait there
 abbrev pub CannotCarryDown : ℕ → ℕ → Piped → Type 0

@@ -24,8 +24,8 @@ pub fn carry_to_node(
 ) -> Result<bool, Idle>
     requires { slot.at < length piped.old.ways }
     ensures nodes { NodesGoOn nodes.old nodes.new }
-    ensures carries { IfOk result (λ had.
-        CarriesUpWhere had slot port count nodes.old piped.old nodes.new piped.new) }
+    ensures carries { IfOk result (λ whole.
+        CarriesUpWhere whole slot port count nodes.old piped.old nodes.new piped.new) }
     ensures idle { OnErr result (CannotCarryUp slot count nodes.old piped.old) }
     ensures leads { connection_targets piped.new.ways
         ≡ connection_targets piped.old.ways }
@@ -55,7 +55,7 @@ pub fn carry_down_on(piped: &mut PipedClient, at: usize, count: u64) -> Result<b
     ensures goes { FollowsAll piped.old piped.new }
     ensures leads { connection_targets piped.new.ways
         ≡ connection_targets piped.old.ways }
-    ensures carries { IfOk result (λ had. CarriesDownOn had at count piped.old piped.new) }
+    ensures carries { IfOk result (λ whole. CarriesDownOn whole at count piped.old piped.new) }
     ensures idle { OnErr result (CannotCarryDown at count piped.old) }
     ensures same { OnErr result (piped.new ≡ piped.old) }
 {

@@ -80,7 +80,7 @@ returns-in-Ok-clause-goes c =
     } in old) in
     let rises : old.losses ≤ (with_one_loss old).losses = omega arith in
     rw (← c.self.view_is)
-    (carrying_counted old c.in-Some.slot.client c.index_mut.result.now c.carry_down_on.new.piped c.in-Ok.had c.count_unless.new.self found c.carry_down_on.ensures.goes rises
+    (carrying_counted old c.in-Some.slot.client c.index_mut.result.now c.carry_down_on.new.piped c.in-Ok.whole c.count_unless.new.self found c.carry_down_on.ensures.goes rises
     c.count_unless.ensures)
 
 pub returns-in-Ok-clause-meets : goal.returns-in-Ok-clause-meets
@@ -89,7 +89,7 @@ returns-in-Ok-clause-meets c =
     let few = client_within c.self.inside.clients.items c.self.inside.connections.items c.args.number c.in-Some.slot c.self.invariant.0 stands.1 stands.0 in
     let found = get_there c.self.inside.clients.items c.in-Some.slot.client c.index_mut.result.now few c.index_mut.ensures.value in
     rw (← c.self.view_is)
-    (carried_down_meets c.args.number c.in-Some.slot c.args.count c.in-Ok.had (let old : WorldState = record {
+    (carried_down_meets c.args.number c.in-Some.slot c.args.count c.in-Ok.whole (let old : WorldState = record {
       nodes = c.self.inside.nodes;
       clients = c.self.inside.clients.items;
       connections = c.self.inside.connections.items;
