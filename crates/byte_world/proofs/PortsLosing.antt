@@ -52,17 +52,17 @@ module _ (P : Connection → Type 0) (follows : IsFollowed P) where
 
   -- what is done so keeps it
   abbrev Keeps : (CoreState → Account → Type 0) → Type 0
-  Keeps DoesCall = (core : CoreState) (did : Account) → DoesCall core did → All core → All did.core
+  Keeps DoesCall = (core : CoreState) (account : Account) → DoesCall core account → All core → All account.core
 
-  becomes : (new : CoreState) (did : Account) → did ≡ without_effects new → All new → All did.core
-  becomes new did is all = subst (λ (d : Account). All d.core) (sym is) all
+  becomes : (new : CoreState) (account : Account) → account ≡ without_effects new → All new → All account.core
+  becomes new account is all = subst (λ (d : Account). All d.core) (sym is) all
 
   then_kept : (F N : CoreState → Account → Type 0) → Keeps F → Keeps N → Keeps (Then F N)
-  then_kept F N f n core did t all = subst (λ (d : Account). All d.core) (sym t.is) (n t.one.core t.two t.next (f core t.one t.first all))
+  then_kept F N f n core account t all = subst (λ (d : Account). All d.core) (sym t.is) (n t.one.core t.two t.next (f core t.one t.first all))
 
   repeated_kept : (times : ℕ) (N : CoreState → Account → Type 0) → Keeps N → Keeps (Repeated times N)
-  repeated_kept zero N n core did is all = becomes core did is all
-  repeated_kept (suc more) N n core did t all = then_kept N (Repeated more N) n (repeated_kept more N n) core did t all
+  repeated_kept zero N n core account is all = becomes core account is all
+  repeated_kept (suc more) N n core account t all = then_kept N (Repeated more N) n (repeated_kept more N n) core account t all
 
   -- ---- the replica
 
@@ -79,68 +79,68 @@ module _ (P : Connection → Type 0) (follows : IsFollowed P) where
   delivers_kept _ core new _ (loses {receiver} {message} {given = given} more) all = delivers_kept given core new _ more all
 
   drives_kept : (input : Input Command) → Keeps (Drives input)
-  drives_kept input core did m all = delivers_kept did.given (record core { replica = m.replica }) did.core did.messages m.handles all
+  drives_kept input core account m all = delivers_kept account.given (record core { replica = m.replica }) account.core account.messages m.handles all
 
   takes_kept : (command : Command) → Keeps (TakesCommand command)
-  takes_kept command core did t all = delivers_kept did.given (record core { replica = t.replica }) did.core did.messages t.handles all
+  takes_kept command core account t all = delivers_kept account.given (record core { replica = t.replica }) account.core account.messages t.handles all
 
   declines_kept : Keeps Declines
-  declines_kept core did (no_room full is) all = subst (λ (d : Account). All d.core) (sym is) all
-  declines_kept core did (forgets room is) all = subst (λ (d : Account). All d.core) (sym is) all
-  declines_kept core did (stops room is) all = subst (λ (d : Account). All d.core) (sym is) all
+  declines_kept core account (no_room full is) all = subst (λ (d : Account). All d.core) (sym is) all
+  declines_kept core account (forgets room is) all = subst (λ (d : Account). All d.core) (sym is) all
+  declines_kept core account (stops room is) all = subst (λ (d : Account). All d.core) (sym is) all
 
   proposes_kept : (command : Command) → Keeps (ProposesCommand command)
-  proposes_kept command core did (inl taken) all = takes_kept command core did taken all
-  proposes_kept command core did (inr declines) all = declines_kept core did declines all
+  proposes_kept command core account (inl taken) all = takes_kept command core account taken all
+  proposes_kept command core account (inr declines) all = declines_kept core account declines all
 
   -- ---- ends
 
   ends_kept : (port : Port) → Keeps (EndsConnection port)
-  ends_kept port core did (none_open none is) all = becomes core did is all
-  ends_kept port core did (unproposed c found other is) all = becomes (changes port closed_connection core) did is (shut_at P follows port core all)
-  ends_kept port core did (proposed c found heard proposes) all = proposes_kept (commands.Lost c.name) (changes port closed_connection core) did proposes (shut_at P follows port core all)
+  ends_kept port core account (none_open none is) all = becomes core account is all
+  ends_kept port core account (unproposed c found other is) all = becomes (changes port closed_connection core) account is (shut_at P follows port core all)
+  ends_kept port core account (proposed c found heard proposes) all = proposes_kept (commands.Lost c.name) (changes port closed_connection core) account proposes (shut_at P follows port core all)
 
   silent_kept : (now : ℕ) → Keeps (EndsSilent now)
-  silent_kept now core did (none_silent none is) all = becomes core did is all
-  silent_kept now core did (ends_one port found runs) all = ends_kept port core did runs all
+  silent_kept now core account (none_silent none is) all = becomes core account is all
+  silent_kept now core account (ends_one port found runs) all = ends_kept port core account runs all
 
   failed_kept : Keeps LosesFailed
-  failed_kept core did (none_failed none is) all = becomes core did is all
-  failed_kept core did (tells_one c found proposes) all =
-      proposes_kept (commands.Lost c.name) (closes_failed core) did proposes (each_changed P follows has_failed closed_connection core.connections (λ d e. is_shut d) all)
+  failed_kept core account (none_failed none is) all = becomes core account is all
+  failed_kept core account (tells_one c found proposes) all =
+      proposes_kept (commands.Lost c.name) (closes_failed core) account proposes (each_changed P follows has_failed closed_connection core.connections (λ d e. is_shut d) all)
 
   -- ---- packets
 
   closes_kept : (port : Port) → Keeps (ClosesConnection port)
-  closes_kept port core did is all = becomes (changes port closed_connection core) did is (shut_at P follows port core all)
+  closes_kept port core account is all = becomes (changes port closed_connection core) account is (shut_at P follows port core all)
 
   shuts_kept : (port : Port) → Keeps (Shuts port)
-  shuts_kept port core did (inl is) all = closes_kept port core did is all
-  shuts_kept port core did (inr is) all = becomes (changes port failing core) did is (each_at P follows port failing core (λ c e. fails_later c) all)
+  shuts_kept port core account (inl is) all = closes_kept port core account is all
+  shuts_kept port core account (inr is) all = becomes (changes port failing core) account is (each_at P follows port failing core (λ c e. fails_later c) all)
 
   asks_kept : (command : Command) (O : CoreState → Account → Type 0) → Keeps O → Keeps (TakesOr command O)
-  asks_kept command O o core did (inl taken) all = takes_kept command core did taken all
-  asks_kept command O o core did (inr t) all = then_kept Declines O declines_kept o core did t all
+  asks_kept command O o core account (inl taken) all = takes_kept command core account taken all
+  asks_kept command O o core account (inr t) all = then_kept Declines O declines_kept o core account t all
 
   begins_kept : (port : Port) (name : ConnectionName) (packet : Packet) → Keeps (TakesFirstPacket port name packet)
-  begins_kept port name (packets.Connect connect) core did runs all =
-      asks_kept (commands.Connect name connect.client connect.clean) (ClosesConnection port) (closes_kept port) (changes port (noted_proposed connect.keep_alive) core) did runs
+  begins_kept port name (packets.Connect connect) core account runs all =
+      asks_kept (commands.Connect name connect.client connect.clean) (ClosesConnection port) (closes_kept port) (changes port (noted_proposed connect.keep_alive) core) account runs
       (each_at P follows port (noted_proposed connect.keep_alive) core (λ c e. record { port = refl; name = refl; lives = λ f. left_true (live c) (is_at port c) e }) all)
-  begins_kept port name _ core did runs all = closes_kept port core did runs all
+  begins_kept port name _ core account runs all = closes_kept port core account runs all
 
   left_kept : (now : ℕ) (port : Port) (rest : List ℕ) (core : CoreState) → All core → All (changes port (left_with now rest) core)
   left_kept now port rest core all = each_at P follows port (left_with now rest) core (λ c e. stays_later c (left_with now rest c) refl refl refl) all
 
   reads_kept : (now : ℕ) (port : Port) → Keeps (ReadsNext now port)
-  reads_kept now port core did (waits c found more is) all = becomes core did is all
-  reads_kept now port core did (first c packet rest found awaits is runs) all =
-      begins_kept port c.name packet (changes port (left_with now rest) core) did runs (left_kept now port rest core all)
-  reads_kept now port core did (later c packet rest found after_first is runs) all =
-      asks_kept (commands.Packet c.name packet) (Shuts port) (shuts_kept port) (changes port (left_with now rest) core) did runs (left_kept now port rest core all)
-  reads_kept now port core did (refuses c code found awaits is runs) all =
-      becomes (changes port (connect_refused code) core) did runs
+  reads_kept now port core account (waits c found more is) all = becomes core account is all
+  reads_kept now port core account (first c packet rest found awaits is runs) all =
+      begins_kept port c.name packet (changes port (left_with now rest) core) account runs (left_kept now port rest core all)
+  reads_kept now port core account (later c packet rest found after_first is runs) all =
+      asks_kept (commands.Packet c.name packet) (Shuts port) (shuts_kept port) (changes port (left_with now rest) core) account runs (left_kept now port rest core all)
+  reads_kept now port core account (refuses c code found awaits is runs) all =
+      becomes (changes port (connect_refused code) core) account runs
       (each_at P follows port (connect_refused code) core (λ d e. record { port = refl; name = refl; lives = λ f. absurd cc }) all)
-  reads_kept now port core did (ends may runs) all = ends_kept port core did runs all
+  reads_kept now port core account (ends may runs) all = ends_kept port core account runs all
 
   -- ---- an item
 
@@ -150,44 +150,44 @@ module _ (P : Connection → Type 0) (follows : IsFollowed P) where
   OpensSo _ core = Unit {0}
 
   holds_kept : (port : Port) (piece : List ℕ) → Keeps (HoldsBytes port piece)
-  holds_kept port piece core did (inl is) all =
-      becomes (changes port (with_unread piece) core) did is (each_at P follows port (with_unread piece) core (λ c e. stays_later c (with_unread piece c) refl refl refl) all)
-  holds_kept port piece core did (inr runs) all = ends_kept port core did runs all
+  holds_kept port piece core account (inl is) all =
+      becomes (changes port (with_unread piece) core) account is (each_at P follows port (with_unread piece) core (λ c e. stays_later c (with_unread piece c) refl refl refl) all)
+  holds_kept port piece core account (inr runs) all = ends_kept port core account runs all
 
-  opens_kept : (port : Port) (core : CoreState) (did : Account) → (All core → All (with_next_connection port core)) → AcceptsConnection port core did → All core → All did.core
-  opens_kept port core did new (inl is) all = becomes (with_next_connection port core) did is (new all)
-  opens_kept port core did new (inr is) all = becomes core did is all
+  opens_kept : (port : Port) (core : CoreState) (account : Account) → (All core → All (with_next_connection port core)) → AcceptsConnection port core account → All core → All account.core
+  opens_kept port core account new (inl is) all = becomes (with_next_connection port core) account is (new all)
+  opens_kept port core account new (inr is) all = becomes core account is all
 
-  all_silent : (now : ℕ) (core : CoreState) (did : Account) → Repeated (length core.connections) (EndsSilent now) core did → All core → All did.core
-  all_silent now core did runs all = repeated_kept (length core.connections) (EndsSilent now) (silent_kept now) core did runs all
+  all_silent : (now : ℕ) (core : CoreState) (account : Account) → Repeated (length core.connections) (EndsSilent now) core account → All core → All account.core
+  all_silent now core account runs all = repeated_kept (length core.connections) (EndsSilent now) (silent_kept now) core account runs all
 
-  all_read : (now : ℕ) (port : Port) (core : CoreState) (did : Account) → ReadsPackets now port core did → All core → All did.core
-  all_read now port core did runs all = repeated_kept (unread_of (open_at port core)) (ReadsNext now port) (reads_kept now port) core did runs all
+  all_read : (now : ℕ) (port : Port) (core : CoreState) (account : Account) → ReadsPackets now port core account → All core → All account.core
+  all_read now port core account runs all = repeated_kept (unread_of (open_at port core)) (ReadsNext now port) (reads_kept now port) core account runs all
 
-  taken_kept : (item : Item) (core : CoreState) (did : Account) → OpensSo item core → DoesItem item core did → All core → All did.core
-  taken_kept (Peer message) core did new runs all = drives_kept (Receives message) core did runs all
-  taken_kept (Tick now) core did new t all =
+  taken_kept : (item : Item) (core : CoreState) (account : Account) → OpensSo item core → DoesItem item core account → All core → All account.core
+  taken_kept (Peer message) core account new runs all = drives_kept (Receives message) core account runs all
+  taken_kept (Tick now) core account new t all =
       subst (λ (d : Account). All d.core) (sym t.is) (all_silent now t.one.core t.two t.next (drives_kept Ticks core t.one t.first all))
-  taken_kept (Opened port now) core did new runs all = opens_kept port core did new runs all
-  taken_kept (Bytes port piece now) core did new t all =
+  taken_kept (Opened port now) core account new runs all = opens_kept port core account new runs all
+  taken_kept (Bytes port piece now) core account new t all =
       subst (λ (d : Account). All d.core) (sym t.is) (all_read now port t.one.core t.two t.next (holds_kept port piece core t.one t.first all))
-  taken_kept (Ended port) core did new runs all = ends_kept port core did runs all
-  taken_kept (Expel client) core did new runs all = proposes_kept (commands.Expel client) core did runs all
-  taken_kept Cut core did new (nothing_to_cut none is) all = becomes core did is all
-  taken_kept Cut core did new (cuts_log can reads is) all = subst (λ (d : Account). All d.core) (sym is) all
-  taken_kept Cut core did new (forgets_cut can is) all = subst (λ (d : Account). All d.core) (sym is) all
-  taken_kept Crash core did new is all = subst (λ (d : Account). All d.core) (sym is) all
+  taken_kept (Ended port) core account new runs all = ends_kept port core account runs all
+  taken_kept (Expel client) core account new runs all = proposes_kept (commands.Expel client) core account runs all
+  taken_kept Cut core account new (nothing_to_cut none is) all = becomes core account is all
+  taken_kept Cut core account new (cuts_log can reads is) all = subst (λ (d : Account). All d.core) (sym is) all
+  taken_kept Cut core account new (forgets_cut can is) all = subst (λ (d : Account). All d.core) (sym is) all
+  taken_kept Crash core account new is all = subst (λ (d : Account). All d.core) (sym is) all
 
-  all_failed : (core : CoreState) (did : Account) → LosesAllFailed core did → All core → All did.core
-  all_failed core did runs all = repeated_kept (length core.connections) LosesFailed failed_kept core did runs all
+  all_failed : (core : CoreState) (account : Account) → LosesAllFailed core account → All core → All account.core
+  all_failed core account runs all = repeated_kept (length core.connections) LosesFailed failed_kept core account runs all
 
-  acts_kept : (item : Item) (core : CoreState) (did : Account) → OpensSo item core → ActsOn item core did → All core → All did.core
-  acts_kept item core did new t all =
+  acts_kept : (item : Item) (core : CoreState) (account : Account) → OpensSo item core → ActsOn item core account → All core → All account.core
+  acts_kept item core account new t all =
       subst (λ (d : Account). All d.core) (sym t.is) (all_failed t.one.core t.two t.next (taken_kept item core t.one new t.first all))
 
   pub each_lost : (item : Item) (core new : CoreState) (messages : List (Effect Command Output)) → OpensSo item core → RunsOn item core new messages → All core → All new
   each_lost item core new messages so runs all =
-      subst All (sym runs.settles) (each_settled P (kept P follows).shut runs.did.core (acts_kept item core runs.did so runs.acts all))
+      subst All (sym runs.settles) (each_settled P (kept P follows).shut runs.account.core (acts_kept item core runs.account so runs.acts all))
 
 -- ---- where the connections of a node come from
 

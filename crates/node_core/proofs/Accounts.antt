@@ -10,12 +10,12 @@ use Rattle.node_core.specs.Lossy.{Account, Repeated, Then, both_accounts, withou
 
 -- ---- accounts
 
-joined_nothing : (did : Account) → both_accounts did (without_effects did.core) ≡ did
-joined_nothing did =
-    ap (λ (l : List (Effect Command Output)). let a : Account = record { core = did.core; given = l; messages = did.messages ++ [] } in a)
-    (append-nil did.given)
-    ∙ ap (λ (l : List (Effect Command Output)). let a : Account = record { core = did.core; given = did.given; messages = l } in a)
-    (append-nil did.messages)
+joined_nothing : (account : Account) → both_accounts account (without_effects account.core) ≡ account
+joined_nothing account =
+    ap (λ (l : List (Effect Command Output)). let a : Account = record { core = account.core; given = l; messages = account.messages ++ [] } in a)
+    (append-nil account.given)
+    ∙ ap (λ (l : List (Effect Command Output)). let a : Account = record { core = account.core; given = account.given; messages = l } in a)
+    (append-nil account.messages)
 
 joined_again : (a b c : Account) → both_accounts (both_accounts a b) c ≡ both_accounts a (both_accounts b c)
 joined_again a b c =
@@ -36,30 +36,30 @@ joined_again a b c =
 pub ran_without_effects : (Did : CoreState → Account → Type 0) (old new : CoreState) (x : List (Effect Command Output)) →
     Did old (without_effects new) → StepPartOrLost Did old new x x
 ran_without_effects Did old new x runs =
-    record { did = without_effects new; runs = runs; core = refl; appended = sym (append-nil x) }
+    record { account = without_effects new; runs = runs; core = refl; appended = sym (append-nil x) }
 
 -- another word for what was done
 pub ran_as : (P Q : CoreState → Account → Type 0) (a b c : CoreState) (x y : List (Effect Command Output)) →
-    ((did : Account) → P b did → Q a did) → StepPartOrLost P b c x y → StepPartOrLost Q a c x y
+    ((account : Account) → P b account → Q a account) → StepPartOrLost P b c x y → StepPartOrLost Q a c x y
 ran_as P Q a b c x y says ran =
-    record { did = ran.did; runs = says ran.did ran.runs; core = ran.core; appended = ran.appended }
+    record { account = ran.account; runs = says ran.account ran.runs; core = ran.core; appended = ran.appended }
 
 -- one thing and then another
 pub ran_then : (P Q : CoreState → Account → Type 0) (a b c : CoreState) (x y z : List (Effect Command Output)) →
     StepPartOrLost P a b x y → StepPartOrLost Q b c y z → StepPartOrLost (Then P Q) a c x z
 ran_then P Q a b c x y z one two =
     record {
-      did = both_accounts one.did two.did;
+      account = both_accounts one.account two.account;
       runs = record {
-        one = one.did;
-        two = two.did;
+        one = one.account;
+        two = two.account;
         first = one.runs;
-        next = subst (λ (k : CoreState). Q k two.did) one.core two.runs;
+        next = subst (λ (k : CoreState). Q k two.account) one.core two.runs;
         is = refl;
       };
       core = two.core;
-      appended = two.appended ∙ ap (λ (l : List (Effect Command Output)). l ++ two.did.messages) one.appended
-          ∙ append_assoc x one.did.messages two.did.messages;
+      appended = two.appended ∙ ap (λ (l : List (Effect Command Output)). l ++ two.account.messages) one.appended
+          ∙ append_assoc x one.account.messages two.account.messages;
     }
 
 module _ (Next : CoreState → Account → Type 0) where
@@ -84,15 +84,15 @@ module _ (Next : CoreState → Account → Type 0) where
       }
 
   -- the rest does nothing
-  no_more : (n m : ℕ) (core : CoreState) (did : Account) → Repeated n Next core did → Next did.core (without_effects did.core) →
-      Repeated (m + n) Next core did
-  no_more n zero core did done idle =
-      let same : n ≡ 0 + n = omega arith in subst (λ (k : ℕ). Repeated k Next core did) same done
-  no_more n (suc m) core did done idle =
+  no_more : (n m : ℕ) (core : CoreState) (account : Account) → Repeated n Next core account → Next account.core (without_effects account.core) →
+      Repeated (m + n) Next core account
+  no_more n zero core account done idle =
+      let same : n ≡ 0 + n = omega arith in subst (λ (k : ℕ). Repeated k Next core account) same done
+  no_more n (suc m) core account done idle =
       let same : suc (m + n) ≡ suc m + n = omega arith in
-      subst (λ (k : ℕ). Repeated k Next core did) same
-      (subst (λ (d : Account). Repeated (suc (m + n)) Next core d) (joined_nothing did)
-      (one_more (m + n) core did (without_effects did.core) (no_more n m core did done idle) idle))
+      subst (λ (k : ℕ). Repeated k Next core account) same
+      (subst (λ (d : Account). Repeated (suc (m + n)) Next core d) (joined_nothing account)
+      (one_more (m + n) core account (without_effects account.core) (no_more n m core account done idle) idle))
 
   pub ran_none : (core : CoreState) (x : List (Effect Command Output)) → StepPartOrLost (Repeated 0 Next) core core x x
   ran_none core x = ran_without_effects (Repeated 0 Next) core core x refl
@@ -101,11 +101,11 @@ module _ (Next : CoreState → Account → Type 0) where
       StepPartOrLost (Repeated n Next) a b x y → StepPartOrLost Next b c y z → StepPartOrLost (Repeated (suc n) Next) a c x z
   ran_more n a b c x y z one two =
       record {
-        did = both_accounts one.did two.did;
-        runs = one_more n a one.did two.did one.runs (subst (λ (k : CoreState). Next k two.did) one.core two.runs);
+        account = both_accounts one.account two.account;
+        runs = one_more n a one.account two.account one.runs (subst (λ (k : CoreState). Next k two.account) one.core two.runs);
         core = two.core;
-        appended = two.appended ∙ ap (λ (l : List (Effect Command Output)). l ++ two.did.messages) one.appended
-            ∙ append_assoc x one.did.messages two.did.messages;
+        appended = two.appended ∙ ap (λ (l : List (Effect Command Output)). l ++ two.account.messages) one.appended
+            ∙ append_assoc x one.account.messages two.account.messages;
       }
 
   -- the next would do nothing
@@ -115,9 +115,9 @@ module _ (Next : CoreState → Account → Type 0) where
       let rest : ℕ = all - n in
       let is : rest + n ≡ all = omega (arith, few) in
       record {
-        did = one.did;
-        runs = subst (λ (k : ℕ). Repeated k Next a one.did) is
-            (no_more n rest a one.did one.runs (subst (λ (k : CoreState). Next k (without_effects k)) one.core idle));
+        account = one.account;
+        runs = subst (λ (k : ℕ). Repeated k Next a one.account) is
+            (no_more n rest a one.account one.runs (subst (λ (k : CoreState). Next k (without_effects k)) one.core idle));
         core = one.core;
         appended = one.appended;
       }

@@ -60,7 +60,7 @@ pub drives_all : (input : Input Command) (a b c : CoreState) (given x y : List (
     NodeReplicaStepOrLost (outcome_of_input input a.replica.state) a b given → HandledAll given b c x y → StepPartOrLost (Drives input) a c x y
 drives_all input a b c given x y acts delivered =
     record {
-      did = record { core = c; given = given; messages = delivered.messages };
+      account = record { core = c; given = given; messages = delivered.messages };
       runs = record {
         replica = acts.replica;
         steps = acts.steps;
@@ -187,7 +187,7 @@ pub proposed_all : (taken : Bool) (command : Command) (a b c : CoreState) (given
     Answered taken command a b given → HandledAll given b c x y → StepPartOrLost (ProposedBy taken command) a c x y
 proposed_all true command a b c given x y took delivered =
     record {
-      did = record { core = c; given = given; messages = delivered.messages };
+      account = record { core = c; given = given; messages = delivered.messages };
       runs = record {
         room = took.room;
         replica = took.replica;
@@ -200,7 +200,7 @@ proposed_all true command a b c given x y took delivered =
 proposed_all false command a b c given x y declined delivered =
     let same = delivers_nothing given b c delivered.messages delivered.handles declined.1 in
     record {
-      did = without_effects b;
+      account = without_effects b;
       runs = declined.0;
       core = same.0;
       appended = delivered.appended ∙ ap (λ (l : List (Effect Command Output)). x ++ l) same.1;

@@ -44,8 +44,8 @@ pub ran_proposed : (port : Port) (c : Connection) (a b r : CoreState) (taken : B
     StepPartOrLost (ProposedBy taken (commands.Lost c.name)) b r x y → StepPartOrLost (EndsConnection port) a r x y
 ran_proposed port c a b r taken x y found heard shut ran =
     ran_as (ProposedBy taken (commands.Lost c.name)) (EndsConnection port) a b r x y
-    (λ did runs. proposed c found heard (as_proposes taken (commands.Lost c.name) (changes port closed_connection a) did
-    (subst (λ (k : CoreState). ProposedBy taken (commands.Lost c.name) k did) shut runs))) ran
+    (λ account runs. proposed c found heard (as_proposes taken (commands.Lost c.name) (changes port closed_connection a) account
+    (subst (λ (k : CoreState). ProposedBy taken (commands.Lost c.name) k account) shut runs))) ran
 
 -- it is reported to the broker if its CONNECT was proposed
 pub ran_tells : (heard taken : Bool) (name : ConnectionName) (a b : CoreState) (x y : List (Effect Command Output)) → heard ≡ true →
@@ -71,15 +71,15 @@ ran_lost port c a b r x y found shut ran = by (is_proposed c.stage) refl ran
     by : (p : Bool) → is_proposed c.stage ≡ p → StepPartOrLost (ReportsLost p c.name) b r x y → StepPartOrLost (EndsConnection port) a r x y
     by true e tells =
         ran_as (ReportsLost true c.name) (EndsConnection port) a b r x y
-        (λ did runs. proposed c found e (subst (λ (k : CoreState). ReportsLost true c.name k did) shut runs)) tells
+        (λ account runs. proposed c found e (subst (λ (k : CoreState). ReportsLost true c.name k account) shut runs)) tells
     by false e tells =
-        ran_as (ReportsLost false c.name) (EndsConnection port) a b r x y (λ did runs. unproposed c found e (runs ∙ ap without_effects shut)) tells
+        ran_as (ReportsLost false c.name) (EndsConnection port) a b r x y (λ account runs. unproposed c found e (runs ∙ ap without_effects shut)) tells
 
 -- ---- silent and failed ones
 
 pub ran_silent : (now : ℕ) (port : Port) (a b : CoreState) (x y : List (Effect Command Output)) →
     lowest_silent now a.connections ≡ Some port → StepPartOrLost (EndsConnection port) a b x y → StepPartOrLost (EndsSilent now) a b x y
-ran_silent now port a b x y found ran = ran_as (EndsConnection port) (EndsSilent now) a a b x y (λ did runs. ends_one port found runs) ran
+ran_silent now port a b x y found ran = ran_as (EndsConnection port) (EndsSilent now) a a b x y (λ account runs. ends_one port found runs) ran
 
 pub ran_none_failed : (core : CoreState) (x : List (Effect Command Output)) → find has_failed core.connections ≡ None →
     StepPartOrLost LosesFailed core core x x
@@ -96,22 +96,22 @@ pub ran_failed : (c : Connection) (a b r : CoreState) (taken : Bool) (x y : List
     StepPartOrLost LosesFailed a r x y
 ran_failed c a b r taken x y found shut ran =
     ran_as (ProposedBy taken (commands.Lost c.name)) LosesFailed a b r x y
-    (λ did runs. tells_one c found (as_proposes taken (commands.Lost c.name) (closes_failed a) did
-    (subst (λ (k : CoreState). ProposedBy taken (commands.Lost c.name) k did) shut runs))) ran
+    (λ account runs. tells_one c found (as_proposes taken (commands.Lost c.name) (closes_failed a) account
+    (subst (λ (k : CoreState). ProposedBy taken (commands.Lost c.name) k account) shut runs))) ran
 
 -- ---- a command is taken, or else something is done
 
 pub ran_asked : (taken : Bool) (command : Command) (Otherwise : CoreState → Account → Type 0) (a b : CoreState)
     (x y : List (Effect Command Output)) → taken ≡ true → StepPartOrLost (ProposedBy taken command) a b x y → StepPartOrLost (TakesOr command Otherwise) a b x y
 ran_asked taken command Otherwise a b x y is ran =
-    ran_as (ProposedBy true command) (TakesOr command Otherwise) a a b x y (λ did runs. inl runs)
+    ran_as (ProposedBy true command) (TakesOr command Otherwise) a a b x y (λ account runs. inl runs)
     (subst (λ (t : Bool). StepPartOrLost (ProposedBy t command) a b x y) is ran)
 
 pub ran_otherwise : (taken : Bool) (command : Command) (Otherwise : CoreState → Account → Type 0) (a b c : CoreState)
     (x y : List (Effect Command Output)) → taken ≡ false → StepPartOrLost (ProposedBy taken command) a b x y → Otherwise b (without_effects c) →
     StepPartOrLost (TakesOr command Otherwise) a c x y
 ran_otherwise taken command Otherwise a b c x y is ran other =
-    ran_as (Then Declines Otherwise) (TakesOr command Otherwise) a a c x y (λ did runs. inr runs)
+    ran_as (Then Declines Otherwise) (TakesOr command Otherwise) a a c x y (λ account runs. inr runs)
     (ran_then Declines Otherwise a b c x y y (subst (λ (t : Bool). StepPartOrLost (ProposedBy t command) a b x y) is ran)
     (ran_without_effects Otherwise b c y other))
 
@@ -129,4 +129,4 @@ ran_held port piece a b x e = ran_without_effects (HoldsBytes port piece) a b x 
 pub ran_not_held : (port : Port) (piece : List ℕ) (a b r : CoreState) (x y : List (Effect Command Output)) → b ≡ a →
     StepPartOrLost (EndsConnection port) b r x y → StepPartOrLost (HoldsBytes port piece) a r x y
 ran_not_held port piece a b r x y same ran =
-    ran_as (EndsConnection port) (HoldsBytes port piece) a b r x y (λ did runs. inr (subst (λ (k : CoreState). EndsConnection port k did) same runs)) ran
+    ran_as (EndsConnection port) (HoldsBytes port piece) a b r x y (λ account runs. inr (subst (λ (k : CoreState). EndsConnection port k account) same runs)) ran

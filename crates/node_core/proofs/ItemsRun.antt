@@ -75,9 +75,9 @@ stepped_by old item a b new losses x y same turns ran settles counted calm quiet
           (subst (λ (w : Bool). losses ≡ (if w then one_more old.losses else old.losses)) whole counted));
       run = subst (λ (k : CoreState). RunsOn item k new turns.given) same
           (record {
-            did = ran.did;
+            account = ran.account;
             acts = ran.runs;
             settles = settles ∙ ap settled ran.core;
-            handed = append_cancel_left x turns.given ran.did.messages (sym turns.appended ∙ ran.appended);
+            handed = append_cancel_left x turns.given ran.account.messages (sym turns.appended ∙ ran.appended);
           });
     }

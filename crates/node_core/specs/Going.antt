@@ -74,13 +74,14 @@ OpensAtMostOne (Opened port now) core new = (new ≡ []) ⊎ (new ≡ fresh port
 OpensAtMostOne _ core new = new ≡ []
 
 -- what a step does before connections are settled, if no two have the same name, or will get one
-pub record GoOn (item : Item) (core : CoreState) (did : Account) : Type 0 where
+pub record GoOn (item : Item) (core : CoreState) (account : Account) : Type 0 where
   pub new : List Connection
   pub is_new : OpensAtMostOne item core new
   pub each : AreNamedApart (core.connections ++ new) →
-      EachGoesOn did.given (core.connections ++ new) did.core.connections
+      EachGoesOn account.given (core.connections ++ new) account.core.connections
 
 -- connections go on (`GoOn`) in each step that is allowed on an item, even if memory runs out
 abbrev pub AGapIsClosed : Type 0
 AGapIsClosed =
-    (item : Item) (core : CoreState) (did : Account) → ActsOn item core did → GoOn item core did
+    (item : Item) (core : CoreState) (account : Account) →
+    ActsOn item core account → GoOn item core account

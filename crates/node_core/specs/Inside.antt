@@ -56,12 +56,12 @@ StepsReplica old new outcome given = new.has_lost ≡ false →
 
 -- a part of a step was done, exactly or with losses; the messages that were sent were appended to
 -- what was there
-pub record StepPartOrLost (Did : CoreState → Account → Type 0) (old new : CoreState)
+pub record StepPartOrLost (DoesPart : CoreState → Account → Type 0) (old new : CoreState)
     (before after : List (Effect Command Output)) : Type 0 where
-  pub did : Account
-  pub runs : Did old did
-  pub core : new ≡ did.core
-  pub appended : after ≡ before ++ did.messages
+  pub account : Account
+  pub runs : DoesPart old account
+  pub core : new ≡ account.core
+  pub appended : after ≡ before ++ account.messages
 
 -- what the replica output was done; the messages among it were appended to what was there
 pub record HandledAll (given : List (Effect Command Output)) (old new : CoreState)
@@ -92,15 +92,15 @@ Answered false command old new given = Declines old (without_effects new) × (gi
 
 -- a command was taken with its effects, or declined
 abbrev pub ProposedBy : Bool → Command → CoreState → Account → Type 0
-ProposedBy true command core did = TakesCommand command core did
-ProposedBy false command core did = Declines core did
+ProposedBy true command core account = TakesCommand command core account
+ProposedBy false command core account = Declines core account
 
 -- a packet that was read is the first of its connection, or a later one
 abbrev pub TakesPacket : Bool → Port → ConnectionName → Packet → CoreState → Account → Type 0
-TakesPacket true port name packet core did = TakesFirstPacket port name packet core did
-TakesPacket false port name packet core did = ProposesPacket port name packet core did
+TakesPacket true port name packet core account = TakesFirstPacket port name packet core account
+TakesPacket false port name packet core account = ProposesPacket port name packet core account
 
 -- a connection that was closed; it is reported to the broker if its CONNECT was proposed
 abbrev pub ReportsLost : Bool → ConnectionName → CoreState → Account → Type 0
-ReportsLost true name core did = ProposesCommand (commands.Lost name) core did
-ReportsLost false name core did = did ≡ without_effects core
+ReportsLost true name core account = ProposesCommand (commands.Lost name) core account
+ReportsLost false name core account = account ≡ without_effects core

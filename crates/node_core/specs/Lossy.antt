@@ -40,17 +40,17 @@ both_accounts one two =
 
 -- one thing was done, and then another
 pub record Then (First Next : CoreState → Account → Type 0) (core : CoreState)
-    (did : Account) : Type 0 where
+    (account : Account) : Type 0 where
   pub one : Account
   pub two : Account
   pub first : First core one
   pub next : Next one.core two
-  pub is : did ≡ both_accounts one two
+  pub is : account ≡ both_accounts one two
 
 -- one thing was done this many times, each after the one before
 abbrev pub Repeated : ℕ → (CoreState → Account → Type 0) → CoreState → Account → Type 0
-Repeated zero Next core did = did ≡ without_effects core
-Repeated (suc more) Next core did = Then Next (Repeated more Next) core did
+Repeated zero Next core account = account ≡ without_effects core
+Repeated (suc more) Next core account = Then Next (Repeated more Next) core account
 
 -- ---- outputs
 
@@ -87,20 +87,23 @@ pub data HandlesAll : List (Effect Command Output) → CoreState → CoreState �
 
 -- the replica does its step, exactly or with losses that it counts, and its effects are handled
 pub record HandledStepOrLost (outcome : Outcome State Command Output) (core : CoreState)
-    (did : Account) : Type 0 where
+    (account : Account) : Type 0 where
   pub replica : CountedReplica State Command
-  pub steps : ReplicaStepOrLost rules core.replica outcome replica did.given
-  pub handles : HandlesAll did.given (record core { replica = replica }) did.core did.messages
+  pub steps : ReplicaStepOrLost rules core.replica outcome replica account.given
+  pub handles : HandlesAll account.given (record core { replica = replica })
+      account.core account.messages
 
 -- a message of another node, or a tick
 abbrev pub Drives : Input Command → CoreState → Account → Type 0
-Drives input core did = HandledStepOrLost (outcome_of_input input core.replica.state) core did
+Drives input core account =
+    HandledStepOrLost (outcome_of_input input core.replica.state) core account
 
 -- a command that the replica takes into its log; some of the messages that it then sends may be
 -- missing, which it counts
-pub record TakesCommand (command : Command) (core : CoreState) (did : Account) : Type 0 where
+pub record TakesCommand (command : Command) (core : CoreState) (account : Account) : Type 0 where
   pub room : has_room core ≡ true
   pub replica : CountedReplica State Command
   pub done : StepMessagesOrLost core.replica (added rules core.replica.state command) replica []
-      did.given
-  pub handles : HandlesAll did.given (record core { replica = replica }) did.core did.messages
+      account.given
+  pub handles : HandlesAll account.given (record core { replica = replica })
+      account.core account.messages

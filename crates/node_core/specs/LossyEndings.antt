@@ -15,37 +15,37 @@ use Rattle.node_core.specs.Reading.{changes, open_at}
 
 -- the connection of a port is closed as lost, and reported to the broker if its Connect was
 -- proposed
-pub data EndsConnection (port : Port) (core : CoreState) (did : Account) : Type 0 where
+pub data EndsConnection (port : Port) (core : CoreState) (account : Account) : Type 0 where
   -- no connection is open at the port
-  none_open : open_at port core ≡ None → did ≡ without_effects core →
-      EndsConnection port core did
+  none_open : open_at port core ≡ None → account ≡ without_effects core →
+      EndsConnection port core account
   -- its Connect was not proposed
   unproposed : (connection : Connection) → open_at port core ≡ Some connection →
       is_proposed connection.stage ≡ false →
-      did ≡ without_effects (changes port closed_connection core) →
-      EndsConnection port core did
+      account ≡ without_effects (changes port closed_connection core) →
+      EndsConnection port core account
   -- its Connect was proposed, so its loss is proposed too
   proposed : (connection : Connection) → open_at port core ≡ Some connection →
       is_proposed connection.stage ≡ true →
       ProposesCommand (commands.Lost connection.name)
-      (changes port closed_connection core) did →
-      EndsConnection port core did
+      (changes port closed_connection core) account →
+      EndsConnection port core account
 
 -- the silent connection with the lowest port ends
-pub data EndsSilent (now : ℕ) (core : CoreState) (did : Account) : Type 0 where
+pub data EndsSilent (now : ℕ) (core : CoreState) (account : Account) : Type 0 where
   -- no connection is silent
-  none_silent : lowest_silent now core.connections ≡ None → did ≡ without_effects core →
-      EndsSilent now core did
+  none_silent : lowest_silent now core.connections ≡ None → account ≡ without_effects core →
+      EndsSilent now core account
   -- the one at this port ends
   ends_one : (port : Port) → lowest_silent now core.connections ≡ Some port →
-      EndsConnection port core did → EndsSilent now core did
+      EndsConnection port core account → EndsSilent now core account
 
 -- the first connection that failed is reported to the broker
-pub data LosesFailed (core : CoreState) (did : Account) : Type 0 where
+pub data LosesFailed (core : CoreState) (account : Account) : Type 0 where
   -- no connection failed
-  none_failed : find has_failed core.connections ≡ None → did ≡ without_effects core →
-      LosesFailed core did
+  none_failed : find has_failed core.connections ≡ None → account ≡ without_effects core →
+      LosesFailed core account
   -- the loss of this one is proposed
   tells_one : (connection : Connection) → find has_failed core.connections ≡ Some connection →
-      ProposesCommand (commands.Lost connection.name) (closes_failed core) did →
-      LosesFailed core did
+      ProposesCommand (commands.Lost connection.name) (closes_failed core) account →
+      LosesFailed core account

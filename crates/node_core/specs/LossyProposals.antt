@@ -9,32 +9,34 @@ use Rattle.node_core.specs.Lossy.{Account, without_effects, HandledStepOrLost, T
 
 -- a command that it does not take, because it does not serve clients or its log is full, or because
 -- memory ran out: then it counts a loss, and may stop
-pub data Declines (core : CoreState) (did : Account) : Type 0 where
+pub data Declines (core : CoreState) (account : Account) : Type 0 where
   -- it serves no clients, or its log is full: nothing changes
-  no_room : has_room core ≡ false → did ≡ without_effects core → Declines core did
+  no_room : has_room core ≡ false → account ≡ without_effects core → Declines core account
   -- memory ran out: it counts a loss
   forgets : has_room core ≡ true →
-      did ≡ without_effects
+      account ≡ without_effects
       (record core { replica = record core.replica { losses = one_more core.replica.losses } }) →
-      Declines core did
+      Declines core account
   -- memory ran out: it counts a loss, and it stops
   stops : has_room core ≡ true →
-      did ≡ without_effects (record core {
+      account ≡ without_effects (record core {
         replica = record {
           state = halted rules core.replica.state;
           losses = one_more core.replica.losses;
         };
       }) →
-      Declines core did
+      Declines core account
 
 -- a command is proposed to the replica
 abbrev pub ProposesCommand : Command → CoreState → Account → Type 0
-ProposesCommand command core did = TakesCommand command core did ⊎ Declines core did
+ProposesCommand command core account = TakesCommand command core account ⊎ Declines core account
 
 -- a proposal is a step of the replica, exact or with losses; if the node does not serve clients, it
 -- is no step
 abbrev pub ProposalsAreSteps : Type 0
 ProposalsAreSteps =
-    (command : Command) (core : CoreState) (did : Account) → ProposesCommand command core did →
-    (serves core ≡ true → HandledStepOrLost (proposed rules core.replica.state command) core did)
-    × (serves core ≡ false → did ≡ without_effects core)
+    (command : Command) (core : CoreState) (account : Account) →
+    ProposesCommand command core account →
+    (serves core ≡ true →
+    HandledStepOrLost (proposed rules core.replica.state command) core account)
+    × (serves core ≡ false → account ≡ without_effects core)

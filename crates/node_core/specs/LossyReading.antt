@@ -22,33 +22,35 @@ use Rattle.node_core.specs.Reading.{changes, open_at, connect_refused}
 
 -- a command is taken, or otherwise this is done
 abbrev pub TakesOr : Command → (CoreState → Account → Type 0) → CoreState → Account → Type 0
-TakesOr command Otherwise core did =
-    TakesCommand command core did ⊎ Then Declines Otherwise core did
+TakesOr command Otherwise core account =
+    TakesCommand command core account ⊎ Then Declines Otherwise core account
 
 -- a connection is closed
 abbrev pub ClosesConnection : Port → CoreState → Account → Type 0
-ClosesConnection port core did = did ≡ without_effects (changes port closed_connection core)
+ClosesConnection port core account = account ≡ without_effects (changes port closed_connection core)
 
 -- a connection is closed, or closed as lost, and the loss is still to be reported to the broker
 abbrev pub Shuts : Port → CoreState → Account → Type 0
-Shuts port core did =
-    ClosesConnection port core did ⊎ (did ≡ without_effects (changes port failing core))
+Shuts port core account =
+    ClosesConnection port core account ⊎ (account ≡ without_effects (changes port failing core))
 
 -- a CONNECT is proposed; if it is not taken, the connection is closed
 abbrev pub ProposesConnect : Port → ConnectionName → Connect → CoreState → Account → Type 0
-ProposesConnect port name connect core did =
-    TakesOr (commands.Connect name connect.client connect.clean) (ClosesConnection port) core did
+ProposesConnect port name connect core account =
+    TakesOr (commands.Connect name connect.client connect.clean)
+    (ClosesConnection port) core account
 
 -- the first packet of a connection must be a CONNECT
 abbrev pub TakesFirstPacket : Port → ConnectionName → Packet → CoreState → Account → Type 0
-TakesFirstPacket port name (packets.Connect connect) core did =
-    ProposesConnect port name connect (changes port (noted_proposed connect.keep_alive) core) did
-TakesFirstPacket port name _ core did = ClosesConnection port core did
+TakesFirstPacket port name (packets.Connect connect) core account =
+    ProposesConnect port name connect
+    (changes port (noted_proposed connect.keep_alive) core) account
+TakesFirstPacket port name _ core account = ClosesConnection port core account
 
 -- a later packet is proposed; if it is not taken, the connection ends
 abbrev pub ProposesPacket : Port → ConnectionName → Packet → CoreState → Account → Type 0
-ProposesPacket port name packet core did =
-    TakesOr (commands.Packet name packet) (Shuts port) core did
+ProposesPacket port name packet core account =
+    TakesOr (commands.Packet name packet) (Shuts port) core account
 
 -- what is at the front of its bytes may end a connection: it is no packet, or may need memory
 abbrev pub MayEnd : Option Connection → Type 0
@@ -58,26 +60,29 @@ MayEnd (Some connection) = HasNoPacket connection ⊎ FrontNeedsMemory connectio
 -- The packet at the front of a port's bytes is removed and proposed, or there is less than a
 -- packet. Or the connection ends, because there is no packet, or because there is no memory to read
 -- or to refuse it.
-pub data ReadsNext (now : ℕ) (port : Port) (core : CoreState) (did : Account) : Type 0 where
+pub data ReadsNext (now : ℕ) (port : Port) (core : CoreState) (account : Account) : Type 0 where
   -- less than a packet is there
   waits : (connection : Connection) → open_at port core ≡ Some connection →
-      verdict connection.unread ≡ Err stops.More → did ≡ without_effects core →
-      ReadsNext now port core did
+      verdict connection.unread ≡ Err stops.More → account ≡ without_effects core →
+      ReadsNext now port core account
   -- the first packet of the connection is there
   first : (connection : Connection) (packet : Packet) (rest : List ℕ) →
       open_at port core ≡ Some connection → is_first connection.stage ≡ true →
       verdict connection.unread ≡ Ok (packet, rest) →
-      TakesFirstPacket port connection.name packet (changes port (left_with now rest) core) did →
-      ReadsNext now port core did
+      TakesFirstPacket port connection.name packet
+      (changes port (left_with now rest) core) account →
+      ReadsNext now port core account
   -- a later packet is there
   later : (connection : Connection) (packet : Packet) (rest : List ℕ) →
       open_at port core ≡ Some connection → is_first connection.stage ≡ false →
       verdict connection.unread ≡ Ok (packet, rest) →
-      ProposesPacket port connection.name packet (changes port (left_with now rest) core) did →
-      ReadsNext now port core did
+      ProposesPacket port connection.name packet (changes port (left_with now rest) core) account →
+      ReadsNext now port core account
   -- its CONNECT is refused with a code
   refuses : (connection : Connection) (code : RefusalCode) → open_at port core ≡ Some connection →
       is_first connection.stage ≡ true → verdict connection.unread ≡ Err (stops.Refused code) →
-      did ≡ without_effects (changes port (connect_refused code) core) → ReadsNext now port core did
+      account ≡ without_effects (changes port (connect_refused code) core) →
+      ReadsNext now port core account
   -- the connection ends, if one is open
-  ends : MayEnd (open_at port core) → EndsConnection port core did → ReadsNext now port core did
+  ends : MayEnd (open_at port core) → EndsConnection port core account →
+      ReadsNext now port core account

@@ -24,63 +24,64 @@ use Rattle.node_core.specs.LossyReading.{ReadsNext}
 
 -- received bytes are held, or the connection ends, because there is no memory for them
 abbrev pub HoldsBytes : Port → List ℕ → CoreState → Account → Type 0
-HoldsBytes port piece core did =
-    (did ≡ without_effects (changes port (with_unread piece) core)) ⊎ EndsConnection port core did
+HoldsBytes port piece core account =
+    (account ≡ without_effects (changes port (with_unread piece) core))
+    ⊎ EndsConnection port core account
 
 -- a connection is accepted, or, if there is no memory for it, not
 abbrev pub AcceptsConnection : Port → CoreState → Account → Type 0
-AcceptsConnection port core did =
-    (did ≡ without_effects (with_next_connection port core)) ⊎ (did ≡ without_effects core)
+AcceptsConnection port core account =
+    (account ≡ without_effects (with_next_connection port core)) ⊎ (account ≡ without_effects core)
 
 -- the replica cuts its log, and its frozen bytes thaw to its machine; or, if there is no memory for
 -- that, it counts a loss
-pub data LogCutOrLost (core : CoreState) (did : Account) : Type 0 where
+pub data LogCutOrLost (core : CoreState) (account : Account) : Type 0 where
   -- nothing is to be cut
-  nothing_to_cut : can_cut core.replica.state ≡ false → did ≡ without_effects core →
-      LogCutOrLost core did
+  nothing_to_cut : can_cut core.replica.state ≡ false → account ≡ without_effects core →
+      LogCutOrLost core account
   -- the log is cut
   cuts_log : can_cut core.replica.state ≡ true →
       rules.thawed (rules.frozen core.replica.state.machine) ≡ Some core.replica.state.machine →
-      did ≡ without_effects (with_cut core) → LogCutOrLost core did
+      account ≡ without_effects (with_cut core) → LogCutOrLost core account
   -- memory ran out: a loss is counted
   forgets_cut : can_cut core.replica.state ≡ true →
-      did ≡ without_effects
+      account ≡ without_effects
       (record core { replica = record core.replica { losses = one_more core.replica.losses } }) →
-      LogCutOrLost core did
+      LogCutOrLost core account
 
 -- all silent connections are closed, one after another
 abbrev pub EndsAllSilent : ℕ → CoreState → Account → Type 0
-EndsAllSilent now core did = Repeated (length core.connections) (EndsSilent now) core did
+EndsAllSilent now core account = Repeated (length core.connections) (EndsSilent now) core account
 
 -- the loss of each connection that failed is reported, or memory ran out for that
 abbrev pub LosesAllFailed : CoreState → Account → Type 0
-LosesAllFailed core did = Repeated (length core.connections) LosesFailed core did
+LosesAllFailed core account = Repeated (length core.connections) LosesFailed core account
 
 -- the packets of a port are read, one after another, at most as many as it has bytes
 abbrev pub ReadsPackets : ℕ → Port → CoreState → Account → Type 0
-ReadsPackets now port core did =
-    Repeated (unread_of (open_at port core)) (ReadsNext now port) core did
+ReadsPackets now port core account =
+    Repeated (unread_of (open_at port core)) (ReadsNext now port) core account
 
 -- what an item asks for, without the reports of connections that failed in the step
 abbrev pub DoesItem : Item → CoreState → Account → Type 0
-DoesItem (Peer message) core did = Drives (Receives message) core did
-DoesItem (Tick now) core did = Then (Drives Ticks) (EndsAllSilent now) core did
-DoesItem (Opened port now) core did = AcceptsConnection port core did
-DoesItem (Bytes port piece now) core did =
-    Then (HoldsBytes port piece) (ReadsPackets now port) core did
-DoesItem (Ended port) core did = EndsConnection port core did
-DoesItem (Expel client) core did = ProposesCommand (commands.Expel client) core did
-DoesItem Cut core did = LogCutOrLost core did
-DoesItem Crash core did = did ≡ without_effects (crashed core)
+DoesItem (Peer message) core account = Drives (Receives message) core account
+DoesItem (Tick now) core account = Then (Drives Ticks) (EndsAllSilent now) core account
+DoesItem (Opened port now) core account = AcceptsConnection port core account
+DoesItem (Bytes port piece now) core account =
+    Then (HoldsBytes port piece) (ReadsPackets now port) core account
+DoesItem (Ended port) core account = EndsConnection port core account
+DoesItem (Expel client) core account = ProposesCommand (commands.Expel client) core account
+DoesItem Cut core account = LogCutOrLost core account
+DoesItem Crash core account = account ≡ without_effects (crashed core)
 
 -- what an item asks for, and then the reports of connections that failed in the step
 abbrev pub ActsOn : Item → CoreState → Account → Type 0
-ActsOn item core did = Then (DoesItem item) LosesAllFailed core did
+ActsOn item core account = Then (DoesItem item) LosesAllFailed core account
 
 -- a step on an item: what was done, and how connections were settled after it
 pub record RunsOn (item : Item) (old new : CoreState)
     (messages : List (Effect Command Output)) : Type 0 where
-  pub did : Account
-  pub acts : ActsOn item old did
-  pub settles : new ≡ settled did.core
-  pub handed : messages ≡ did.messages
+  pub account : Account
+  pub acts : ActsOn item old account
+  pub settles : new ≡ settled account.core
+  pub handed : messages ≡ account.messages

@@ -19,24 +19,24 @@ use Rattle.node_group.specs.Group.{replica_of}
 use Rattle.node_group.proofs.MovesHappen.{changed_state, state_of}
 
 -- a command is taken after a change of connections
-taken_role : (command : Command) (core between : CoreState) (did : Account) → replica_of between ≡ replica_of core → TakesCommand command between did
-    → (replica_of did.core).role ≡ (replica_of core).role
-taken_role command core between did same taken =
+taken_role : (command : Command) (core between : CoreState) (account : Account) → replica_of between ≡ replica_of core → TakesCommand command between account
+    → (replica_of account.core).role ≡ (replica_of core).role
+taken_role command core between account same taken =
     ap (λ (r : ReplicaState State Command). r.role)
-    (state_of did.core (record between { replica = taken.replica }) (delivers_replica did.given (record between { replica = taken.replica }) did.core did.messages taken.handles)
+    (state_of account.core (record between { replica = taken.replica }) (delivers_replica account.given (record between { replica = taken.replica }) account.core account.messages taken.handles)
     ∙ taken.done.state)
     ∙ (added_same rules (replica_of between) command).role ∙ ap (λ (r : ReplicaState State Command). r.role) same
 
 pub calm_role : (core : CoreState) (outcome : StepOutcome) (m : NodeMoveOrLost core outcome) → hears_in m ≡ false → (replica_of outcome.core).role ≡ (replica_of core).role
 calm_role core outcome (exactly m) calm = (move_same core outcome m calm).role
-calm_role core outcome (hears_losing input did other drives) calm = absurd cc
-calm_role core outcome (first_losing now port c connect rest did at first is taken) calm =
-    taken_role _ core (changes port (noted_proposed connect.keep_alive) (changes port (left_with now rest) core)) did
+calm_role core outcome (hears_losing input account other drives) calm = absurd cc
+calm_role core outcome (first_losing now port c connect rest account at first is taken) calm =
+    taken_role _ core (changes port (noted_proposed connect.keep_alive) (changes port (left_with now rest) core)) account
     (changed_state port (noted_proposed connect.keep_alive) (changes port (left_with now rest) core) ∙ changed_state port (left_with now rest) core) taken
-calm_role core outcome (later_losing now port c packet rest did at later is taken) calm =
-    taken_role _ core (changes port (left_with now rest) core) did (changed_state port (left_with now rest) core) taken
-calm_role core outcome (tells_losing name did taken) calm = taken_role (commands.Lost name) core core did refl taken
-calm_role core outcome (expels_losing client did taken) calm = taken_role (commands.Expel client) core core did refl taken
+calm_role core outcome (later_losing now port c packet rest account at later is taken) calm =
+    taken_role _ core (changes port (left_with now rest) core) account (changed_state port (left_with now rest) core) taken
+calm_role core outcome (tells_losing name account taken) calm = taken_role (commands.Lost name) core core account refl taken
+calm_role core outcome (expels_losing client account taken) calm = taken_role (commands.Expel client) core core account refl taken
 calm_role core outcome forgets calm = refl
 calm_role core outcome halts calm = refl
 calm_role core outcome (fails port) calm = ap (λ (r : ReplicaState State Command). r.role) (changed_state port failing core)

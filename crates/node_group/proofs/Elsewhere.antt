@@ -57,9 +57,9 @@ exactly_none_put x core outcome m o none = refl
 pub none_put : (x : ConnectionName) (core : CoreState) (outcome : StepOutcome) (m : NodeMoveOrLost core outcome) → IsOrderly core → open_named x core ≡ None
     → packet_commands x (move_proposal m) ≡ []
 none_put x core outcome (exactly m) o none = exactly_none_put x core outcome m o none
-none_put x core outcome (first_losing now port c connect rest did at first is taken) o none =
+none_put x core outcome (first_losing now port c connect rest account at first is taken) o none =
     one_other x core port c (commands.Connect c.name connect.client connect.clean) o none at refl
-none_put x core outcome (later_losing now port c packet rest did at later is taken) o none = one_other x core port c (commands.Packet c.name packet) o none at refl
+none_put x core outcome (later_losing now port c packet rest account at later is taken) o none = one_other x core port c (commands.Packet c.name packet) o none at refl
 none_put x core outcome m o none = refl
 
 -- no bytes come on it

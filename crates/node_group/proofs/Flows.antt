@@ -178,11 +178,11 @@ exactly_flows x core outcome crashes o = from_shuts (move_shuts core outcome cra
 pub move_flows : (x : ConnectionName) (core : CoreState) (outcome : StepOutcome) (m : NodeMoveOrLost core outcome) → IsOrderly core
     → Flows (handed_on x m) (sent_in x m) (listed_named x core) (listed_named x outcome.core)
 move_flows x core outcome (exactly m) o = exactly_flows x core outcome m o
-move_flows x core outcome (hears_losing input did other drives) o = from_shuts (lossy_shuts core outcome (hears_losing input did other drives) o x tt)
-move_flows x core outcome (first_losing now port c connect rest did at first is taken) o = from_shuts (lossy_shuts core outcome (first_losing now port c connect rest did at first is taken) o x tt)
-move_flows x core outcome (later_losing now port c packet rest did at later is taken) o = from_shuts (lossy_shuts core outcome (later_losing now port c packet rest did at later is taken) o x tt)
-move_flows x core outcome (tells_losing name did taken) o = from_shuts (lossy_shuts core outcome (tells_losing name did taken) o x tt)
-move_flows x core outcome (expels_losing client did taken) o = from_shuts (lossy_shuts core outcome (expels_losing client did taken) o x tt)
+move_flows x core outcome (hears_losing input account other drives) o = from_shuts (lossy_shuts core outcome (hears_losing input account other drives) o x tt)
+move_flows x core outcome (first_losing now port c connect rest account at first is taken) o = from_shuts (lossy_shuts core outcome (first_losing now port c connect rest account at first is taken) o x tt)
+move_flows x core outcome (later_losing now port c packet rest account at later is taken) o = from_shuts (lossy_shuts core outcome (later_losing now port c packet rest account at later is taken) o x tt)
+move_flows x core outcome (tells_losing name account taken) o = from_shuts (lossy_shuts core outcome (tells_losing name account taken) o x tt)
+move_flows x core outcome (expels_losing client account taken) o = from_shuts (lossy_shuts core outcome (expels_losing client account taken) o x tt)
 move_flows x core outcome forgets o = from_shuts (lossy_shuts core outcome forgets o x tt)
 move_flows x core outcome halts o = from_shuts (lossy_shuts core outcome halts o x tt)
 move_flows x core outcome (fails port) o = from_shuts (lossy_shuts core outcome (fails port) o x tt)

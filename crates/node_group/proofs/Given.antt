@@ -69,23 +69,23 @@ exactly_given x core outcome settles o given = by_same x core outcome.core (stay
 exactly_given x core outcome (hands port) o given = by_same x core outcome.core (stays_handed port core o).last given
 
 -- .. if a command is taken after a change
-taken_last : (command : Command) (core between : CoreState) (did : Account) → IsOrderly between → between.last_name ≡ core.last_name → TakesCommand command between did
-    → did.core.last_name ≡ core.last_name
-taken_last command core between did o same taken = (stays_takes command between did taken o).last ∙ same
+taken_last : (command : Command) (core between : CoreState) (account : Account) → IsOrderly between → between.last_name ≡ core.last_name → TakesCommand command between account
+    → account.core.last_name ≡ core.last_name
+taken_last command core between account o same taken = (stays_takes command between account taken o).last ∙ same
 
 pub stays_given : (x : ConnectionName) (core : CoreState) (outcome : StepOutcome) (m : NodeMoveOrLost core outcome) → IsOrderly core → IsGiven core.last_name x → IsGiven outcome.core.last_name x
 stays_given x core outcome (exactly m) o given = exactly_given x core outcome m o given
-stays_given x core outcome (hears_losing input did other drives_so) o given = by_same x core outcome.core (stays_drives input core did drives_so o).last given
-stays_given x core outcome (first_losing now port c connect rest did at first is taken) o given =
+stays_given x core outcome (hears_losing input account other drives_so) o given = by_same x core outcome.core (stays_drives input core account drives_so o).last given
+stays_given x core outcome (first_losing now port c connect rest account at first is taken) o given =
     let left : CoreState = changes port (left_with now rest) core in
     by_same x core outcome.core
-    (taken_last _ core (changes port (noted_proposed connect.keep_alive) left) did (at_orderly port (noted_proposed connect.keep_alive) left (at_orderly port (left_with now rest) core o (λ d. refl)) (λ d. refl))
+    (taken_last _ core (changes port (noted_proposed connect.keep_alive) left) account (at_orderly port (noted_proposed connect.keep_alive) left (at_orderly port (left_with now rest) core o (λ d. refl)) (λ d. refl))
     (same_last port (noted_proposed connect.keep_alive) left ∙ same_last port (left_with now rest) core) taken) given
-stays_given x core outcome (later_losing now port c packet rest did at later is taken) o given =
+stays_given x core outcome (later_losing now port c packet rest account at later is taken) o given =
     by_same x core outcome.core
-    (taken_last _ core (changes port (left_with now rest) core) did (at_orderly port (left_with now rest) core o (λ d. refl)) (same_last port (left_with now rest) core) taken) given
-stays_given x core outcome (tells_losing name did taken) o given = by_same x core outcome.core (taken_last _ core core did o refl taken) given
-stays_given x core outcome (expels_losing client did taken) o given = by_same x core outcome.core (taken_last _ core core did o refl taken) given
+    (taken_last _ core (changes port (left_with now rest) core) account (at_orderly port (left_with now rest) core o (λ d. refl)) (same_last port (left_with now rest) core) taken) given
+stays_given x core outcome (tells_losing name account taken) o given = by_same x core outcome.core (taken_last _ core core account o refl taken) given
+stays_given x core outcome (expels_losing client account taken) o given = by_same x core outcome.core (taken_last _ core core account o refl taken) given
 stays_given x core outcome forgets o given = given
 stays_given x core outcome halts o given = given
 stays_given x core outcome (fails port) o given = by_same x core outcome.core (same_last port failing core) given

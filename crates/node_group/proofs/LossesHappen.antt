@@ -50,32 +50,32 @@ stopped_happens g n core turn new given thin at replica sent left (inr (inl (is,
 stopped_happens g n core turn new given thin at replica sent left (inr (inr (is, empty))) config earlier came =
     one_stop g n core turn given config earlier came at (replica ∙ is) (sent ∙ ap messages empty) (left ∙ ap outputs empty)
 
-drives_happen : (g : Group) (n : ℕ) (core : CoreState) (input : Input Command) (did : Account) (kept : Given) → slice_get g.nodes n ≡ Some core → is_proposal input ≡ false
-    → InputWasSent g n input → Drives input core did → Thinned kept did.messages → (config : Config) (earlier : List (Moment State Command Output))
-    (came : Moments rules config (moment_of_nodes g ∷ earlier)) → Once came (moment_of_nodes (group_after_outcome g n (with_messages kept (outcome_in did)) did.given)) [] n (outputs did.given)
-drives_happen g n core input did kept at other sent m t config earlier came = by (replica_of core).stopped refl
+drives_happen : (g : Group) (n : ℕ) (core : CoreState) (input : Input Command) (account : Account) (kept : Given) → slice_get g.nodes n ≡ Some core → is_proposal input ≡ false
+    → InputWasSent g n input → Drives input core account → Thinned kept account.messages → (config : Config) (earlier : List (Moment State Command Output))
+    (came : Moments rules config (moment_of_nodes g ∷ earlier)) → Once came (moment_of_nodes (group_after_outcome g n (with_messages kept (outcome_in account)) account.given)) [] n (outputs account.given)
+drives_happen g n core input account kept at other sent m t config earlier came = by (replica_of core).stopped refl
   where
-    k : KeptOf kept did.given
-    k = kept_of_told did.given (record core { replica = m.replica }) did.core did.messages kept m.handles t
+    k : KeptOf kept account.given
+    k = kept_of_told account.given (record core { replica = m.replica }) account.core account.messages kept m.handles t
 
     new : ReplicaState State Command
     new = m.replica.state
 
-    replica : replica_of did.core ≡ new
-    replica = state_of did.core (record core { replica = m.replica }) (delivers_replica did.given (record core { replica = m.replica }) did.core did.messages m.handles)
+    replica : replica_of account.core ≡ new
+    replica = state_of account.core (record core { replica = m.replica }) (delivers_replica account.given (record core { replica = m.replica }) account.core account.messages m.handles)
 
     lost : Loses rules (replica_of core) (outcome_of_input input (replica_of core)) new k.thin
     lost =
-        loses_more (replica_of core) new (outcome_of_input input (replica_of core)) did.given k.thin (steps_lose core.replica m.replica (outcome_of_input input (replica_of core)) did.given m.steps)
+        loses_more (replica_of core) new (outcome_of_input input (replica_of core)) account.given k.thin (steps_lose core.replica m.replica (outcome_of_input input (replica_of core)) account.given m.steps)
         k.thinned
 
-    by : (b : Bool) → (replica_of core).stopped ≡ b → Once came (moment_of_nodes (group_after_outcome g n (with_messages kept (outcome_in did)) did.given)) [] n (outputs did.given)
+    by : (b : Bool) → (replica_of core).stopped ≡ b → Once came (moment_of_nodes (group_after_outcome g n (with_messages kept (outcome_in account)) account.given)) [] n (outputs account.given)
     by true e =
-        stopped_happens g n core (with_messages kept (outcome_in did)) new did.given k.thin at replica k.sent k.left
+        stopped_happens g n core (with_messages kept (outcome_in account)) new account.given k.thin at replica k.sent k.left
         (subst (λ (o : Outcome State Command Output). Loses rules (replica_of core) o new k.thin) (heard_as_stopped (replica_of core) input e) lost) config earlier came
     by false e =
-        subst (λ l. Once came (moment_of_nodes (group_after_outcome g n (with_messages kept (outcome_in did)) did.given)) l n (outputs did.given)) (none_put core input other)
-        (one_step g n core (with_messages kept (outcome_in did)) input new did.given k.thin config earlier came at e (may_take g n input other sent) replica
+        subst (λ l. Once came (moment_of_nodes (group_after_outcome g n (with_messages kept (outcome_in account)) account.given)) l n (outputs account.given)) (none_put core input other)
+        (one_step g n core (with_messages kept (outcome_in account)) input new account.given k.thin config earlier came at e (may_take g n input other sent) replica
         (subst (λ (o : Outcome State Command Output). Loses rules (replica_of core) o new k.thin) (heard_as_running (replica_of core) input e) lost) k.sent k.left
         (none_taken (replica_of core) new input other))
 
@@ -86,22 +86,22 @@ left_true true b e = refl
 left_true false b e = absurd cc
 
 -- after a change of connections
-takes_happen : (g : Group) (n : ℕ) (core between : CoreState) (command : Command) (did : Account) (kept : Given) → slice_get g.nodes n ≡ Some core → between.replica ≡ core.replica
-    → TakesCommand command between did → Thinned kept did.messages → (config : Config) (earlier : List (Moment State Command Output)) (came : Moments rules config (moment_of_nodes g ∷ earlier))
-    → Once came (moment_of_nodes (group_after_outcome g n (with_messages kept (outcome_in did)) did.given)) (((replica_of core).joined, command) ∷ []) n (outputs did.given)
-takes_happen g n core between command did kept at same taken t config earlier came =
-    one_step g n core (with_messages kept (outcome_in did)) (Proposes command) new did.given k.thin config earlier came at (serving_runs core serving) tt replica
+takes_happen : (g : Group) (n : ℕ) (core between : CoreState) (command : Command) (account : Account) (kept : Given) → slice_get g.nodes n ≡ Some core → between.replica ≡ core.replica
+    → TakesCommand command between account → Thinned kept account.messages → (config : Config) (earlier : List (Moment State Command Output)) (came : Moments rules config (moment_of_nodes g ∷ earlier))
+    → Once came (moment_of_nodes (group_after_outcome g n (with_messages kept (outcome_in account)) account.given)) (((replica_of core).joined, command) ∷ []) n (outputs account.given)
+takes_happen g n core between command account kept at same taken t config earlier came =
+    one_step g n core (with_messages kept (outcome_in account)) (Proposes command) new account.given k.thin config earlier came at (serving_runs core serving) tt replica
     (inl (is, subst (λ (o : Outcome State Command Output). Thinned k.thin o.effects) outcome thinner))
     k.sent k.left (subst (λ (s : ReplicaState State Command). AreTaken (replica_of core) s (Proposes command)) (sym is) (proposal_taken core command serving (λ x is_one. fits)))
   where
-    k : KeptOf kept did.given
-    k = kept_of_told did.given (record between { replica = taken.replica }) did.core did.messages kept taken.handles t
+    k : KeptOf kept account.given
+    k = kept_of_told account.given (record between { replica = taken.replica }) account.core account.messages kept taken.handles t
 
     new : ReplicaState State Command
     new = taken.replica.state
 
-    replica : replica_of did.core ≡ new
-    replica = state_of did.core (record between { replica = taken.replica }) (delivers_replica did.given (record between { replica = taken.replica }) did.core did.messages taken.handles)
+    replica : replica_of account.core ≡ new
+    replica = state_of account.core (record between { replica = taken.replica }) (delivers_replica account.given (record between { replica = taken.replica }) account.core account.messages taken.handles)
 
     room : has_room core ≡ true
     room =
@@ -136,14 +136,14 @@ pub losses_happen : (g : Group) (n : ℕ) (core : CoreState) (turn : StepOutcome
     → CutsThaw m → Thinned kept turn.messages → (config : Config) (earlier : List (Moment State Command Output)) (came : Moments rules config (moment_of_nodes g ∷ earlier))
     → Once came (moment_of_nodes (group_after_outcome (with_record g (recorded_by g.archive m)) n (with_messages kept turn) (move_effects m))) (put_in_move m) n (outputs (move_effects m))
 losses_happen g n core turn (exactly m) kept at sent frozen t = moves_happen g n core turn m kept at (sent_by g n m sent frozen) t
-losses_happen g n core turn (hears_losing input did other drives) kept at sent frozen t = drives_happen g n core input did kept at other sent.0 drives t
-losses_happen g n core turn (first_losing now port c connect rest did is_at first is taken) kept at sent frozen t =
-    takes_happen g n core (changes port (noted_proposed connect.keep_alive) (changes port (left_with now rest) core)) _ did kept at
+losses_happen g n core turn (hears_losing input account other drives) kept at sent frozen t = drives_happen g n core input account kept at other sent.0 drives t
+losses_happen g n core turn (first_losing now port c connect rest account is_at first is taken) kept at sent frozen t =
+    takes_happen g n core (changes port (noted_proposed connect.keep_alive) (changes port (left_with now rest) core)) _ account kept at
     (changes_keep port (noted_proposed connect.keep_alive) (changes port (left_with now rest) core) ∙ changes_keep port (left_with now rest) core) taken t
-losses_happen g n core turn (later_losing now port c packet rest did is_at later is taken) kept at sent frozen t =
-    takes_happen g n core (changes port (left_with now rest) core) _ did kept at (changes_keep port (left_with now rest) core) taken t
-losses_happen g n core turn (tells_losing name did taken) kept at sent frozen t = takes_happen g n core core (commands.Lost name) did kept at refl taken t
-losses_happen g n core turn (expels_losing client did taken) kept at sent frozen t = takes_happen g n core core (commands.Expel client) did kept at refl taken t
+losses_happen g n core turn (later_losing now port c packet rest account is_at later is taken) kept at sent frozen t =
+    takes_happen g n core (changes port (left_with now rest) core) _ account kept at (changes_keep port (left_with now rest) core) taken t
+losses_happen g n core turn (tells_losing name account taken) kept at sent frozen t = takes_happen g n core core (commands.Lost name) account kept at refl taken t
+losses_happen g n core turn (expels_losing client account taken) kept at sent frozen t = takes_happen g n core core (commands.Expel client) account kept at refl taken t
 losses_happen g n core turn forgets kept at sent frozen t = happens_without_messages g n core turn.core kept at refl t
 losses_happen g n core turn halts kept at sent frozen t =
     λ config earlier came. one_stop g n core (with_messages kept turn) [] config earlier came at refl (ap messages (nothing_kept kept t)) refl

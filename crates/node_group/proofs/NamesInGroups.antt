@@ -80,7 +80,7 @@ lost_well : (item : Item) (core : CoreState) (outcome : StepOutcome) → RunsOn 
 lost_well item core outcome runs orderly of =
     record {
       orderly = orderly;
-      names = subst (λ (c : CoreState). AreOfTheBallot c) (sym runs.settles) (settled_names runs.did.core (subst (λ (c : CoreState). AreWhereItServes c) runs.settles of));
+      names = subst (λ (c : CoreState). AreOfTheBallot c) (sym runs.settles) (settled_names runs.account.core (subst (λ (c : CoreState). AreWhereItServes c) runs.settles of));
     }
 
 -- ---- groups

@@ -53,8 +53,8 @@ proposed_in core outcome m command o of serving is x named =
     lossy_names_keep_their_ballot.proposes core outcome m o of serving x command (subst (In command) (sym is) here) named
 
 -- who takes a command after a change of connections serves
-serves_who_takes : (core between : CoreState) (command : Command) (did : Account) → between.replica ≡ core.replica → TakesCommand command between did → serves core ≡ true
-serves_who_takes core between command did same taken =
+serves_who_takes : (core between : CoreState) (command : Command) (account : Account) → between.replica ≡ core.replica → TakesCommand command between account → serves core ≡ true
+serves_who_takes core between command account same taken =
     sym (serves_as between core same) ∙ room_serves between (nat_lt (places (replica_of between).log) max_places) taken.room
 
 exactly_in : (core : CoreState) (outcome : StepOutcome) (m : NodeMove core outcome) → IsOrderly core → AreWhereItServes core → Each IsInItsBallot (exactly_put m)
@@ -75,19 +75,19 @@ exactly_in core outcome m o of = tt
 
 puts_in : (core : CoreState) (outcome : StepOutcome) (m : NodeMoveOrLost core outcome) → IsOrderly core → AreWhereItServes core → Each IsInItsBallot (put_in_move m)
 puts_in core outcome (exactly m) o of = exactly_in core outcome m o of
-puts_in core outcome (first_losing now port c connect rest did at first is taken) o of = (
-  proposed_in core outcome (first_losing now port c connect rest did at first is taken) (commands.Connect c.name connect.client connect.clean) o of
-      (serves_who_takes core (changes port (noted_proposed connect.keep_alive) (changes port (left_with now rest) core)) _ did
+puts_in core outcome (first_losing now port c connect rest account at first is taken) o of = (
+  proposed_in core outcome (first_losing now port c connect rest account at first is taken) (commands.Connect c.name connect.client connect.clean) o of
+      (serves_who_takes core (changes port (noted_proposed connect.keep_alive) (changes port (left_with now rest) core)) _ account
       (changes_keep port (noted_proposed connect.keep_alive) (changes port (left_with now rest) core) ∙ changes_keep port (left_with now rest) core) taken) refl,
   tt,
 )
-puts_in core outcome (later_losing now port c packet rest did at later is taken) o of = (
-  proposed_in core outcome (later_losing now port c packet rest did at later is taken) (commands.Packet c.name packet) o of
-      (serves_who_takes core (changes port (left_with now rest) core) _ did (changes_keep port (left_with now rest) core) taken) refl,
+puts_in core outcome (later_losing now port c packet rest account at later is taken) o of = (
+  proposed_in core outcome (later_losing now port c packet rest account at later is taken) (commands.Packet c.name packet) o of
+      (serves_who_takes core (changes port (left_with now rest) core) _ account (changes_keep port (left_with now rest) core) taken) refl,
   tt,
 )
-puts_in core outcome (tells_losing name did taken) o of = none_of_a_packet core name true
-puts_in core outcome (expels_losing client did taken) o of = none_of_an_expel core client true
+puts_in core outcome (tells_losing name account taken) o of = none_of_a_packet core name true
+puts_in core outcome (expels_losing client account taken) o of = none_of_an_expel core client true
 puts_in core outcome m o of = tt
 
 -- ---- runs

@@ -71,7 +71,7 @@ exactly_heard archive core outcome m moves none = absurd cc
 heard : (archive : List Command) (core : CoreState) (outcome : StepOutcome) (m : NodeMoveOrLost core outcome) → hears_in m ≡ true → inputs_in m ≡ []
     → recorded_by archive m ≡ recorded_to archive core (replica_of outcome.core).log.base
 heard archive core outcome (exactly m) moves none = exactly_heard archive core outcome m moves none
-heard archive core outcome (hears_losing input did other drives) moves none = absurd cc
+heard archive core outcome (hears_losing input account other drives) moves none = absurd cc
 heard archive core outcome m moves none = absurd cc
 
 first_records : (archive : List Command) (core : CoreState) (outcome : StepOutcome) (m : NodeMoveOrLost core outcome) → inputs_in m ≡ []

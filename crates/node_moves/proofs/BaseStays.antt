@@ -32,14 +32,14 @@ base_of core later e = ap (λ (r : CountedReplica State Command). r.state.log.ba
 
 pub calm_base : (core : CoreState) (outcome : StepOutcome) (m : NodeMoveOrLost core outcome) → hears_in m ≡ false → outcome.core.replica.state.log.base ≡ core.replica.state.log.base
 calm_base core outcome (exactly m) calm = (move_same core outcome m calm).base
-calm_base core outcome (hears_losing input did other drives) calm = absurd cc
-calm_base core outcome (first_losing now port c connect rest did at first is taken) calm =
-    (taken_after _ core (changes port (noted_proposed connect.keep_alive) (changes port (left_with now rest) core)) did
+calm_base core outcome (hears_losing input account other drives) calm = absurd cc
+calm_base core outcome (first_losing now port c connect rest account at first is taken) calm =
+    (taken_after _ core (changes port (noted_proposed connect.keep_alive) (changes port (left_with now rest) core)) account
     (at_replica port (noted_proposed connect.keep_alive) (changes port (left_with now rest) core) ∙ at_replica port (left_with now rest) core) taken).base
-calm_base core outcome (later_losing now port c packet rest did at later is taken) calm =
-    (taken_after _ core (changes port (left_with now rest) core) did (at_replica port (left_with now rest) core) taken).base
-calm_base core outcome (tells_losing name did taken) calm = (taken_same (commands.Lost name) core did taken).base
-calm_base core outcome (expels_losing client did taken) calm = (taken_same (commands.Expel client) core did taken).base
+calm_base core outcome (later_losing now port c packet rest account at later is taken) calm =
+    (taken_after _ core (changes port (left_with now rest) core) account (at_replica port (left_with now rest) core) taken).base
+calm_base core outcome (tells_losing name account taken) calm = (taken_same (commands.Lost name) core account taken).base
+calm_base core outcome (expels_losing client account taken) calm = (taken_same (commands.Expel client) core account taken).base
 calm_base core outcome forgets calm = refl
 calm_base core outcome halts calm = refl
 calm_base core outcome (fails port) calm = base_of core outcome.core (at_replica port failing core)

@@ -49,14 +49,14 @@ lost_closed core outcome m o may x d there over =
 
 pub losses_put_nothing_on_closed : LossesPutNothingOnClosed
 losses_put_nothing_on_closed core outcome (exactly m) o x d there over = exactly_so x core outcome m d (nothing_on_closed core outcome m o x d there over)
-losses_put_nothing_on_closed core outcome (hears_losing input did other drives) o x d there over =
-    lost_closed core outcome (hears_losing input did other drives) o tt x d there over
-losses_put_nothing_on_closed core outcome (first_losing now port c connect rest did at first is taken) o x d there over =
-    lost_closed core outcome (first_losing now port c connect rest did at first is taken) o tt x d there over
-losses_put_nothing_on_closed core outcome (later_losing now port c packet rest did at later is taken) o x d there over =
-    lost_closed core outcome (later_losing now port c packet rest did at later is taken) o tt x d there over
-losses_put_nothing_on_closed core outcome (tells_losing name did taken) o x d there over = lost_closed core outcome (tells_losing name did taken) o tt x d there over
-losses_put_nothing_on_closed core outcome (expels_losing client did taken) o x d there over = lost_closed core outcome (expels_losing client did taken) o tt x d there over
+losses_put_nothing_on_closed core outcome (hears_losing input account other drives) o x d there over =
+    lost_closed core outcome (hears_losing input account other drives) o tt x d there over
+losses_put_nothing_on_closed core outcome (first_losing now port c connect rest account at first is taken) o x d there over =
+    lost_closed core outcome (first_losing now port c connect rest account at first is taken) o tt x d there over
+losses_put_nothing_on_closed core outcome (later_losing now port c packet rest account at later is taken) o x d there over =
+    lost_closed core outcome (later_losing now port c packet rest account at later is taken) o tt x d there over
+losses_put_nothing_on_closed core outcome (tells_losing name account taken) o x d there over = lost_closed core outcome (tells_losing name account taken) o tt x d there over
+losses_put_nothing_on_closed core outcome (expels_losing client account taken) o x d there over = lost_closed core outcome (expels_losing client account taken) o tt x d there over
 losses_put_nothing_on_closed core outcome forgets o x d there over = lost_closed core outcome forgets o tt x d there over
 losses_put_nothing_on_closed core outcome halts o x d there over = lost_closed core outcome halts o tt x d there over
 losses_put_nothing_on_closed core outcome (fails port) o x d there over = lost_closed core outcome (fails port) o tt x d there over
@@ -72,14 +72,14 @@ none_comes core outcome m o may x d none there =
 
 pub lossy_names_are_of_the_ballot : LossyNamesAreOfTheBallot
 lossy_names_are_of_the_ballot core outcome (exactly m) o x d none there = new_names_are_of_the_ballot core outcome m o x d none there
-lossy_names_are_of_the_ballot core outcome (hears_losing input did other drives) o x d none there =
-    absurd (none_comes core outcome (hears_losing input did other drives) o tt x d none there)
-lossy_names_are_of_the_ballot core outcome (first_losing now port c connect rest did at first is taken) o x d none there =
-    absurd (none_comes core outcome (first_losing now port c connect rest did at first is taken) o tt x d none there)
-lossy_names_are_of_the_ballot core outcome (later_losing now port c packet rest did at later is taken) o x d none there =
-    absurd (none_comes core outcome (later_losing now port c packet rest did at later is taken) o tt x d none there)
-lossy_names_are_of_the_ballot core outcome (tells_losing name did taken) o x d none there = absurd (none_comes core outcome (tells_losing name did taken) o tt x d none there)
-lossy_names_are_of_the_ballot core outcome (expels_losing client did taken) o x d none there = absurd (none_comes core outcome (expels_losing client did taken) o tt x d none there)
+lossy_names_are_of_the_ballot core outcome (hears_losing input account other drives) o x d none there =
+    absurd (none_comes core outcome (hears_losing input account other drives) o tt x d none there)
+lossy_names_are_of_the_ballot core outcome (first_losing now port c connect rest account at first is taken) o x d none there =
+    absurd (none_comes core outcome (first_losing now port c connect rest account at first is taken) o tt x d none there)
+lossy_names_are_of_the_ballot core outcome (later_losing now port c packet rest account at later is taken) o x d none there =
+    absurd (none_comes core outcome (later_losing now port c packet rest account at later is taken) o tt x d none there)
+lossy_names_are_of_the_ballot core outcome (tells_losing name account taken) o x d none there = absurd (none_comes core outcome (tells_losing name account taken) o tt x d none there)
+lossy_names_are_of_the_ballot core outcome (expels_losing client account taken) o x d none there = absurd (none_comes core outcome (expels_losing client account taken) o tt x d none there)
 lossy_names_are_of_the_ballot core outcome forgets o x d none there = absurd (none_comes core outcome forgets o tt x d none there)
 lossy_names_are_of_the_ballot core outcome halts o x d none there = absurd (none_comes core outcome halts o tt x d none there)
 lossy_names_are_of_the_ballot core outcome (fails port) o x d none there = absurd (none_comes core outcome (fails port) o tt x d none there)

@@ -60,18 +60,18 @@ same_then a b c s t = record { role = t.role ∙ s.role; joined = t.joined ∙ s
 state_of : (a b : CoreState) → a.replica ≡ b.replica → a.replica.state ≡ b.replica.state
 state_of a b e = ap (λ (r : CountedReplica State Command). r.state) e
 
-pub taken_same : (command : Command) (core : CoreState) (did : Account) → TakesCommand command core did → Same core.replica.state did.core.replica.state
-taken_same command core did t =
+pub taken_same : (command : Command) (core : CoreState) (account : Account) → TakesCommand command core account → Same core.replica.state account.core.replica.state
+taken_same command core account t =
     subst (λ (r : ReplicaState State Command). Same core.replica.state r)
-    (sym (ap (λ (r : CountedReplica State Command). r.state) (delivers_replica did.given (record core { replica = t.replica }) did.core did.messages t.handles)
+    (sym (ap (λ (r : CountedReplica State Command). r.state) (delivers_replica account.given (record core { replica = t.replica }) account.core account.messages t.handles)
     ∙ t.done.state))
     (added_same rules core.replica.state command)
 
 -- a command is taken after a change of a connection
-pub taken_after : (command : Command) (core between : CoreState) (did : Account) → between.replica ≡ core.replica → TakesCommand command between did
-    → Same core.replica.state did.core.replica.state
-taken_after command core between did same t =
-    same_then core between did.core (same_state core between (state_of between core same)) (taken_same command between did t)
+pub taken_after : (command : Command) (core between : CoreState) (account : Account) → between.replica ≡ core.replica → TakesCommand command between account
+    → Same core.replica.state account.core.replica.state
+taken_after command core between account same t =
+    same_then core between account.core (same_state core between (state_of between core same)) (taken_same command between account t)
 
 -- ---- a move in which it receives nothing
 
@@ -90,16 +90,16 @@ stopped_not core serving = absurd (both_ways (serves (halting core)) (and_false 
 
 calm_keeps : (core : CoreState) (turn : StepOutcome) (m : NodeMoveOrLost core turn) → IsOrderly core → hears_in m ≡ false → AreWhereItServes core → AreWhereItServes turn.core
 calm_keeps core turn (exactly m) o calm of = exact_calm core turn m o calm of
-calm_keeps core turn (hears_losing input did other drives) o calm of = absurd cc
-calm_keeps core turn (first_losing now port c connect rest did at first is taken) o calm of =
-    by_same core turn (first_losing now port c connect rest did at first is taken) o tt
-    (taken_after _ core (changes port (noted_proposed connect.keep_alive) (changes port (left_with now rest) core)) did
+calm_keeps core turn (hears_losing input account other drives) o calm of = absurd cc
+calm_keeps core turn (first_losing now port c connect rest account at first is taken) o calm of =
+    by_same core turn (first_losing now port c connect rest account at first is taken) o tt
+    (taken_after _ core (changes port (noted_proposed connect.keep_alive) (changes port (left_with now rest) core)) account
     (at_replica port (noted_proposed connect.keep_alive) (changes port (left_with now rest) core) ∙ at_replica port (left_with now rest) core) taken) of
-calm_keeps core turn (later_losing now port c packet rest did at later is taken) o calm of =
-    by_same core turn (later_losing now port c packet rest did at later is taken) o tt
-    (taken_after _ core (changes port (left_with now rest) core) did (at_replica port (left_with now rest) core) taken) of
-calm_keeps core turn (tells_losing name did taken) o calm of = by_same core turn (tells_losing name did taken) o tt (taken_same (commands.Lost name) core did taken) of
-calm_keeps core turn (expels_losing client did taken) o calm of = by_same core turn (expels_losing client did taken) o tt (taken_same (commands.Expel client) core did taken) of
+calm_keeps core turn (later_losing now port c packet rest account at later is taken) o calm of =
+    by_same core turn (later_losing now port c packet rest account at later is taken) o tt
+    (taken_after _ core (changes port (left_with now rest) core) account (at_replica port (left_with now rest) core) taken) of
+calm_keeps core turn (tells_losing name account taken) o calm of = by_same core turn (tells_losing name account taken) o tt (taken_same (commands.Lost name) core account taken) of
+calm_keeps core turn (expels_losing client account taken) o calm of = by_same core turn (expels_losing client account taken) o tt (taken_same (commands.Expel client) core account taken) of
 calm_keeps core turn forgets o calm of = by_same core turn forgets o tt (record { role = refl; joined = refl; stopped = refl; base = refl }) of
 calm_keeps core turn halts o calm of = stopped_not core
 calm_keeps core turn (fails port) o calm of =
@@ -138,14 +138,14 @@ exact_heard core input o of =
     (subst (λ (r : ReplicaState State Command). StaysOr core.replica.state r) (sym (drives_state input core)) (heard_stays input core.replica.state))
     (λ x. driven_shuts x input core o) of
 
-lossy_heard : (input : Input Command) (core : CoreState) (did : Account) (other : is_proposal input ≡ false) → (m : Drives input core did) → IsOrderly core
-    → AreOfTheBallot core → AreWhereItServes did.core
-lossy_heard input core did other m o of =
-    heard_keeps core did.core (λ x. bytes_for x did.given)
+lossy_heard : (input : Input Command) (core : CoreState) (account : Account) (other : is_proposal input ≡ false) → (m : Drives input core account) → IsOrderly core
+    → AreOfTheBallot core → AreWhereItServes account.core
+lossy_heard input core account other m o of =
+    heard_keeps core account.core (λ x. bytes_for x account.given)
     (subst (λ (r : CountedReplica State Command). StaysOr core.replica.state r.state)
-    (sym (delivers_replica did.given (record core { replica = m.replica }) did.core did.messages m.handles))
-    (lossy_stays core.replica m.replica (outcome_of_input input core.replica.state) did.given (heard_stays input core.replica.state) m.steps))
-    (λ x. driven x input core did m o) of
+    (sym (delivers_replica account.given (record core { replica = m.replica }) account.core account.messages m.handles))
+    (lossy_stays core.replica m.replica (outcome_of_input input core.replica.state) account.given (heard_stays input core.replica.state) m.steps))
+    (λ x. driven x input core account m o) of
 
 where_it_serves : (core : CoreState) → AreOfTheBallot core → AreWhereItServes core
 where_it_serves core of serving = of
@@ -170,13 +170,13 @@ exact_keeps core turn (hands port) o of = exact_calm core turn (hands port) o re
 
 first_keeps : (core : CoreState) (turn : StepOutcome) (m : NodeMoveOrLost core turn) → IsOrderly core → AreOfTheBallot core → AreWhereItServes turn.core
 first_keeps core turn (exactly m) o of = exact_keeps core turn m o of
-first_keeps core turn (hears_losing input did other drives) o of = lossy_heard input core did other drives o of
-first_keeps core turn (first_losing now port c connect rest did at first is taken) o of =
-    calm_keeps core turn (first_losing now port c connect rest did at first is taken) o refl (where_it_serves core of)
-first_keeps core turn (later_losing now port c packet rest did at later is taken) o of =
-    calm_keeps core turn (later_losing now port c packet rest did at later is taken) o refl (where_it_serves core of)
-first_keeps core turn (tells_losing name did taken) o of = calm_keeps core turn (tells_losing name did taken) o refl (where_it_serves core of)
-first_keeps core turn (expels_losing client did taken) o of = calm_keeps core turn (expels_losing client did taken) o refl (where_it_serves core of)
+first_keeps core turn (hears_losing input account other drives) o of = lossy_heard input core account other drives o of
+first_keeps core turn (first_losing now port c connect rest account at first is taken) o of =
+    calm_keeps core turn (first_losing now port c connect rest account at first is taken) o refl (where_it_serves core of)
+first_keeps core turn (later_losing now port c packet rest account at later is taken) o of =
+    calm_keeps core turn (later_losing now port c packet rest account at later is taken) o refl (where_it_serves core of)
+first_keeps core turn (tells_losing name account taken) o of = calm_keeps core turn (tells_losing name account taken) o refl (where_it_serves core of)
+first_keeps core turn (expels_losing client account taken) o of = calm_keeps core turn (expels_losing client account taken) o refl (where_it_serves core of)
 first_keeps core turn forgets o of = calm_keeps core turn forgets o refl (where_it_serves core of)
 first_keeps core turn halts o of = stopped_not core
 first_keeps core turn (fails port) o of = calm_keeps core turn (fails port) o refl (where_it_serves core of)
@@ -188,13 +188,13 @@ first_keeps core turn (drops port piece) o of = calm_keeps core turn (drops port
 proposes_of : (core : CoreState) (turn : StepOutcome) (m : NodeMoveOrLost core turn) → IsOrderly core → AreOfTheBallot core → (x : ConnectionName) (command : Command)
     → In command (move_proposal m) → is_packet_of command x ≡ true → x.ballot ≡ core.replica.state.joined
 proposes_of core turn (exactly m) o of x command i named' = names_keep_their_ballot.proposes core turn m o of x command i named'
-proposes_of core turn (first_losing now port c connect rest did at first is taken) o of x command i named' =
+proposes_of core turn (first_losing now port c connect rest account at first is taken) o of x command i named' =
     proposed_of core port c x o of at (only_one x (commands.Connect c.name connect.client connect.clean) command i named')
-proposes_of core turn (later_losing now port c packet rest did at later is taken) o of x command i named' =
+proposes_of core turn (later_losing now port c packet rest account at later is taken) o of x command i named' =
     proposed_of core port c x o of at (only_one x (commands.Packet c.name packet) command i named')
-proposes_of core turn (tells_losing name did taken) o of x command i named' = let z = only_one x (commands.Lost name) command i named' in absurd cc
-proposes_of core turn (expels_losing client did taken) o of x command i named' = let z = only_one x (commands.Expel client) command i named' in absurd cc
-proposes_of core turn (hears_losing input did other drives) o of x command i named' = elim i [ ]
+proposes_of core turn (tells_losing name account taken) o of x command i named' = let z = only_one x (commands.Lost name) command i named' in absurd cc
+proposes_of core turn (expels_losing client account taken) o of x command i named' = let z = only_one x (commands.Expel client) command i named' in absurd cc
+proposes_of core turn (hears_losing input account other drives) o of x command i named' = elim i [ ]
 proposes_of core turn forgets o of x command i named' = elim i [ ]
 proposes_of core turn halts o of x command i named' = elim i [ ]
 proposes_of core turn (fails port) o of x command i named' = elim i [ ]

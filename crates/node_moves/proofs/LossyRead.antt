@@ -67,23 +67,23 @@ losses_propose_in_order id config outcome run x written later some joined =
 
 -- ---- what is read is taken
 
-taken_log : (command : Command) (core between : CoreState) (did : Account) → between.replica ≡ core.replica → TakesCommand command between did
-    → did.core.replica.state.log ≡ pushed core.replica.state.log command
-taken_log command core between did same t =
-    ap (λ (r : CountedReplica State Command). r.state.log) (delivers_replica did.given (record between { replica = t.replica }) did.core did.messages t.handles)
+taken_log : (command : Command) (core between : CoreState) (account : Account) → between.replica ≡ core.replica → TakesCommand command between account
+    → account.core.replica.state.log ≡ pushed core.replica.state.log command
+taken_log command core between account same t =
+    ap (λ (r : CountedReplica State Command). r.state.log) (delivers_replica account.given (record between { replica = t.replica }) account.core account.messages t.handles)
     ∙ ap (λ (r : ReplicaState State Command). r.log) t.done.state ∙ added-log rules between.replica.state command
     ∙ ap (λ (r : CountedReplica State Command). pushed r.state.log command) same
 
 pub losses_are_taken : LossesAreTaken
 losses_are_taken core outcome (exactly m) read = reads_are_taken core outcome m read
-losses_are_taken core outcome (first_losing now port c connect rest did at first is taken) read =
-    taken_log _ core (changes port (noted_proposed connect.keep_alive) (changes port (left_with now rest) core)) did
+losses_are_taken core outcome (first_losing now port c connect rest account at first is taken) read =
+    taken_log _ core (changes port (noted_proposed connect.keep_alive) (changes port (left_with now rest) core)) account
     (at_replica port (noted_proposed connect.keep_alive) (changes port (left_with now rest) core) ∙ at_replica port (left_with now rest) core) taken
-losses_are_taken core outcome (later_losing now port c packet rest did at later is taken) read =
-    taken_log _ core (changes port (left_with now rest) core) did (at_replica port (left_with now rest) core) taken
-losses_are_taken core outcome (hears_losing input did other drives) read = absurd cc
-losses_are_taken core outcome (tells_losing name did taken) read = absurd cc
-losses_are_taken core outcome (expels_losing client did taken) read = absurd cc
+losses_are_taken core outcome (later_losing now port c packet rest account at later is taken) read =
+    taken_log _ core (changes port (left_with now rest) core) account (at_replica port (left_with now rest) core) taken
+losses_are_taken core outcome (hears_losing input account other drives) read = absurd cc
+losses_are_taken core outcome (tells_losing name account taken) read = absurd cc
+losses_are_taken core outcome (expels_losing client account taken) read = absurd cc
 losses_are_taken core outcome forgets read = absurd cc
 losses_are_taken core outcome halts read = absurd cc
 losses_are_taken core outcome (fails port) read = absurd cc

@@ -49,22 +49,22 @@ pub stays_replica : (core : CoreState) (replica : CountedReplica State Command) 
 stays_replica core replica up o =
     record { kept = λ x. kept_same (open_named x core); last = refl; orderly = replica_orderly core replica up o }
 
-pub stays_drives : (input : Input Command) (core : CoreState) (did : Account) → Drives input core did → IsOrderly core → Stays core did.core
-stays_drives input core did m o =
-    let s = stays_replica core m.replica (steps_up core.replica m.replica (outcome_of_input input core.replica.state) did.given (heard_up input core) m.steps) o in
-    stays_joined core (record core { replica = m.replica }) did.core s
-    (stays_delivers did.given (record core { replica = m.replica }) did.core did.messages m.handles s.orderly)
+pub stays_drives : (input : Input Command) (core : CoreState) (account : Account) → Drives input core account → IsOrderly core → Stays core account.core
+stays_drives input core account m o =
+    let s = stays_replica core m.replica (steps_up core.replica m.replica (outcome_of_input input core.replica.state) account.given (heard_up input core) m.steps) o in
+    stays_joined core (record core { replica = m.replica }) account.core s
+    (stays_delivers account.given (record core { replica = m.replica }) account.core account.messages m.handles s.orderly)
 
-pub taken_joined : (command : Command) (core : CoreState) (did : Account) (t : TakesCommand command core did) → t.replica.state.joined ≡ core.replica.state.joined
-taken_joined command core did t =
+pub taken_joined : (command : Command) (core : CoreState) (account : Account) (t : TakesCommand command core account) → t.replica.state.joined ≡ core.replica.state.joined
+taken_joined command core account t =
     ap (λ (r : ReplicaState State Command). r.joined) t.done.state ∙ (added_same rules core.replica.state command).joined
 
-pub stays_takes : (command : Command) (core : CoreState) (did : Account) → TakesCommand command core did → IsOrderly core → Stays core did.core
-stays_takes command core did t o =
-    let up = subst (λ (n : ℕ). core.replica.state.joined ≤ n) (sym (taken_joined command core did t)) (same_le core.replica.state.joined) in
+pub stays_takes : (command : Command) (core : CoreState) (account : Account) → TakesCommand command core account → IsOrderly core → Stays core account.core
+stays_takes command core account t o =
+    let up = subst (λ (n : ℕ). core.replica.state.joined ≤ n) (sym (taken_joined command core account t)) (same_le core.replica.state.joined) in
     let s = stays_replica core t.replica up o in
-    stays_joined core (record core { replica = t.replica }) did.core s
-    (stays_delivers did.given (record core { replica = t.replica }) did.core did.messages t.handles s.orderly)
+    stays_joined core (record core { replica = t.replica }) account.core s
+    (stays_delivers account.given (record core { replica = t.replica }) account.core account.messages t.handles s.orderly)
 
 -- ---- moves that read nothing
 
@@ -90,22 +90,22 @@ stays_reads {core = core} {outcome = outcome} m s no_bytes none = (
 
 -- ---- a packet is read and taken
 
-abbrev first_move : (now : ℕ) (core : CoreState) (port : Port) (c : Connection) (connect : Connect) (rest : List ℕ) (did : Account) → open_at port core ≡ Some c → is_first c.stage ≡ true
+abbrev first_move : (now : ℕ) (core : CoreState) (port : Port) (c : Connection) (connect : Connect) (rest : List ℕ) (account : Account) → open_at port core ≡ Some c → is_first c.stage ≡ true
     → verdict c.unread ≡ Ok (packets.Connect connect, rest)
-    → TakesCommand (commands.Connect c.name connect.client connect.clean) (changes port (noted_proposed connect.keep_alive) (changes port (left_with now rest) core)) did
-    → NodeMoveOrLost core (record { core = did.core; messages = did.messages })
-first_move now core port c connect rest did at first reads taken = first_losing now port c connect rest did at first reads taken
+    → TakesCommand (commands.Connect c.name connect.client connect.clean) (changes port (noted_proposed connect.keep_alive) (changes port (left_with now rest) core)) account
+    → NodeMoveOrLost core (record { core = account.core; messages = account.messages })
+first_move now core port c connect rest account at first reads taken = first_losing now port c connect rest account at first reads taken
 
-abbrev later_move : (now : ℕ) (core : CoreState) (port : Port) (c : Connection) (packet : Packet) (rest : List ℕ) (did : Account) → open_at port core ≡ Some c → is_first c.stage ≡ false
-    → verdict c.unread ≡ Ok (packet, rest) → TakesCommand (commands.Packet c.name packet) (changes port (left_with now rest) core) did
-    → NodeMoveOrLost core (record { core = did.core; messages = did.messages })
-later_move now core port c packet rest did at later reads taken = later_losing now port c packet rest did at later reads taken
+abbrev later_move : (now : ℕ) (core : CoreState) (port : Port) (c : Connection) (packet : Packet) (rest : List ℕ) (account : Account) → open_at port core ≡ Some c → is_first c.stage ≡ false
+    → verdict c.unread ≡ Ok (packet, rest) → TakesCommand (commands.Packet c.name packet) (changes port (left_with now rest) core) account
+    → NodeMoveOrLost core (record { core = account.core; messages = account.messages })
+later_move now core port c packet rest account at later reads taken = later_losing now port c packet rest account at later reads taken
 
-first_reads : (now : ℕ) (core : CoreState) (port : Port) (c : Connection) (connect : Connect) (rest : List ℕ) (did : Account) (at : open_at port core ≡ Some c) (first : is_first c.stage ≡ true)
+first_reads : (now : ℕ) (core : CoreState) (port : Port) (c : Connection) (connect : Connect) (rest : List ℕ) (account : Account) (at : open_at port core ≡ Some c) (first : is_first c.stage ≡ true)
     (reads : verdict c.unread ≡ Ok (packets.Connect connect, rest))
-    (taken : TakesCommand (commands.Connect c.name connect.client connect.clean) (changes port (noted_proposed connect.keep_alive) (changes port (left_with now rest) core)) did) → IsOrderly core
-    → ReadsAll (first_move now core port c connect rest did at first reads taken)
-first_reads now core port c connect rest did at first reads taken o =
+    (taken : TakesCommand (commands.Connect c.name connect.client connect.clean) (changes port (noted_proposed connect.keep_alive) (changes port (left_with now rest) core)) account) → IsOrderly core
+    → ReadsAll (first_move now core port c connect rest account at first reads taken)
+first_reads now core port c connect rest account at first reads taken o =
     (s.orderly, λ x written read in_transit rest_of end same. by x written read rest_of (subst (IsEnd x core written read) same end) (named x c) refl)
   where
     command : Command
@@ -117,8 +117,8 @@ first_reads now core port c connect rest did at first reads taken o =
     h : IsChange core between port c (λ d. noted_proposed connect.keep_alive (left_with now rest d))
     h = asked_change connect.keep_alive now core port c rest at
 
-    s : Stays between did.core
-    s = stays_takes command between did taken (changed_orderly core between (is_open_at port) (λ d. noted_proposed connect.keep_alive (left_with now rest d)) o h.are h.same h.up h.name)
+    s : Stays between account.core
+    s = stays_takes command between account taken (changed_orderly core between (is_open_at port) (λ d. noted_proposed connect.keep_alive (left_with now rest d)) o h.are h.same h.up h.name)
 
     with_name : (x : ConnectionName) (read : List Packet) (b : Bool) → named x c ≡ b → (more : List Packet) → more ≡ (if b then packets.Connect connect ∷ [] else [])
         → (b ≡ true → is_first c.stage ≡ is_nothing read) → filter (λ z. is_packet_of z x) (command ∷ []) ≡ packet_commands_from x (length read) more
@@ -126,15 +126,15 @@ first_reads now core port c connect rest did at first reads taken o =
     with_name x read false e more is nothing = rw (e, is) refl
 
     by : (x : ConnectionName) (written read : List Packet) (rest_of : List ℕ) → IsEnd x core written read rest_of → (b : Bool) → named x c ≡ b
-        → ReadsOn x (first_move now core port c connect rest did at first reads taken) written read rest_of
+        → ReadsOn x (first_move now core port c connect rest account at first reads taken) written read rest_of
     by x written read rest_of end b e =
-        let z = read_then x core between did.core port c (λ d. noted_proposed connect.keep_alive (left_with now rest d)) written read rest_of rest (packets.Connect connect) o h refl refl reads s end b e in
+        let z = read_then x core between account.core port c (λ d. noted_proposed connect.keep_alive (left_with now rest d)) written read rest_of rest (packets.Connect connect) o h refl refl reads s end b e in
         record { more = z.0; end = z.1; proposed = with_name x read b e z.0 z.2 z.3 }
 
-later_reads : (now : ℕ) (core : CoreState) (port : Port) (c : Connection) (packet : Packet) (rest : List ℕ) (did : Account) (at : open_at port core ≡ Some c) (later : is_first c.stage ≡ false)
-    (reads : verdict c.unread ≡ Ok (packet, rest)) (taken : TakesCommand (commands.Packet c.name packet) (changes port (left_with now rest) core) did) → IsOrderly core
-    → ReadsAll (later_move now core port c packet rest did at later reads taken)
-later_reads now core port c packet rest did at later reads taken o =
+later_reads : (now : ℕ) (core : CoreState) (port : Port) (c : Connection) (packet : Packet) (rest : List ℕ) (account : Account) (at : open_at port core ≡ Some c) (later : is_first c.stage ≡ false)
+    (reads : verdict c.unread ≡ Ok (packet, rest)) (taken : TakesCommand (commands.Packet c.name packet) (changes port (left_with now rest) core) account) → IsOrderly core
+    → ReadsAll (later_move now core port c packet rest account at later reads taken)
+later_reads now core port c packet rest account at later reads taken o =
     (s.orderly, λ x written read in_transit rest_of end same. by x written read rest_of (subst (IsEnd x core written read) same end) (named x c) refl)
   where
     command : Command
@@ -146,8 +146,8 @@ later_reads now core port c packet rest did at later reads taken o =
     h : IsChange core between port c (left_with now rest)
     h = left_change now core port c rest at
 
-    s : Stays between did.core
-    s = stays_takes command between did taken (changed_orderly core between (is_open_at port) (left_with now rest) o h.are h.same h.up h.name)
+    s : Stays between account.core
+    s = stays_takes command between account taken (changed_orderly core between (is_open_at port) (left_with now rest) o h.are h.same h.up h.name)
 
     with_name : (x : ConnectionName) (read : List Packet) (b : Bool) → named x c ≡ b → (more : List Packet) → more ≡ (if b then packet ∷ [] else [])
         → (b ≡ true → is_first c.stage ≡ is_nothing read) → filter (λ z. is_packet_of z x) (command ∷ []) ≡ packet_commands_from x (length read) more
@@ -155,9 +155,9 @@ later_reads now core port c packet rest did at later reads taken o =
     with_name x read false e more is nothing = rw (e, is) refl
 
     by : (x : ConnectionName) (written read : List Packet) (rest_of : List ℕ) → IsEnd x core written read rest_of → (b : Bool) → named x c ≡ b
-        → ReadsOn x (later_move now core port c packet rest did at later reads taken) written read rest_of
+        → ReadsOn x (later_move now core port c packet rest account at later reads taken) written read rest_of
     by x written read rest_of end b e =
-        let z = read_then x core between did.core port c (left_with now rest) written read rest_of rest packet o h refl later reads s end b e in
+        let z = read_then x core between account.core port c (left_with now rest) written read rest_of rest packet o h refl later reads s end b e in
         record { more = z.0; end = z.1; proposed = with_name x read b e z.0 z.2 z.3 }
 
 -- ---- bytes are dropped
@@ -216,14 +216,14 @@ exact_reads {core = core} {outcome = outcome} m o =
 
 pub losses_read_in_order : LossesReadInOrder
 losses_read_in_order core outcome (exactly m) o = exact_reads m o
-losses_read_in_order core outcome (hears_losing input did other drives) o =
-    stays_reads (hears_losing input did other drives) (stays_drives input core did drives o) (λ x. refl) (λ x. refl)
-losses_read_in_order core outcome (first_losing now port c connect rest did at first reads taken) o = first_reads now core port c connect rest did at first reads taken o
-losses_read_in_order core outcome (later_losing now port c packet rest did at later reads taken) o = later_reads now core port c packet rest did at later reads taken o
-losses_read_in_order core outcome (tells_losing name did taken) o =
-    stays_reads (tells_losing name did taken) (stays_takes (commands.Lost name) core did taken o) (λ x. refl) (λ x. refl)
-losses_read_in_order core outcome (expels_losing client did taken) o =
-    stays_reads (expels_losing client did taken) (stays_takes (commands.Expel client) core did taken o) (λ x. refl) (λ x. refl)
+losses_read_in_order core outcome (hears_losing input account other drives) o =
+    stays_reads (hears_losing input account other drives) (stays_drives input core account drives o) (λ x. refl) (λ x. refl)
+losses_read_in_order core outcome (first_losing now port c connect rest account at first reads taken) o = first_reads now core port c connect rest account at first reads taken o
+losses_read_in_order core outcome (later_losing now port c packet rest account at later reads taken) o = later_reads now core port c packet rest account at later reads taken o
+losses_read_in_order core outcome (tells_losing name account taken) o =
+    stays_reads (tells_losing name account taken) (stays_takes (commands.Lost name) core account taken o) (λ x. refl) (λ x. refl)
+losses_read_in_order core outcome (expels_losing client account taken) o =
+    stays_reads (expels_losing client account taken) (stays_takes (commands.Expel client) core account taken o) (λ x. refl) (λ x. refl)
 losses_read_in_order core outcome forgets o =
     stays_reads forgets (stays_replica core (record core.replica { losses = one_more core.replica.losses }) (same_le core.replica.state.joined) o) (λ x. refl) (λ x. refl)
 losses_read_in_order core outcome halts o =

@@ -71,65 +71,65 @@ calm_move {core = core} {t = t} m still =
 
 -- what was done is such a run
 abbrev pub Still : CoreState → Account → Type 0
-Still core did = Calm core (outcome_in did)
+Still core account = Calm core (outcome_in account)
 
-by_account : (core new : CoreState) (did : Account) → did ≡ without_effects new → Calm core (without_messages new) → Still core did
-by_account core new did is calm = subst (λ (d : Account). Calm core (outcome_in d)) (sym is) calm
+by_account : (core new : CoreState) (account : Account) → account ≡ without_effects new → Calm core (without_messages new) → Still core account
+by_account core new account is calm = subst (λ (d : Account). Calm core (outcome_in d)) (sym is) calm
 
-by_none : (core : CoreState) (did : Account) → did ≡ without_effects core → Still core did
-by_none core did is = by_account core core did is (rests, tt)
+by_none : (core : CoreState) (account : Account) → account ≡ without_effects core → Still core account
+by_none core account is = by_account core core account is (rests, tt)
 
 still_then : (P Q : CoreState → Account → Type 0) → ((k : CoreState) (d : Account) → P k d → Still k d) →
-    ((k : CoreState) (d : Account) → Q k d → Still k d) → (core : CoreState) (did : Account) → Then P Q core did → Still core did
-still_then P Q p q core did t =
+    ((k : CoreState) (d : Account) → Q k d → Still k d) → (core : CoreState) (account : Account) → Then P Q core account → Still core account
+still_then P Q p q core account t =
     subst (λ (d : Account). Still core d) (sym t.is) (calm_join (p core t.one t.first) (q t.one.core t.two t.next))
 
 pub still_repeated : (n : ℕ) (Next : CoreState → Account → Type 0) → ((k : CoreState) (d : Account) → Next k d → Still k d) →
-    (core : CoreState) (did : Account) → Repeated n Next core did → Still core did
-still_repeated zero Next on core did none = by_none core did none
-still_repeated (suc n) Next on core did done = still_then Next (Repeated n Next) on (still_repeated n Next on) core did done
+    (core : CoreState) (account : Account) → Repeated n Next core account → Still core account
+still_repeated zero Next on core account none = by_none core account none
+still_repeated (suc n) Next on core account done = still_then Next (Repeated n Next) on (still_repeated n Next on) core account done
 
 -- after a change in which the replica gives nothing
-still_after : (core between : CoreState) (did : Account) → Calm core (without_messages between) → Still between did → Still core did
-still_after core between did change more = calm_join change more
+still_after : (core between : CoreState) (account : Account) → Calm core (without_messages between) → Still between account → Still core account
+still_after core between account change more = calm_join change more
 
 -- ---- commands
 
-still_declines : (core : CoreState) (did : Account) → Declines core did → Still core did
-still_declines core did (no_room full is) = by_none core did is
-still_declines core did (forgets_it room is) = by_account core (with_loss core) did is (calm_move forgets (refl, refl, refl, λ x. refl))
-still_declines core did (stops room is) = by_account core (halting core) did is (calm_move halts (refl, refl, refl, λ x. refl))
+still_declines : (core : CoreState) (account : Account) → Declines core account → Still core account
+still_declines core account (no_room full is) = by_none core account is
+still_declines core account (forgets_it room is) = by_account core (with_loss core) account is (calm_move forgets (refl, refl, refl, λ x. refl))
+still_declines core account (stops room is) = by_account core (halting core) account is (calm_move halts (refl, refl, refl, λ x. refl))
 
-pub still_lost : (name : ConnectionName) (core : CoreState) (did : Account) → ProposesCommand (commands.Lost name) core did → Still core did
-still_lost name core did (inl taken) = calm_move (tells_losing name did taken) (refl, refl, refl, λ x. refl)
-still_lost name core did (inr declines) = still_declines core did declines
+pub still_lost : (name : ConnectionName) (core : CoreState) (account : Account) → ProposesCommand (commands.Lost name) core account → Still core account
+still_lost name core account (inl taken) = calm_move (tells_losing name account taken) (refl, refl, refl, λ x. refl)
+still_lost name core account (inr declines) = still_declines core account declines
 
-pub still_expelled : (client : List ℕ) (core : CoreState) (did : Account) → ProposesCommand (commands.Expel client) core did → Still core did
-still_expelled client core did (inl taken) = calm_move (expels_losing client did taken) (refl, refl, refl, λ x. refl)
-still_expelled client core did (inr declines) = still_declines core did declines
+pub still_expelled : (client : List ℕ) (core : CoreState) (account : Account) → ProposesCommand (commands.Expel client) core account → Still core account
+still_expelled client core account (inl taken) = calm_move (expels_losing client account taken) (refl, refl, refl, λ x. refl)
+still_expelled client core account (inr declines) = still_declines core account declines
 
 closing : (port : Port) (core : CoreState) → Calm core (without_messages (changes port closed_connection core))
 closing port core = calm_move (exactly (closes port)) (refl, refl, refl, λ x. refl)
 
 -- ---- ends
 
-pub still_ends : (port : Port) (core : CoreState) (did : Account) → EndsConnection port core did → Still core did
-still_ends port core did (none_open none is) = by_none core did is
-still_ends port core did (unproposed c found other is) = by_account core (changes port closed_connection core) did is (closing port core)
-still_ends port core did (proposed c found heard proposes) =
-    still_after core (changes port closed_connection core) did (closing port core) (still_lost c.name (changes port closed_connection core) did proposes)
+pub still_ends : (port : Port) (core : CoreState) (account : Account) → EndsConnection port core account → Still core account
+still_ends port core account (none_open none is) = by_none core account is
+still_ends port core account (unproposed c found other is) = by_account core (changes port closed_connection core) account is (closing port core)
+still_ends port core account (proposed c found heard proposes) =
+    still_after core (changes port closed_connection core) account (closing port core) (still_lost c.name (changes port closed_connection core) account proposes)
 
-pub still_silent : (now : ℕ) (core : CoreState) (did : Account) → EndsSilent now core did → Still core did
-still_silent now core did (none_silent none is) = by_none core did is
-still_silent now core did (ends_one port found runs) = still_ends port core did runs
+pub still_silent : (now : ℕ) (core : CoreState) (account : Account) → EndsSilent now core account → Still core account
+still_silent now core account (none_silent none is) = by_none core account is
+still_silent now core account (ends_one port found runs) = still_ends port core account runs
 
-still_failed : (core : CoreState) (did : Account) → LosesFailed core did → Still core did
-still_failed core did (none_failed none is) = by_none core did is
-still_failed core did (tells_one c found proposes) =
-    still_after core (closes_failed core) did (calm_move unheard (refl, refl, refl, λ x. refl)) (still_lost c.name (closes_failed core) did proposes)
+still_failed : (core : CoreState) (account : Account) → LosesFailed core account → Still core account
+still_failed core account (none_failed none is) = by_none core account is
+still_failed core account (tells_one c found proposes) =
+    still_after core (closes_failed core) account (calm_move unheard (refl, refl, refl, λ x. refl)) (still_lost c.name (closes_failed core) account proposes)
 
-pub all_failed : (core : CoreState) (did : Account) → LosesAllFailed core did → Still core did
-all_failed core did runs = still_repeated (length core.connections) LosesFailed still_failed core did runs
+pub all_failed : (core : CoreState) (account : Account) → LosesAllFailed core account → Still core account
+all_failed core account runs = still_repeated (length core.connections) LosesFailed still_failed core account runs
 
 -- ---- a packet is read, and not taken
 
@@ -160,9 +160,9 @@ unfolding changes
 halts_before port f core = refl
 
 -- the command is not taken, and then the connection is closed so: as if it had been closed before
-declined : (port : Port) (f : Connection → Connection) (core between : CoreState) (did : Account) → changes port f between ≡ changes port f core
-    → Calm core (without_messages (changes port f core)) → Then Declines (λ k d. d ≡ without_effects (changes port f k)) between did → Still core did
-declined port f core between did same change t =
+declined : (port : Port) (f : Connection → Connection) (core between : CoreState) (account : Account) → changes port f between ≡ changes port f core
+    → Calm core (without_messages (changes port f core)) → Then Declines (λ k d. d ≡ without_effects (changes port f k)) between account → Still core account
+declined port f core between account same change t =
     subst (λ (d : Account). Still core d) (sym (t.is ∙ ap (λ (d : Account). let a : Account = record { core = d.core; given = t.one.given ++ d.given; messages = t.one.messages ++ d.messages } in a) t.next))
     (by t.one t.first)
   where
@@ -182,46 +182,46 @@ declined port f core between did same change t =
 
 -- ---- the next packet
 
-still_connects : (now : ℕ) (port : Port) (c : Connection) (core : CoreState) (connect : Connect) (rest : List ℕ) (did : Account) → open_at port core ≡ Some c → is_first c.stage ≡ true
+still_connects : (now : ℕ) (port : Port) (c : Connection) (core : CoreState) (connect : Connect) (rest : List ℕ) (account : Account) → open_at port core ≡ Some c → is_first c.stage ≡ true
     → verdict c.unread ≡ Ok (packets.Connect connect, rest)
-    → TakesOr (commands.Connect c.name connect.client connect.clean) (ClosesConnection port) (changes port (noted_proposed connect.keep_alive) (changes port (left_with now rest) core)) did → Still core did
-still_connects now port c core connect rest did at awaits is (inl taken) =
-    calm_move (first_losing now port c connect rest did at awaits is taken) (refl, refl, refl, λ x. refl)
-still_connects now port c core connect rest did at awaits is (inr other) =
-    declined port closed_connection core (changes port (noted_proposed connect.keep_alive) (changes port (left_with now rest) core)) did
+    → TakesOr (commands.Connect c.name connect.client connect.clean) (ClosesConnection port) (changes port (noted_proposed connect.keep_alive) (changes port (left_with now rest) core)) account → Still core account
+still_connects now port c core connect rest account at awaits is (inl taken) =
+    calm_move (first_losing now port c connect rest account at awaits is taken) (refl, refl, refl, λ x. refl)
+still_connects now port c core connect rest account at awaits is (inr other) =
+    declined port closed_connection core (changes port (noted_proposed connect.keep_alive) (changes port (left_with now rest) core)) account
     (closed_asked connect.keep_alive port (changes port (left_with now rest) core) ∙ closed_left now port rest core) (closing port core) other
 
-still_begins : (now : ℕ) (port : Port) (c : Connection) (core : CoreState) (packet : Packet) (rest : List ℕ) (did : Account) → open_at port core ≡ Some c → is_first c.stage ≡ true
-    → verdict c.unread ≡ Ok (packet, rest) → TakesFirstPacket port c.name packet (changes port (left_with now rest) core) did → Still core did
-still_begins now port c core (packets.Connect connect) rest did at awaits is runs = still_connects now port c core connect rest did at awaits is runs
-still_begins now port c core _ rest did at awaits is runs =
-    by_account core (changes port closed_connection (changes port (left_with now rest) core)) did runs
+still_begins : (now : ℕ) (port : Port) (c : Connection) (core : CoreState) (packet : Packet) (rest : List ℕ) (account : Account) → open_at port core ≡ Some c → is_first c.stage ≡ true
+    → verdict c.unread ≡ Ok (packet, rest) → TakesFirstPacket port c.name packet (changes port (left_with now rest) core) account → Still core account
+still_begins now port c core (packets.Connect connect) rest account at awaits is runs = still_connects now port c core connect rest account at awaits is runs
+still_begins now port c core _ rest account at awaits is runs =
+    by_account core (changes port closed_connection (changes port (left_with now rest) core)) account runs
     (subst (λ (k : CoreState). Calm core (without_messages k)) (sym (closed_left now port rest core)) (closing port core))
 
 failing_at : (port : Port) (core : CoreState) → Calm core (without_messages (changes port failing core))
 failing_at port core = calm_move (fails port) (refl, refl, refl, λ x. refl)
 
-still_says : (now : ℕ) (port : Port) (c : Connection) (core : CoreState) (packet : Packet) (rest : List ℕ) (did : Account) → open_at port core ≡ Some c → is_first c.stage ≡ false
-    → verdict c.unread ≡ Ok (packet, rest) → TakesOr (commands.Packet c.name packet) (Shuts port) (changes port (left_with now rest) core) did → Still core did
-still_says now port c core packet rest did at after_first is (inl taken) =
-    calm_move (later_losing now port c packet rest did at after_first is taken) (refl, refl, refl, λ x. refl)
-still_says now port c core packet rest did at after_first is (inr other) = by other.next
+still_says : (now : ℕ) (port : Port) (c : Connection) (core : CoreState) (packet : Packet) (rest : List ℕ) (account : Account) → open_at port core ≡ Some c → is_first c.stage ≡ false
+    → verdict c.unread ≡ Ok (packet, rest) → TakesOr (commands.Packet c.name packet) (Shuts port) (changes port (left_with now rest) core) account → Still core account
+still_says now port c core packet rest account at after_first is (inl taken) =
+    calm_move (later_losing now port c packet rest account at after_first is taken) (refl, refl, refl, λ x. refl)
+still_says now port c core packet rest account at after_first is (inr other) = by other.next
   where
-    by : Shuts port other.one.core other.two → Still core did
+    by : Shuts port other.one.core other.two → Still core account
     by (inl shut) =
-        declined port closed_connection core (changes port (left_with now rest) core) did (closed_left now port rest core) (closing port core)
+        declined port closed_connection core (changes port (left_with now rest) core) account (closed_left now port rest core) (closing port core)
         (record { one = other.one; two = other.two; first = other.first; next = shut; is = other.is })
     by (inr fails_so) =
-        declined port failing core (changes port (left_with now rest) core) did (failing_left now port rest core) (failing_at port core)
+        declined port failing core (changes port (left_with now rest) core) account (failing_left now port rest core) (failing_at port core)
         (record { one = other.one; two = other.two; first = other.first; next = fails_so; is = other.is })
 
-pub still_reads : (now : ℕ) (port : Port) (core : CoreState) (did : Account) → ReadsNext now port core did → Still core did
-still_reads now port core did (waits c found more is) = by_none core did is
-still_reads now port core did (first c packet rest found awaits is runs) = still_begins now port c core packet rest did found awaits is runs
-still_reads now port core did (later c packet rest found after_first is runs) = still_says now port c core packet rest did found after_first is runs
-still_reads now port core did (refuses_it c code found awaits is runs) =
-    by_account core (changes port (connect_refused code) core) did runs (calm_move (exactly (refuses port c code found awaits is)) (refl, refl, refl, λ x. refl))
-still_reads now port core did (ends may runs) = still_ends port core did runs
+pub still_reads : (now : ℕ) (port : Port) (core : CoreState) (account : Account) → ReadsNext now port core account → Still core account
+still_reads now port core account (waits c found more is) = by_none core account is
+still_reads now port core account (first c packet rest found awaits is runs) = still_begins now port c core packet rest account found awaits is runs
+still_reads now port core account (later c packet rest found after_first is runs) = still_says now port c core packet rest account found after_first is runs
+still_reads now port core account (refuses_it c code found awaits is runs) =
+    by_account core (changes port (connect_refused code) core) account runs (calm_move (exactly (refuses port c code found awaits is)) (refl, refl, refl, λ x. refl))
+still_reads now port core account (ends may runs) = still_ends port core account runs
 
 -- ---- a step
 
@@ -269,11 +269,11 @@ still_freezes (exactly (cuts_log can)) calm = absurd cc
 still_freezes (exactly crashes) calm = tt
 still_freezes (exactly settles) calm = tt
 still_freezes (exactly (hands port)) calm = tt
-still_freezes (hears_losing input did other drives) calm = tt
-still_freezes (first_losing now port c connect rest did at awaits is taken) calm = tt
-still_freezes (later_losing now port c packet rest did at after_first is taken) calm = tt
-still_freezes (tells_losing name did taken) calm = tt
-still_freezes (expels_losing client did taken) calm = tt
+still_freezes (hears_losing input account other drives) calm = tt
+still_freezes (first_losing now port c connect rest account at awaits is taken) calm = tt
+still_freezes (later_losing now port c packet rest account at after_first is taken) calm = tt
+still_freezes (tells_losing name account taken) calm = tt
+still_freezes (expels_losing client account taken) calm = tt
 still_freezes forgets calm = tt
 still_freezes halts calm = tt
 still_freezes (fails port) calm = tt

@@ -39,17 +39,17 @@ sent_in x m = spelled (refusal_in x m ++ sends_to x (outputs_of (move_effects m)
 
 -- ---- the replica
 
-pub driven : (x : ConnectionName) (input : Input Command) (core : CoreState) (did : Account) → Drives input core did → IsOrderly core
-    → Shuts (bytes_for x did.given) (listed_named x core) (listed_named x did.core)
-driven x input core did m o =
-    delivers_shuts x did.given (record core { replica = m.replica }) did.core did.messages m.handles
-    (replica_orderly core m.replica (steps_up core.replica m.replica (outcome_of_input input core.replica.state) did.given (heard_up input core) m.steps) o)
+pub driven : (x : ConnectionName) (input : Input Command) (core : CoreState) (account : Account) → Drives input core account → IsOrderly core
+    → Shuts (bytes_for x account.given) (listed_named x core) (listed_named x account.core)
+driven x input core account m o =
+    delivers_shuts x account.given (record core { replica = m.replica }) account.core account.messages m.handles
+    (replica_orderly core m.replica (steps_up core.replica m.replica (outcome_of_input input core.replica.state) account.given (heard_up input core) m.steps) o)
 
-taken_shuts : (x : ConnectionName) (command : Command) (core : CoreState) (did : Account) → TakesCommand command core did → IsOrderly core
-    → Shuts (bytes_for x did.given) (listed_named x core) (listed_named x did.core)
-taken_shuts x command core did t o =
-    delivers_shuts x did.given (record core { replica = t.replica }) did.core did.messages t.handles
-    (replica_orderly core t.replica (subst (λ (n : ℕ). core.replica.state.joined ≤ n) (sym (taken_joined command core did t)) (same_le core.replica.state.joined)) o)
+taken_shuts : (x : ConnectionName) (command : Command) (core : CoreState) (account : Account) → TakesCommand command core account → IsOrderly core
+    → Shuts (bytes_for x account.given) (listed_named x core) (listed_named x account.core)
+taken_shuts x command core account t o =
+    delivers_shuts x account.given (record core { replica = t.replica }) account.core account.messages t.handles
+    (replica_orderly core t.replica (subst (λ (n : ℕ). core.replica.state.joined ≤ n) (sym (taken_joined command core account t)) (same_le core.replica.state.joined)) o)
 
 -- ---- each move that loses
 
@@ -61,19 +61,19 @@ Loses _ = Unit {0}
 pub lossy_shuts : (core : CoreState) (outcome : StepOutcome) (m : NodeMoveOrLost core outcome) → IsOrderly core → (x : ConnectionName) → Loses m
     → Shuts (sent_in x m) (listed_named x core) (listed_named x outcome.core)
 lossy_shuts core outcome (exactly m) o x may = absurd may
-lossy_shuts core outcome (hears_losing input did other drives) o x may = driven x input core did drives o
-lossy_shuts core outcome (first_losing now port c connect rest did at first is taken) o x may =
+lossy_shuts core outcome (hears_losing input account other drives) o x may = driven x input core account drives o
+lossy_shuts core outcome (first_losing now port c connect rest account at first is taken) o x may =
     let left : CoreState = changes port (left_with now rest) core in
     let ordered = at_orderly port (left_with now rest) core o (λ z. refl) in
     shuts_joined
     (shuts_joined (at_shuts x port (left_with now rest) core o (λ z. refl) (left_shuts now rest))
     (at_shuts x port (noted_proposed connect.keep_alive) left ordered (λ z. refl) (asked_shuts connect.keep_alive)))
-    (taken_shuts x _ (changes port (noted_proposed connect.keep_alive) left) did taken (at_orderly port (noted_proposed connect.keep_alive) left ordered (λ z. refl)))
-lossy_shuts core outcome (later_losing now port c packet rest did at later is taken) o x may =
+    (taken_shuts x _ (changes port (noted_proposed connect.keep_alive) left) account taken (at_orderly port (noted_proposed connect.keep_alive) left ordered (λ z. refl)))
+lossy_shuts core outcome (later_losing now port c packet rest account at later is taken) o x may =
     shuts_joined (at_shuts x port (left_with now rest) core o (λ z. refl) (left_shuts now rest))
-    (taken_shuts x _ (changes port (left_with now rest) core) did taken (at_orderly port (left_with now rest) core o (λ z. refl)))
-lossy_shuts core outcome (tells_losing name did taken) o x may = taken_shuts x (commands.Lost name) core did taken o
-lossy_shuts core outcome (expels_losing client did taken) o x may = taken_shuts x (commands.Expel client) core did taken o
+    (taken_shuts x _ (changes port (left_with now rest) core) account taken (at_orderly port (left_with now rest) core o (λ z. refl)))
+lossy_shuts core outcome (tells_losing name account taken) o x may = taken_shuts x (commands.Lost name) core account taken o
+lossy_shuts core outcome (expels_losing client account taken) o x may = taken_shuts x (commands.Expel client) core account taken o
 lossy_shuts core outcome forgets o x may = shuts_same (listed_named x core)
 lossy_shuts core outcome halts o x may = shuts_same (listed_named x core)
 lossy_shuts core outcome (fails port) o x may = at_shuts x port failing core o (λ z. refl) (failing_shuts [])
@@ -112,11 +112,11 @@ lost_puts core outcome m o may x c d before after = lossy_puts core outcome m o 
 
 pub losses_put_in_order : LossesPutInOrder
 losses_put_in_order core outcome (exactly m) o no_hand x c d before after = puts_in_order core outcome m o no_hand x c d before after
-losses_put_in_order core outcome (hears_losing input did other drives) o no_hand x c d before after = lost_puts core outcome (hears_losing input did other drives) o tt x c d before after
-losses_put_in_order core outcome (first_losing now port b connect rest did at first is taken) o no_hand x c d before after = lost_puts core outcome (first_losing now port b connect rest did at first is taken) o tt x c d before after
-losses_put_in_order core outcome (later_losing now port b packet rest did at later is taken) o no_hand x c d before after = lost_puts core outcome (later_losing now port b packet rest did at later is taken) o tt x c d before after
-losses_put_in_order core outcome (tells_losing name did taken) o no_hand x c d before after = lost_puts core outcome (tells_losing name did taken) o tt x c d before after
-losses_put_in_order core outcome (expels_losing client did taken) o no_hand x c d before after = lost_puts core outcome (expels_losing client did taken) o tt x c d before after
+losses_put_in_order core outcome (hears_losing input account other drives) o no_hand x c d before after = lost_puts core outcome (hears_losing input account other drives) o tt x c d before after
+losses_put_in_order core outcome (first_losing now port b connect rest account at first is taken) o no_hand x c d before after = lost_puts core outcome (first_losing now port b connect rest account at first is taken) o tt x c d before after
+losses_put_in_order core outcome (later_losing now port b packet rest account at later is taken) o no_hand x c d before after = lost_puts core outcome (later_losing now port b packet rest account at later is taken) o tt x c d before after
+losses_put_in_order core outcome (tells_losing name account taken) o no_hand x c d before after = lost_puts core outcome (tells_losing name account taken) o tt x c d before after
+losses_put_in_order core outcome (expels_losing client account taken) o no_hand x c d before after = lost_puts core outcome (expels_losing client account taken) o tt x c d before after
 losses_put_in_order core outcome forgets o no_hand x c d before after = lost_puts core outcome forgets o tt x c d before after
 losses_put_in_order core outcome halts o no_hand x c d before after = lost_puts core outcome halts o tt x c d before after
 losses_put_in_order core outcome (fails port) o no_hand x c d before after = lost_puts core outcome (fails port) o tt x c d before after

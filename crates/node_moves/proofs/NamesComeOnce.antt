@@ -153,104 +153,104 @@ keep_delivered _ core new _ (does {place} {output} {core = k} {next = next} {giv
 keep_delivered _ core new _ (sends {receiver} {message} {given = given} more) = keep_delivered given core new _ more
 keep_delivered _ core new _ (loses {receiver} {message} {given = given} more) = keep_delivered given core new _ more
 
-keep_moved : (outcome : Outcome State Command Output) (core : CoreState) (did : Account) → Up core.replica.state outcome →
-    HandledStepOrLost outcome core did → Keep core did.core
-keep_moved outcome core did up m =
-    keep_both core (record core { replica = m.replica }) did.core
-    (keep_replica core m.replica (steps_up core.replica m.replica outcome did.given up m.steps))
-    (keep_delivered did.given (record core { replica = m.replica }) did.core did.messages m.handles)
+keep_moved : (outcome : Outcome State Command Output) (core : CoreState) (account : Account) → Up core.replica.state outcome →
+    HandledStepOrLost outcome core account → Keep core account.core
+keep_moved outcome core account up m =
+    keep_both core (record core { replica = m.replica }) account.core
+    (keep_replica core m.replica (steps_up core.replica m.replica outcome account.given up m.steps))
+    (keep_delivered account.given (record core { replica = m.replica }) account.core account.messages m.handles)
 
-keep_driven : (input : Input Command) (core : CoreState) (did : Account) → Drives input core did → Keep core did.core
-keep_driven input core did m = keep_moved _ core did (heard_up input core) m
+keep_driven : (input : Input Command) (core : CoreState) (account : Account) → Drives input core account → Keep core account.core
+keep_driven input core account m = keep_moved _ core account (heard_up input core) m
 
-keep_taken : (command : Command) (core : CoreState) (did : Account) → TakesCommand command core did → Keep core did.core
-keep_taken command core did t =
+keep_taken : (command : Command) (core : CoreState) (account : Account) → TakesCommand command core account → Keep core account.core
+keep_taken command core account t =
     let same : t.replica.state.joined ≡ core.replica.state.joined =
     ap (λ (r : ReplicaState State Command). r.joined) t.done.state ∙ (added_same rules core.replica.state command).joined in
-    keep_both core (record core { replica = t.replica }) did.core
+    keep_both core (record core { replica = t.replica }) account.core
     (keep_replica core t.replica (subst (λ (n : ℕ). core.replica.state.joined ≤ n) (sym same) (same_le core.replica.state.joined)))
-    (keep_delivered did.given (record core { replica = t.replica }) did.core did.messages t.handles)
+    (keep_delivered account.given (record core { replica = t.replica }) account.core account.messages t.handles)
 
 -- ---- what was done, one thing after the other
 
-by_account : (core new : CoreState) (did : Account) → did ≡ without_effects new → Keep core new → Keep core did.core
-by_account core new did is keep = subst (λ (d : Account). Keep core d.core) (sym is) keep
+by_account : (core new : CoreState) (account : Account) → account ≡ without_effects new → Keep core new → Keep core account.core
+by_account core new account is keep = subst (λ (d : Account). Keep core d.core) (sym is) keep
 
-keep_declined : (core : CoreState) (did : Account) → Declines core did → Keep core did.core
-keep_declined core did (no_room full is) = by_account core core did is (keep_same core)
-keep_declined core did (forgets room is) = by_account core _ did is (keep_replica core _ (same_le core.replica.state.joined))
-keep_declined core did (stops room is) = by_account core _ did is (keep_replica core _ (same_le core.replica.state.joined))
+keep_declined : (core : CoreState) (account : Account) → Declines core account → Keep core account.core
+keep_declined core account (no_room full is) = by_account core core account is (keep_same core)
+keep_declined core account (forgets room is) = by_account core _ account is (keep_replica core _ (same_le core.replica.state.joined))
+keep_declined core account (stops room is) = by_account core _ account is (keep_replica core _ (same_le core.replica.state.joined))
 
-keep_proposed : (command : Command) (core : CoreState) (did : Account) → ProposesCommand command core did → Keep core did.core
-keep_proposed command core did (inl takes) = keep_taken command core did takes
-keep_proposed command core did (inr declines) = keep_declined core did declines
+keep_proposed : (command : Command) (core : CoreState) (account : Account) → ProposesCommand command core account → Keep core account.core
+keep_proposed command core account (inl takes) = keep_taken command core account takes
+keep_proposed command core account (inr declines) = keep_declined core account declines
 
 keep_then : (P Q : CoreState → Account → Type 0) → ((k : CoreState) (d : Account) → P k d → Keep k d.core) →
-    ((k : CoreState) (d : Account) → Q k d → Keep k d.core) → (core : CoreState) (did : Account) → Then P Q core did → Keep core did.core
-keep_then P Q p q core did t =
+    ((k : CoreState) (d : Account) → Q k d → Keep k d.core) → (core : CoreState) (account : Account) → Then P Q core account → Keep core account.core
+keep_then P Q p q core account t =
     subst (λ (d : Account). Keep core d.core) (sym t.is)
     (keep_both core t.one.core t.two.core (p core t.one t.first) (q t.one.core t.two t.next))
 
 keep_repeated : (n : ℕ) (Next : CoreState → Account → Type 0) → ((k : CoreState) (d : Account) → Next k d → Keep k d.core) →
-    (core : CoreState) (did : Account) → Repeated n Next core did → Keep core did.core
-keep_repeated zero Next on core did none = by_account core core did none (keep_same core)
-keep_repeated (suc n) Next on core did done = keep_then Next (Repeated n Next) on (keep_repeated n Next on) core did done
+    (core : CoreState) (account : Account) → Repeated n Next core account → Keep core account.core
+keep_repeated zero Next on core account none = by_account core core account none (keep_same core)
+keep_repeated (suc n) Next on core account done = keep_then Next (Repeated n Next) on (keep_repeated n Next on) core account done
 
 keep_asked : (command : Command) (Otherwise : CoreState → Account → Type 0) → ((k : CoreState) (d : Account) → Otherwise k d → Keep k d.core) →
-    (core : CoreState) (did : Account) → TakesOr command Otherwise core did → Keep core did.core
-keep_asked command Otherwise on core did (inl takes) = keep_taken command core did takes
-keep_asked command Otherwise on core did (inr other) = keep_then Declines Otherwise keep_declined on core did other
+    (core : CoreState) (account : Account) → TakesOr command Otherwise core account → Keep core account.core
+keep_asked command Otherwise on core account (inl takes) = keep_taken command core account takes
+keep_asked command Otherwise on core account (inr other) = keep_then Declines Otherwise keep_declined on core account other
 
 -- ---- ends
 
-keep_ended : (port : Port) (core : CoreState) (did : Account) → EndsConnection port core did → Keep core did.core
-keep_ended port core did (none_open none is) = by_account core core did is (keep_same core)
-keep_ended port core did (unproposed c found other is) = by_account core (changes port closed_connection core) did is (keep_closed port core)
-keep_ended port core did (proposed c found heard proposes) =
-    keep_both core (changes port closed_connection core) did.core (keep_closed port core)
-    (keep_proposed (commands.Lost c.name) (changes port closed_connection core) did proposes)
+keep_ended : (port : Port) (core : CoreState) (account : Account) → EndsConnection port core account → Keep core account.core
+keep_ended port core account (none_open none is) = by_account core core account is (keep_same core)
+keep_ended port core account (unproposed c found other is) = by_account core (changes port closed_connection core) account is (keep_closed port core)
+keep_ended port core account (proposed c found heard proposes) =
+    keep_both core (changes port closed_connection core) account.core (keep_closed port core)
+    (keep_proposed (commands.Lost c.name) (changes port closed_connection core) account proposes)
 
-keep_silent : (now : ℕ) (core : CoreState) (did : Account) → EndsSilent now core did → Keep core did.core
-keep_silent now core did (none_silent none is) = by_account core core did is (keep_same core)
-keep_silent now core did (ends_one port found runs) = keep_ended port core did runs
+keep_silent : (now : ℕ) (core : CoreState) (account : Account) → EndsSilent now core account → Keep core account.core
+keep_silent now core account (none_silent none is) = by_account core core account is (keep_same core)
+keep_silent now core account (ends_one port found runs) = keep_ended port core account runs
 
-keep_lost : (core : CoreState) (did : Account) → LosesFailed core did → Keep core did.core
-keep_lost core did (none_failed none is) = by_account core core did is (keep_same core)
-keep_lost core did (tells_one c found proposes) =
-    keep_both core (closes_failed core) did.core (keep_failed core)
-    (keep_proposed (commands.Lost c.name) (closes_failed core) did proposes)
+keep_lost : (core : CoreState) (account : Account) → LosesFailed core account → Keep core account.core
+keep_lost core account (none_failed none is) = by_account core core account is (keep_same core)
+keep_lost core account (tells_one c found proposes) =
+    keep_both core (closes_failed core) account.core (keep_failed core)
+    (keep_proposed (commands.Lost c.name) (closes_failed core) account proposes)
 
 -- ---- reads
 
-keep_shut : (port : Port) (core : CoreState) (did : Account) → ClosesConnection port core did → Keep core did.core
-keep_shut port core did is = by_account core (changes port closed_connection core) did is (keep_closed port core)
+keep_shut : (port : Port) (core : CoreState) (account : Account) → ClosesConnection port core account → Keep core account.core
+keep_shut port core account is = by_account core (changes port closed_connection core) account is (keep_closed port core)
 
-keep_shuts : (port : Port) (core : CoreState) (did : Account) → Shuts port core did → Keep core did.core
-keep_shuts port core did (inl is) = keep_shut port core did is
-keep_shuts port core did (inr is) = by_account core (changes port failing core) did is (keep_at port failing core (λ c. refl))
+keep_shuts : (port : Port) (core : CoreState) (account : Account) → Shuts port core account → Keep core account.core
+keep_shuts port core account (inl is) = keep_shut port core account is
+keep_shuts port core account (inr is) = by_account core (changes port failing core) account is (keep_at port failing core (λ c. refl))
 
-keep_begun : (port : Port) (name : ConnectionName) (packet : Packet) (core : CoreState) (did : Account) →
-    TakesFirstPacket port name packet core did → Keep core did.core
-keep_begun port name (packets.Connect connect) core did runs =
-    keep_both core (changes port (noted_proposed connect.keep_alive) core) did.core (keep_at port (noted_proposed connect.keep_alive) core (λ c. refl))
+keep_begun : (port : Port) (name : ConnectionName) (packet : Packet) (core : CoreState) (account : Account) →
+    TakesFirstPacket port name packet core account → Keep core account.core
+keep_begun port name (packets.Connect connect) core account runs =
+    keep_both core (changes port (noted_proposed connect.keep_alive) core) account.core (keep_at port (noted_proposed connect.keep_alive) core (λ c. refl))
     (keep_asked (commands.Connect name connect.client connect.clean) (ClosesConnection port) (keep_shut port)
-    (changes port (noted_proposed connect.keep_alive) core) did runs)
-keep_begun port name _ core did runs = keep_shut port core did runs
+    (changes port (noted_proposed connect.keep_alive) core) account runs)
+keep_begun port name _ core account runs = keep_shut port core account runs
 
 keep_left : (port : Port) (now : ℕ) (rest : List ℕ) (core : CoreState) → Keep core (changes port (left_with now rest) core)
 keep_left port now rest core = keep_at port (left_with now rest) core (λ c. refl)
 
-keep_read : (now : ℕ) (port : Port) (core : CoreState) (did : Account) → ReadsNext now port core did → Keep core did.core
-keep_read now port core did (waits c found more is) = by_account core core did is (keep_same core)
-keep_read now port core did (first c packet rest found awaits is runs) =
-    keep_both core (changes port (left_with now rest) core) did.core (keep_left port now rest core)
-    (keep_begun port c.name packet (changes port (left_with now rest) core) did runs)
-keep_read now port core did (later c packet rest found after_first is runs) =
-    keep_both core (changes port (left_with now rest) core) did.core (keep_left port now rest core)
-    (keep_asked (commands.Packet c.name packet) (Shuts port) (keep_shuts port) (changes port (left_with now rest) core) did runs)
-keep_read now port core did (refuses c code found awaits is runs) =
-    by_account core (changes port (connect_refused code) core) did runs (keep_at port (connect_refused code) core (λ c. refl))
-keep_read now port core did (ends may runs) = keep_ended port core did runs
+keep_read : (now : ℕ) (port : Port) (core : CoreState) (account : Account) → ReadsNext now port core account → Keep core account.core
+keep_read now port core account (waits c found more is) = by_account core core account is (keep_same core)
+keep_read now port core account (first c packet rest found awaits is runs) =
+    keep_both core (changes port (left_with now rest) core) account.core (keep_left port now rest core)
+    (keep_begun port c.name packet (changes port (left_with now rest) core) account runs)
+keep_read now port core account (later c packet rest found after_first is runs) =
+    keep_both core (changes port (left_with now rest) core) account.core (keep_left port now rest core)
+    (keep_asked (commands.Packet c.name packet) (Shuts port) (keep_shuts port) (changes port (left_with now rest) core) account runs)
+keep_read now port core account (refuses c code found awaits is runs) =
+    by_account core (changes port (connect_refused code) core) account runs (keep_at port (connect_refused code) core (λ c. refl))
+keep_read now port core account (ends may runs) = keep_ended port core account runs
 
 -- ---- a connection is opened
 
@@ -285,33 +285,33 @@ keep_opened port core o =
 
 -- ---- an item
 
-keep_item : (item : Item) (core : CoreState) (did : Account) → DoesItem item core did → Keep core did.core
-keep_item (Peer message) core did runs = keep_driven (Receives message) core did runs
-keep_item (Tick now) core did runs =
+keep_item : (item : Item) (core : CoreState) (account : Account) → DoesItem item core account → Keep core account.core
+keep_item (Peer message) core account runs = keep_driven (Receives message) core account runs
+keep_item (Tick now) core account runs =
     keep_then (Drives Ticks) (λ k d. Repeated (length k.connections) (EndsSilent now) k d) (keep_driven Ticks)
-    (λ k d silent. keep_repeated (length k.connections) (EndsSilent now) (keep_silent now) k d silent) core did
+    (λ k d silent. keep_repeated (length k.connections) (EndsSilent now) (keep_silent now) k d silent) core account
     (record { one = runs.one; two = runs.two; first = runs.first; next = runs.next; is = runs.is })
-keep_item (Opened port now) core did (inl is) = by_account core (with_next_connection port core) did is (keep_opened port core)
-keep_item (Opened port now) core did (inr is) = by_account core core did is (keep_same core)
-keep_item (Bytes port piece now) core did runs =
+keep_item (Opened port now) core account (inl is) = by_account core (with_next_connection port core) account is (keep_opened port core)
+keep_item (Opened port now) core account (inr is) = by_account core core account is (keep_same core)
+keep_item (Bytes port piece now) core account runs =
     keep_then (HoldsBytes port piece) (λ k d. Repeated (unread_of (open_at port k)) (ReadsNext now port) k d) held
-    (λ k d reads. keep_repeated (unread_of (open_at port k)) (ReadsNext now port) (keep_read now port) k d reads) core did
+    (λ k d reads. keep_repeated (unread_of (open_at port k)) (ReadsNext now port) (keep_read now port) k d reads) core account
     (record { one = runs.one; two = runs.two; first = runs.first; next = runs.next; is = runs.is })
   where
     held : (k : CoreState) (d : Account) → HoldsBytes port piece k d → Keep k d.core
     held k d (inl is) = by_account k (changes port (with_unread piece) k) d is (keep_at port (with_unread piece) k (λ c. refl))
     held k d (inr ended) = keep_ended port k d ended
-keep_item (Ended port) core did runs = keep_ended port core did runs
-keep_item (Expel client) core did runs = keep_proposed (commands.Expel client) core did runs
-keep_item Cut core did (nothing_to_cut none is) = by_account core core did is (keep_same core)
-keep_item Cut core did (cuts_log can reads is) = by_account core (with_cut core) did is (keep_replica core _ (same_le core.replica.state.joined))
-keep_item Cut core did (forgets_cut can is) = by_account core _ did is (keep_replica core _ (same_le core.replica.state.joined))
-keep_item Crash core did is = by_account core (crashed core) did is (keep_replica core _ (same_le core.replica.state.joined))
+keep_item (Ended port) core account runs = keep_ended port core account runs
+keep_item (Expel client) core account runs = keep_proposed (commands.Expel client) core account runs
+keep_item Cut core account (nothing_to_cut none is) = by_account core core account is (keep_same core)
+keep_item Cut core account (cuts_log can reads is) = by_account core (with_cut core) account is (keep_replica core _ (same_le core.replica.state.joined))
+keep_item Cut core account (forgets_cut can is) = by_account core _ account is (keep_replica core _ (same_le core.replica.state.joined))
+keep_item Crash core account is = by_account core (crashed core) account is (keep_replica core _ (same_le core.replica.state.joined))
 
-keep_acts : (item : Item) (core : CoreState) (did : Account) → ActsOn item core did → Keep core did.core
-keep_acts item core did acts =
+keep_acts : (item : Item) (core : CoreState) (account : Account) → ActsOn item core account → Keep core account.core
+keep_acts item core account acts =
     keep_then (DoesItem item) (λ k d. Repeated (length k.connections) LosesFailed k d) (keep_item item)
-    (λ k d lost. keep_repeated (length k.connections) LosesFailed keep_lost k d lost) core did
+    (λ k d lost. keep_repeated (length k.connections) LosesFailed keep_lost k d lost) core account
     (record { one = acts.one; two = acts.two; first = acts.first; next = acts.next; is = acts.is })
 
 keep_settled : (core : CoreState) → Keep core (settled core)
@@ -334,8 +334,8 @@ keep_handed port core o =
 
 keep_run : (item : Item) (core new : CoreState) (messages : List (Effect Command Output)) → RunsOn item core new messages → Keep core new
 keep_run item core new messages run =
-    keep_both core run.did.core new (keep_acts item core run.did run.acts)
-    (subst (λ (k : CoreState). Keep run.did.core k) (sym run.settles) (keep_settled run.did.core))
+    keep_both core run.account.core new (keep_acts item core run.account run.acts)
+    (subst (λ (k : CoreState). Keep run.account.core k) (sym run.settles) (keep_settled run.account.core))
 
 pub names_come_once : NamesComeOnce
 names_come_once =

@@ -25,7 +25,7 @@ use Rattle.node_moves.specs.Moves.{NodeMove, is_proposal}
 
 -- what happened to a node, and the messages that were sent
 abbrev pub outcome_in : Account → StepOutcome
-outcome_in did = record { core = did.core; messages = did.messages }
+outcome_in account = record { core = account.core; messages = account.messages }
 
 -- the replica counts a loss
 abbrev pub with_loss : CoreState → CoreState
@@ -48,32 +48,32 @@ pub data NodeMoveOrLost (core : CoreState) : StepOutcome → Type 0 where
   exactly : {outcome : StepOutcome} → NodeMove core outcome → NodeMoveOrLost core outcome
   -- the replica receives a message or a tick, perhaps with losses; some of the messages that it
   -- returns may be lost, and connections closed
-  hears_losing : (input : Input Command) (did : Account) → is_proposal input ≡ false →
-      Drives input core did → NodeMoveOrLost core (outcome_in did)
+  hears_losing : (input : Input Command) (account : Account) → is_proposal input ≡ false →
+      Drives input core account → NodeMoveOrLost core (outcome_in account)
   -- a CONNECT, the first packet of an open connection, is read and taken, perhaps with losses
   first_losing : (now : ℕ) (port : Port) (connection : Connection) (connect : Connect)
-      (rest : List ℕ) (did : Account) → open_at port core ≡ Some connection →
+      (rest : List ℕ) (account : Account) → open_at port core ≡ Some connection →
       is_first connection.stage ≡ true →
       verdict connection.unread ≡ Ok (packets.Connect connect, rest) →
       TakesCommand (commands.Connect connection.name connect.client connect.clean)
       (changes port (noted_proposed connect.keep_alive) (changes port (left_with now rest) core))
-      did →
-      NodeMoveOrLost core (outcome_in did)
+      account →
+      NodeMoveOrLost core (outcome_in account)
   -- a later packet is read and taken, perhaps with losses
   later_losing : (now : ℕ) (port : Port) (connection : Connection) (packet : Packet) (rest : List ℕ)
-      (did : Account) → open_at port core ≡ Some connection →
+      (account : Account) → open_at port core ≡ Some connection →
       is_first connection.stage ≡ false → verdict connection.unread ≡ Ok (packet, rest) →
       TakesCommand (commands.Packet connection.name packet)
-      (changes port (left_with now rest) core) did →
-      NodeMoveOrLost core (outcome_in did)
+      (changes port (left_with now rest) core) account →
+      NodeMoveOrLost core (outcome_in account)
   -- that a connection is lost is taken, perhaps with losses
-  tells_losing : (name : ConnectionName) (did : Account) →
-      TakesCommand (commands.Lost name) core did →
-      NodeMoveOrLost core (outcome_in did)
+  tells_losing : (name : ConnectionName) (account : Account) →
+      TakesCommand (commands.Lost name) core account →
+      NodeMoveOrLost core (outcome_in account)
   -- an Expel is taken, perhaps with losses
-  expels_losing : (client : List ℕ) (did : Account) →
-      TakesCommand (commands.Expel client) core did →
-      NodeMoveOrLost core (outcome_in did)
+  expels_losing : (client : List ℕ) (account : Account) →
+      TakesCommand (commands.Expel client) core account →
+      NodeMoveOrLost core (outcome_in account)
   -- the replica does not take what it receives, and counts that
   forgets : NodeMoveOrLost core (without_messages (with_loss core))
   -- the replica stops, and counts that

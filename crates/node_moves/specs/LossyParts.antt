@@ -24,11 +24,13 @@ use Rattle.node_moves.specs.LossyMoves.NodeMoveOrLost.{exactly, hears_losing, fi
 abbrev pub move_effects : {core : CoreState} {outcome : StepOutcome} → NodeMoveOrLost core outcome →
     List (Effect Command Output)
 move_effects (exactly move) = exact_given move
-move_effects (hears_losing input did other drives) = did.given
-move_effects (first_losing now port connection connect rest did at first is taken) = did.given
-move_effects (later_losing now port connection packet rest did at later is taken) = did.given
-move_effects (tells_losing name did taken) = did.given
-move_effects (expels_losing client did taken) = did.given
+move_effects (hears_losing input account other drives) = account.given
+move_effects (first_losing now port connection connect rest account at first is taken) =
+    account.given
+move_effects (later_losing now port connection packet rest account at later is taken) =
+    account.given
+move_effects (tells_losing name account taken) = account.given
+move_effects (expels_losing client account taken) = account.given
 move_effects forgets = []
 move_effects halts = []
 move_effects (fails port) = []
@@ -40,13 +42,13 @@ abbrev pub move_proposal : {core : CoreState} {outcome : StepOutcome} →
     NodeMoveOrLost core outcome →
     List Command
 move_proposal (exactly move) = exact_proposal move
-move_proposal (hears_losing input did other drives) = []
-move_proposal (first_losing now port connection connect rest did at first is taken) =
+move_proposal (hears_losing input account other drives) = []
+move_proposal (first_losing now port connection connect rest account at first is taken) =
     commands.Connect connection.name connect.client connect.clean ∷ []
-move_proposal (later_losing now port connection packet rest did at later is taken) =
+move_proposal (later_losing now port connection packet rest account at later is taken) =
     commands.Packet connection.name packet ∷ []
-move_proposal (tells_losing name did taken) = commands.Lost name ∷ []
-move_proposal (expels_losing client did taken) = commands.Expel client ∷ []
+move_proposal (tells_losing name account taken) = commands.Lost name ∷ []
+move_proposal (expels_losing client account taken) = commands.Expel client ∷ []
 move_proposal forgets = []
 move_proposal halts = []
 move_proposal (fails port) = []
@@ -77,8 +79,8 @@ is_handing _ = false
 -- whether a packet is read in a move
 abbrev pub is_read : {core : CoreState} {outcome : StepOutcome} → NodeMoveOrLost core outcome → Bool
 is_read (exactly move) = exact_read move
-is_read (first_losing now port connection connect rest did at first is taken) = true
-is_read (later_losing now port connection packet rest did at later is taken) = true
+is_read (first_losing now port connection connect rest account at first is taken) = true
+is_read (later_losing now port connection packet rest account at later is taken) = true
 is_read _ = false
 
 -- what the replica receives in a move
@@ -91,12 +93,12 @@ inputs_of _ = []
 abbrev pub inputs_in : {core : CoreState} {outcome : StepOutcome} → NodeMoveOrLost core outcome →
     List (Input Command)
 inputs_in (exactly move) = inputs_of move
-inputs_in (hears_losing input did other drives) = input ∷ []
+inputs_in (hears_losing input account other drives) = input ∷ []
 inputs_in _ = []
 
 -- whether the replica receives something in a move, or the node crashes
 abbrev pub hears_in : {core : CoreState} {outcome : StepOutcome} → NodeMoveOrLost core outcome →
     Bool
 hears_in (exactly move) = moves_replica move
-hears_in (hears_losing input did other drives) = true
+hears_in (hears_losing input account other drives) = true
 hears_in _ = false

@@ -32,7 +32,7 @@ returns-in_default-clause-lossy c =
     let few : c.loop-connection._connection ≤ length c.args.self.now.core.connections =
     omega (arith, c.loop-connection-test.true, c.listed-connection-end.ensures) in
     ran_as (Repeated (length c.args.self.now.core.connections) (EndsSilent c.args.now)) (EndsAllSilent c.args.now)
-    c.args.self.now.core c.args.self.now.core _ _ _ (λ did runs. runs)
+    c.args.self.now.core c.args.self.now.core _ _ _ (λ account runs. runs)
     (ran_enough (EndsSilent c.args.now) c.loop-connection._connection (length c.args.self.now.core.connections)
     c.args.self.now.core c.loop-connection.self.core c.args.effects.now.items c.loop-connection.effects.items few
     c.loop-connection.invariant.lossy

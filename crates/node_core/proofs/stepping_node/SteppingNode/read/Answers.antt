@@ -32,7 +32,7 @@ returns-then-not-read_next-clause-lossy c =
     let few : suc c.loop-packet._packet ≤ unread_of (open_at c.args.port c.args.self.now.core) =
     omega (arith, c.loop-packet-test.true, c.unread_len-packet-end.ensures) in
     ran_as (Repeated (unread_of (open_at c.args.port c.args.self.now.core)) (ReadsNext c.args.now c.args.port))
-    (ReadsPackets c.args.now c.args.port) c.args.self.now.core c.args.self.now.core _ _ _ (λ did runs. runs)
+    (ReadsPackets c.args.now c.args.port) c.args.self.now.core c.args.self.now.core _ _ _ (λ account runs. runs)
     (ran_enough (ReadsNext c.args.now c.args.port) (suc c.loop-packet._packet) (unread_of (open_at c.args.port c.args.self.now.core))
     c.args.self.now.core c.read_next.new.self.core c.args.effects.now.items c.read_next.new.effects.items few
     (ran_more (ReadsNext c.args.now c.args.port) c.loop-packet._packet c.args.self.now.core c.loop-packet.self.core c.read_next.new.self.core

@@ -34,7 +34,7 @@ returns-then-not-report_one_failed-clause-lossy c =
     let few : suc c.loop-connection._connection ≤ length c.args.self.now.core.connections =
     omega (arith, c.loop-connection-test.true, c.listed-connection-end.ensures) in
     ran_as (Repeated (length c.args.self.now.core.connections) LosesFailed) LosesAllFailed
-    c.args.self.now.core c.args.self.now.core _ _ _ (λ did runs. runs)
+    c.args.self.now.core c.args.self.now.core _ _ _ (λ account runs. runs)
     (ran_enough LosesFailed (suc c.loop-connection._connection) (length c.args.self.now.core.connections)
     c.args.self.now.core c.report_one_failed.new.self.core c.args.effects.now.items c.report_one_failed.new.effects.items few
     (ran_more LosesFailed c.loop-connection._connection c.args.self.now.core c.loop-connection.self.core c.report_one_failed.new.self.core
