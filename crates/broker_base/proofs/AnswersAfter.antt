@@ -4,7 +4,7 @@ use Rattle.session_base.specs.packet.declared.packet.Packet.{Packet}
 use Rattle.session_base.specs.Sending.{fill_sends}
 use Rattle.broker_spec.specs.Connection.{ConnectionName}
 use Rattle.broker_spec.specs.Place.{Client, Mark, Place, Past, Limits}
-use Rattle.broker_spec.specs.Past.{accepts, ends_any, current_connection, session_of}
+use Rattle.broker_spec.specs.Past.{accepts, ends_any, current_connection, clean_session_of}
 use Rattle.broker_spec.specs.Subscriptions.{subscriptions_of}
 use Rattle.broker_spec.specs.Received.{received_of}
 use Rattle.broker_spec.specs.Entries.{Entry, copies_at, queued}
@@ -63,7 +63,7 @@ abbrev pub fills_after : ℕ → Command → Mark → Client → Option ClientSe
 fills_after w command mark c (Some kept) = while_connected kept.connection (fill_sends w (answered_flights command mark c kept.state.queue.in_flight) kept.state.queue.waiting)
 fills_after w command mark c None = []
 
-started_by_kept : (limits : Limits) (place : Place) (past : Past) (c : Client) (x : ConnectionName) (session : Option Bool) → session_of past c ≡ session →
+started_by_kept : (limits : Limits) (place : Place) (past : Past) (c : Client) (x : ConnectionName) (session : Option Bool) → clean_session_of past c ≡ session →
     accepts place.command place.mark c ≡ None → ends_any place c (current_connection past c) ≡ false → copies_at place past c ≡ [] →
     all_started x (length past) (entries_of limits (place ∷ past) c)
     ≡ map (Send x) (fills_after (window_at limits (place ∷ past)) place.command place.mark c
@@ -80,4 +80,4 @@ pub starts_are : (limits : Limits) (place : Place) (past : Past) (c : Client) (x
     accepts place.command place.mark c ≡ None → ends_any place c (current_connection past c) ≡ false → copies_at place past c ≡ [] →
     all_started x (length past) (entries_of limits (place ∷ past) c)
     ≡ map (Send x) (fills_after (window_at limits (place ∷ past)) place.command place.mark c (client_session limits past c))
-starts_are limits place past c x = started_by_kept limits place past c x (session_of past c) refl
+starts_are limits place past c x = started_by_kept limits place past c x (clean_session_of past c) refl

@@ -3,7 +3,7 @@ use Rattle.std.proofs.Common.{◌≡◌, ℕ, Bool, not, Option, Some, None, ◌
 use Rattle.std.specs.Prelude.{option_map}
 use Rattle.broker_spec.specs.Connection.{ConnectionName}
 use Rattle.broker_spec.specs.Place.{Client, Mark, Place, Past, Limits, only_if}
-use Rattle.broker_spec.specs.Past.{session_of, is_beginning, begins_session}
+use Rattle.broker_spec.specs.Past.{clean_session_of, is_beginning, begins_session}
 use Rattle.broker_spec.specs.Times.{window_at}
 use Rattle.broker_spec.specs.Answers.{close_outputs, welcome, connect_answers, answers_by}
 use Rattle.broker_spec.specs.AnswersInOrder.{answers_at}
@@ -21,8 +21,8 @@ use Rattle.broker_base.proofs.PacketAnswersStand.{packet_answers_are}
 
 -- ---- a Connect
 
-flag_is : (limits : Limits) (past : Past) (c : Client) → option_map (λ (kept : ClientSession). kept.clean) (client_session limits past c) ≡ session_of past c
-flag_is limits past c = by (session_of past c)
+flag_is : (limits : Limits) (past : Past) (c : Client) → option_map (λ (kept : ClientSession). kept.clean) (client_session limits past c) ≡ clean_session_of past c
+flag_is limits past c = by (clean_session_of past c)
   where
     by : (session : Option Bool) → option_map (λ (kept : ClientSession). kept.clean) (option_map (kept_now limits past c) session) ≡ session
     by None = refl
@@ -35,7 +35,7 @@ accepted_are limits past x c clean =
     ap₂ (λ first rest. first ++ rest) (sym (closed_is limits past c))
     (ap₂ (λ begun rest. welcome x (not begun) ∷ rest)
     (ap (begins_session clean) (flag_is limits past c)
-    ∙ ap (λ b. is_beginning (only_if b (Some (x, clean))) (session_of past c)) (sym (same_self c)))
+    ∙ ap (λ b. is_beginning (only_if b (Some (x, clean))) (clean_session_of past c)) (sym (same_self c)))
     (sym (resumed_is limits past c x clean (at (commands.Connect x c clean) Mark.Accepted) (ap (λ b. only_if b (Some (x, clean))) (same_self c)) refl refl)))
 
 connect_answers_are : (limits : Limits) (past : Past) (x : ConnectionName) (c : Client) (clean : Bool) (mark : Mark) →

@@ -5,7 +5,7 @@ use Rattle.session_base.specs.packet.declared.packet.Packet.TheVariants as packe
 use Rattle.session_base.specs.Sending.{fill_sends, resend}
 use Rattle.broker_spec.specs.Connection.{ConnectionName}
 use Rattle.broker_spec.specs.Place.{Client, Place, Past, Limits}
-use Rattle.broker_spec.specs.Past.{accepts, expels, ends_any, current_connection, session_of, newest_session, newest_connection, is_beginning, in_session}
+use Rattle.broker_spec.specs.Past.{accepts, expels, ends_any, current_connection, clean_session_of, newest_clean_session, newest_connection, is_beginning, in_session}
 use Rattle.broker_spec.specs.Subscriptions.{subscriptions_of}
 use Rattle.broker_spec.specs.Received.{received_of}
 use Rattle.broker_spec.specs.Entries.{Entry, copies_at, queued}
@@ -27,15 +27,15 @@ use Rattle.broker_base.proofs.flights.PubrelsAfter.{none_released_ever}
 -- ---- a Connect
 
 pub closed_is : (limits : Limits) (past : Past) (c : Client) → close_outputs (current_connection past c) ≡ close_outputs (connection_of (client_session limits past c))
-closed_is limits past c = by (session_of past c) refl
+closed_is limits past c = by (clean_session_of past c) refl
   where
-    by : (session : Option Bool) → session_of past c ≡ session →
+    by : (session : Option Bool) → clean_session_of past c ≡ session →
         close_outputs (current_connection past c) ≡ close_outputs (connection_of (kept_with (length past) session (current_connection past c) (subscriptions_of past c) (received_of past c) (entries_of limits past c)))
     by None e = ap close_outputs (no_connection past c e)
     by (Some clean) e = refl
 
 resumed_by : (x : ConnectionName) (w n : ℕ) (clean expelled over : Bool) (session : Option Bool) (connection : Option ConnectionName) (held : List GrantedFilter) (ids : List ℕ) (es : List Entry) → Sound n es →
-    resent_outputs x n (in_session (newest_session (Some (x, clean)) expelled over session) (is_beginning (Some (x, clean)) session) []
+    resent_outputs x n (in_session (newest_clean_session (Some (x, clean)) expelled over session) (is_beginning (Some (x, clean)) session) []
     (started w n (newest_connection (Some (x, clean)) over connection) (es ++ map (Entry.Waits n) [])))
     ≡ map (Send x) (resumed w clean (kept_with n session connection held ids es))
 resumed_by x w n clean expelled over None connection held ids es s = ap (λ ids. map (λ id. Send x (packets.Pubrel id)) ids ++ [] ++ []) (none_released_ever n)
@@ -51,12 +51,12 @@ pub resumed_is : (limits : Limits) (past : Past) (c : Client) (x : ConnectionNam
     accepts place.command place.mark c ≡ Some (x, clean) → copies_at place past c ≡ [] →
     answered_by place.command place.mark (length past) c (entries_of limits past c) ≡ entries_of limits past c →
     resent_outputs x (length past) (entries_of limits (place ∷ past) c) ≡ map (Send x) (resumed (window_at limits (place ∷ past)) clean (client_session limits past c))
-unfolding entries_of session_of current_connection
+unfolding entries_of clean_session_of current_connection
 resumed_is limits past c x clean place opens no_copies no_answer =
-    ap (λ opened. resent_outputs x (length past) (in_session (newest_session opened (expels place.command c) (ends_any place c (current_connection past c)) (session_of past c)) (is_beginning opened (session_of past c)) []
+    ap (λ opened. resent_outputs x (length past) (in_session (newest_clean_session opened (expels place.command c) (ends_any place c (current_connection past c)) (clean_session_of past c)) (is_beginning opened (clean_session_of past c)) []
     (started (window_at limits (place ∷ past)) (length past) (newest_connection opened (ends_any place c (current_connection past c)) (current_connection past c))
     (answered_by place.command place.mark (length past) c (entries_of limits past c) ++ map (Entry.Waits (length past)) (queued (copies_at place past c)))))) opens
-    ∙ ap₂ (λ es ps. resent_outputs x (length past) (in_session (newest_session (Some (x, clean)) (expels place.command c) (ends_any place c (current_connection past c)) (session_of past c)) (is_beginning (Some (x, clean)) (session_of past c)) []
+    ∙ ap₂ (λ es ps. resent_outputs x (length past) (in_session (newest_clean_session (Some (x, clean)) (expels place.command c) (ends_any place c (current_connection past c)) (clean_session_of past c)) (is_beginning (Some (x, clean)) (clean_session_of past c)) []
     (started (window_at limits (place ∷ past)) (length past) (newest_connection (Some (x, clean)) (ends_any place c (current_connection past c)) (current_connection past c)) (es ++ map (Entry.Waits (length past)) (queued ps))))) no_answer no_copies
-    ∙ resumed_by x (window_at limits (place ∷ past)) (length past) clean (expels place.command c) (ends_any place c (current_connection past c)) (session_of past c) (current_connection past c)
+    ∙ resumed_by x (window_at limits (place ∷ past)) (length past) clean (expels place.command c) (ends_any place c (current_connection past c)) (clean_session_of past c) (current_connection past c)
     (subscriptions_of past c) (received_of past c) (entries_of limits past c) (sound_entries limits past c)

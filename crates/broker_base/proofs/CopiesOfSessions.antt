@@ -5,7 +5,7 @@ use Rattle.session_base.specs.Queue.{ids_of}
 use Rattle.session_base.specs.Sending.{copies_sent}
 use Rattle.broker_spec.specs.Connection.{ConnectionName}
 use Rattle.broker_spec.specs.Place.{Client, Place, Past, Limits}
-use Rattle.broker_spec.specs.Past.{accepts, ends_any, current_connection, session_of}
+use Rattle.broker_spec.specs.Past.{accepts, ends_any, current_connection, clean_session_of}
 use Rattle.broker_spec.specs.Subscriptions.{subscriptions_of}
 use Rattle.broker_spec.specs.Received.{received_of}
 use Rattle.broker_spec.specs.Retained.{retained_publications}
@@ -45,7 +45,7 @@ delivered x w n es copies s quiet quiet_flights =
 
 -- by the session and the connection
 copies_by_kept : (limits : Limits) (place : Place) (past : Past) (c : Client) (session : Option Bool) (connection : Option ConnectionName) →
-    session_of past c ≡ session → current_connection past c ≡ connection →
+    clean_session_of past c ≡ session → current_connection past c ≡ connection →
     accepts place.command place.mark c ≡ None → ends_any place c (current_connection past c) ≡ false →
     answered_by place.command place.mark (length past) c (entries_of limits past c) ≡ entries_of limits past c →
     window_at limits (place ∷ past) ≡ window_at limits past →
@@ -70,4 +70,4 @@ pub deliveries_are : (limits : Limits) (place : Place) (past : Past) (c : Client
     answered_by place.command place.mark (length past) c (entries_of limits past c) ≡ entries_of limits past c →
     window_at limits (place ∷ past) ≡ window_at limits past →
     deliveries_to limits place past c ≡ copies_to (window_at limits (place ∷ past)) place (retained_publications past) c (client_session limits past c)
-deliveries_are limits place past c = copies_by_kept limits place past c (session_of past c) (current_connection past c) refl refl
+deliveries_are limits place past c = copies_by_kept limits place past c (clean_session_of past c) (current_connection past c) refl refl

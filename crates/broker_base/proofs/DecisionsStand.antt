@@ -6,7 +6,7 @@ use Rattle.session_base.specs.packet.declared.packet.Packet.TheVariants as packe
 use Rattle.session_base.specs.Publication.{publication_of}
 use Rattle.broker_spec.specs.Connection.{ConnectionName, same_connection}
 use Rattle.broker_spec.specs.Place.{Client, Mark, Past, Limits}
-use Rattle.broker_spec.specs.Past.{any_connection, current_connection, session_of}
+use Rattle.broker_spec.specs.Past.{any_connection, current_connection, clean_session_of}
 use Rattle.broker_spec.specs.Owner.{named, first_client}
 use Rattle.broker_spec.specs.Subscriptions.{subscriptions_of}
 use Rattle.broker_spec.specs.Retained.{retained_publications}
@@ -36,40 +36,40 @@ is_current past x c = any_connection (same_connection x) (current_connection pas
 
 packet_owner : (limits : Limits) (past : Past) (x : ConnectionName) (packet : Packet) (ds : List Client) →
     packet_mark_in limits (state_of limits past) packet (owner_in x (table (client_session limits past) ds))
-    ≡ packet_mark_of limits past packet (first_client (is_current past x) (filter (λ c. is_some (session_of past c)) ds))
+    ≡ packet_mark_of limits past packet (first_client (is_current past x) (filter (λ c. is_some (clean_session_of past c)) ds))
 packet_owner limits past x packet [] = refl
-packet_owner limits past x packet (d ∷ ds) = by (session_of past d) (packet_owner limits past x packet ds)
+packet_owner limits past x packet (d ∷ ds) = by (clean_session_of past d) (packet_owner limits past x packet ds)
   where
     hit : (b : Bool) (clean : Bool) →
         packet_mark_in limits (state_of limits past) packet (owner_in x (table (client_session limits past) ds))
-        ≡ packet_mark_of limits past packet (first_client (is_current past x) (filter (λ c. is_some (session_of past c)) ds)) →
+        ≡ packet_mark_of limits past packet (first_client (is_current past x) (filter (λ c. is_some (clean_session_of past c)) ds)) →
         packet_mark_in limits (state_of limits past) packet (if b then Some (d, kept_now limits past d clean) else owner_in x (table (client_session limits past) ds))
-        ≡ packet_mark_of limits past packet (if b then Some d else first_client (is_current past x) (filter (λ c. is_some (session_of past c)) ds))
+        ≡ packet_mark_of limits past packet (if b then Some d else first_client (is_current past x) (filter (λ c. is_some (clean_session_of past c)) ds))
     hit true clean e = owned_is limits past d clean packet
     hit false clean e = e
 
     by : (session : Option Bool) →
         packet_mark_in limits (state_of limits past) packet (owner_in x (table (client_session limits past) ds))
-        ≡ packet_mark_of limits past packet (first_client (is_current past x) (filter (λ c. is_some (session_of past c)) ds)) →
+        ≡ packet_mark_of limits past packet (first_client (is_current past x) (filter (λ c. is_some (clean_session_of past c)) ds)) →
         packet_mark_in limits (state_of limits past) packet (owner_in x (keyed d (option_map (kept_now limits past d) session) (table (client_session limits past) ds)))
-        ≡ packet_mark_of limits past packet (first_client (is_current past x) (if is_some session then d ∷ filter (λ c. is_some (session_of past c)) ds else filter (λ c. is_some (session_of past c)) ds))
+        ≡ packet_mark_of limits past packet (first_client (is_current past x) (if is_some session then d ∷ filter (λ c. is_some (clean_session_of past c)) ds else filter (λ c. is_some (clean_session_of past c)) ds))
     by None e = e
     by (Some clean) e = hit (is_current past x d) clean e
 
 -- ---- a Connect
 
-table_length : (limits : Limits) (past : Past) (ds : List Client) → length (table (client_session limits past) ds) ≡ length (filter (λ c. is_some (session_of past c)) ds)
+table_length : (limits : Limits) (past : Past) (ds : List Client) → length (table (client_session limits past) ds) ≡ length (filter (λ c. is_some (clean_session_of past c)) ds)
 table_length limits past [] = refl
-table_length limits past (d ∷ ds) = by (session_of past d) (table_length limits past ds)
+table_length limits past (d ∷ ds) = by (clean_session_of past d) (table_length limits past ds)
   where
-    by : (session : Option Bool) → length (table (client_session limits past) ds) ≡ length (filter (λ c. is_some (session_of past c)) ds) →
+    by : (session : Option Bool) → length (table (client_session limits past) ds) ≡ length (filter (λ c. is_some (clean_session_of past c)) ds) →
         length (keyed d (option_map (kept_now limits past d) session) (table (client_session limits past) ds))
-        ≡ length (if is_some session then d ∷ filter (λ c. is_some (session_of past c)) ds else filter (λ c. is_some (session_of past c)) ds)
+        ≡ length (if is_some session then d ∷ filter (λ c. is_some (clean_session_of past c)) ds else filter (λ c. is_some (clean_session_of past c)) ds)
     by None e = e
     by (Some clean) e = ap suc e
 
-has_session : (limits : Limits) (past : Past) (c : Client) → is_some (client_session limits past c) ≡ is_some (session_of past c)
-has_session limits past c = by (session_of past c)
+has_session : (limits : Limits) (past : Past) (c : Client) → is_some (client_session limits past c) ≡ is_some (clean_session_of past c)
+has_session limits past c = by (clean_session_of past c)
   where
     by : (session : Option Bool) → is_some (option_map (kept_now limits past c) session) ≡ is_some session
     by None = refl
@@ -77,25 +77,25 @@ has_session limits past c = by (session_of past c)
 
 connect_owner : (limits : Limits) (past : Past) (x : ConnectionName) (c : Client) (ds : List Client) →
     connect_mark_in limits (state_of limits past) c (owner_in x (table (client_session limits past) ds))
-    ≡ connect_mark limits past c (first_client (is_current past x) (filter (λ c. is_some (session_of past c)) ds))
+    ≡ connect_mark limits past c (first_client (is_current past x) (filter (λ c. is_some (clean_session_of past c)) ds))
 connect_owner limits past x c [] =
     ap₂ (λ a k. if a || nat_lt k limits.sessions then Mark.Accepted else Mark.Full)
     (ap is_some (session_is limits past c) ∙ has_session limits past c) (table_length limits past (named past))
-connect_owner limits past x c (d ∷ ds) = by (session_of past d) (connect_owner limits past x c ds)
+connect_owner limits past x c (d ∷ ds) = by (clean_session_of past d) (connect_owner limits past x c ds)
   where
     hit : (b : Bool) (clean : Bool) →
         connect_mark_in limits (state_of limits past) c (owner_in x (table (client_session limits past) ds))
-        ≡ connect_mark limits past c (first_client (is_current past x) (filter (λ c. is_some (session_of past c)) ds)) →
+        ≡ connect_mark limits past c (first_client (is_current past x) (filter (λ c. is_some (clean_session_of past c)) ds)) →
         connect_mark_in limits (state_of limits past) c (if b then Some (d, kept_now limits past d clean) else owner_in x (table (client_session limits past) ds))
-        ≡ connect_mark limits past c (if b then Some d else first_client (is_current past x) (filter (λ c. is_some (session_of past c)) ds))
+        ≡ connect_mark limits past c (if b then Some d else first_client (is_current past x) (filter (λ c. is_some (clean_session_of past c)) ds))
     hit true clean e = refl
     hit false clean e = e
 
     by : (session : Option Bool) →
         connect_mark_in limits (state_of limits past) c (owner_in x (table (client_session limits past) ds))
-        ≡ connect_mark limits past c (first_client (is_current past x) (filter (λ c. is_some (session_of past c)) ds)) →
+        ≡ connect_mark limits past c (first_client (is_current past x) (filter (λ c. is_some (clean_session_of past c)) ds)) →
         connect_mark_in limits (state_of limits past) c (owner_in x (keyed d (option_map (kept_now limits past d) session) (table (client_session limits past) ds)))
-        ≡ connect_mark limits past c (first_client (is_current past x) (if is_some session then d ∷ filter (λ c. is_some (session_of past c)) ds else filter (λ c. is_some (session_of past c)) ds))
+        ≡ connect_mark limits past c (first_client (is_current past x) (if is_some session then d ∷ filter (λ c. is_some (clean_session_of past c)) ds else filter (λ c. is_some (clean_session_of past c)) ds))
     by None e = e
     by (Some clean) e = hit (is_current past x d) clean e
 

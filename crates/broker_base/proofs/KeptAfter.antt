@@ -6,7 +6,7 @@ use Rattle.broker_spec.specs.retained.Retained.{RetainedTopics}
 use Rattle.session_base.specs.declared.publication.Publication.{Publication}
 use Rattle.broker_spec.specs.Connection.{ConnectionName}
 use Rattle.broker_spec.specs.Place.{Client, Place, Past, Limits, only_if}
-use Rattle.broker_spec.specs.Past.{accepts, expels, ends_any, newest_connection, current_connection, newest_session, session_of, is_beginning, in_session}
+use Rattle.broker_spec.specs.Past.{accepts, expels, ends_any, newest_connection, current_connection, newest_clean_session, clean_session_of, is_beginning, in_session}
 use Rattle.broker_spec.specs.Subscriptions.{filters_after, subscriptions_of}
 use Rattle.broker_spec.specs.Received.{received_by, received_of}
 use Rattle.broker_spec.specs.Retained.{retained_publications}
@@ -50,10 +50,10 @@ anew n opened = ap (λ ids. Some (record { clean = opened.1; connection = Some o
 -- the place's values, from those below
 abbrev pub kept_next : ℕ → Place → ℕ → Client → Option (ConnectionName × Bool) → Option Bool → Option ConnectionName → List GrantedFilter → List ℕ → List Entry → List Publication → Option ClientSession
 kept_next w place n c opened session connection held ids es ps =
-    kept_with (suc n) (newest_session opened (expels place.command c) (ends_any place c connection) session) (newest_connection opened (ends_any place c connection) connection)
-    (in_session (newest_session opened (expels place.command c) (ends_any place c connection) session) (is_beginning opened session) [] (filters_after place.command place.mark c held))
-    (in_session (newest_session opened (expels place.command c) (ends_any place c connection) session) (is_beginning opened session) [] (received_by place.command place.mark c ids))
-    (in_session (newest_session opened (expels place.command c) (ends_any place c connection) session) (is_beginning opened session) []
+    kept_with (suc n) (newest_clean_session opened (expels place.command c) (ends_any place c connection) session) (newest_connection opened (ends_any place c connection) connection)
+    (in_session (newest_clean_session opened (expels place.command c) (ends_any place c connection) session) (is_beginning opened session) [] (filters_after place.command place.mark c held))
+    (in_session (newest_clean_session opened (expels place.command c) (ends_any place c connection) session) (is_beginning opened session) [] (received_by place.command place.mark c ids))
+    (in_session (newest_clean_session opened (expels place.command c) (ends_any place c connection) session) (is_beginning opened session) []
     (started w n (newest_connection opened (ends_any place c connection) connection) (answered_by place.command place.mark n c es ++ map (Entry.Waits n) ps)))
 
 next_is : (w : ℕ) (place : Place) (content : RetainedTopics) (n : ℕ) (c : Client) (opened : Option (ConnectionName × Bool)) (session : Option Bool) (connection : Option ConnectionName)
@@ -91,10 +91,10 @@ next_is w place content n c (Some opened) (Some clean) connection held ids es s 
 
 pub filled_step : (limits : Limits) (place : Place) (past : Past) (c : Client) →
     client_session limits (place ∷ past) c ≡ filled_after (window_at limits (place ∷ past)) place (retained_publications past) c (client_session limits past c)
-unfolding current_connection session_of subscriptions_of received_of entries_of
+unfolding current_connection clean_session_of subscriptions_of received_of entries_of
 filled_step limits place past c =
-    ap (λ ps. kept_next (window_at limits (place ∷ past)) place (length past) c (accepts place.command place.mark c) (session_of past c) (current_connection past c)
+    ap (λ ps. kept_next (window_at limits (place ∷ past)) place (length past) c (accepts place.command place.mark c) (clean_session_of past c) (current_connection past c)
     (subscriptions_of past c) (received_of past c) (entries_of limits past c) (queued ps))
     (copies_are place.command place.mark past c)
-    ∙ next_is (window_at limits (place ∷ past)) place (retained_publications past) (length past) c (accepts place.command place.mark c) (session_of past c) (current_connection past c)
+    ∙ next_is (window_at limits (place ∷ past)) place (retained_publications past) (length past) c (accepts place.command place.mark c) (clean_session_of past c) (current_connection past c)
     (subscriptions_of past c) (received_of past c) (entries_of limits past c) (sound_entries limits past c)

@@ -3,7 +3,7 @@ use Rattle.std.proofs.Common.{◌≡◌, ℕ, Bool, true, false, if◌then◌els
 use Rattle.std.proofs.lemmas.Bool.{or_parts}
 use Rattle.broker_spec.specs.retained.Retained.{RetainedTopics}
 use Rattle.broker_spec.specs.Place.{Client, Place, Past, Limits}
-use Rattle.broker_spec.specs.Past.{accepts, ends_any, current_connection, session_of}
+use Rattle.broker_spec.specs.Past.{accepts, ends_any, current_connection, clean_session_of}
 use Rattle.broker_spec.specs.Subscriptions.{subscriptions_of}
 use Rattle.broker_spec.specs.Received.{received_of}
 use Rattle.broker_spec.specs.Retained.{retained_publications}
@@ -36,7 +36,7 @@ left_with w place content c (Some kept) = session_after w place content c kept
 pub left_is : (limits : Limits) (later : ℕ) → IsWindow limits later → (place : Place) (past : Past) (c : Client) → accepts place.command place.mark c ≡ None →
     left_with (window_at limits (place ∷ past)) place (retained_publications past) c (client_session limits past c)
     ≡ kept_after (window_at limits (place ∷ past)) place (retained_publications past) c (client_session limits past c)
-left_is limits later follows place past c not_accepted = by (session_of past c)
+left_is limits later follows place past c not_accepted = by (clean_session_of past c)
   where
     touched : (b : Bool) (clean : Bool) → touches place c (kept_now limits past c clean) ≡ b →
         (if b then kept_after (window_at limits (place ∷ past)) place (retained_publications past) c

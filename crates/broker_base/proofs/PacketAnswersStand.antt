@@ -8,7 +8,7 @@ use Rattle.session_base.specs.Queue.{on_puback, on_pubcomp}
 use Rattle.session_base.specs.Sending.{fill_sends}
 use Rattle.broker_spec.specs.Connection.{ConnectionName, same_connection}
 use Rattle.broker_spec.specs.Place.{Client, Mark, Place, Past, Limits}
-use Rattle.broker_spec.specs.Past.{any_connection, current_connection, session_of}
+use Rattle.broker_spec.specs.Past.{any_connection, current_connection, clean_session_of}
 use Rattle.broker_spec.specs.Owner.{named}
 use Rattle.broker_spec.specs.Retained.{retained_publications}
 use Rattle.broker_spec.specs.Times.{at_pubrec, window_at, entries_of}
@@ -41,10 +41,10 @@ not_ending x (Some y) = no (same_connection x y)
 
 to_all : (limits : Limits) (later : ℕ) → IsWindow limits later → (past : Past) (x : ConnectionName) (p : Publish) (owner : Client) (ds : List Client) →
     flat_map (copies_answered (window_at limits (at (commands.Packet x (packets.Publish p)) (Mark.Taken owner) ∷ past)) (at (commands.Packet x (packets.Publish p)) (Mark.Taken owner)) (retained_publications past)) (table (client_session limits past) ds)
-    ≡ flat_map (deliveries_to limits (at (commands.Packet x (packets.Publish p)) (Mark.Taken owner)) past) (filter (λ c. is_some (session_of past c)) ds)
+    ≡ flat_map (deliveries_to limits (at (commands.Packet x (packets.Publish p)) (Mark.Taken owner)) past) (filter (λ c. is_some (clean_session_of past c)) ds)
 to_all limits later follows past x p owner [] = refl
 to_all limits later follows past x p owner (d ∷ ds) =
-    by (session_of past d) (to_all limits later follows past x p owner ds)
+    by (clean_session_of past d) (to_all limits later follows past x p owner ds)
     (sym (deliveries_are limits (at (commands.Packet x (packets.Publish p)) (Mark.Taken owner)) past d refl (not_ending x (current_connection past d)) refl
     (same_window limits later follows (at (commands.Packet x (packets.Publish p)) (Mark.Taken owner)) past refl)))
   where
@@ -53,13 +53,13 @@ to_all limits later follows past x p owner (d ∷ ds) =
 
     by : (session : Option Bool) →
         flat_map (copies_answered (window_at limits (at (commands.Packet x (packets.Publish p)) (Mark.Taken owner) ∷ past)) (at (commands.Packet x (packets.Publish p)) (Mark.Taken owner)) (retained_publications past)) (table (client_session limits past) ds)
-        ≡ flat_map (deliveries_to limits (at (commands.Packet x (packets.Publish p)) (Mark.Taken owner)) past) (filter (λ c. is_some (session_of past c)) ds) →
+        ≡ flat_map (deliveries_to limits (at (commands.Packet x (packets.Publish p)) (Mark.Taken owner)) past) (filter (λ c. is_some (clean_session_of past c)) ds) →
         copies_to (window_at limits (at (commands.Packet x (packets.Publish p)) (Mark.Taken owner) ∷ past)) (at (commands.Packet x (packets.Publish p)) (Mark.Taken owner)) (retained_publications past) d (option_map (kept_now limits past d) session)
         ≡ deliveries_to limits (at (commands.Packet x (packets.Publish p)) (Mark.Taken owner)) past d →
         flat_map (copies_answered (window_at limits (at (commands.Packet x (packets.Publish p)) (Mark.Taken owner) ∷ past)) (at (commands.Packet x (packets.Publish p)) (Mark.Taken owner)) (retained_publications past))
         (keyed d (option_map (kept_now limits past d) session) (table (client_session limits past) ds))
         ≡ flat_map (deliveries_to limits (at (commands.Packet x (packets.Publish p)) (Mark.Taken owner)) past)
-        (if is_some session then d ∷ filter (λ c. is_some (session_of past c)) ds else filter (λ c. is_some (session_of past c)) ds)
+        (if is_some session then d ∷ filter (λ c. is_some (clean_session_of past c)) ds else filter (λ c. is_some (clean_session_of past c)) ds)
     by None e here = e
     by (Some clean) e here = ap₂ (λ xs ys. xs ++ ys) here e
 

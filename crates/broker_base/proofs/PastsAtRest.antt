@@ -8,7 +8,7 @@ use Rattle.session_base.specs.Queue.{ids_of}
 use Rattle.session_base.proofs.IdentifiersStayApart.{distinct, pubrec_length}
 use Rattle.broker_spec.specs.Connection.{ConnectionName}
 use Rattle.broker_spec.specs.Place.{Client, Place, Past, Limits, only_if}
-use Rattle.broker_spec.specs.Past.{ends, expels, ends_any, current_connection, session_of}
+use Rattle.broker_spec.specs.Past.{ends, expels, ends_any, current_connection, clean_session_of}
 use Rattle.broker_spec.specs.Subscriptions.{subscriptions_of}
 use Rattle.broker_spec.specs.Received.{received_of}
 use Rattle.broker_spec.specs.Retained.{retained_publications}
@@ -37,7 +37,7 @@ was_there x true connection e = absurd (cc)
 was_there x false connection e = (refl, e)
 
 at_rest : (limits : Limits) (later : ℕ) → IsWindow limits later → (place : Place) (past : Past) (c : Client) → RestsAt (window_at limits (place ∷ past)) place c (client_session limits past c)
-at_rest limits later follows place past c = by (session_of past c)
+at_rest limits later follows place past c = by (clean_session_of past c)
   where
     by : (session : Option Bool) → RestsAt (window_at limits (place ∷ past)) place c
         (kept_with (length past) session (current_connection past c) (subscriptions_of past c) (received_of past c) (entries_of limits past c))

@@ -5,7 +5,7 @@ use Rattle.session_base.specs.declared.publication.Publication.{Publication}
 use Rattle.session_base.specs.Queue.{Flight, awaited, on_puback, on_pubcomp}
 use Rattle.broker_spec.specs.Connection.{ConnectionName}
 use Rattle.broker_spec.specs.Place.{Client, same_client, Mark, Past, Limits}
-use Rattle.broker_spec.specs.Past.{current_connection, session_of, begins, in_session}
+use Rattle.broker_spec.specs.Past.{current_connection, clean_session_of, begins, in_session}
 use Rattle.broker_spec.specs.Subscriptions.{subscriptions_of}
 use Rattle.broker_spec.specs.Retained.{retained_publications}
 use Rattle.broker_spec.specs.Entries.{Entry, copies_by, copies_at, queued}
@@ -46,7 +46,7 @@ pub sound_entries : (limits : Limits) (past : Past) (c : Client) → Sound (leng
 unfolding entries_of
 sound_entries limits [] c = sound_none 0
 sound_entries limits (place ∷ past) c =
-    sound_in_session (suc (length past)) (session_of (place ∷ past) c) (begins place past c) _
+    sound_in_session (suc (length past)) (clean_session_of (place ∷ past) c) (begins place past c) _
     (sound_started (window_at limits (place ∷ past)) (length past) (current_connection (place ∷ past) c) _
     (sound_new (length past) _ (queued (copies_at place past c))
     (sound_answered place.command place.mark (length past) c (entries_of limits past c) (sound_entries limits past c))))

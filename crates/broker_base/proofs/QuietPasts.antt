@@ -7,7 +7,7 @@ use Rattle.session_base.specs.Identifiers.{least_free}
 use Rattle.session_base.specs.Queue.{Flight, ids_of, fill}
 use Rattle.broker_spec.specs.Connection.{ConnectionName}
 use Rattle.broker_spec.specs.Place.{Client, Place, Past, Limits, only_if}
-use Rattle.broker_spec.specs.Past.{accepts, any_connection, ends, expels, ends_any, newest_connection, current_connection, newest_session, session_of, is_beginning, begins, in_session}
+use Rattle.broker_spec.specs.Past.{accepts, any_connection, ends, expels, ends_any, newest_connection, current_connection, newest_clean_session, clean_session_of, is_beginning, begins, in_session}
 use Rattle.broker_spec.specs.Entries.{Entry, copies_at, queued}
 use Rattle.broker_spec.specs.Readings.{waiting_of, busy_ids}
 use Rattle.broker_spec.specs.Times.{answered_by, start_all, started, window_at, entries_of}
@@ -59,7 +59,7 @@ quiet_entries limits (place ∷ past) c x e =
     let s : Sound (suc (length past)) (answered_by place.command place.mark (length past) c (entries_of limits past c) ++ map (Entry.Waits (length past)) (queued (copies_at place past c)))
     = sound_new (length past) (answered_by place.command place.mark (length past) c (entries_of limits past c)) (queued (copies_at place past c))
     (sound_answered place.command place.mark (length past) c (entries_of limits past c) (sound_entries limits past c)) in
-    quiet_in (window_at limits (place ∷ past)) (length past) (session_of (place ∷ past) c) (begins place past c) (current_connection (place ∷ past) c) x
+    quiet_in (window_at limits (place ∷ past)) (length past) (clean_session_of (place ∷ past) c) (begins place past c) (current_connection (place ∷ past) c) x
     (answered_by place.command place.mark (length past) c (entries_of limits past c) ++ map (Entry.Waits (length past)) (queued (copies_at place past c))) s.in_order e
 
 pub quiet_queue : (limits : Limits) (past : Past) (c : Client) (x : ConnectionName) → current_connection past c ≡ Some x →
@@ -83,7 +83,7 @@ ended_too true connection e = refl
 ended_too false connection e = e
 
 no_session : (opened : Option (ConnectionName × Bool)) (expelled over : Bool) (session : Option Bool) (connection : Option ConnectionName) →
-    (session ≡ None → connection ≡ None) → newest_session opened expelled (expelled || over) session ≡ None → newest_connection opened (expelled || over) connection ≡ None
+    (session ≡ None → connection ≡ None) → newest_clean_session opened expelled (expelled || over) session ≡ None → newest_connection opened (expelled || over) connection ≡ None
 no_session (Some a) expelled over session connection h e = absurd (cc)
 no_session None expelled over None connection h e = ended_too (expelled || over) connection (h refl)
 no_session None true over (Some clean) connection h e = refl
@@ -92,11 +92,11 @@ no_session None false true (Some false) connection h e = absurd (cc)
 no_session None false false (Some true) connection h e = absurd (cc)
 no_session None false false (Some false) connection h e = absurd (cc)
 
-pub no_connection : (past : Past) (c : Client) → session_of past c ≡ None → current_connection past c ≡ None
-unfolding session_of current_connection
+pub no_connection : (past : Past) (c : Client) → clean_session_of past c ≡ None → current_connection past c ≡ None
+unfolding clean_session_of current_connection
 no_connection [] c e = refl
 no_connection (place ∷ past) c e =
-    no_session (accepts place.command place.mark c) (expels place.command c) (any_connection (ends place.command place.mark) (current_connection past c)) (session_of past c) (current_connection past c) (no_connection past c) e
+    no_session (accepts place.command place.mark c) (expels place.command c) (any_connection (ends place.command place.mark) (current_connection past c)) (clean_session_of past c) (current_connection past c) (no_connection past c) e
 
 -- ---- the entries of a session that continues
 
@@ -106,7 +106,7 @@ goes_on false over e = refl
 
 entries_by : (w n : ℕ) (clean : Bool) (es : List Entry) (opened : Option (ConnectionName × Bool)) (expelled over : Bool) (session : Option Bool) (connection : Option ConnectionName) →
     opened ≡ None → (expelled || over) ≡ false → session ≡ Some clean →
-    in_session (newest_session opened expelled (expelled || over) session) (is_beginning opened session) [] (started w n (newest_connection opened (expelled || over) connection) es) ≡ started w n connection es
+    in_session (newest_clean_session opened expelled (expelled || over) session) (is_beginning opened session) [] (started w n (newest_connection opened (expelled || over) connection) es) ≡ started w n connection es
 entries_by w n clean es (Some opened) expelled over session connection a b c = absurd (cc)
 entries_by w n clean es None expelled over None connection a b c = absurd (cc)
 entries_by w n clean es None true over (Some old) connection a b c = absurd (cc)
@@ -114,24 +114,24 @@ entries_by w n clean es None false true (Some old) connection a b c = absurd (cc
 entries_by w n clean es None false false (Some true) connection a b c = refl
 entries_by w n clean es None false false (Some false) connection a b c = refl
 
-pub entries_next : (limits : Limits) (place : Place) (past : Past) (c : Client) (clean : Bool) → accepts place.command place.mark c ≡ None → ends_any place c (current_connection past c) ≡ false → session_of past c ≡ Some clean →
+pub entries_next : (limits : Limits) (place : Place) (past : Past) (c : Client) (clean : Bool) → accepts place.command place.mark c ≡ None → ends_any place c (current_connection past c) ≡ false → clean_session_of past c ≡ Some clean →
     entries_of limits (place ∷ past) c
     ≡ started (window_at limits (place ∷ past)) (length past) (current_connection past c) (answered_by place.command place.mark (length past) c (entries_of limits past c) ++ map (Entry.Waits (length past)) (queued (copies_at place past c)))
-unfolding entries_of session_of current_connection
+unfolding entries_of clean_session_of current_connection
 entries_next limits place past c clean a b e =
     entries_by (window_at limits (place ∷ past)) (length past) clean
     (answered_by place.command place.mark (length past) c (entries_of limits past c) ++ map (Entry.Waits (length past)) (queued (copies_at place past c)))
-    (accepts place.command place.mark c) (expels place.command c) (any_connection (ends place.command place.mark) (current_connection past c)) (session_of past c) (current_connection past c) a b e
+    (accepts place.command place.mark c) (expels place.command c) (any_connection (ends place.command place.mark) (current_connection past c)) (clean_session_of past c) (current_connection past c) a b e
 
 none_by : (es : List Entry) (opened : Option (ConnectionName × Bool)) (expelled over : Bool) (session : Option Bool) → opened ≡ None → session ≡ None →
-    in_session (newest_session opened expelled over session) (is_beginning opened session) [] es ≡ []
+    in_session (newest_clean_session opened expelled over session) (is_beginning opened session) [] es ≡ []
 none_by es (Some a) expelled over session e f = absurd (cc)
 none_by es None expelled over (Some clean) e f = absurd (cc)
 none_by es None expelled over None e f = refl
 
-pub entries_none : (limits : Limits) (place : Place) (past : Past) (c : Client) → accepts place.command place.mark c ≡ None → session_of past c ≡ None → entries_of limits (place ∷ past) c ≡ []
-unfolding entries_of session_of current_connection
+pub entries_none : (limits : Limits) (place : Place) (past : Past) (c : Client) → accepts place.command place.mark c ≡ None → clean_session_of past c ≡ None → entries_of limits (place ∷ past) c ≡ []
+unfolding entries_of clean_session_of current_connection
 entries_none limits place past c a e =
     none_by (started (window_at limits (place ∷ past)) (length past) (newest_connection (accepts place.command place.mark c) (ends_any place c (current_connection past c)) (current_connection past c))
     (answered_by place.command place.mark (length past) c (entries_of limits past c) ++ map (Entry.Waits (length past)) (queued (copies_at place past c))))
-    (accepts place.command place.mark c) (expels place.command c) (ends_any place c (current_connection past c)) (session_of past c) a e
+    (accepts place.command place.mark c) (expels place.command c) (ends_any place c (current_connection past c)) (clean_session_of past c) a e

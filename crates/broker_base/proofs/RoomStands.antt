@@ -8,7 +8,7 @@ use Rattle.session_base.specs.packet.declared.delivery.Delivery.TheVariants as d
 use Rattle.session_base.specs.declared.publication.Publication.{Publication}
 use Rattle.session_base.specs.Queue.{Flight, ids_of, room}
 use Rattle.broker_spec.specs.Place.{Client, Past, Limits}
-use Rattle.broker_spec.specs.Past.{session_of}
+use Rattle.broker_spec.specs.Past.{clean_session_of}
 use Rattle.broker_spec.specs.Owner.{named}
 use Rattle.broker_spec.specs.Subscriptions.{effective_qos}
 use Rattle.broker_spec.specs.Received.{is_repeat}
@@ -47,13 +47,13 @@ room_is limits past c = ap (λ k. limits.entries - k) (held_is (length past) (en
 -- ---- publications
 
 full_in : (limits : Limits) (past : Past) (p : Publication) (ds : List Client) →
-    list_any (has_no_room_for limits p) (table (client_session limits past) ds) ≡ list_any (lacks_room limits past p) (filter (λ c. is_some (session_of past c)) ds)
+    list_any (has_no_room_for limits p) (table (client_session limits past) ds) ≡ list_any (lacks_room limits past p) (filter (λ c. is_some (clean_session_of past c)) ds)
 full_in limits past p [] = refl
-full_in limits past p (d ∷ ds) = by (session_of past d) (full_in limits past p ds)
+full_in limits past p (d ∷ ds) = by (clean_session_of past d) (full_in limits past p ds)
   where
-    by : (session : Option Bool) → list_any (has_no_room_for limits p) (table (client_session limits past) ds) ≡ list_any (lacks_room limits past p) (filter (λ c. is_some (session_of past c)) ds) →
+    by : (session : Option Bool) → list_any (has_no_room_for limits p) (table (client_session limits past) ds) ≡ list_any (lacks_room limits past p) (filter (λ c. is_some (clean_session_of past c)) ds) →
         list_any (has_no_room_for limits p) (keyed d (option_map (kept_now limits past d) session) (table (client_session limits past) ds))
-        ≡ list_any (lacks_room limits past p) (if is_some session then d ∷ filter (λ c. is_some (session_of past c)) ds else filter (λ c. is_some (session_of past c)) ds)
+        ≡ list_any (lacks_room limits past p) (if is_some session then d ∷ filter (λ c. is_some (clean_session_of past c)) ds else filter (λ c. is_some (clean_session_of past c)) ds)
     by None e = e
     by (Some clean) e = ap₂ (λ k b. (is_queued_at (effective_qos past d p) && (k == 0)) || b) (room_is limits past d) e
 

@@ -3,7 +3,7 @@ use Rattle.std.proofs.Common.{◌≡◌, ℕ, Bool, ◌⊎◌, inl, inr, Option,
 use Rattle.broker_spec.specs.retained.Retained.{RetainedTopics}
 use Rattle.broker_spec.specs.Connection.{ConnectionName}
 use Rattle.broker_spec.specs.Place.{Client, Mark, Place, Past, Limits, only_if}
-use Rattle.broker_spec.specs.Past.{accepts, current_connection, session_of}
+use Rattle.broker_spec.specs.Past.{accepts, current_connection, clean_session_of}
 use Rattle.broker_spec.specs.Subscriptions.{subscriptions_of}
 use Rattle.broker_spec.specs.Received.{received_of}
 use Rattle.broker_spec.specs.Owner.{insert_client, named_by, named}
@@ -25,7 +25,7 @@ use Rattle.broker_base.proofs.OthersStay.{left_with, left_is}
 pub session_is : (limits : Limits) (past : Past) (c : Client) → session_in c (table (client_session limits past) (named past)) ≡ client_session limits past c
 session_is limits past c = session_found (client_session limits past) c (named past) (rising_named past) (by (session_is_named past c))
   where
-    by : (session_of past c ≡ None) ⊎ IsNamed c (named past) → (client_session limits past c ≡ None) ⊎ IsNamed c (named past)
+    by : (clean_session_of past c ≡ None) ⊎ IsNamed c (named past) → (client_session limits past c ≡ None) ⊎ IsNamed c (named past)
     by (inl e) = inl (ap (λ session. kept_with (length past) session (current_connection past c) (subscriptions_of past c) (received_of past c) (entries_of limits past c)) e)
     by (inr named) = inr named
 

@@ -1,7 +1,7 @@
 -- The step of the state that a past corresponds to; and so, command by command, of every list.
 use Rattle.std.proofs.Common.{◌≡◌, ℕ, Bool, true, false, if◌then◌else◌, Option, Some, None, List, [], ◌∷◌, length, refl, ap, ap₂, ◌∙◌, sym}
 use Rattle.broker_spec.specs.Place.{Mark, Place, Past, Limits}
-use Rattle.broker_spec.specs.Past.{current_connection, session_of}
+use Rattle.broker_spec.specs.Past.{current_connection, clean_session_of}
 use Rattle.broker_spec.specs.Owner.{named}
 use Rattle.broker_spec.specs.Subscriptions.{subscriptions_of}
 use Rattle.broker_spec.specs.Received.{received_of}
@@ -27,9 +27,9 @@ use Rattle.broker_base.proofs.AnswersStand.{answers_are}
 -- ---- one session
 
 pub others : OthersStay
-others limits later follows place past c kept is untouched = by (session_of past c) refl
+others limits later follows place past c kept is untouched = by (clean_session_of past c) refl
   where
-    by : (session : Option Bool) → session_of past c ≡ session → client_session limits (place ∷ past) c ≡ Some kept
+    by : (session : Option Bool) → clean_session_of past c ≡ session → client_session limits (place ∷ past) c ≡ Some kept
     by None e = absurd (let none : client_session limits past c ≡ None
         = ap (λ o. kept_with (length past) o (current_connection past c) (subscriptions_of past c) (received_of past c) (entries_of limits past c)) e in cc)
     by (Some clean) e =

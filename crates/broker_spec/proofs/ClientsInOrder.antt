@@ -6,7 +6,7 @@ use Rattle.std.specs.Ordering.{is_eq, match_ordering, ordering_reverse}
 use Rattle.std.proofs.lemmas.Cmp.{nat_list_cmp_total}
 use Rattle.std.proofs.lemmas.Map.Lookups.{exact_bytes}
 use Rattle.broker_spec.specs.Place.{Client, by_bytes, same_client, Mark, Past, only_if}
-use Rattle.broker_spec.specs.Past.{accepts, expels, ends_any, current_connection, newest_session, session_of}
+use Rattle.broker_spec.specs.Past.{accepts, expels, ends_any, current_connection, newest_clean_session, clean_session_of}
 use Rattle.broker_spec.specs.Owner.{insert_client, named_by, named}
 use Rattle.broker_spec.specs.declared.command.Command.{Command}
 use Rattle.broker_spec.specs.declared.command.Command.TheVariants as commands
@@ -107,24 +107,24 @@ named_still b c (d ∷ ds) h = by (by_bytes c d) h (λ k. named_still b c ds k)
     by Greater (inl e) more = inl e
     by Greater (inr k) more = inr (more k)
 
-no_session_yet : (expelled over : Bool) (session : Option Bool) → session ≡ None → newest_session None expelled over session ≡ None
+no_session_yet : (expelled over : Bool) (session : Option Bool) → session ≡ None → newest_clean_session None expelled over session ≡ None
 no_session_yet expelled over None e = refl
 no_session_yet expelled over (Some clean) e = absurd (cc)
 
 named_or_none : (command : Command) (mark : Mark) (c : Client) (ds : List Client) (expelled over : Bool) (session : Option Bool) → (session ≡ None) ⊎ IsNamed c ds →
-    (newest_session (accepts command mark c) expelled over session ≡ None) ⊎ IsNamed c (named_by command mark ds)
+    (newest_clean_session (accepts command mark c) expelled over session ≡ None) ⊎ IsNamed c (named_by command mark ds)
 named_or_none (commands.Connect x d clean) Mark.Accepted c ds expelled over session h = by (same_client d c) refl h
   where
     by : (b : Bool) → same_client d c ≡ b → (session ≡ None) ⊎ IsNamed c ds →
-        (newest_session (only_if b (Some (x, clean))) expelled over session ≡ None) ⊎ IsNamed c (insert_client d ds)
+        (newest_clean_session (only_if b (Some (x, clean))) expelled over session ≡ None) ⊎ IsNamed c (insert_client d ds)
     by true e k = inr (subst (λ (b : Client). IsNamed b (insert_client d ds)) (same_is d c e) (named_first d ds))
     by false e (inl none) = inl (no_session_yet expelled over session none)
     by false e (inr k) = inr (named_still c d ds k)
 named_or_none _ _ c ds expelled over session (inl e) = inl (no_session_yet expelled over session e)
 named_or_none _ _ c ds expelled over session (inr k) = inr k
 
-pub session_is_named : (past : Past) (c : Client) → (session_of past c ≡ None) ⊎ IsNamed c (named past)
-unfolding named session_of
+pub session_is_named : (past : Past) (c : Client) → (clean_session_of past c ≡ None) ⊎ IsNamed c (named past)
+unfolding named clean_session_of
 session_is_named [] c = inl refl
 session_is_named (place ∷ past) c =
-    named_or_none place.command place.mark c (named past) (expels place.command c) (ends_any place c (current_connection past c)) (session_of past c) (session_is_named past c)
+    named_or_none place.command place.mark c (named past) (expels place.command c) (ends_any place c (current_connection past c)) (clean_session_of past c) (session_is_named past c)

@@ -8,7 +8,7 @@ use Rattle.session_base.specs.Publication.{publication_of}
 use Rattle.session_base.specs.Identifiers.{least_free}
 use Rattle.broker_spec.specs.Connection.{ConnectionName}
 use Rattle.broker_spec.specs.Place.{Client, Past, Limits}
-use Rattle.broker_spec.specs.Past.{current_connection, session_of, in_session}
+use Rattle.broker_spec.specs.Past.{current_connection, clean_session_of, in_session}
 use Rattle.broker_spec.specs.Subscriptions.{effective_qos}
 use Rattle.broker_spec.specs.Entries.{Entry, copy_of, queued}
 use Rattle.broker_spec.specs.Readings.{made_of, publication_in}
@@ -67,7 +67,7 @@ from_copy n p (Some qualities.AtMostOnce) = refl
 from_copy n p (Some qualities.AtLeastOnce) = rw (same_number n) refl
 from_copy n p (Some qualities.ExactlyOnce) = rw (same_number n) refl
 
-enters_in : (limits : Limits) (past : Past) (x : ConnectionName) (p : Publish) (d c : Client) (session : Option Bool) → session_of (place_of_taken x p d ∷ past) c ≡ session
+enters_in : (limits : Limits) (past : Past) (x : ConnectionName) (p : Publish) (d c : Client) (session : Option Bool) → clean_session_of (place_of_taken x p d ∷ past) c ≡ session
     → from_place (length past) (entries_of limits (place_of_taken x p d ∷ past) c) ≡ queued_at (publication_of p) (effective_qos past c (publication_of p))
 unfolding entries_of
 enters_in limits past x p d c (Some clean) s =
@@ -86,4 +86,4 @@ enters_in limits past x p d c None s =
     ∙ sym (ap (queued_at (publication_of p)) (no_qos past c (publication_of p) (gone_before past x p d c s)))
 
 pub enters_as_published : EntersAsPublished
-enters_as_published limits past x p d c = enters_in limits past x p d c (session_of (place_of_taken x p d ∷ past) c) refl
+enters_as_published limits past x p d c = enters_in limits past x p d c (clean_session_of (place_of_taken x p d ∷ past) c) refl

@@ -7,7 +7,7 @@ use Rattle.retained.specs.declared.retained_publication.RetainedPublication.{Ret
 use Rattle.retained.specs.Retained.{RetainedTopics, matching_entries}
 use Rattle.broker_spec.specs.Connection.{ConnectionName}
 use Rattle.broker_spec.specs.Place.{Client, same_client, Mark, Past, Limits}
-use Rattle.broker_spec.specs.Past.{current_connection, session_of, begins, in_session}
+use Rattle.broker_spec.specs.Past.{current_connection, clean_session_of, begins, in_session}
 use Rattle.session_base.specs.declared.publication.Publication.{Publication}
 use Rattle.session_base.specs.Publication.{publication_of, is_answered}
 use Rattle.broker_spec.specs.Subscriptions.{effective_qos, granted_of}
@@ -227,7 +227,7 @@ unfolding entries_of
 made-below limits [] c = tt
 made-below limits (place ∷ past) c =
     let by = answers-by place.command place.mark (length past) c in
-    below-kept (suc (length past)) (session_of (place ∷ past) c) (begins place past c) _
+    below-kept (suc (length past)) (clean_session_of (place ∷ past) c) (begins place past c) _
     (rw (by.done_is (entries_of limits past c))
     (below-started (suc (length past)) (window_at limits (place ∷ past)) (length past) (current_connection (place ∷ past) c)
     (map by.on_each (entries_of limits past c) ++ map (Entry.Waits (length past)) (queued (copies_at place past c)))
@@ -254,7 +254,7 @@ unfolding entries_of
 once limits [] c n = omega arith
 once limits (place ∷ past) c n =
     let by = answers-by place.command place.mark (length past) c in
-    times-kept n (session_of (place ∷ past) c) (begins place past c) _
+    times-kept n (clean_session_of (place ∷ past) c) (begins place past c) _
     (rw (
       by.done_is (entries_of limits past c),
       times-started n (window_at limits (place ∷ past)) (length past) (current_connection (place ∷ past) c) (map by.on_each (entries_of limits past c) ++ map (Entry.Waits (length past)) (queued (copies_at place past c))),

@@ -4,7 +4,7 @@ use Rattle.std.proofs.lemmas.Bool.{both_ways}
 use Rattle.std.proofs.lemmas.List.{length-append}
 use Rattle.packet.specs.declared.packet.Packet.TheVariants as packets
 use Rattle.broker_spec.specs.Place.{Client, Mark, Place, Past, Limits, same_client}
-use Rattle.broker_spec.specs.Past.{current_connection, session_of, begins, in_session}
+use Rattle.broker_spec.specs.Past.{current_connection, clean_session_of, begins, in_session}
 use Rattle.broker_spec.specs.Subscriptions.{granted_of}
 use Rattle.broker_spec.specs.Retained.{retained_publications}
 use Rattle.broker_spec.specs.Entries.{Entry, copies_for_all, copies_by, copies_at, queued}
@@ -71,7 +71,7 @@ one_more limits place past c n before new =
     let by = answers-by place.command place.mark (length past) c in
     let old = entries_of limits past c in
     let more = map (Entry.Waits (length past)) (queued (copies_at place past c)) in
-    none_kept n (session_of (place ∷ past) c) (begins place past c) _
+    none_kept n (clean_session_of (place ∷ past) c) (begins place past c) _
     (rw (
       by.done_is old,
       times-started n (window_at limits (place ∷ past)) (length past) (current_connection (place ∷ past) c) (map by.on_each old ++ more),

@@ -5,7 +5,7 @@ use Rattle.std.specs.List.{AllByRecursion}
 use Rattle.packet.specs.declared.packet.Packet.TheVariants as packets
 use Rattle.broker_spec.specs.Connection.{ConnectionName}
 use Rattle.broker_spec.specs.Place.{Client, same_client, Mark}
-use Rattle.broker_spec.specs.Past.{current_connection, session_of, begins, in_session}
+use Rattle.broker_spec.specs.Past.{current_connection, clean_session_of, begins, in_session}
 use Rattle.session_base.specs.declared.publication.Publication.{Publication}
 use Rattle.session_base.specs.Publication.{is_acknowledged}
 use Rattle.broker_spec.specs.Entries.{Entry, copies_at, queued}
@@ -194,7 +194,7 @@ pub entries_only_grow : EntriesOnlyGrow
 unfolding entries_of
 entries_only_grow limits place past c s b =
     let by = answers-by place.command place.mark (length past) c in
-    lasting (session_of (place ∷ past) c) (begins place past c) (entries_of limits past c) _ (length past) s b
+    lasting (clean_session_of (place ∷ past) c) (begins place past c) (entries_of limits past c) _ (length past) s b
     (rw (by.done_is (entries_of limits past c))
     (grows (window_at limits (place ∷ past)) (length past) (current_connection (place ∷ past) c) by.on_each by.answering
     (entries_of limits past c) (queued (copies_at place past c))))

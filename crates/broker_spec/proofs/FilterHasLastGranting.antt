@@ -7,7 +7,7 @@ use Rattle.retained.specs.packet_base.declared.qos.QoS.{QoS}
 use Rattle.packet.specs.declared.subscribe.Subscription.{Subscription}
 use Rattle.packet.specs.declared.packet.Packet.TheVariants as packets
 use Rattle.broker_spec.specs.Place.{Client, same_client, Mark}
-use Rattle.broker_spec.specs.Past.{session_of, begins, in_session}
+use Rattle.broker_spec.specs.Past.{clean_session_of, begins, in_session}
 use Rattle.broker_spec.specs.Subscriptions.{as_granted, granted_of, filters_after, subscriptions_of, qos_asked}
 use Rattle.session_base.specs.Subscriptions.{GrantedFilter, with_subscription, with_subscriptions, without_filter, without_filters}
 use Rattle.broker_spec.specs.Laws.{newer_of_two, either, last_qos, word_on, last_granting, FilterHasLastGranting}
@@ -180,7 +180,7 @@ pub filter_has_last_granting : FilterHasLastGranting
 unfolding subscriptions_of last_granting
 filter_has_last_granting [] c f = refl
 filter_has_last_granting (place ∷ past) c f =
-    in-session (session_of (place ∷ past) c) (begins place past c) f (filters_after place.command place.mark c (subscriptions_of past c))
-    ∙ ap (in_session (session_of (place ∷ past) c) (begins place past c) None)
+    in-session (clean_session_of (place ∷ past) c) (begins place past c) f (filters_after place.command place.mark c (subscriptions_of past c))
+    ∙ ap (in_session (clean_session_of (place ∷ past) c) (begins place past c) None)
     (word-by place.command place.mark c f (subscriptions_of past c)
     ∙ ap (newer_of_two (word_on place.command place.mark c f)) (filter_has_last_granting past c f))

@@ -3,7 +3,7 @@ use Rattle.std.proofs.Common.{◌≡◌, ℕ, Bool, true, false, ◌||◌, ◌==
 use Rattle.std.specs.List.{AllByRecursion}
 use Rattle.broker_spec.specs.Connection.{ConnectionName}
 use Rattle.broker_spec.specs.Place.{Client, Past, Limits}
-use Rattle.broker_spec.specs.Past.{current_connection, session_of, begins, in_session}
+use Rattle.broker_spec.specs.Past.{current_connection, clean_session_of, begins, in_session}
 use Rattle.session_base.specs.declared.publication.Publication.{Publication}
 use Rattle.retained.specs.lists.Lists.{has_id, IsDistinct}
 use Rattle.broker_spec.specs.Entries.{Entry, copies_at, queued}
@@ -127,7 +127,7 @@ unfolding entries_of
 apart limits [] c = tt
 apart limits (place ∷ past) c =
     let by = answers-by place.command place.mark (length past) c in
-    apart-kept (session_of (place ∷ past) c) (begins place past c) _
+    apart-kept (clean_session_of (place ∷ past) c) (begins place past c) _
     (rw (by.done_is (entries_of limits past c))
     (apart-started (window_at limits (place ∷ past)) (length past) (current_connection (place ∷ past) c) _
     (apart-more [] (map by.on_each (entries_of limits past c)) (map (Entry.Waits (length past)) (queued (copies_at place past c)))

@@ -2,7 +2,7 @@
 use Rattle.std.proofs.Common.{◌≡◌, ℕ, ◌≤◌, ◌<◌, Bool, true, false, nat_lt, if◌then◌else◌, List, [], ◌∷◌, ◌++◌, length, map, Option, Some, None, inl, inr, refl, arith}
 use Rattle.std.specs.List.{AllByRecursion}
 use Rattle.broker_spec.specs.Connection.{ConnectionName}
-use Rattle.broker_spec.specs.Past.{current_connection, session_of, begins, in_session}
+use Rattle.broker_spec.specs.Past.{current_connection, clean_session_of, begins, in_session}
 use Rattle.session_base.specs.declared.publication.Publication.{Publication}
 use Rattle.broker_spec.specs.Entries.{Entry, copies_at, queued}
 use Rattle.broker_spec.specs.Readings.{busy_ids}
@@ -76,7 +76,7 @@ unfolding entries_of
 identifiers_are_in_the_window limits grows [] c = tt
 identifiers_are_in_the_window limits grows (place ∷ past) c =
     let by = answers-by place.command place.mark (length past) c in
-    fits-kept (window_at limits (place ∷ past)) (session_of (place ∷ past) c) (begins place past c) _
+    fits-kept (window_at limits (place ∷ past)) (clean_session_of (place ∷ past) c) (begins place past c) _
     (rw (by.done_is (entries_of limits past c))
     (fits-started (window_at limits (place ∷ past)) (length past) (current_connection (place ∷ past) c) _
     (fits-more (window_at limits (place ∷ past)) (length past) (map by.on_each (entries_of limits past c)) (queued (copies_at place past c))

@@ -5,7 +5,7 @@ use Rattle.std.specs.List.{AllByRecursion}
 use Rattle.retained.specs.lists.Lists.{In}
 use Rattle.broker_spec.specs.Connection.{ConnectionName}
 use Rattle.broker_spec.specs.Place.{Client, Mark, Place, Past, Limits, only_if, same_client}
-use Rattle.broker_spec.specs.Past.{accepts, ends, expels, ends_any, any_connection, newest_session, is_beginning, current_connection, session_of, session_start}
+use Rattle.broker_spec.specs.Past.{accepts, ends, expels, ends_any, any_connection, newest_clean_session, is_beginning, current_connection, clean_session_of, session_start}
 use Rattle.broker_spec.specs.Commands.{place_of}
 use Rattle.broker_spec.specs.AnswersInOrder.{answers_at}
 use Rattle.broker_spec.specs.Laws.{KeepsConnection}
@@ -79,18 +79,18 @@ accepted_is _ _ c x clean e = cc
 
 -- ---- a session continues
 
-start_has_session : (past : Past) (c : Client) (n : ℕ) → session_start past c ≡ Some n → is_some (session_of past c) ≡ true
-unfolding session_start session_of
+start_has_session : (past : Past) (c : Client) (n : ℕ) → session_start past c ≡ Some n → is_some (clean_session_of past c) ≡ true
+unfolding session_start clean_session_of
 start_has_session [] c n e = cc
 start_has_session (place ∷ past) c n e = by (accepts place.command place.mark c) refl e
   where
     by : (o : Option (ConnectionName × Bool)) → accepts place.command place.mark c ≡ o
-        → (if is_beginning o (session_of past c) then Some (length past) else only_if (is_some (newest_session o (expels place.command c) (ends_any place c (current_connection past c)) (session_of past c))) (session_start past c)) ≡ Some n
-        → is_some (newest_session o (expels place.command c) (ends_any place c (current_connection past c)) (session_of past c)) ≡ true
+        → (if is_beginning o (clean_session_of past c) then Some (length past) else only_if (is_some (newest_clean_session o (expels place.command c) (ends_any place c (current_connection past c)) (clean_session_of past c))) (session_start past c)) ≡ Some n
+        → is_some (newest_clean_session o (expels place.command c) (ends_any place c (current_connection past c)) (clean_session_of past c)) ≡ true
     by (Some opened) a f = refl
-    by None a f = (there_only (is_some (newest_session None (expels place.command c) (ends_any place c (current_connection past c)) (session_of past c))) (session_start past c) n f).0
+    by None a f = (there_only (is_some (newest_clean_session None (expels place.command c) (ends_any place c (current_connection past c)) (clean_session_of past c))) (session_start past c) n f).0
 
-no_end : (clean : Bool) (session : Option Bool) → newest_session None false false session ≡ session
+no_end : (clean : Bool) (session : Option Bool) → newest_clean_session None false false session ≡ session
 no_end clean None = refl
 no_end clean (Some true) = refl
 no_end clean (Some false) = refl
@@ -102,12 +102,12 @@ not_expelled false b e = refl
 -- at a place that opens nothing for the client and does not end its connection
 start_stays : (place : Place) (below : Past) (c : Client) (n : ℕ) → session_start below c ≡ Some n → accepts place.command place.mark c ≡ None
     → ends_any place c (current_connection below c) ≡ false → session_start (place ∷ below) c ≡ Some n
-unfolding session_start session_of
+unfolding session_start clean_session_of
 start_stays place below c n e none over =
-    ap (λ o. if is_beginning o (session_of below c) then Some (length below) else only_if (is_some (newest_session o (expels place.command c) (ends_any place c (current_connection below c)) (session_of below c))) (session_start below c)) none
-    ∙ ap₂ (λ a b. only_if (is_some (newest_session None a b (session_of below c))) (session_start below c))
+    ap (λ o. if is_beginning o (clean_session_of below c) then Some (length below) else only_if (is_some (newest_clean_session o (expels place.command c) (ends_any place c (current_connection below c)) (clean_session_of below c))) (session_start below c)) none
+    ∙ ap₂ (λ a b. only_if (is_some (newest_clean_session None a b (clean_session_of below c))) (session_start below c))
     (not_expelled (expels place.command c) (any_connection (ends place.command place.mark) (current_connection below c)) over) over
-    ∙ ap (λ s. only_if (is_some s) (session_start below c)) (no_end true (session_of below c))
+    ∙ ap (λ s. only_if (is_some s) (session_start below c)) (no_end true (clean_session_of below c))
     ∙ ap (λ b. only_if b (session_start below c)) (start_has_session below c n e)
     ∙ e
 

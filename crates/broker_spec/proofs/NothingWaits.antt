@@ -2,7 +2,7 @@
 use Rattle.std.proofs.Common.{◌≡◌, ℕ, suc, ◌≤◌, ◌+◌, Bool, true, false, nat_lt, if◌then◌else◌, List, [], ◌∷◌, ◌++◌, length, filter, Option, Some, None, ◌⊎◌, inl, inr, refl, arith}
 use Rattle.broker_spec.specs.Connection.{ConnectionName}
 use Rattle.broker_spec.specs.Place.{Client, Past, Limits}
-use Rattle.broker_spec.specs.Past.{current_connection, session_of, begins, in_session}
+use Rattle.broker_spec.specs.Past.{current_connection, clean_session_of, begins, in_session}
 use Rattle.session_base.specs.declared.publication.Publication.{Publication}
 use Rattle.broker_spec.specs.Entries.{Entry, is_unfinished}
 use Rattle.session_base.specs.Identifiers.{least_free}
@@ -43,7 +43,7 @@ pub full-at : (limits : Limits) (past : Past) (c : Client) → (current_connecti
 unfolding entries_of
 full-at limits [] c = inr tt
 full-at limits (place ∷ past) c =
-    by-session (session_of (place ∷ past) c) (begins place past c) (current_connection (place ∷ past) c) _
+    by-session (clean_session_of (place ∷ past) c) (begins place past c) (current_connection (place ∷ past) c) _
   where
     by-session : (session : Option Bool) (beginning : Bool) (current : Option ConnectionName) (es : List Entry)
         → (current ≡ None) ⊎ IsFull (window_at limits (place ∷ past)) 0 (in_session session beginning [] (started (window_at limits (place ∷ past)) (length past) current es))

@@ -7,7 +7,7 @@ use Rattle.packet.specs.declared.packet.Packet.TheVariants as packets
 use Rattle.retained.specs.Retained.{RetainedTopics}
 use Rattle.broker_spec.specs.Connection.{ConnectionName, same_connection}
 use Rattle.broker_spec.specs.Place.{Client, Mark, Place, Past, Limits, only_if}
-use Rattle.broker_spec.specs.Past.{any_connection, current_connection, session_of, newest_session, begins, in_session}
+use Rattle.broker_spec.specs.Past.{any_connection, current_connection, clean_session_of, newest_clean_session, begins, in_session}
 use Rattle.broker_spec.specs.Subscriptions.{filters_after, subscriptions_of}
 use Rattle.broker_spec.specs.Received.{received_by, received_of}
 use Rattle.broker_spec.specs.Retained.{retained_by, retained_publications}
@@ -129,7 +129,7 @@ none-ends : (x : ConnectionName) (current : Option ConnectionName) → any_conne
 none-ends x None = refl
 none-ends x (Some y) = and-false (same_connection x y)
 
-same-session : (over : Bool) (session : Option Bool) → over ≡ false → newest_session None false over session ≡ session
+same-session : (over : Bool) (session : Option Bool) → over ≡ false → newest_clean_session None false over session ≡ session
 same-session over None e = refl
 same-session over (Some clean) e = rw e (by clean)
   where
@@ -141,9 +141,9 @@ same-connection : (past : Past) (x : ConnectionName) (packet : Packet) (c : Clie
 unfolding current_connection
 same-connection past x packet c = ap (λ b. only_if (not b) (current_connection past c)) (none-ends x (current_connection past c))
 
-still-session : (past : Past) (x : ConnectionName) (packet : Packet) (c : Client) → session_of (nobodys x packet ∷ past) c ≡ session_of past c
-unfolding session_of
-still-session past x packet c = same-session (any_connection (λ y. same_connection x y && false) (current_connection past c)) (session_of past c) (none-ends x (current_connection past c))
+still-session : (past : Past) (x : ConnectionName) (packet : Packet) (c : Client) → clean_session_of (nobodys x packet ∷ past) c ≡ clean_session_of past c
+unfolding clean_session_of
+still-session past x packet c = same-session (any_connection (λ y. same_connection x y && false) (current_connection past c)) (clean_session_of past c) (none-ends x (current_connection past c))
 
 -- ---- what a session keeps
 
@@ -155,34 +155,34 @@ kept-on : {A : Type 0} (session : Option Bool) (fresh kept : A) → (session ≡
 kept-on (Some clean) fresh kept e = refl
 kept-on None fresh kept e = sym (e refl)
 
-no-subscriptions : (past : Past) (c : Client) → session_of past c ≡ None → subscriptions_of past c ≡ []
+no-subscriptions : (past : Past) (c : Client) → clean_session_of past c ≡ None → subscriptions_of past c ≡ []
 unfolding subscriptions_of
 no-subscriptions [] c e = refl
-no-subscriptions (place ∷ past) c e = kept-none (session_of (place ∷ past) c) (begins place past c) [] _ e
+no-subscriptions (place ∷ past) c e = kept-none (clean_session_of (place ∷ past) c) (begins place past c) [] _ e
 
-no-identifiers : (past : Past) (c : Client) → session_of past c ≡ None → received_of past c ≡ []
+no-identifiers : (past : Past) (c : Client) → clean_session_of past c ≡ None → received_of past c ≡ []
 unfolding received_of
 no-identifiers [] c e = refl
-no-identifiers (place ∷ past) c e = kept-none (session_of (place ∷ past) c) (begins place past c) [] _ e
+no-identifiers (place ∷ past) c e = kept-none (clean_session_of (place ∷ past) c) (begins place past c) [] _ e
 
-no-entries : (limits : Limits) (past : Past) (c : Client) → session_of past c ≡ None → entries_of limits past c ≡ []
+no-entries : (limits : Limits) (past : Past) (c : Client) → clean_session_of past c ≡ None → entries_of limits past c ≡ []
 unfolding entries_of
 no-entries limits [] c e = refl
-no-entries limits (place ∷ past) c e = kept-none (session_of (place ∷ past) c) (begins place past c) [] _ e
+no-entries limits (place ∷ past) c e = kept-none (clean_session_of (place ∷ past) c) (begins place past c) [] _ e
 
 same-subscriptions : (past : Past) (x : ConnectionName) (packet : Packet) (c : Client) → subscriptions_of (nobodys x packet ∷ past) c ≡ subscriptions_of past c
 unfolding subscriptions_of
 same-subscriptions past x packet c =
-    ap (in_session (session_of (nobodys x packet ∷ past) c) false []) (no-subscription packet x c (subscriptions_of past c))
+    ap (in_session (clean_session_of (nobodys x packet ∷ past) c) false []) (no-subscription packet x c (subscriptions_of past c))
     ∙ ap (λ z. in_session z false [] (subscriptions_of past c)) (still-session past x packet c)
-    ∙ kept-on (session_of past c) [] (subscriptions_of past c) (no-subscriptions past c)
+    ∙ kept-on (clean_session_of past c) [] (subscriptions_of past c) (no-subscriptions past c)
 
 same-received : (past : Past) (x : ConnectionName) (packet : Packet) (c : Client) → received_of (nobodys x packet ∷ past) c ≡ received_of past c
 unfolding received_of
 same-received past x packet c =
-    ap (in_session (session_of (nobodys x packet ∷ past) c) false []) (no-identifier packet x c (received_of past c))
+    ap (in_session (clean_session_of (nobodys x packet ∷ past) c) false []) (no-identifier packet x c (received_of past c))
     ∙ ap (λ z. in_session z false [] (received_of past c)) (still-session past x packet c)
-    ∙ kept-on (session_of past c) [] (received_of past c) (no-identifiers past c)
+    ∙ kept-on (clean_session_of past c) [] (received_of past c) (no-identifiers past c)
 
 -- ---- entries: where each that waits has a full window before it, nothing starts
 
@@ -207,11 +207,11 @@ same-entries : (limits : Limits) (past : Past) (x : ConnectionName) (packet : Pa
     → entries_of limits (nobodys x packet ∷ past) c ≡ entries_of limits past c
 unfolding entries_of
 same-entries limits past x packet c steady =
-    ap (in_session (session_of (nobodys x packet ∷ past) c) false [])
+    ap (in_session (clean_session_of (nobodys x packet ∷ past) c) false [])
     (rw (no-reply packet x (length past) c (entries_of limits past c), no-copy packet x past c, append-nil (entries_of limits past c), same-connection past x packet c, steady (nobodys x packet) past refl)
     (starts-nothing (window_at limits past) (length past) (current_connection past c) (entries_of limits past c) (full-at limits past c)))
     ∙ ap (λ z. in_session z false [] (entries_of limits past c)) (still-session past x packet c)
-    ∙ kept-on (session_of past c) [] (entries_of limits past c) (no-entries limits past c)
+    ∙ kept-on (clean_session_of past c) [] (entries_of limits past c) (no-entries limits past c)
 
 -- ---- the law
 

@@ -10,7 +10,7 @@ use Rattle.retained.specs.packet_base.QoS.{lower_qos}
 use Rattle.session_base.specs.Subscriptions.{granted_qos}
 use Rattle.broker_spec.specs.Connection.{ConnectionName, same_connection}
 use Rattle.broker_spec.specs.Place.{Client, Past, Limits}
-use Rattle.broker_spec.specs.Past.{current_connection, session_of, begins, in_session, newest_session, ends_any}
+use Rattle.broker_spec.specs.Past.{current_connection, clean_session_of, begins, in_session, newest_clean_session, ends_any}
 use Rattle.broker_spec.specs.Subscriptions.{subscriptions_of, effective_qos}
 use Rattle.broker_spec.specs.Marks.{is_queued_at}
 use Rattle.broker_spec.specs.Entries.{Entry, copy_of, queued}
@@ -29,7 +29,7 @@ ends_none x p d c (Some y) = by (same_connection x y)
     by false = refl
 ends_none x p d c None = refl
 
-no_session : (over : Bool) (session : Option Bool) → over ≡ false → newest_session None false over session ≡ None → session ≡ None
+no_session : (over : Bool) (session : Option Bool) → over ≡ false → newest_clean_session None false over session ≡ None → session ≡ None
 no_session over None e n = refl
 no_session false (Some true) e n = cc
 no_session false (Some false) e n = cc
@@ -39,18 +39,18 @@ nothing_kept : {A : Type 0} (session : Option Bool) (beginning : Bool) (fresh ke
 nothing_kept None beginning fresh kept e = refl
 nothing_kept (Some clean) beginning fresh kept e = cc
 
-no_filters : (past : Past) (c : Client) → session_of past c ≡ None → subscriptions_of past c ≡ []
+no_filters : (past : Past) (c : Client) → clean_session_of past c ≡ None → subscriptions_of past c ≡ []
 unfolding subscriptions_of
 no_filters [] c e = refl
-no_filters (place ∷ past) c e = nothing_kept (session_of (place ∷ past) c) (begins place past c) [] _ e
+no_filters (place ∷ past) c e = nothing_kept (clean_session_of (place ∷ past) c) (begins place past c) [] _ e
 
-pub no_qos : (past : Past) (c : Client) (p : Publication) → session_of past c ≡ None → effective_qos past c p ≡ None
+pub no_qos : (past : Past) (c : Client) (p : Publication) → clean_session_of past c ≡ None → effective_qos past c p ≡ None
 no_qos past c p e = ap (λ held. option_map (lower_qos p.qos) (granted_qos p.topic held)) (no_filters past c e)
 
-pub gone_before : (past : Past) (x : ConnectionName) (p : Publish) (d c : Client) → session_of (place_of_taken x p d ∷ past) c ≡ None → session_of past c ≡ None
-unfolding session_of
+pub gone_before : (past : Past) (x : ConnectionName) (p : Publish) (d c : Client) → clean_session_of (place_of_taken x p d ∷ past) c ≡ None → clean_session_of past c ≡ None
+unfolding clean_session_of
 gone_before past x p d c e =
-    no_session (ends_any (place_of_taken x p d) c (current_connection past c)) (session_of past c) (ends_none x p d c (current_connection past c)) e
+    no_session (ends_any (place_of_taken x p d) c (current_connection past c)) (clean_session_of past c) (ends_none x p d c (current_connection past c)) e
 
 -- ---- if there is one
 
@@ -65,7 +65,7 @@ times_copy n p (Some qualities.AtLeastOnce) = rw (same_number n) refl
 times_copy n p (Some qualities.ExactlyOnce) = rw (same_number n) refl
 
 times_taken : (limits : Limits) (past : Past) (x : ConnectionName) (p : Publish) (d c : Client) (session : Option Bool)
-    → session_of (place_of_taken x p d ∷ past) c ≡ session
+    → clean_session_of (place_of_taken x p d ∷ past) c ≡ session
     → times (length past) (entries_of limits (place_of_taken x p d ∷ past) c) ≡ (if is_queued_at (effective_qos past c (publication_of p)) then 1 else 0)
 unfolding entries_of
 times_taken limits past x p d c (Some clean) s =
@@ -89,4 +89,4 @@ times_taken limits past x p d c None s =
 pub publication_enters : PublicationEnters
 publication_enters limits past x p d c =
     count (length past) (entries_of limits (place_of_taken x p d ∷ past) c)
-    ∙ times_taken limits past x p d c (session_of (place_of_taken x p d ∷ past) c) refl
+    ∙ times_taken limits past x p d c (clean_session_of (place_of_taken x p d ∷ past) c) refl

@@ -4,7 +4,7 @@ use Rattle.packet.specs.declared.delivery.Delivery.{Delivery}
 use Rattle.packet.specs.declared.delivery.Delivery.TheVariants as deliveries
 use Rattle.packet.specs.declared.packet.Packet.TheVariants as packets
 use Rattle.broker_spec.specs.Place.{Client, same_client, Mark}
-use Rattle.broker_spec.specs.Past.{session_of, begins, in_session}
+use Rattle.broker_spec.specs.Past.{clean_session_of, begins, in_session}
 use Rattle.retained.specs.lists.Lists.{has_id}
 use Rattle.session_base.specs.Identifiers.{without_id}
 use Rattle.session_base.proofs.KeptIdentifiers.{has_with, has_without}
@@ -78,7 +78,7 @@ pub repeat_is_unreleased : RepeatIsUnreleased
 unfolding received_of ends_in_publish
 repeat_is_unreleased [] c id = refl
 repeat_is_unreleased (place ∷ past) c id =
-    in-session (session_of (place ∷ past) c) (begins place past c) id (received_by place.command place.mark c (received_of past c))
-    ∙ ap (in_session (session_of (place ∷ past) c) (begins place past c) false)
+    in-session (clean_session_of (place ∷ past) c) (begins place past c) id (received_by place.command place.mark c (received_of past c))
+    ∙ ap (in_session (clean_session_of (place ∷ past) c) (begins place past c) false)
     (word-by place.command place.mark c id (received_of past c)
     ∙ ap (newer_of_two (says_of place.command place.mark c id)) (repeat_is_unreleased past c id))

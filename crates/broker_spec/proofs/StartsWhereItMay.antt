@@ -3,7 +3,7 @@ use Rattle.std.proofs.Common.{◌≡◌, ℕ, suc, ◌≤◌, ◌<◌, ◌+◌, 
 use Rattle.std.specs.Prelude.{is_some}
 use Rattle.broker_spec.specs.Connection.{ConnectionName}
 use Rattle.broker_spec.specs.Place.{Client, Past, Limits}
-use Rattle.broker_spec.specs.Past.{current_connection, session_of, begins, in_session}
+use Rattle.broker_spec.specs.Past.{current_connection, clean_session_of, begins, in_session}
 use Rattle.session_base.specs.declared.publication.Publication.{Publication}
 use Rattle.retained.specs.lists.Lists.{has_id}
 use Rattle.broker_spec.specs.Entries.{Entry, copies_at, queued}
@@ -83,7 +83,7 @@ unfolding entries_of
 started-before limits [] c = tt
 started-before limits (place ∷ past) c =
     let by = answers-by place.command place.mark (length past) c in
-    before-kept (suc (length past)) (session_of (place ∷ past) c) (begins place past c) _
+    before-kept (suc (length past)) (clean_session_of (place ∷ past) c) (begins place past c) _
     (rw (by.done_is (entries_of limits past c))
     (before-started (window_at limits (place ∷ past)) (length past) (current_connection (place ∷ past) c) _
     (before-later (length past) (map by.on_each (entries_of limits past c) ++ map (Entry.Waits (length past)) (queued (copies_at place past c)))
@@ -221,7 +221,7 @@ pub starts_where_it_may : StartsWhereItMay
 unfolding entries_of
 starts_where_it_may limits place past c =
     let by = answers-by place.command place.mark (length past) c in
-    starts-kept (window_at limits (place ∷ past)) (length past) (current_connection (place ∷ past) c) (session_of (place ∷ past) c) (begins place past c) _
+    starts-kept (window_at limits (place ∷ past)) (length past) (current_connection (place ∷ past) c) (clean_session_of (place ∷ past) c) (begins place past c) _
     (rw (by.done_is (entries_of limits past c))
     (starts (window_at limits (place ∷ past)) (length past) (current_connection (place ∷ past) c) _
     (before-more (length past) (length past) (map by.on_each (entries_of limits past c)) (queued (copies_at place past c))

@@ -4,7 +4,7 @@ use Rattle.std.specs.Prelude.{is_some}
 use Rattle.retained.specs.packet_base.declared.qos.QoS.{QoS}
 use Rattle.retained.specs.packet_base.declared.qos.QoS.TheVariants as qualities
 use Rattle.broker_spec.specs.Connection.{ConnectionName}
-use Rattle.broker_spec.specs.Past.{current_connection, session_of, in_session}
+use Rattle.broker_spec.specs.Past.{current_connection, clean_session_of, in_session}
 use Rattle.session_base.specs.declared.publication.Publication.{Publication}
 use Rattle.session_base.specs.Publication.{publication_of}
 use Rattle.broker_spec.specs.Subscriptions.{effective_qos}
@@ -43,7 +43,7 @@ in-session None es s = cc
 pub taken_publish_adds_one : TakenPublishAddsOne
 unfolding entries_of
 taken_publish_adds_one limits past x p d c s =
-    ap length (in-session (session_of (place_of_taken x p d ∷ past) c) _ s)
+    ap length (in-session (clean_session_of (place_of_taken x p d ∷ past) c) _ s)
     ∙ started-length (window_at limits (place_of_taken x p d ∷ past)) (length past) (current_connection (place_of_taken x p d ∷ past) c) _
     ∙ length-append (entries_of limits past c) _
     ∙ ap (λ z. length (entries_of limits past c) + z) (queued-length (publication_of p) (effective_qos past c (publication_of p)) (length past))

@@ -7,7 +7,7 @@ use Rattle.packet.specs.declared.publish.Publish.{Publish}
 use Rattle.packet.specs.declared.packet.Packet.TheVariants as packets
 use Rattle.broker_spec.specs.Connection.{ConnectionName}
 use Rattle.broker_spec.specs.Place.{Client, Mark, Place, Past, Limits}
-use Rattle.broker_spec.specs.Past.{current_connection, session_of, begins}
+use Rattle.broker_spec.specs.Past.{current_connection, clean_session_of, begins}
 use Rattle.session_base.specs.declared.publication.Publication.{Publication}
 use Rattle.session_base.specs.Publication.{publication_of}
 use Rattle.broker_spec.specs.Subscriptions.{effective_qos}
@@ -66,7 +66,7 @@ GrowsTo place [] others = AllByRecursion (IsMadeAt place) others
 abbrev pub EntriesOnlyGrow : Type 0
 EntriesOnlyGrow =
     (limits : Limits) (place : Place) (past : Past) (client : Client)
-    → is_some (session_of (place ∷ past) client) ≡ true → begins place past client ≡ false
+    → is_some (clean_session_of (place ∷ past) client) ≡ true → begins place past client ≡ false
     → GrowsTo (length past) (entries_of limits past client)
     (entries_of limits (place ∷ past) client)
 
@@ -83,7 +83,8 @@ abbrev pub TakenPublishAddsOne : Type 0
 TakenPublishAddsOne =
     (limits : Limits) (past : Past) (connection : ConnectionName) (publish : Publish)
     (publisher receiver : Client)
-    → is_some (session_of (place_of_taken connection publish publisher ∷ past) receiver) ≡ true
+    → is_some (clean_session_of (place_of_taken connection publish publisher ∷ past) receiver)
+    ≡ true
     → length (entries_of limits (place_of_taken connection publish publisher ∷ past) receiver)
     ≡ length (entries_of limits past receiver)
     + (if is_queued_at (effective_qos past receiver (publication_of publish)) then 1 else 0)

@@ -3,7 +3,7 @@
 use Rattle.std.specs.Prelude.{◌≡◌, true, false, [], ◌∷◌, ◌++◌, codes, Some, None}
 use Rattle.packet.specs.declared.delivery.Delivery.TheVariants as deliveries
 use Rattle.packet.specs.declared.packet.Packet.TheVariants as packets
-use Rattle.broker_spec.specs.Past.{current_connection, session_of, session_start}
+use Rattle.broker_spec.specs.Past.{current_connection, clean_session_of, session_start}
 use Rattle.broker_spec.specs.Times.{entries_of}
 use Rattle.broker_spec.specs.Received.{received_of}
 use Rattle.broker_spec.specs.Commands.{past_of, usual_limits}
@@ -30,9 +30,9 @@ ExpelledOnce =
 abbrev pub NothingIsLeft : Type 0
 NothingIsLeft =
     let past = past_of usual_limits (published_x ++ commands.Expel b ∷ []) in
-    (current_connection past b ≡ None) × (session_of past b ≡ None)
+    (current_connection past b ≡ None) × (clean_session_of past b ≡ None)
     × (entries_of usual_limits past b ≡ [])
-    × (session_of past a ≡ Some false) × (current_connection past a ≡ Some (nth 2))
+    × (clean_session_of past a ≡ Some false) × (current_connection past a ≡ Some (nth 2))
 
 -- the identifiers that were received are removed too, so the same publication is taken once more
 abbrev pub IdentifiersAreGone : Type 0

@@ -10,7 +10,7 @@ use Rattle.packet.specs.declared.subscribe.Subscription.{Subscription}
 use Rattle.packet.specs.declared.packet.Packet.TheVariants as packets
 use Rattle.broker_spec.specs.Connection.{ConnectionName}
 use Rattle.broker_spec.specs.Place.{Client, same_client, Mark, Place, Past}
-use Rattle.broker_spec.specs.Past.{accepts, ends_any, current_connection, session_of}
+use Rattle.broker_spec.specs.Past.{accepts, ends_any, current_connection, clean_session_of}
 use Rattle.broker_spec.specs.Past.{begins, in_session}
 use Rattle.broker_spec.specs.Subscriptions.{granted_of, subscriptions_of, qos_asked}
 use Rattle.retained.specs.lists.Lists.{has_id}
@@ -69,7 +69,7 @@ newer_of_two None older = older
 unfoldable pub ends_in_publish : Past → Client → ℕ → Bool
 ends_in_publish [] client id = false
 ends_in_publish (place ∷ past) client id =
-    in_session (session_of (place ∷ past) client) (begins place past client) false
+    in_session (clean_session_of (place ∷ past) client) (begins place past client) false
     (newer_of_two (says_of place.command place.mark client id) (ends_in_publish past client id))
 
 -- a PUBLISH at QoS 2 is a repeat exactly if, of its session's taken PUBLISHes with its identifier
@@ -109,7 +109,7 @@ word_on _ _ client filter = None
 unfoldable pub last_granting : Past → Client → List ℕ → Option QoS
 last_granting [] client filter = None
 last_granting (place ∷ past) client filter =
-    in_session (session_of (place ∷ past) client) (begins place past client) None
+    in_session (clean_session_of (place ∷ past) client) (begins place past client) None
     (newer_of_two (word_on place.command place.mark client filter)
     (last_granting past client filter))
 

@@ -8,7 +8,7 @@ use Rattle.packet.specs.declared.packet.Packet.{Packet}
 use Rattle.packet.specs.declared.packet.Packet.TheVariants as packets
 use Rattle.retained.specs.Retained.{RetainedTopics}
 use Rattle.broker_spec.specs.Place.{Client, Mark, Past, Limits}
-use Rattle.broker_spec.specs.Past.{session_of}
+use Rattle.broker_spec.specs.Past.{clean_session_of}
 use Rattle.broker_spec.specs.Owner.{clients, owner_of}
 use Rattle.session_base.specs.declared.publication.Publication.{Publication}
 use Rattle.session_base.specs.Publication.{publication_of, is_answered}
@@ -96,7 +96,7 @@ packet_mark_of limits past packet None = Mark.NoPart
 abbrev pub connect_mark : Limits → Past → Client → Option Client → Mark
 connect_mark limits past client (Some owner) = Mark.Leaves owner
 connect_mark limits past client None =
-    if is_some (session_of past client) || nat_lt (length (clients past)) limits.sessions
+    if is_some (clean_session_of past client) || nat_lt (length (clients past)) limits.sessions
     then Mark.Accepted else Mark.Full
 
 -- the mark of a command after these places

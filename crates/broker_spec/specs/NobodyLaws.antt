@@ -3,7 +3,7 @@ use Rattle.std.specs.Prelude.{◌≡◌, ℕ, false, [], ◌∷◌, None}
 use Rattle.packet.specs.declared.packet.Packet.{Packet}
 use Rattle.broker_spec.specs.Connection.{ConnectionName}
 use Rattle.broker_spec.specs.Place.{Client, Place, Past, Limits}
-use Rattle.broker_spec.specs.Past.{current_connection, session_of}
+use Rattle.broker_spec.specs.Past.{current_connection, clean_session_of}
 use Rattle.broker_spec.specs.Owner.{owner_of}
 use Rattle.broker_spec.specs.Subscriptions.{subscriptions_of}
 use Rattle.broker_spec.specs.Received.{received_of}
@@ -23,7 +23,7 @@ IsSteady limits =
 pub record LeavesAsIs (limits : Limits) (place : Place) (past : Past)
     (client : Client) : Type 0 where
   pub connection : current_connection (place ∷ past) client ≡ current_connection past client
-  pub session : session_of (place ∷ past) client ≡ session_of past client
+  pub session : clean_session_of (place ∷ past) client ≡ clean_session_of past client
   pub subscriptions : subscriptions_of (place ∷ past) client ≡ subscriptions_of past client
   pub received : received_of (place ∷ past) client ≡ received_of past client
   pub entries : entries_of limits (place ∷ past) client ≡ entries_of limits past client

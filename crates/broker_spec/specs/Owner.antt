@@ -4,7 +4,7 @@ use Rattle.std.specs.Prelude.{None, is_some}
 use Rattle.std.specs.Ordering.{match_ordering}
 use Rattle.broker_spec.specs.Connection.{ConnectionName, same_connection}
 use Rattle.broker_spec.specs.Place.{Client, by_bytes, Mark, Past}
-use Rattle.broker_spec.specs.Past.{any_connection, current_connection, session_of}
+use Rattle.broker_spec.specs.Past.{any_connection, current_connection, clean_session_of}
 use Rattle.broker_spec.specs.declared.command.Command.{Command}
 use Rattle.broker_spec.specs.declared.command.Command.TheVariants as commands
 
@@ -28,7 +28,7 @@ named (place ∷ past) = named_by place.command place.mark (named past)
 
 -- the clients with a session, by bytes
 abbrev pub clients : Past → List Client
-clients past = filter (λ client. is_some (session_of past client)) (named past)
+clients past = filter (λ client. is_some (clean_session_of past client)) (named past)
 
 -- the first client for which the test holds
 abbrev pub first_client : (Client → Bool) → List Client → Option Client

@@ -61,22 +61,22 @@ current_connection (place ∷ past) client =
 -- ---- sessions
 
 -- The session, as its CleanSession flag: an accepted Connect leaves one with its own flag, an Expel
--- of its client leaves none, and a clean one ends with its connection.
-abbrev pub newest_session : Option (ConnectionName × Bool) → Bool → Bool → Option Bool → Option Bool
-newest_session (Some opened) expelled over old = Some opened.1
-newest_session None expelled over (Some clean) =
+-- of its client none; a clean one ends with its connection.
+abbrev pub newest_clean_session : Option (ConnectionName × Bool) → Bool → Bool → Option Bool →
+    Option Bool
+newest_clean_session (Some opened) expelled over old = Some opened.1
+newest_clean_session None expelled over (Some clean) =
     only_if (not (expelled || (clean && over))) (Some clean)
-newest_session None expelled over None = None
+newest_clean_session None expelled over None = None
 
 -- the session of a client: its CleanSession flag, or none (MQTT 3.1.2.4)
-unfoldable pub session_of : Past → Client → Option Bool
-session_of [] client = None
-session_of (place ∷ past) client =
-    newest_session (accepts place.command place.mark client) (expels place.command client)
-    (ends_any place client (current_connection past client)) (session_of past client)
+unfoldable pub clean_session_of : Past → Client → Option Bool
+clean_session_of [] client = None
+clean_session_of (place ∷ past) client =
+    newest_clean_session (accepts place.command place.mark client) (expels place.command client)
+    (ends_any place client (current_connection past client)) (clean_session_of past client)
 
--- whether an accepted Connect with this flag begins a session: it is clean, finds none, or finds a
--- clean one
+-- whether an accepted Connect begins a session: there is no old one, or one of the two is clean
 abbrev pub begins_session : Bool → Option Bool → Bool
 begins_session clean None = true
 begins_session clean (Some old) = clean || old
@@ -89,13 +89,13 @@ is_beginning None old = false
 -- the place begins a session of the client
 abbrev pub begins : Place → Past → Client → Bool
 begins place past client =
-    is_beginning (accepts place.command place.mark client) (session_of past client)
+    is_beginning (accepts place.command place.mark client) (clean_session_of past client)
 
 -- the place ends the client's session: another begins, or none is left
 abbrev pub ends_session : Place → Past → Client → Bool
 ends_session place past client =
-    is_some (session_of past client)
-    && (begins place past client || not (is_some (session_of (place ∷ past) client)))
+    is_some (clean_session_of past client)
+    && (begins place past client || not (is_some (clean_session_of (place ∷ past) client)))
 
 -- The value that a session keeps, from the value below: nothing if there is no session, and the
 -- initial value if one begins.
@@ -109,7 +109,7 @@ unfoldable pub session_start : Past → Client → Option ℕ
 session_start [] client = None
 session_start (place ∷ past) client =
     if begins place past client then Some (length past)
-    else only_if (is_some (session_of (place ∷ past) client)) (session_start past client)
+    else only_if (is_some (clean_session_of (place ∷ past) client)) (session_start past client)
 
 -- the places below the one with this number
 abbrev pub below : ℕ → Past → Past

@@ -7,7 +7,7 @@ use Rattle.packet.specs.declared.packet.Packet.TheVariants as packets
 use Rattle.retained.specs.lists.Lists.{has_id}
 use Rattle.session_base.specs.Identifiers.{with_id, without_id}
 use Rattle.broker_spec.specs.Place.{Client, same_client, Mark, Past}
-use Rattle.broker_spec.specs.Past.{session_of, begins, in_session}
+use Rattle.broker_spec.specs.Past.{clean_session_of, begins, in_session}
 use Rattle.broker_spec.specs.declared.command.Command.{Command}
 use Rattle.broker_spec.specs.declared.command.Command.TheVariants as commands
 
@@ -29,7 +29,7 @@ received_by _ _ client ids = ids
 unfoldable pub received_of : Past → Client → List ℕ
 received_of [] client = []
 received_of (place ∷ past) client =
-    in_session (session_of (place ∷ past) client) (begins place past client) []
+    in_session (clean_session_of (place ∷ past) client) (begins place past client) []
     (received_by place.command place.mark client (received_of past client))
 
 -- whether a delivery repeats one that the client's session took, whatever its DUP flag says

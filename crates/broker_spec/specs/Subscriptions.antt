@@ -6,7 +6,7 @@ use Rattle.retained.specs.packet_base.declared.qos.QoS.{QoS}
 use Rattle.packet.specs.declared.subscribe.Subscription.{Subscription}
 use Rattle.packet.specs.declared.packet.Packet.TheVariants as packets
 use Rattle.broker_spec.specs.Place.{Client, same_client, Mark, Past}
-use Rattle.broker_spec.specs.Past.{session_of, begins, in_session}
+use Rattle.broker_spec.specs.Past.{clean_session_of, begins, in_session}
 use Rattle.session_base.specs.declared.publication.Publication.{Publication}
 use Rattle.retained.specs.packet_base.QoS.{lower_qos}
 use Rattle.session_base.specs.Subscriptions.{GrantedFilter, with_subscriptions}
@@ -48,7 +48,7 @@ filters_after _ _ client subscriptions = subscriptions
 unfoldable pub subscriptions_of : Past → Client → List GrantedFilter
 subscriptions_of [] client = []
 subscriptions_of (place ∷ past) client =
-    in_session (session_of (place ∷ past) client) (begins place past client) []
+    in_session (clean_session_of (place ∷ past) client) (begins place past client) []
     (filters_after place.command place.mark client (subscriptions_of past client))
 
 -- the QoS at which a client's session gets a publication, none if no filter of it matches (MQTT

@@ -5,7 +5,7 @@ use Rattle.packet.specs.declared.packet.Packet.TheVariants as packets
 use Rattle.session_base.specs.Identifiers.{least_free}
 use Rattle.broker_spec.specs.Connection.{ConnectionName}
 use Rattle.broker_spec.specs.Place.{Client, same_client, Mark, Past, Limits}
-use Rattle.broker_spec.specs.Past.{current_connection, session_of, begins, in_session}
+use Rattle.broker_spec.specs.Past.{current_connection, clean_session_of, begins, in_session}
 use Rattle.session_base.specs.Publication.{is_acknowledged}
 use Rattle.broker_spec.specs.Entries.{Entry, copies_at, queued, is_unfinished}
 use Rattle.broker_spec.specs.declared.command.Command.{Command}
@@ -84,7 +84,7 @@ window_at limits past = limits.window past
 unfoldable pub entries_of : Limits → Past → Client → List Entry
 entries_of limits [] client = []
 entries_of limits (place ∷ past) client =
-    in_session (session_of (place ∷ past) client) (begins place past client) []
+    in_session (clean_session_of (place ∷ past) client) (begins place past client) []
     (started (window_at limits (place ∷ past)) (length past)
     (current_connection (place ∷ past) client)
     (answered_by place.command place.mark (length past) client (entries_of limits past client)

@@ -8,7 +8,7 @@ use Rattle.node_group.specs.broker_spec.declared.command.Command.{Command}
 use Rattle.node_group.specs.broker_spec.declared.command.Command.TheVariants as commands
 use Rattle.node_group.specs.broker_spec.Commands.{past_from, past_of, place_of, usual_limits}
 use Rattle.node_group.specs.broker_spec.Connection.{ConnectionName}
-use Rattle.node_group.specs.broker_spec.Past.{accepts, current_connection, ends_any, expels, newest_session, session_of}
+use Rattle.node_group.specs.broker_spec.Past.{accepts, current_connection, ends_any, expels, newest_clean_session, clean_session_of}
 use Rattle.node_group.specs.broker_spec.Place.{Client, Limits, Mark, Past, Place, only_if, same_client}
 use Rattle.byte_world.specs.Kept.{NoSessionIsClean, NoneIsClean}
 
@@ -43,7 +43,7 @@ accepts_kept _ _ c opened kept e = cc
 
 -- nor is the newest session
 newest_kept : (o : Option (ConnectionName × Bool)) (expelled over : Bool) (old : Option Bool) (clean : Bool) → ((opened : ConnectionName × Bool) → o ≡ Some opened → opened.1 ≡ false)
-    → ((before : Bool) → old ≡ Some before → before ≡ false) → newest_session o expelled over old ≡ Some clean → clean ≡ false
+    → ((before : Bool) → old ≡ Some before → before ≡ false) → newest_clean_session o expelled over old ≡ Some clean → clean ≡ false
 newest_kept (Some opened) expelled over old clean accepted before e = let same : opened.1 ≡ clean = cc in sym same ∙ accepted opened refl
 newest_kept None expelled over (Some was) clean accepted before e = by (not (expelled || (was && over))) e
   where
@@ -52,11 +52,11 @@ newest_kept None expelled over (Some was) clean accepted before e = by (not (exp
     by false f = cc
 newest_kept None expelled over None clean accepted before e = cc
 
-past_kept : (past : Past) → Each (λ (place : Place). IsKept place.command) past → (c : Client) (clean : Bool) → session_of past c ≡ Some clean → clean ≡ false
-unfolding session_of
+past_kept : (past : Past) → Each (λ (place : Place). IsKept place.command) past → (c : Client) (clean : Bool) → clean_session_of past c ≡ Some clean → clean ≡ false
+unfolding clean_session_of
 past_kept [] each c clean e = cc
 past_kept (place ∷ past) (one, each) c clean e =
-    newest_kept (accepts place.command place.mark c) (expels place.command c) (ends_any place c (current_connection past c)) (session_of past c) clean
+    newest_kept (accepts place.command place.mark c) (expels place.command c) (ends_any place c (current_connection past c)) (clean_session_of past c) clean
     (λ opened f. accepts_kept place.command place.mark c opened one f) (λ before f. past_kept past each c before f) e
 
 pub no_session_is_clean : NoSessionIsClean

@@ -16,7 +16,7 @@ use Rattle.packet_world.specs.broker_spec.Marks.{connect_mark, mark_of}
 use Rattle.packet_world.specs.broker_spec.declared.command.Output.{Output}
 use Rattle.packet_world.specs.broker_spec.declared.command.Output.TheVariants.{Send}
 use Rattle.packet_world.specs.broker_spec.Owner.{clients, first_client, owner_of}
-use Rattle.packet_world.specs.broker_spec.Past.{any_connection, begins_session, current_connection, ends, ends_any, is_beginning, newest_connection, newest_session, session_of}
+use Rattle.packet_world.specs.broker_spec.Past.{any_connection, begins_session, current_connection, ends, ends_any, is_beginning, newest_connection, newest_clean_session, clean_session_of}
 use Rattle.packet_world.specs.broker_spec.Place.{Client, Limits, Mark, Past, Place, only_if, same_client}
 use Rattle.packet_world.specs.broker_spec.Readings.{released_below}
 use Rattle.packet_world.specs.broker_spec.Sends.{all_started, publish_output, resent_outputs, repeated_output, first_output}
@@ -39,10 +39,10 @@ none_current limits past ballot c = by (current_connection past c)
     by (Some x) = refl
 
 -- and one that is not clean stays
-still_there : (limits : Limits) (past : Past) (ballot : ℕ) (c : Client) → session_of past c ≡ Some false → session_of (place_of limits past (commands.Start ballot) ∷ past) c ≡ Some false
-unfolding session_of
+still_there : (limits : Limits) (past : Past) (ballot : ℕ) (c : Client) → clean_session_of past c ≡ Some false → clean_session_of (place_of limits past (commands.Start ballot) ∷ past) c ≡ Some false
+unfolding clean_session_of
 still_there limits past ballot c there =
-    ap (newest_session None false (ends_any (place_of limits past (commands.Start ballot)) c (current_connection past c))) there
+    ap (newest_clean_session None false (ends_any (place_of limits past (commands.Start ballot)) c (current_connection past c))) there
 
 first_none : (test : Client → Bool) (cs : List Client) → ((c : Client) → test c ≡ false) → first_client test cs ≡ None
 first_none test [] none = refl
@@ -58,18 +58,18 @@ nobody_owns past x none =
 abbrev pub at_connect : ConnectionName → Client → Mark → Place
 at_connect x c mark = record { command = commands.Connect x c false; mark = mark }
 
-accepted : (limits : Limits) (past : Past) (x : ConnectionName) (c : Client) → ((d : Client) → current_connection past d ≡ None) → session_of past c ≡ Some false →
+accepted : (limits : Limits) (past : Past) (x : ConnectionName) (c : Client) → ((d : Client) → current_connection past d ≡ None) → clean_session_of past c ≡ Some false →
     mark_of limits past (commands.Connect x c false) ≡ Mark.Accepted
 accepted limits past x c none there =
     ap (connect_mark limits past c) (nobody_owns past x none)
     ∙ ap (λ (s : Option Bool). if is_some s || nat_lt (length (clients past)) limits.sessions then Mark.Accepted else Mark.Full) there
 
-begins_none : (past : Past) (x : ConnectionName) (c : Client) → session_of past c ≡ Some false → is_beginning (only_if (same_client c c) (Some (x, false))) (session_of past c) ≡ false
+begins_none : (past : Past) (x : ConnectionName) (c : Client) → clean_session_of past c ≡ Some false → is_beginning (only_if (same_client c c) (Some (x, false))) (clean_session_of past c) ≡ false
 begins_none past x c there =
-    ap (λ (b : Bool). is_beginning (only_if b (let o : Option (ConnectionName × Bool) = Some (x, false) in o)) (session_of past c)) (same_self c)
+    ap (λ (b : Bool). is_beginning (only_if b (let o : Option (ConnectionName × Bool) = Some (x, false) in o)) (clean_session_of past c)) (same_self c)
     ∙ ap (begins_session false) there
 
-answers_are : (limits : Limits) (past : Past) (x : ConnectionName) (c : Client) → ((d : Client) → current_connection past d ≡ None) → session_of past c ≡ Some false →
+answers_are : (limits : Limits) (past : Past) (x : ConnectionName) (c : Client) → ((d : Client) → current_connection past d ≡ None) → clean_session_of past c ≡ Some false →
     answers_of limits past (commands.Connect x c false)
     ≡ welcome x true ∷ resent_outputs x (length past) (entries_of limits (at_connect x c Mark.Accepted ∷ past) c)
 answers_are limits past x c none there =
@@ -78,7 +78,7 @@ answers_are limits past x c none there =
     ∙ ap (λ (b : Bool). welcome x (not b) ∷ resent_outputs x (length past) (entries_of limits (at_connect x c Mark.Accepted ∷ past) c)) (begins_none past x c there)
   where
     connect_rest : List Output
-    connect_rest = welcome x (not (is_beginning (only_if (same_client c c) (let o : Option (ConnectionName × Bool) = Some (x, false) in o)) (session_of past c)))
+    connect_rest = welcome x (not (is_beginning (only_if (same_client c c) (let o : Option (ConnectionName × Bool) = Some (x, false) in o)) (clean_session_of past c)))
         ∷ resent_outputs x (length past) (entries_of limits (at_connect x c Mark.Accepted ∷ past) c)
 
 -- ---- what is sent again

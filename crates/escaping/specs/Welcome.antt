@@ -10,7 +10,7 @@ use Rattle.packet_world.specs.broker_spec.Commands.{past_of, usual_limits}
 use Rattle.packet_world.specs.broker_spec.Connection.{ConnectionName}
 use Rattle.packet_world.specs.broker_spec.declared.command.Output.{Output}
 use Rattle.packet_world.specs.broker_spec.declared.command.Output.TheVariants.{Send, Close}
-use Rattle.packet_world.specs.broker_spec.Past.{session_of}
+use Rattle.packet_world.specs.broker_spec.Past.{clean_session_of}
 use Rattle.packet_world.specs.broker_spec.Place.{Client}
 use Rattle.node_moves.specs.node_core.Core.{rules}
 
@@ -32,5 +32,5 @@ pub record IsWelcomedBack (list : List Command) (ballot : ℕ) (connection : Con
 abbrev pub KeptSessionsAreWelcomed : Type 0
 KeptSessionsAreWelcomed =
     (list : List Command) (ballot : ℕ) (connection : ConnectionName) (client : Client) →
-    session_of (past_of usual_limits list) client ≡ Some false →
+    clean_session_of (past_of usual_limits list) client ≡ Some false →
     IsWelcomedBack list ballot connection client

@@ -16,7 +16,7 @@ use Rattle.escaping.specs.broker_spec.declared.command.Command.TheVariants as co
 use Rattle.escaping.specs.broker_spec.Commands.{past_of, usual_limits}
 use Rattle.escaping.specs.broker_spec.Connection.{ConnectionName}
 use Rattle.escaping.specs.broker_spec.declared.command.Output.{Output}
-use Rattle.escaping.specs.broker_spec.Past.{session_of}
+use Rattle.escaping.specs.broker_spec.Past.{clean_session_of}
 use Rattle.escaping.specs.broker_base.State.{State}
 use Rattle.escaping.specs.Answering.{PutsOutFirst}
 use Rattle.escaping.specs.Waiting.{AwaitsConnect}
@@ -56,7 +56,7 @@ pub record CanAsk (moment : Moment State Command Output) (state : NodesState) (b
       (whole moment.world.archive (replica_of node.core))
   pub room : length (begun_log list start) < max_places
   pub awaits : AwaitsConnect port name node.core
-  pub session : session_of (past_of usual_limits list) connect.client ≡ Some false
+  pub session : clean_session_of (past_of usual_limits list) connect.client ≡ Some false
   pub is_connect : verdict piece ≡ Ok (packets.Connect connect, [])
   pub kept : connect.clean ≡ false
 

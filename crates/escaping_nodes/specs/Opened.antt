@@ -5,7 +5,7 @@ use Rattle.escaping.specs.broker_spec.declared.command.Command.{Command}
 use Rattle.escaping.specs.broker_spec.Commands.{past_of, usual_limits}
 use Rattle.escaping.specs.broker_spec.Connection.{ConnectionName, max_ballot}
 use Rattle.escaping.specs.broker_spec.declared.command.Output.{Output}
-use Rattle.escaping.specs.broker_spec.Past.{session_of}
+use Rattle.escaping.specs.broker_spec.Past.{clean_session_of}
 use Rattle.escaping.specs.broker_spec.Place.{Client}
 use Rattle.escaping.specs.broker_base.State.{State}
 use Rattle.escaping.specs.Waiting.{AwaitsConnect}
@@ -68,6 +68,6 @@ ConnectionsOpenFirst =
 abbrev pub WelcomedAreKept : Type 0
 WelcomedAreKept =
     (client : Client) (list : List Command) → ((welcomes_back client list ≡ true) →
-    (session_of (past_of usual_limits list) client ≡ Some false))
-    × ((session_of (past_of usual_limits list) client ≡ Some false) →
+    (clean_session_of (past_of usual_limits list) client ≡ Some false))
+    × ((clean_session_of (past_of usual_limits list) client ≡ Some false) →
     (welcomes_back client list ≡ true))

@@ -4,7 +4,7 @@ use Rattle.packet.specs.declared.packet.Packet.TheVariants as packets
 use Rattle.lists.specs.Lists.{has_id, IsDistinct, Each}
 use Rattle.broker_spec.specs.Connection.{ConnectionName}
 use Rattle.broker_spec.specs.Place.{Client, Past, Limits}
-use Rattle.broker_spec.specs.Past.{current_connection, session_of}
+use Rattle.broker_spec.specs.Past.{current_connection, clean_session_of}
 use Rattle.broker_spec.specs.Received.{is_new}
 use Rattle.broker_spec.specs.declared.command.Command.{Command}
 use Rattle.broker_spec.specs.declared.command.Command.TheVariants as commands
@@ -104,7 +104,7 @@ nothing_new (place ∷ past) =
 
 -- ---- the story
 
-begun_shape : (limits : Limits) (past : Past) (c : Client) (earlier own : List Own) → session_of past c ≡ None → AreUnsent (length earlier) own → IsDistinct (ids_in_use (unserved c earlier own)) → HasShape limits (begun past c earlier own)
+begun_shape : (limits : Limits) (past : Past) (c : Client) (earlier own : List Own) → clean_session_of past c ≡ None → AreUnsent (length earlier) own → IsDistinct (ids_in_use (unserved c earlier own)) → HasShape limits (begun past c earlier own)
 begun_shape limits past c earlier own none unsent apart =
     record {
       own = record { ids_apart = apart; numbered = numbered (length earlier) own unsent; releases_apart = tt; releases_are = λ id. none_released id (length earlier) own unsent; online_sent = λ e. absurd (not_true e) };
@@ -122,7 +122,7 @@ begun_shape limits past c earlier own none unsent apart =
     not_true : false ≡ true → ⊥
     not_true e = cc
 
-begun_publisher : (limits : Limits) (past : Past) (c : Client) (earlier own : List Own) → session_of past c ≡ None → AreUnsent (length earlier) own → IsGood (as_publisher limits (begun past c earlier own))
+begun_publisher : (limits : Limits) (past : Past) (c : Client) (earlier own : List Own) → clean_session_of past c ≡ None → AreUnsent (length earlier) own → IsGood (as_publisher limits (begun past c earlier own))
 begun_publisher limits past c earlier own none unsent =
     let wait = all_wait (length earlier) own unsent in
     record {
@@ -143,7 +143,7 @@ begun_publisher limits past c earlier own none unsent =
     no_id : (id : ℕ) → has_id id [] ≡ true → ⊥
     no_id id e = cc
 
-begun_subscriber : (limits : Limits) (past : Past) (c : Client) (earlier own : List Own) → session_of past c ≡ None → IsGood (as_subscriber limits (begun past c earlier own))
+begun_subscriber : (limits : Limits) (past : Past) (c : Client) (earlier own : List Own) → clean_session_of past c ≡ None → IsGood (as_subscriber limits (begun past c earlier own))
 begun_subscriber limits past c earlier own none =
     record {
       old = [];
@@ -164,7 +164,7 @@ begun_subscriber limits past c earlier own none =
     nothing_left None = refl
     nothing_left (Some x) = refl
 
-pub begun_is_sound : (limits : Limits) (past : Past) (c : Client) (earlier own : List Own) → session_of past c ≡ None → AreUnsent (length earlier) own → IsDistinct (ids_in_use (unserved c earlier own)) → IsSoundStory limits (begun past c earlier own)
+pub begun_is_sound : (limits : Limits) (past : Past) (c : Client) (earlier own : List Own) → clean_session_of past c ≡ None → AreUnsent (length earlier) own → IsDistinct (ids_in_use (unserved c earlier own)) → IsSoundStory limits (begun past c earlier own)
 begun_is_sound limits past c earlier own none unsent apart =
     record {
       shape = begun_shape limits past c earlier own none unsent apart;

@@ -9,7 +9,7 @@ use Rattle.session_base.specs.declared.publication.Publication.{Publication}
 use Rattle.session_base.specs.Publication.{is_answered, publish_for}
 use Rattle.broker_spec.specs.Connection.{ConnectionName, same_connection}
 use Rattle.broker_spec.specs.Place.{Client, Mark, Place, Past, Limits, only_if}
-use Rattle.broker_spec.specs.Past.{is_leaving, ends_any, newest_session, current_connection, session_of, in_session}
+use Rattle.broker_spec.specs.Past.{is_leaving, ends_any, newest_clean_session, current_connection, clean_session_of, in_session}
 use Rattle.broker_spec.specs.Received.{received_by, received_of}
 use Rattle.broker_spec.specs.Entries.{Entry, copies_at}
 use Rattle.broker_spec.specs.Readings.{made_at}
@@ -39,24 +39,24 @@ pub current_packet : (past : Past) (c : Client) (x : ConnectionName) (packet : P
 unfolding current_connection
 current_packet past c x packet mark e = ap (λ b. only_if (not b) (current_connection past c)) (ends_none x packet mark (current_connection past c) e)
 
-session_by : (session : Option Bool) (over : Bool) → over ≡ false → newest_session None false over session ≡ session
+session_by : (session : Option Bool) (over : Bool) → over ≡ false → newest_clean_session None false over session ≡ session
 session_by None over e = refl
 session_by (Some true) over e = rw e refl
 session_by (Some false) over e = refl
 
 pub session_packet : (past : Past) (c : Client) (x : ConnectionName) (packet : Packet) (mark : Mark) → is_leaving mark ≡ false
-    → session_of (at_packet x packet mark ∷ past) c ≡ session_of past c
-unfolding session_of
-session_packet past c x packet mark e = session_by (session_of past c) (ends_any (at_packet x packet mark) c (current_connection past c)) (ends_none x packet mark (current_connection past c) e)
+    → clean_session_of (at_packet x packet mark ∷ past) c ≡ clean_session_of past c
+unfolding clean_session_of
+session_packet past c x packet mark e = session_by (clean_session_of past c) (ends_any (at_packet x packet mark) c (current_connection past c)) (ends_none x packet mark (current_connection past c) e)
 
 kept_by : {A : Type 0} (session : Option Bool) (clean : Bool) (fresh kept : A) → session ≡ Some clean → in_session session false fresh kept ≡ kept
 kept_by session clean fresh kept e = rw e refl
 
-pub received_packet : (past : Past) (c : Client) (x : ConnectionName) (packet : Packet) (mark : Mark) (clean : Bool) → is_leaving mark ≡ false → session_of past c ≡ Some clean
+pub received_packet : (past : Past) (c : Client) (x : ConnectionName) (packet : Packet) (mark : Mark) (clean : Bool) → is_leaving mark ≡ false → clean_session_of past c ≡ Some clean
     → received_of (at_packet x packet mark ∷ past) c ≡ received_by (commands.Packet x packet) mark c (received_of past c)
 unfolding received_of
 received_packet past c x packet mark clean e s =
-    kept_by (session_of (at_packet x packet mark ∷ past) c) clean [] (received_by (commands.Packet x packet) mark c (received_of past c)) (session_packet past c x packet mark e ∙ s)
+    kept_by (clean_session_of (at_packet x packet mark ∷ past) c) clean [] (received_by (commands.Packet x packet) mark c (received_of past c)) (session_packet past c x packet mark e ∙ s)
 
 -- ---- identifiers kept in order
 

@@ -11,7 +11,7 @@ use Rattle.packet.specs.declared.packet.Packet.TheVariants as packets
 use Rattle.lists.specs.Lists.{has_id}
 use Rattle.broker_spec.specs.Connection.{ConnectionName, same_connection}
 use Rattle.broker_spec.specs.Place.{Client, Mark, Place, Past, Limits}
-use Rattle.broker_spec.specs.Past.{current_connection, session_of}
+use Rattle.broker_spec.specs.Past.{current_connection, clean_session_of}
 use Rattle.broker_spec.specs.Owner.{clients}
 use Rattle.broker_spec.specs.Received.{receives, received_of, is_exactly_once}
 use Rattle.broker_spec.specs.Sends.{deliveries_to}
@@ -97,7 +97,7 @@ pub takes_new : (limits : Limits) (past : Past) (keeper : Keeper) (κ : ClientCo
     → keeper.is_online ≡ true → κ.confirmed ≡ true → is_current (current_connection past keeper.client) κ.name ≡ true
     → slice_get κ.written κ.taken ≡ Some (record { packet = packets.Publish p; number = Some k }) → p.delivery ≡ deliveries.ExactlyOnce dup id
     → packet_count κ.name past ≡ κ.taken → κ.taken ≤ length κ.written → κ.handled ≤ length (put_to limits past κ.name)
-    → session_of past keeper.client ≡ Some clean → has_id id (received_of past keeper.client) ≡ false
+    → clean_session_of past keeper.client ≡ Some clean → has_id id (received_of past keeper.client) ≡ false
     → GoesTo (as_publisher limits (record { past = past; connections = κ ∷ others; keeper = keeper }))
     (as_publisher limits (record { past = taken_place κ.name p keeper.client ∷ past; connections = taken_once κ ∷ others; keeper = keeper }))
 takes_new limits past keeper κ others p k dup id clean on conf current next two counted within handled session new =

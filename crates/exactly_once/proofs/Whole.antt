@@ -1,7 +1,7 @@
 -- From the three lemmas on one event to every story.
 use Rattle.std.proofs.Common.{[], inl, refl}
 use Rattle.broker_spec.specs.Place.{Client, Limits}
-use Rattle.broker_spec.specs.Past.{current_connection, session_of}
+use Rattle.broker_spec.specs.Past.{current_connection, clean_session_of}
 use Rattle.broker_spec.specs.NobodyLaws.{IsSteady}
 use Rattle.broker_spec.specs.Received.{received_of}
 use Rattle.broker_spec.specs.Times.{entries_of}
@@ -19,7 +19,7 @@ use Rattle.broker_spec.specs.Commands.{past_of}
 use Rattle.exactly_once.proofs.Beginnings.{begun_is_sound}
 
 opening_shape : (limits : Limits) (c : Client) → HasShape limits (no_story c)
-unfolding current_connection session_of
+unfolding current_connection clean_session_of
 opening_shape limits c =
     record {
       own = record { ids_apart = tt; numbered = tt; releases_apart = tt; releases_are = λ id. refl; online_sent = λ e. refl };

@@ -8,7 +8,7 @@ use Rattle.broker_spec.specs.Place.{Client, Past}
 use Rattle.broker_spec.specs.declared.command.Command.{Command}
 use Rattle.broker_spec.specs.declared.command.Command.TheVariants as commands
 use Rattle.exactly_once.specs.Sides.{ClientConnection}
-use Rattle.broker_spec.specs.Past.{session_of}
+use Rattle.broker_spec.specs.Past.{clean_session_of}
 
 -- the first packet of a connection is a CONNECT and becomes a Connect; each later one a Packet
 abbrev pub command_of : ConnectionName → ℕ → Packet → Command
@@ -28,7 +28,7 @@ with_one_counted (suc index) (connection ∷ connections) =
 abbrev pub names_client : Past → Client → Command → Type 0
 names_client past client (commands.Connect connection other clean) = other ≡ client
 names_client past client (commands.Expel other) =
-    (other ≡ client) × (is_some (session_of past client) ≡ true)
+    (other ≡ client) × (is_some (clean_session_of past client) ≡ true)
 names_client past client _ = ⊥
 
 -- whether a command is a packet, or the Connect, of this connection

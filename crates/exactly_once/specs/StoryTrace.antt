@@ -4,7 +4,7 @@ use Rattle.broker_spec.specs.Place.{Client, Limits}
 use Rattle.broker_spec.specs.Commands.{past_of}
 use Rattle.broker_spec.specs.declared.command.Command.{Command}
 use Rattle.client_base.specs.Keeper.{Keeper, new_keeper, ids_in_use, Own}
-use Rattle.broker_spec.specs.Past.{session_of}
+use Rattle.broker_spec.specs.Past.{clean_session_of}
 use Rattle.lists.specs.Lists.{IsDistinct}
 use Rattle.client_base.specs.OrderLaws.{AreNumbered}
 use Rattle.exactly_once.specs.Story.{Story, no_story, StoryStep}
@@ -27,7 +27,7 @@ pub data StoryTrace (limits : Limits) (client : Client) : Story → Type 0 where
   begins : StoryTrace limits client (no_story client)
   -- the list may be any by which the client has no session; what it publishes in this one is unsent
   begins_at : (list : List Command) (earlier own : List Own) →
-      session_of (past_of limits list) client ≡ None →
+      clean_session_of (past_of limits list) client ≡ None →
       AreNumbered 0 earlier → AreUnsent (length earlier) own →
       IsDistinct (ids_in_use (unserved client earlier own)) →
       StoryTrace limits client

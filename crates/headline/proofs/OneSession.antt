@@ -5,7 +5,7 @@ use Rattle.std.proofs.lemmas.Bool.{both_ways}
 use Rattle.std.proofs.lemmas.List.{append-nil}
 use Rattle.session_base.specs.declared.publication.Publication.{Publication}
 use Rattle.broker_spec.specs.Commands.{usual_limits}
-use Rattle.broker_spec.specs.Past.{session_of, session_start}
+use Rattle.broker_spec.specs.Past.{clean_session_of, session_start}
 use Rattle.broker_spec.specs.Place.{Client, Past}
 use Rattle.broker_spec.specs.Readings.{publication_in}
 use Rattle.client_base.specs.State.{ClientState}
@@ -26,14 +26,14 @@ no_last starts n none l = by l.before (sym none ∙ l.are)
     by (m ∷ before) e = absurd (cc)
 
 -- without a beginning there is no session
-none_there : (past : Past) (c : Client) → starts_of past c ≡ [] → session_of past c ≡ None
-none_there past c none = by (session_of past c) refl
+none_there : (past : Past) (c : Client) → starts_of past c ≡ [] → clean_session_of past c ≡ None
+none_there past c none = by (clean_session_of past c) refl
   where
     start : (o : Option ℕ) → session_start past c ≡ o → is_some (session_start past c) ≡ true → ⊥
     start None e s = both_ways (is_some (session_start past c)) (ap is_some e) s
     start (Some n) e s = no_last (starts_of past c) n none (started_last past c n e)
 
-    by : (o : Option Bool) → session_of past c ≡ o → o ≡ None
+    by : (o : Option Bool) → clean_session_of past c ≡ o → o ≡ None
     by None e = refl
     by (Some clean) e = absurd (start (session_start past c) refl (session_began past c (ap is_some e)))
 

@@ -6,7 +6,7 @@ use Rattle.exactly_once.specs.packet.declared.suback.SubackCode.TheVariants as c
 use Rattle.exactly_once.specs.packet.declared.packet.Packet.TheVariants as packets
 use Rattle.exactly_once.specs.session_base.Publication.{publish_for}
 use Rattle.exactly_once.specs.packet.packet_base.declared.qos.QoS.TheVariants as qualities
-use Rattle.exactly_once.specs.broker_spec.Past.{current_connection, session_of}
+use Rattle.exactly_once.specs.broker_spec.Past.{current_connection, clean_session_of}
 use Rattle.exactly_once.specs.broker_spec.Owner.{named}
 use Rattle.exactly_once.specs.broker_spec.Subscriptions.{subscriptions_of}
 use Rattle.exactly_once.specs.broker_spec.Received.{received_of}
@@ -77,7 +77,7 @@ lost_world =
     }
 
 until_lost : Reached (writer ∷ []) lost_world
-unfolding past_from current_connection session_of named subscriptions_of received_of retained_publications entries_of
+unfolding past_from current_connection clean_session_of named subscriptions_of received_of retained_publications entries_of
 until_lost =
     let e0 = goes_on begins (gets_connection 0 _ first_connection 0 refl (refl, tt) (within_by _ _ refl)) in
     let e1 = goes_on e0 (reads 0 0 _ _ _ (record { client = refl; connection = refl; end = refl }) refl (less_by _ _ refl)) in
@@ -138,7 +138,7 @@ again_world =
     }
 
 until_again : Reached (writer ∷ []) again_world
-unfolding past_from current_connection session_of named subscriptions_of received_of retained_publications entries_of
+unfolding past_from current_connection clean_session_of named subscriptions_of received_of retained_publications entries_of
 until_again =
     let e0 = goes_on until_lost (gets_connection 0 _ second_connection 4 refl (refl, tt) (within_by _ _ refl)) in
     let e1 = goes_on e0 (reads 0 0 _ _ _ (record { client = refl; connection = refl; end = refl }) refl (less_by _ _ refl)) in
@@ -171,7 +171,7 @@ released_world =
     }
 
 until_released : Reached (writer ∷ []) released_world
-unfolding past_from current_connection session_of named subscriptions_of received_of retained_publications entries_of
+unfolding past_from current_connection clean_session_of named subscriptions_of received_of retained_publications entries_of
 until_released =
     let e0 = goes_on until_again (handles 0 _ _ _ _ _ _ refl refl refl refl refl) in
     let e1 = goes_on e0 (reads 0 0 _ _ _ (record { client = refl; connection = refl; end = refl }) refl (less_by _ _ refl)) in
@@ -181,7 +181,7 @@ until_released =
 
 -- to the end
 pub accepts_once : AcceptsOnce
-unfolding past_from current_connection session_of named subscriptions_of received_of retained_publications entries_of
+unfolding past_from current_connection clean_session_of named subscriptions_of received_of retained_publications entries_of
 accepts_once =
     let e0 = goes_on until_released (reads 0 0 _ _ _ (record { client = refl; connection = refl; end = refl }) refl (less_by _ _ refl)) in
     let e1 = goes_on e0 (agrees 0 0 _ _ _ _ (record { client = refl; connection = refl; end = refl }) (less_by _ _ refl) refl) in

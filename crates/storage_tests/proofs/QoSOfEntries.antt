@@ -8,7 +8,7 @@ use Rattle.session.specs.session_base.Identifiers.{least_free}
 use Rattle.session.specs.session_base.Publication.{is_acknowledged}
 use Rattle.broker_form.specs.broker_spec.Connection.{ConnectionName}
 use Rattle.broker_form.specs.broker_spec.Place.{Client, same_client, Mark}
-use Rattle.broker_form.specs.broker_spec.Past.{current_connection, session_of, begins, in_session}
+use Rattle.broker_form.specs.broker_spec.Past.{current_connection, clean_session_of, begins, in_session}
 use Rattle.broker_form.specs.broker_spec.Entries.{Entry, copies_at, queued}
 use Rattle.broker_form.specs.broker_spec.Times.{at_puback, at_pubrec, at_pubcomp, answered_by, start_all, started, window_at, entries_of}
 use Rattle.storage_tests.specs.Guards.{FitsItsQoS, EntriesFitTheirQoS}
@@ -101,7 +101,7 @@ pub entries_fit_their_qos : EntriesFitTheirQoS
 unfolding entries_of
 entries_fit_their_qos limits [] c = tt
 entries_fit_their_qos limits (place ∷ past) c =
-    kept_fit (session_of (place ∷ past) c) (begins place past c) _
+    kept_fit (clean_session_of (place ∷ past) c) (begins place past c) _
     (started_fit (window_at limits (place ∷ past)) (length past) (current_connection (place ∷ past) c) _
     (more_fit (length past) (answered_by place.command place.mark (length past) c (entries_of limits past c)) (queued (copies_at place past c))
     (answered_fit place.command place.mark (length past) c (entries_of limits past c) (entries_fit_their_qos limits past c))))

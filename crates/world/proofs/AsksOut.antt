@@ -10,7 +10,7 @@ use Rattle.headline.specs.broker_spec.declared.command.Command.{Command}
 use Rattle.headline.specs.broker_spec.declared.command.Command.TheVariants as commands
 use Rattle.headline.specs.broker_spec.Commands.{past_of, usual_limits}
 use Rattle.headline.specs.broker_spec.declared.command.Output.{Output}
-use Rattle.headline.specs.broker_spec.Past.{session_of}
+use Rattle.headline.specs.broker_spec.Past.{clean_session_of}
 use Rattle.headline.specs.broker_base.State.{State}
 use Rattle.escaping_client.specs.client.Core.{Core}
 use Rattle.escaping_nodes.specs.Answered.{CanAsk, begun_log}
@@ -65,7 +65,7 @@ module _ (name : List ℕ) (v : WorldState) (i at number place : ℕ) (core : Co
     (housed : SlotsAreValid (targets_of_clients v.clients) v.connections) (first : position (is_named name) v.clients ≡ Some i)
     (config : Config) (a : Moment State Command Output) (moments : List (Moment State Command Output)) (came : Moments rules config (a ∷ moments)) (ballot : ℕ) (os : List ℕ)
     (list : List Command) (o : IsOpened a v.nodes ballot place os (begun_log list ballot) (port_at_node number)) (room : length list + 2 ≤ max_places) (connect : Connect)
-    (session : session_of (past_of usual_limits list) connect.client ≡ Some false) (is_connect : verdict up ≡ Ok (packets.Connect connect, [])) (kept : connect.clean ≡ false)
+    (session : clean_session_of (past_of usual_limits list) connect.client ≡ Some false) (is_connect : verdict up ≡ Ok (packets.Connect connect, [])) (kept : connect.clean ≡ false)
     (count : ℕ) (many : length up ≡ count) (some : 0 < count) (apart : NumbersAreApart os) (out : In (place + 1) os → ⊥)
     (each : (m : ℕ) → In m os → NodeIs (Follows ballot (begun_log list ballot)) (whole_moment a).world.nodes m) (more : List Event) (new : WorldState) where
   asks : CanAsk a v.nodes ballot place o.node os (port_at_node number) (first_of ballot) list ballot up connect

@@ -11,7 +11,7 @@ use Rattle.headline.specs.ballot_base.declared.config.Config.{Config}
 use Rattle.headline.specs.ballot_base.LawfulConfig.{are_rising, is_lawful}
 use Rattle.headline.specs.ballot_base.Serving.{max_places}
 use Rattle.headline.specs.broker_spec.Commands.{past_from, past_of, usual_limits}
-use Rattle.headline.specs.broker_spec.Past.{session_of}
+use Rattle.headline.specs.broker_spec.Past.{clean_session_of}
 use Rattle.headline.specs.broker_spec.Place.{Client}
 use Rattle.ways_out.specs.Deliveries.{asked_and_answered, way_out}
 use Rattle.escaping_nodes.proofs.WelcomedKept.{welcomed_are_kept}
@@ -79,7 +79,7 @@ some_members m config granted =
 abbrev pub can_escape : (members : List ℕ) (name : Client) (w : WorldState) → refusal w.nodes.master (configuration_of members) ≡ None →
     list_all (is_running w.nodes.nodes) members ≡ true → (place source : ℕ) → IsFetchedFrom w place source → (at : ℕ) (found : WorldClient) →
     position (is_named name) w.clients ≡ Some at → slice_get w.clients at ≡ Some found →
-    session_of (past_of usual_limits (whole_log_of w.nodes source)) found.piped.core.state.client ≡ Some false → CanEscape members name w
+    clean_session_of (past_of usual_limits (whole_log_of w.nodes source)) found.piped.core.state.client ≡ Some false → CanEscape members name w
 can_escape members name w granted live place source fetched at found first stands session =
     record {
       granted = granted;
@@ -107,33 +107,33 @@ configured (x ∷ xs) config same first =
 -- ---- the session of a client after a log
 
 kept_in : (n : NodesState) (node : ℕ) (client : Client) (has : Bool) → has ≡ welcomes_back client (whole_log_of n node) →
-    (has ≡ true → session_of (past_of usual_limits (whole_log_of n node)) client ≡ Some false)
-    × (has ≡ false → session_of (past_of usual_limits (whole_log_of n node)) client ≡ Some false → ⊥)
+    (has ≡ true → clean_session_of (past_of usual_limits (whole_log_of n node)) client ≡ Some false)
+    × (has ≡ false → clean_session_of (past_of usual_limits (whole_log_of n node)) client ≡ Some false → ⊥)
 kept_in n node client has is = (
   λ yes. (welcomed_are_kept client (whole_log_of n node)).0 (sym is ∙ yes),
   λ off session. false≢true (sym off ∙ is ∙ (welcomed_are_kept client (whole_log_of n node)).1 session),
 )
 
 none_kept : (n : NodesState) (node : ℕ) (client : Client) (has : Bool) → numbered_node n.nodes node ≡ None → has ≡ false →
-    (has ≡ true → session_of (past_of usual_limits (whole_log_of n node)) client ≡ Some false)
-    × (has ≡ false → session_of (past_of usual_limits (whole_log_of n node)) client ≡ Some false → ⊥)
-unfolding session_of past_from
+    (has ≡ true → clean_session_of (past_of usual_limits (whole_log_of n node)) client ≡ Some false)
+    × (has ≡ false → clean_session_of (past_of usual_limits (whole_log_of n node)) client ≡ Some false → ⊥)
+unfolding clean_session_of past_from
 none_kept n node client has none off = (
   λ yes. absurd (false≢true (sym off ∙ yes)),
-  λ _ session. none-some false (sym (ap (λ (o : Option CountedCore). session_of (past_of usual_limits (whole_log_in n.archive o)) client) none) ∙ session),
+  λ _ session. none-some false (sym (ap (λ (o : Option CountedCore). clean_session_of (past_of usual_limits (whole_log_in n.archive o)) client) none) ∙ session),
 )
 
 pub session_told : {E : Type 0} (n : NodesState) (node : ℕ) (client : Client) (result : Result Bool E) →
     ((core : CountedCore) → numbered_node n.nodes node ≡ Some core → IfOk result (λ has. has ≡ welcomes_back client (whole_log_of n node))) →
     (numbered_node n.nodes node ≡ None → IfOk result (λ has. has ≡ false)) →
-    IfOk result (λ has. (has ≡ true → session_of (past_of usual_limits (whole_log_of n node)) client ≡ Some false)
-    × (has ≡ false → session_of (past_of usual_limits (whole_log_of n node)) client ≡ Some false → ⊥))
+    IfOk result (λ has. (has ≡ true → clean_session_of (past_of usual_limits (whole_log_of n node)) client ≡ Some false)
+    × (has ≡ false → clean_session_of (past_of usual_limits (whole_log_of n node)) client ≡ Some false → ⊥))
 session_told n node client (Err cause) told unknown = tt
 session_told n node client (Ok has) told unknown = by (numbered_node n.nodes node) refl
   where
     by : (o : Option CountedCore) → numbered_node n.nodes node ≡ o →
-        (has ≡ true → session_of (past_of usual_limits (whole_log_of n node)) client ≡ Some false)
-        × (has ≡ false → session_of (past_of usual_limits (whole_log_of n node)) client ≡ Some false → ⊥)
+        (has ≡ true → clean_session_of (past_of usual_limits (whole_log_of n node)) client ≡ Some false)
+        × (has ≡ false → clean_session_of (past_of usual_limits (whole_log_of n node)) client ≡ Some false → ⊥)
     by None e = none_kept n node client has e (unknown e)
     by (Some core) e = kept_in n node client has (told core e)
 

@@ -8,7 +8,7 @@ use Rattle.headline.specs.ballot_base.Logs.{places}
 use Rattle.headline.specs.ballot_base.Serving.{max_places}
 use Rattle.headline.specs.broker_spec.declared.command.Command.{Command}
 use Rattle.headline.specs.broker_spec.Commands.{past_of, usual_limits}
-use Rattle.headline.specs.broker_spec.Past.{session_of}
+use Rattle.headline.specs.broker_spec.Past.{clean_session_of}
 use Rattle.headline.specs.broker_spec.Place.{Client}
 use Rattle.escaping_client.specs.client.Core.{Core}
 use Rattle.escaping_client.specs.client_base.State.{is_online}
@@ -49,7 +49,7 @@ pub record CanEscape (members : List ℕ) (name : Client) (world : WorldState) :
   pub core : Core
   pub client : core_named name world.clients ≡ Some core
   pub session :
-      session_of (past_of usual_limits (whole_log_of world.nodes source)) core.state.client
+      clean_session_of (past_of usual_limits (whole_log_of world.nodes source)) core.state.client
       ≡ Some false
 
 -- ---- what it leads to

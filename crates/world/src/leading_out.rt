@@ -4,7 +4,7 @@ ghost use Rattle.std.specs.Prelude.{ℕ, ◌≡◌, ◌≤◌, ◌<◌, ◌+◌,
 ghost use Rattle.std.specs.List.{list_all, position};
 ghost use Rattle.headline.specs.agreement.MasterState.{refusal};
 ghost use Rattle.headline.specs.broker_spec.Commands.{past_of, usual_limits};
-ghost use Rattle.headline.specs.broker_spec.Past.{session_of};
+ghost use Rattle.headline.specs.broker_spec.Past.{clean_session_of};
 ghost use Rattle.world_nodes.specs.Asking.{whole_log_of};
 ghost use Rattle.world_events.specs.EscapeEvents.{connect_bytes};
 ghost use Rattle.world_pipes.specs.Piped.{is_holding};
@@ -130,10 +130,10 @@ impl World {
     // Says whether a client has a session that is not clean after the whole log of a node.
     fn has_session(&self, node: u8, client: &ClientId) -> Result<bool, Memory>
         ensures yes { IfOk result (λ has. has ≡ true
-            → session_of (past_of usual_limits (whole_log_of self.now.nodes node)) client.now
+            → clean_session_of (past_of usual_limits (whole_log_of self.now.nodes node)) client.now
             ≡ Some false) }
         ensures no { IfOk result (λ has. has ≡ false
-            → session_of (past_of usual_limits (whole_log_of self.now.nodes node)) client.now
+            → clean_session_of (past_of usual_limits (whole_log_of self.now.nodes node)) client.now
             ≡ Some false → ⊥) }
     {
         self.nodes.welcomes_back(node, client)

@@ -9,7 +9,7 @@ use Rattle.session_base.specs.Queue.{awaits_pubcomp, on_pubrec}
 use Rattle.session_base.specs.Sending.{pubrec_sends}
 use Rattle.broker_spec.specs.Connection.{ConnectionName}
 use Rattle.broker_spec.specs.Place.{Client, Place, Past, Limits}
-use Rattle.broker_spec.specs.Past.{accepts, ends_any, current_connection, session_of}
+use Rattle.broker_spec.specs.Past.{accepts, ends_any, current_connection, clean_session_of}
 use Rattle.broker_spec.specs.Subscriptions.{subscriptions_of}
 use Rattle.broker_spec.specs.Received.{received_of}
 use Rattle.broker_spec.specs.Entries.{Entry, copies_at, queued}
@@ -65,7 +65,7 @@ abbrev pub pubrels_after : ℕ → Option ClientSession → List Packet
 pubrels_after i (Some kept) = pubrec_sends i (on_pubrec i kept.state.queue.in_flight)
 pubrels_after i None = []
 
-pubrec_by_kept : (limits : Limits) (place : Place) (past : Past) (c : Client) (x : ConnectionName) (i : ℕ) (session : Option Bool) → session_of past c ≡ session →
+pubrec_by_kept : (limits : Limits) (place : Place) (past : Past) (c : Client) (x : ConnectionName) (i : ℕ) (session : Option Bool) → clean_session_of past c ≡ session →
     accepts place.command place.mark c ≡ None → ends_any place c (current_connection past c) ≡ false → copies_at place past c ≡ [] →
     answered_by place.command place.mark (length past) c (entries_of limits past c) ≡ map (at_pubrec (length past) i) (entries_of limits past c) →
     (if has_id i (released_below (suc (length past)) (entries_of limits (place ∷ past) c)) then Send x (packets.Pubrel i) ∷ [] else [])
@@ -93,4 +93,4 @@ pub pubrec_is : (limits : Limits) (place : Place) (past : Past) (c : Client) (x 
     answered_by place.command place.mark (length past) c (entries_of limits past c) ≡ map (at_pubrec (length past) i) (entries_of limits past c) →
     (if has_id i (released_below (suc (length past)) (entries_of limits (place ∷ past) c)) then Send x (packets.Pubrel i) ∷ [] else [])
     ≡ map (Send x) (pubrels_after i (client_session limits past c))
-pubrec_is limits place past c x i = pubrec_by_kept limits place past c x i (session_of past c) refl
+pubrec_is limits place past c x i = pubrec_by_kept limits place past c x i (clean_session_of past c) refl

@@ -5,7 +5,7 @@ use Rattle.packet.specs.declared.packet.Packet.{Packet}
 use Rattle.packet.specs.declared.packet.Packet.TheVariants as packets
 use Rattle.broker_spec.specs.Connection.{ConnectionName}
 use Rattle.broker_spec.specs.Place.{Client, Mark, Place, Past, Limits}
-use Rattle.broker_spec.specs.Past.{current_connection, begins, session_of}
+use Rattle.broker_spec.specs.Past.{current_connection, begins, clean_session_of}
 use Rattle.broker_spec.specs.Owner.{clients, owner_of}
 use Rattle.broker_spec.specs.Times.{entries_of}
 use Rattle.broker_spec.specs.Sends.{resent_outputs}
@@ -100,7 +100,7 @@ own_first limits past c κ w shape next = by κ.taken refl
         let some = current_counted past d κ.name (owner_is past κ.name d e) in
         let counted = shape.counted in
         absurd (omega (arith, some, counted, new))
-    owned None e new none = room (is_some (session_of past c) || nat_lt (length (clients past)) limits.sessions) none
+    owned None e new none = room (is_some (clean_session_of past c) || nat_lt (length (clients past)) limits.sessions) none
 
     by : (n : ℕ) → κ.taken ≡ n → goal n w.packet
     by zero e =

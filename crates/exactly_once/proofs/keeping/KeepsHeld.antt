@@ -8,7 +8,7 @@ use Rattle.packet.specs.declared.packet.Packet.{Packet}
 use Rattle.packet.specs.declared.packet.Packet.TheVariants as packets
 use Rattle.broker_spec.specs.Connection.{ConnectionName}
 use Rattle.broker_spec.specs.Place.{Client, Mark, Place, Past, Limits, only_if}
-use Rattle.broker_spec.specs.Past.{accepts, session_of, is_beginning, begins}
+use Rattle.broker_spec.specs.Past.{accepts, clean_session_of, is_beginning, begins}
 use Rattle.broker_spec.specs.AnswersInOrder.{answers_at}
 use Rattle.broker_spec.specs.Commands.{place_of}
 use Rattle.broker_spec.specs.declared.command.Command.TheVariants as commands
@@ -46,7 +46,7 @@ asks_present =
     }
 
 -- an accepted Connect of a client with a session that is not clean says that it was there
-says_present : (past : Past) (x : ConnectionName) (c : Client) (mark : Mark) → session_of past c ≡ Some false → mark ≡ Mark.Accepted
+says_present : (past : Past) (x : ConnectionName) (c : Client) (mark : Mark) → clean_session_of past c ≡ Some false → mark ≡ Mark.Accepted
     → IsPresent (packets.Connack (connacks.Accepted (not (begins (at_connect x c false mark) past c))))
 says_present past x c mark there e f =
     let opened : accepts (commands.Connect x c false) mark c ≡ Some (x, false) =

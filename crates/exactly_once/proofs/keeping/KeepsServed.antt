@@ -3,7 +3,7 @@ use Rattle.std.proofs.Common.{◌≡◌, ℕ, zero, suc, true, false, List, [], 
 use Rattle.std.specs.Prelude.{slice_get}
 use Rattle.packet.specs.declared.packet.Packet.{Packet}
 use Rattle.broker_spec.specs.Place.{Client, Limits}
-use Rattle.broker_spec.specs.Past.{session_of}
+use Rattle.broker_spec.specs.Past.{clean_session_of}
 use Rattle.broker_spec.specs.Commands.{place_of}
 use Rattle.lists.specs.Lists.{Each}
 use Rattle.exactly_once.specs.Sends.{put_to}
@@ -26,16 +26,16 @@ packet_at P (y ∷ xs) (suc n) x h e = packet_at P xs n x h.1 e
 
 -- the row is kept
 pub events_keep_served : (limits : Limits) (s t : Story) → IsSoundStory limits s → AreWelcomed limits s.past s.keeper.client s.connections → StoryStep limits s t
-    → t.keeper.was_served ≡ true → session_of t.past t.keeper.client ≡ Some false
+    → t.keeper.was_served ≡ true → clean_session_of t.past t.keeper.client ≡ Some false
 events_keep_served limits s t sound h (takes i κ w stands next) e =
     still_there (place_of limits s.past (command_of κ.name κ.taken w.packet)) s.past s.keeper.client (inl (taken_spares κ.name κ.taken w.packet s.keeper.client)) (sound.shape.served e) (events_keep_session limits s t sound (takes i κ w stands next))
 events_keep_served limits s t sound h (others_take command other none) e =
     still_there (place_of limits s.past command) s.past s.keeper.client (other_spares s.past s.keeper.client command other) (sound.shape.served e) (events_keep_session limits s t sound (others_take command other none))
 events_keep_served limits s t sound h (receives κ others packet are opened next) e =
     let side : Side = record { keeper = s.keeper; connection = κ } in
-    subst (λ (c : Client). session_of s.past c ≡ Some false) (sym (stays_handled packet side).client) (by (served_handled packet side e))
+    subst (λ (c : Client). clean_session_of s.past c ≡ Some false) (sym (stays_handled packet side).client) (by (served_handled packet side e))
   where
-    by : (s.keeper.was_served ≡ true) ⊎ IsWelcome packet → session_of s.past s.keeper.client ≡ Some false
+    by : (s.keeper.was_served ≡ true) ⊎ IsWelcome packet → clean_session_of s.past s.keeper.client ≡ Some false
     by (inl f) = sound.shape.served f
     by (inr f) =
         let mine = (subst (AreWelcomed limits s.past s.keeper.client) are h).0 in

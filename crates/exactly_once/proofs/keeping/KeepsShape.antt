@@ -1,7 +1,7 @@
 -- Each event keeps the shape of a story, if it keeps that of the client's connections.
 use Rattle.std.proofs.Common.{◌≡◌, refl, subst, sym}
 use Rattle.broker_spec.specs.Place.{Client, Limits}
-use Rattle.broker_spec.specs.Past.{session_of}
+use Rattle.broker_spec.specs.Past.{clean_session_of}
 use Rattle.lists.specs.Lists.{Each}
 use Rattle.exactly_once.specs.Story.{Story, StoryStep}
 use Rattle.exactly_once.specs.Story.StoryStep.{takes, others_take, receives, opens_anew, loses, disconnects, publishes_one, subscribes, unsubscribes}
@@ -43,7 +43,7 @@ events_keep_rest limits s t sound h connections =
       newest_is_served = keeps_newest limits s t sound.shape h;
       nobody_else = subst (λ (c : Client). NobodyElse t.past c t.connections) (sym (same_story limits s t h)) (events_keep_nobody limits s t sound h);
       held = events_keep_held limits s t sound h;
-      session = subst (λ (c : Client). IsKeptSession (session_of t.past c)) (sym (same_story limits s t h)) (events_keep_session limits s t sound h);
+      session = subst (λ (c : Client). IsKeptSession (clean_session_of t.past c)) (sym (same_story limits s t h)) (events_keep_session limits s t sound h);
       served = events_keep_served limits s t sound sound.shape.welcomed h;
       welcomed = events_keep_welcomed limits s t sound sound.shape.welcomed h;
     }

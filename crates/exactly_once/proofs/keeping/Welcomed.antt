@@ -6,7 +6,7 @@ use Rattle.packet.specs.declared.packet.Packet.{Packet}
 use Rattle.packet.specs.declared.packet.Packet.TheVariants as packets
 use Rattle.broker_spec.specs.Connection.{ConnectionName}
 use Rattle.broker_spec.specs.Place.{Client, Mark, Place, Past, Limits, only_if}
-use Rattle.broker_spec.specs.Past.{accepts, session_of}
+use Rattle.broker_spec.specs.Past.{accepts, clean_session_of}
 use Rattle.broker_spec.specs.AnswersInOrder.{answers_at}
 use Rattle.broker_spec.specs.Commands.{place_of}
 use Rattle.broker_spec.specs.declared.command.Command.TheVariants as commands
@@ -37,11 +37,11 @@ use Rattle.exactly_once.proofs.places.Spared.{taken_spares, other_spares}
 -- ---- places
 
 -- a session that is there and not clean stays if none ends
-pub still_there : (place : Place) (past : Past) (c : Client) → IsSpared place.command past c → session_of past c ≡ Some false → IsKeptSession (session_of (place ∷ past) c) → session_of (place ∷ past) c ≡ Some false
+pub still_there : (place : Place) (past : Past) (c : Client) → IsSpared place.command past c → clean_session_of past c ≡ Some false → IsKeptSession (clean_session_of (place ∷ past) c) → clean_session_of (place ∷ past) c ≡ Some false
 still_there place past c spared there (inr e) = e
 still_there place past c spared there (inl none) = by (accepts place.command place.mark c) refl
   where
-    by : (o : Option (ConnectionName × Bool)) → accepts place.command place.mark c ≡ o → session_of (place ∷ past) c ≡ Some false
+    by : (o : Option (ConnectionName × Bool)) → accepts place.command place.mark c ≡ o → clean_session_of (place ∷ past) c ≡ Some false
     by (Some opened) e = absurd (let f : None ≡ Some opened.1 = sym none ∙ session_opens place past c opened e in cc)
     by None e = session_spared place past c e spared (inr there) ∙ there
 
@@ -54,12 +54,12 @@ asks_meant c past =
     }
 
 -- an accepted Connect of the client
-opened_there : (past : Past) (x : ConnectionName) (c : Client) (mark : Mark) → mark ≡ Mark.Accepted → session_of (at_connect x c false mark ∷ past) c ≡ Some false
+opened_there : (past : Past) (x : ConnectionName) (c : Client) (mark : Mark) → mark ≡ Mark.Accepted → clean_session_of (at_connect x c false mark ∷ past) c ≡ Some false
 opened_there past x c mark e =
     session_opens (at_connect x c false mark) past c (x, false) (ap (λ (m : Mark). accepts (commands.Connect x c false) m c) e ∙ ap (λ b. only_if b (Some (x, false))) (same_self c))
 
 -- what was sent before
-meant_before : (limits : Limits) (place : Place) (past : Past) (c : Client) (x : ConnectionName) → IsSpared place.command past c → IsKeptSession (session_of (place ∷ past) c) → IsWelcomed limits past c x
+meant_before : (limits : Limits) (place : Place) (past : Past) (c : Client) (x : ConnectionName) → IsSpared place.command past c → IsKeptSession (clean_session_of (place ∷ past) c) → IsWelcomed limits past c x
     → Each (IsMeant c (place ∷ past)) (put_to limits past x)
 meant_before limits place past c x spared kept = each_then (IsMeant c past) (IsMeant c (place ∷ past)) (put_to limits past x) (λ packet h b e. still_there place past c spared (h b e) kept)
 
@@ -77,7 +77,7 @@ welcomed_written limits past c more [] h = tt
 welcomed_written limits past c more (κ ∷ others) h = (h.0, h.1)
 
 -- a command of none of them is taken
-welcomed_other : (limits : Limits) (place : Place) (past : Past) (c : Client) (connections : List ClientConnection) → IsSpared place.command past c → IsKeptSession (session_of (place ∷ past) c)
+welcomed_other : (limits : Limits) (place : Place) (past : Past) (c : Client) (connections : List ClientConnection) → IsSpared place.command past c → IsKeptSession (clean_session_of (place ∷ past) c)
     → any_named (is_packet_of place.command) connections ≡ false → ((y : ConnectionName) → is_packet_of place.command y ≡ false → Each (IsMeant c (place ∷ past)) (sends_to y (answers_at limits place past)))
     → AreWelcomed limits past c connections → AreWelcomed limits (place ∷ past) c connections
 welcomed_other limits place past c [] spared kept none sends h = tt

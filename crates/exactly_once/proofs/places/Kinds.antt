@@ -5,7 +5,7 @@ use Rattle.packet.specs.declared.packet.Packet.{Packet}
 use Rattle.packet.specs.declared.packet.Packet.TheVariants as packets
 use Rattle.broker_spec.specs.Connection.{ConnectionName, same_connection}
 use Rattle.broker_spec.specs.Place.{Client, Mark, Place, Past, Limits, only_if}
-use Rattle.broker_spec.specs.Past.{accepts, any_connection, expels, ends_any, is_leaving, current_connection, session_of}
+use Rattle.broker_spec.specs.Past.{accepts, any_connection, expels, ends_any, is_leaving, current_connection, clean_session_of}
 use Rattle.broker_spec.specs.Received.{receives, received_by, received_of}
 use Rattle.session_base.specs.Identifiers.{without_id}
 use Rattle.broker_spec.specs.Marks.{packet_mark, packet_mark_of}
@@ -22,26 +22,26 @@ use Rattle.exactly_once.proofs.places.Owned.{NobodyElse, none_owns, own_owner}
 -- what comes after a place
 pub record Behind (place : Place) (past : Past) (c : Client) (connection : Option ConnectionName) (session : Option Bool) (received : List ℕ) : Type 0 where
   pub connection_is : current_connection (place ∷ past) c ≡ connection
-  pub session_is : session_of (place ∷ past) c ≡ session
+  pub session_is : clean_session_of (place ∷ past) c ≡ session
   pub received_is : received_of (place ∷ past) c ≡ received
 
 -- all is as it was
 abbrev pub IsAsBefore : Place → Past → Client → Type 0
-IsAsBefore place past c = Behind place past c (current_connection past c) (session_of past c) (received_of past c)
+IsAsBefore place past c = Behind place past c (current_connection past c) (clean_session_of past c) (received_of past c)
 
 -- the connection is over, the rest as it was
 abbrev pub IsOver : Place → Past → Client → Type 0
-IsOver place past c = Behind place past c None (session_of past c) (received_of past c)
+IsOver place past c = Behind place past c None (clean_session_of past c) (received_of past c)
 
 -- ---- any command
 
 -- one that opens nothing for the client, and receives nothing
-pub as_before : (place : Place) (past : Past) (c : Client) → accepts place.command place.mark c ≡ None → expels place.command c ≡ false → IsKeptSession (session_of past c)
+pub as_before : (place : Place) (past : Past) (c : Client) → accepts place.command place.mark c ≡ None → expels place.command c ≡ false → IsKeptSession (clean_session_of past c)
     → received_by place.command place.mark c (received_of past c) ≡ received_of past c → ends_any place c (current_connection past c) ≡ false → IsAsBefore place past c
 as_before place past c opens spared kept same on =
     record { connection_is = current_stays place past c opens on; session_is = session_stays place past c opens spared kept; received_is = received_stays place past c opens spared kept same }
 
-pub is_over : (place : Place) (past : Past) (c : Client) → accepts place.command place.mark c ≡ None → expels place.command c ≡ false → IsKeptSession (session_of past c)
+pub is_over : (place : Place) (past : Past) (c : Client) → accepts place.command place.mark c ≡ None → expels place.command c ≡ false → IsKeptSession (clean_session_of past c)
     → received_by place.command place.mark c (received_of past c) ≡ received_of past c → ends_any place c (current_connection past c) ≡ true → IsOver place past c
 is_over place past c opens spared kept same over =
     record { connection_is = current_ends place past c opens over; session_is = session_stays place past c opens spared kept; received_is = received_stays place past c opens spared kept same }
@@ -49,7 +49,7 @@ is_over place past c opens spared kept same over =
 -- ---- the client's own Connect
 
 -- accepted
-pub after_connect : (past : Past) (c : Client) (x : ConnectionName) → IsKeptSession (session_of past c)
+pub after_connect : (past : Past) (c : Client) (x : ConnectionName) → IsKeptSession (clean_session_of past c)
     → Behind (record { command = commands.Connect x c false; mark = Mark.Accepted }) past c (Some x) (Some false) (received_of past c)
 after_connect past c x kept =
     let place : Place = record { command = commands.Connect x c false; mark = Mark.Accepted } in
@@ -82,7 +82,7 @@ own_ends past c x packet mark current =
     ap (any_connection (λ y. same_connection x y && is_leaving mark)) current ∙ ap (λ b. b && is_leaving mark) (same_itself x)
 
 -- a packet that stays
-pub after_packet : (past : Past) (c : Client) (x : ConnectionName) (packet : Packet) (mark : Mark) → current_connection past c ≡ Some x → session_of past c ≡ Some false → is_leaving mark ≡ false
+pub after_packet : (past : Past) (c : Client) (x : ConnectionName) (packet : Packet) (mark : Mark) → current_connection past c ≡ Some x → clean_session_of past c ≡ Some false → is_leaving mark ≡ false
     → Behind (at_packet x packet mark) past c (Some x) (Some false) (received_by (commands.Packet x packet) mark c (received_of past c))
 after_packet past c x packet mark current live staying =
     let place = at_packet x packet mark in
@@ -93,7 +93,7 @@ after_packet past c x packet mark current live staying =
     }
 
 -- a new publication at QoS 2
-pub after_taken : (past : Past) (c : Client) (x : ConnectionName) (p : Publish) → current_connection past c ≡ Some x → session_of past c ≡ Some false
+pub after_taken : (past : Past) (c : Client) (x : ConnectionName) (p : Publish) → current_connection past c ≡ Some x → clean_session_of past c ≡ Some false
     → Behind (at_packet x (packets.Publish p) (Mark.Taken c)) past c (Some x) (Some false) (receives p.delivery (received_of past c))
 after_taken past c x p current live =
     let b = after_packet past c x (packets.Publish p) (Mark.Taken c) current live refl in
@@ -104,7 +104,7 @@ after_taken past c x p current live =
     }
 
 -- a PUBREL
-pub after_pubrel : (past : Past) (c : Client) (x : ConnectionName) (id : ℕ) → current_connection past c ≡ Some x → session_of past c ≡ Some false
+pub after_pubrel : (past : Past) (c : Client) (x : ConnectionName) (id : ℕ) → current_connection past c ≡ Some x → clean_session_of past c ≡ Some false
     → Behind (at_packet x (packets.Pubrel id) (Mark.Handled c)) past c (Some x) (Some false) (without_id id (received_of past c))
 after_pubrel past c x id current live =
     let b = after_packet past c x (packets.Pubrel id) (Mark.Handled c) current live refl in
@@ -116,11 +116,11 @@ after_pubrel past c x id current live =
 
 -- ---- the connection is lost, and a new ballot
 
-pub after_lost : (past : Past) (c : Client) (x : ConnectionName) → IsKeptSession (session_of past c) → any_connection (same_connection x) (current_connection past c) ≡ true
+pub after_lost : (past : Past) (c : Client) (x : ConnectionName) → IsKeptSession (clean_session_of past c) → any_connection (same_connection x) (current_connection past c) ≡ true
     → IsOver (record { command = commands.Lost x; mark = Mark.NoPart }) past c
 after_lost past c x kept over = is_over (record { command = commands.Lost x; mark = Mark.NoPart }) past c refl refl kept refl over
 
-pub after_start : (past : Past) (c : Client) (ballot : ℕ) → IsKeptSession (session_of past c) → IsOver (record { command = commands.Start ballot; mark = Mark.NoPart }) past c
+pub after_start : (past : Past) (c : Client) (ballot : ℕ) → IsKeptSession (clean_session_of past c) → IsOver (record { command = commands.Start ballot; mark = Mark.NoPart }) past c
 after_start past c ballot kept = by (current_connection past c) refl
   where
     place : Place

@@ -5,7 +5,7 @@ use Rattle.std.specs.Prelude.{is_some}
 use Rattle.std.proofs.lemmas.Bool.{both_ways, cases_Bool}
 use Rattle.broker_spec.specs.Connection.{ConnectionName, same_connection}
 use Rattle.broker_spec.specs.Place.{Client, Past}
-use Rattle.broker_spec.specs.Past.{any_connection, current_connection, session_of}
+use Rattle.broker_spec.specs.Past.{any_connection, current_connection, clean_session_of}
 use Rattle.broker_spec.specs.Owner.{named, clients, first_client, owner_of}
 use Rattle.broker_spec.proofs.ClientsInOrder.{IsNamed, session_is_named}
 use Rattle.exactly_once.proofs.places.Sessions.{current_has_session}
@@ -50,12 +50,12 @@ owner_has past x d e = first_holds (λ c. any_connection (same_connection x) (cu
 pub owner_there : (past : Past) (x y : ConnectionName) (c : Client) → current_connection past c ≡ Some y → same_connection x y ≡ true → is_some (owner_of past x) ≡ true
 owner_there past x y c e same =
     first_there (λ d. any_connection (same_connection x) (current_connection past d)) (clients past) c
-    (named_filtered (λ d. is_some (session_of past d)) (named past) c (is_named (session_is_named past c)) some)
+    (named_filtered (λ d. is_some (clean_session_of past d)) (named past) c (is_named (session_is_named past c)) some)
     (ap (any_connection (same_connection x)) e ∙ same)
   where
-    some : is_some (session_of past c) ≡ true
+    some : is_some (clean_session_of past c) ≡ true
     some = current_has_session past c y e
 
-    is_named : (session_of past c ≡ None) ⊎ IsNamed c (named past) → IsNamed c (named past)
-    is_named (inl none) = absurd (both_ways (is_some (session_of past c)) (ap is_some none) some)
+    is_named : (clean_session_of past c ≡ None) ⊎ IsNamed c (named past) → IsNamed c (named past)
+    is_named (inl none) = absurd (both_ways (is_some (clean_session_of past c)) (ap is_some none) some)
     is_named (inr n) = n

@@ -6,7 +6,7 @@ use Rattle.packet.specs.declared.packet.Packet.{Packet}
 use Rattle.packet.specs.declared.packet.Packet.TheVariants as packets
 use Rattle.broker_spec.specs.Connection.{ConnectionName}
 use Rattle.broker_spec.specs.Place.{Client, Past, same_client}
-use Rattle.broker_spec.specs.Past.{expels, session_of}
+use Rattle.broker_spec.specs.Past.{expels, clean_session_of}
 use Rattle.broker_spec.specs.declared.command.Command.{Command}
 use Rattle.broker_spec.specs.declared.command.Command.TheVariants as commands
 use Rattle.broker_spec.proofs.ClientsInOrder.{same_is}
@@ -33,8 +33,8 @@ other_spares past c (commands.Packet x packet) other = inl refl
 other_spares past c (commands.Connect x d clean) other = inl refl
 other_spares past c (commands.Lost x) other = inl refl
 other_spares past c (commands.Start ballot) other = inl refl
-other_spares past c (commands.Expel d) other = by (session_of past c) refl
+other_spares past c (commands.Expel d) other = by (clean_session_of past c) refl
   where
-    by : (session : Option Bool) → session_of past c ≡ session → IsSpared (commands.Expel d) past c
+    by : (session : Option Bool) → clean_session_of past c ≡ session → IsSpared (commands.Expel d) past c
     by None e = inr e
     by (Some clean) e = inl (not_this c d (λ same. other (same, ap is_some e)))

@@ -6,7 +6,7 @@ use Rattle.lists.specs.Lists.{IsDistinct}
 use Rattle.packet.specs.declared.packet.Packet.{Packet}
 use Rattle.broker_spec.specs.Connection.{ConnectionName}
 use Rattle.broker_spec.specs.Place.{Client, Mark, Place, Past, Limits}
-use Rattle.broker_spec.specs.Past.{begins, is_beginning, current_connection, session_of}
+use Rattle.broker_spec.specs.Past.{begins, is_beginning, current_connection, clean_session_of}
 use Rattle.broker_spec.specs.Marks.{mark_of}
 use Rattle.broker_spec.specs.Commands.{place_of, past_of}
 use Rattle.broker_spec.specs.Answers.{welcome}
@@ -37,11 +37,11 @@ abbrev pub accepted_at : ConnectionName → Client → Place
 accepted_at x c = record { command = commands.Connect x c false; mark = Mark.Accepted }
 
 -- it begins a session if there is none
-pub begins_there : (past : Past) (c : Client) (x : ConnectionName) → session_of past c ≡ None → begins (accepted_at x c) past c ≡ true
+pub begins_there : (past : Past) (c : Client) (x : ConnectionName) → clean_session_of past c ≡ None → begins (accepted_at x c) past c ≡ true
 begins_there past c x none = ap₂ is_beginning (opened x c) none
 
 -- and the CONNACK says so
-told_so : (limits : Limits) (past : Past) (c : Client) (x : ConnectionName) → session_of past c ≡ None → put_to limits past x ≡ [] → (more : List Packet) × (put_to limits (accepted_at x c ∷ past) x ≡ session_lost ∷ more)
+told_so : (limits : Limits) (past : Past) (c : Client) (x : ConnectionName) → clean_session_of past c ≡ None → put_to limits past x ≡ [] → (more : List Packet) × (put_to limits (accepted_at x c ∷ past) x ≡ session_lost ∷ more)
 unfolding put_to
 told_so limits past c x none nothing =
     let place = accepted_at x c in
@@ -54,7 +54,7 @@ told_so limits past c x none nothing =
     )
 
 -- it began again
-pub again_there : (past : Past) (c : Client) (x : ConnectionName) → session_of past c ≡ None → has_begun past c ≡ true → began_again (accepted_at x c ∷ past) c x ≡ true
+pub again_there : (past : Past) (c : Client) (x : ConnectionName) → clean_session_of past c ≡ None → has_begun past c ≡ true → began_again (accepted_at x c ∷ past) c x ≡ true
 again_there past c x none before =
     ap (λ b. b || began_again past c x)
     (ap₂ (λ a b. a && b) (ap (opens_on x) (opened x c) ∙ same_name_self x) (ap₂ (λ a b. a && b) (begins_there past c x none) before))
@@ -69,7 +69,7 @@ all_gone (κ ∷ connections) = by κ.taken refl (all_gone connections)
     by (suc n) e h = (omega (arith, e), h)
 
 -- the Connect of the newest connection is taken and accepted, and no session is there
-pub begins_awaiting : (limits : Limits) (list : List Command) (c : Client) (keeper : Keeper) (κ : ClientConnection) (others : List ClientConnection) → session_of (past_of limits list) c ≡ None
+pub begins_awaiting : (limits : Limits) (list : List Command) (c : Client) (keeper : Keeper) (κ : ClientConnection) (others : List ClientConnection) → clean_session_of (past_of limits list) c ≡ None
     → has_begun (past_of limits list) c ≡ true → mark_of limits (past_of limits list) (commands.Connect κ.name c false) ≡ Mark.Accepted → IsDistinct (ids_in_use (unserved c [] []))
     → AreUntouched limits (past_of limits list) c (κ ∷ others) → NamesApart (κ ∷ others) → κ.taken ≡ 0
     → keeper.client ≡ c → keeper.is_online ≡ false → keeper.was_served ≡ true → keeper.requests ≡ []

@@ -6,7 +6,7 @@ use Rattle.packet.specs.declared.packet.Packet.{Packet}
 use Rattle.packet.specs.declared.packet.Packet.TheVariants as packets
 use Rattle.broker_spec.specs.Connection.{same_connection}
 use Rattle.broker_spec.specs.Place.{Client, Past, Limits}
-use Rattle.broker_spec.specs.Past.{session_of}
+use Rattle.broker_spec.specs.Past.{clean_session_of}
 use Rattle.broker_spec.specs.Commands.{past_of}
 use Rattle.broker_spec.specs.declared.command.Command.{Command}
 use Rattle.client_base.specs.Keeper.{Own, Keeper, ids_in_use, all_own}
@@ -65,7 +65,7 @@ opens_all limits past c earlier own told (κ ∷ connections) fresh apart = by �
     by (suc n) e before = before
 
 -- a session may begin again at the newest connection, whether the client still holds it or not
-pub opens_again : (limits : Limits) (list : List Command) (c : Client) (earlier own : List Own) (κ : ClientConnection) (others : List ClientConnection) (held : Bool) → session_of (past_of limits list) c ≡ None → AreNumbered 0 earlier → AreUnsent (length earlier) own
+pub opens_again : (limits : Limits) (list : List Command) (c : Client) (earlier own : List Own) (κ : ClientConnection) (others : List ClientConnection) (held : Bool) → clean_session_of (past_of limits list) c ≡ None → AreNumbered 0 earlier → AreUnsent (length earlier) own
     → IsDistinct (ids_in_use (unserved c earlier own)) → AreUntouched limits (past_of limits list) c (κ ∷ others) → NamesApart (κ ∷ others) → κ.taken ≡ 0
     → StoryTrace limits c (with_connections (past_of limits list) (waiting c earlier own held) (κ ∷ kept_of (flags_of others) others))
 opens_again limits list c earlier own κ others held none numbers unsent apart fresh names new = by held

@@ -8,7 +8,7 @@ use Rattle.lists.specs.Lists.{Each}
 use Rattle.lists.proofs.Tests.{or_none}
 use Rattle.broker_spec.specs.Connection.{ConnectionName, same_connection}
 use Rattle.broker_spec.specs.Place.{Client, Mark, Place, Past, Limits}
-use Rattle.broker_spec.specs.Past.{accepts, session_of, session_start}
+use Rattle.broker_spec.specs.Past.{accepts, clean_session_of, session_start}
 use Rattle.broker_spec.specs.Marks.{mark_of}
 use Rattle.broker_spec.specs.Commands.{place_of, past_of}
 use Rattle.broker_spec.specs.declared.command.Command.{Command}
@@ -42,7 +42,7 @@ use Rattle.exactly_once.proofs.sessions.Awaiting.{HasAwaiting}
 -- ---- the story of the session
 
 -- of a client that was never served: what it published goes with it
-begins_unserved : (limits : Limits) (list : List Command) (c : Client) (keeper : Keeper) (κ : ClientConnection) (others : List ClientConnection) → session_of (past_of limits list) c ≡ None
+begins_unserved : (limits : Limits) (list : List Command) (c : Client) (keeper : Keeper) (κ : ClientConnection) (others : List ClientConnection) → clean_session_of (past_of limits list) c ≡ None
     → mark_of limits (past_of limits list) (commands.Connect κ.name c false) ≡ Mark.Accepted → AreUntouched limits (past_of limits list) c (κ ∷ others) → NamesApart (κ ∷ others) → κ.taken ≡ 0 → IsUnserved c keeper
     → StoryTrace limits c (with_connections (accepted_at κ.name c ∷ past_of limits list) keeper (record κ { taken = suc κ.taken } ∷ kept_of (flags_of others) others))
 begins_unserved limits list c keeper κ others none mark fresh names new u =
@@ -73,13 +73,13 @@ pub anew_stands : (limits : Limits) (c : Client) (flags : List Bool) (s : Story)
 anew_stands limits c flags s (inl a) = inl a
 anew_stands limits c flags s (inr u) = inr u.beside
 
-pub stands_anew : (limits : Limits) (list : List Command) (past : Past) (c : Client) (keeper : Keeper) (κ : ClientConnection) (others : List ClientConnection) → past ≡ past_of limits list → session_of past c ≡ None
+pub stands_anew : (limits : Limits) (list : List Command) (past : Past) (c : Client) (keeper : Keeper) (κ : ClientConnection) (others : List ClientConnection) → past ≡ past_of limits list → clean_session_of past c ≡ None
     → has_begun past c ≡ true → mark_of limits past (commands.Connect κ.name c false) ≡ Mark.Accepted → HasConnections limits c past (κ ∷ others) → κ.taken ≡ 0 → HasKeeper c past keeper (κ ∷ others)
     → StandsAnew limits c (true ∷ flags_of others) (with_connections (accepted_at κ.name c ∷ past) keeper (record κ { taken = suc κ.taken } ∷ others))
 stands_anew limits list past c keeper κ others is none begun mark h new k = subst Q (sym is) at none begun mark h.untouched
   where
     Q : Past → Type 0
-    Q p = session_of p c ≡ None → has_begun p c ≡ true → mark_of limits p (commands.Connect κ.name c false) ≡ Mark.Accepted → AreUntouched limits p c (κ ∷ others)
+    Q p = clean_session_of p c ≡ None → has_begun p c ≡ true → mark_of limits p (commands.Connect κ.name c false) ≡ Mark.Accepted → AreUntouched limits p c (κ ∷ others)
         → StandsAnew limits c (true ∷ flags_of others) (with_connections (accepted_at κ.name c ∷ p) keeper (record κ { taken = suc κ.taken } ∷ others))
 
     off : keeper.is_online ≡ false
@@ -122,7 +122,7 @@ shares_older past c x (μ ∷ others) none =
       shares_older past c x others two.1,
     )
 
-pub lasts_anew : (limits : Limits) (past : Past) (c : Client) (κ : ClientConnection) (others : List ClientConnection) → session_of past c ≡ None → HasConnections limits c past (κ ∷ others)
+pub lasts_anew : (limits : Limits) (past : Past) (c : Client) (κ : ClientConnection) (others : List ClientConnection) → clean_session_of past c ≡ None → HasConnections limits c past (κ ∷ others)
     → Each (IsFresh (accepted_at κ.name c) c) (κ ∷ others) → ((start : ℕ) → Accepts limits c past (κ ∷ others) start)
     → Lasts limits c (true ∷ flags_of others) (accepted_at κ.name c ∷ past) (record κ { taken = suc κ.taken } ∷ others)
 lasts_anew limits past c κ others none h fresh all =

@@ -2,7 +2,7 @@
 -- and each that is released.
 use Rattle.std.proofs.Common.{ℕ, [], ◌∷◌, length, refl, ◌∙◌, ap, subst, inl, inr, ◌⊎◌}
 use Rattle.broker_spec.specs.Place.{Client, Limits}
-use Rattle.broker_spec.specs.Past.{current_connection, session_of, session_start}
+use Rattle.broker_spec.specs.Past.{current_connection, clean_session_of, session_start}
 use Rattle.broker_spec.specs.NobodyLaws.{IsSteady}
 use Rattle.broker_spec.specs.Commands.{place_of, past_from}
 use Rattle.broker_spec.specs.declared.command.Command.TheVariants as commands
@@ -39,7 +39,7 @@ data IsAt (limits : Limits) (c : Client) (s : Story) : Type 0 where
 -- ---- the beginning
 
 pub life_opens : (limits : Limits) (c : Client) → IsLife limits c (no_story c)
-unfolding session_of current_connection past_from
+unfolding clean_session_of current_connection past_from
 life_opens limits c =
     record {
       list = [];

@@ -7,7 +7,7 @@ use Rattle.std.proofs.lemmas.List.{append-nil}
 use Rattle.lists.proofs.Tests.{or_right}
 use Rattle.broker_spec.specs.Connection.{ConnectionName}
 use Rattle.broker_spec.specs.Place.{Client, Place, Past, Limits}
-use Rattle.broker_spec.specs.Past.{accepts, session_of, session_start, current_connection, begins}
+use Rattle.broker_spec.specs.Past.{accepts, clean_session_of, session_start, current_connection, begins}
 use Rattle.broker_spec.specs.NobodyLaws.{IsSteady}
 use Rattle.broker_spec.specs.Commands.{place_of}
 use Rattle.broker_spec.specs.declared.command.Command.TheVariants as commands
@@ -47,7 +47,7 @@ began_begun (place ∷ past) c x e = by (opens_on x (accepts place.command place
     by true false h f a e ih = sym f ∙ ih e
     by false b h f a e ih = or_right b h (sym f ∙ ih e)
 
-expelled_nowhere : (limits : Limits) (c : Client) (flags : List Bool) (s : Story) → IsLife limits c s → session_of s.past c ≡ None → Stands limits c flags s → Lasts limits c flags s.past s.connections
+expelled_nowhere : (limits : Limits) (c : Client) (flags : List Bool) (s : Story) → IsLife limits c s → clean_session_of s.past c ≡ None → Stands limits c flags s → Lasts limits c flags s.past s.connections
     → Stands limits c flags (record s { past = place_of limits s.past (commands.Expel c) ∷ s.past })
 expelled_nowhere limits c flags s life none (inl a) l =
     absurd (both_ways (has_begun s.past c) (l.unbegun (no_start s.past c none)) (began_begun s.past c a.newest.name a.awaits.again))
@@ -55,11 +55,11 @@ expelled_nowhere limits c flags s life none (inr b) l =
     inr (record {
       head = b.head;
       gone = b.gone;
-      told = goes_on b.told (others_take (commands.Expel c) (λ h. both_ways (is_some (session_of s.past s.keeper.client)) (ap (λ d. is_some (session_of s.past d)) life.keeper.client ∙ ap is_some none) h.1)
+      told = goes_on b.told (others_take (commands.Expel c) (λ h. both_ways (is_some (clean_session_of s.past s.keeper.client)) (ap (λ d. is_some (clean_session_of s.past d)) life.keeper.client ∙ ap is_some none) h.1)
           (none_expelled (kept_of flags s.connections) c));
     })
 
-lasts_expelled : (limits : Limits) (c : Client) (flags : List Bool) (s : Story) → IsLife limits c s → session_of s.past c ≡ None → Lasts limits c flags s.past s.connections
+lasts_expelled : (limits : Limits) (c : Client) (flags : List Bool) (s : Story) → IsLife limits c s → clean_session_of s.past c ≡ None → Lasts limits c flags s.past s.connections
     → Lasts limits c flags (place_of limits s.past (commands.Expel c) ∷ s.past) s.connections
 lasts_expelled limits c flags s life none l =
     let place = place_of limits s.past (commands.Expel c) in
@@ -144,11 +144,11 @@ pub lasting_expelled : (limits : Limits) → IsSteady limits → (c : Client) (f
     → LastsStill limits c (record s { past = place_of limits s.past (commands.Expel c) ∷ s.past }) ⊎ IsOver limits c (record s { past = place_of limits s.past (commands.Expel c) ∷ s.past })
 lasting_expelled limits steady c flags s life stands l step = by (session_start s.past c) refl life.session
   where
-    none_there : session_start s.past c ≡ None → IsKeptSession (session_of s.past c) → session_of s.past c ≡ None
+    none_there : session_start s.past c ≡ None → IsKeptSession (clean_session_of s.past c) → clean_session_of s.past c ≡ None
     none_there e (inl none) = none
     none_there e (inr live) = absurd (both_ways (is_some (session_start s.past c)) (ap is_some e) (session_began s.past c (ap is_some live)))
 
-    by : (o : Option ℕ) → session_start s.past c ≡ o → IsKeptSession (session_of s.past c)
+    by : (o : Option ℕ) → session_start s.past c ≡ o → IsKeptSession (clean_session_of s.past c)
         → LastsStill limits c (record s { past = place_of limits s.past (commands.Expel c) ∷ s.past }) ⊎ IsOver limits c (record s { past = place_of limits s.past (commands.Expel c) ∷ s.past })
     by None e kept =
         let none = none_there e kept in

@@ -6,7 +6,7 @@ use Rattle.std.proofs.lemmas.List.{append-nil, length-append}
 use Rattle.lists.specs.Lists.{Each}
 use Rattle.broker_spec.specs.Connection.{ConnectionName}
 use Rattle.broker_spec.specs.Place.{Client, Place, Past, Limits, same_client}
-use Rattle.broker_spec.specs.Past.{accepts, begins, begins_session, is_beginning, session_of, session_start}
+use Rattle.broker_spec.specs.Past.{accepts, begins, begins_session, is_beginning, clean_session_of, session_start}
 use Rattle.broker_spec.specs.Commands.{place_of}
 use Rattle.broker_spec.proofs.ClientsInOrder.{same_self}
 use Rattle.exactly_once.specs.Sides.{ClientConnection}
@@ -81,14 +81,14 @@ once_in_step past c (κ ∷ others) one = all others
 
 -- ---- a place that keeps the session
 
-no_beginning : (place : Place) (past : Past) (c : Client) → session_of past c ≡ Some false → OpensKept c place → begins place past c ≡ false
+no_beginning : (place : Place) (past : Past) (c : Client) → clean_session_of past c ≡ Some false → OpensKept c place → begins place past c ≡ false
 no_beginning place past c live kept = by (accepts place.command place.mark c) refl
   where
     by : (o : Option (ConnectionName × Bool)) → accepts place.command place.mark c ≡ o → begins place past c ≡ false
     by (Some opened) f = ap₂ is_beginning f live ∙ ap (λ b. begins_session b (Some false)) (kept opened f)
     by None f = ap₂ is_beginning f live
 
-first_placed : (place : Place) (past : Past) (c : Client) → IsKeptSession (session_of past c) → OpensKept c place → IsSpared place.command past c → IsFirstSession past c
+first_placed : (place : Place) (past : Past) (c : Client) → IsKeptSession (clean_session_of past c) → OpensKept c place → IsSpared place.command past c → IsFirstSession past c
     → IsFirstSession (place ∷ past) c
 first_placed place past c session kept spared (inr (start, are, e)) =
     let none = no_beginning place past c (started_there past c start session e) kept in

@@ -7,7 +7,7 @@ use Rattle.lists.proofs.OfEach.{each_then}
 use Rattle.lists.proofs.Tests.{none_or}
 use Rattle.broker_spec.specs.Connection.{ConnectionName}
 use Rattle.broker_spec.specs.Place.{Client, Place, Past, Limits}
-use Rattle.broker_spec.specs.Past.{accepts, session_of, session_start, begins}
+use Rattle.broker_spec.specs.Past.{accepts, clean_session_of, session_start, begins}
 use Rattle.broker_spec.specs.Times.{entries_of}
 use Rattle.exactly_once.specs.Sides.{ClientConnection}
 use Rattle.exactly_once.specs.StoryCommands.{with_one_counted}
@@ -105,7 +105,7 @@ tail_begins place past c start (suc i) flags (κ ∷ others) h =
 pub entries_over : (limits : Limits) (place : Place) (past : Past) (c : Client) (start : ℕ) → is_this start (session_start (place ∷ past) c) ≡ false → entries_in limits (place ∷ past) c start ≡ entries_in limits past c start
 entries_over limits place past c start e = ap (λ b. if b then entries_of limits (place ∷ past) c else entries_in limits past c start) e
 
-pub lasts_placed : (limits : Limits) (c : Client) (flags : List Bool) (place : Place) (past : Past) (i : ℕ) (connections : List ClientConnection) → IsKeptSession (session_of past c) → OpensKept c place
+pub lasts_placed : (limits : Limits) (c : Client) (flags : List Bool) (place : Place) (past : Past) (i : ℕ) (connections : List ClientConnection) → IsKeptSession (clean_session_of past c) → OpensKept c place
     → IsSpared place.command past c → Each (IsFresh place c) connections → AreShutUnopened limits past c connections → Lasts limits c flags past connections
     → Lasts limits c flags (place ∷ past) (with_one_counted i connections)
 lasts_placed limits c flags place past i connections kept opens spared fresh shut h =

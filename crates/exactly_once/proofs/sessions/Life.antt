@@ -5,7 +5,7 @@ use Rattle.packet.specs.declared.packet.Packet.{Packet}
 use Rattle.packet.specs.declared.packet.Packet.TheVariants as packets
 use Rattle.lists.specs.Lists.{Each, IsDistinct}
 use Rattle.broker_spec.specs.Place.{Client, Past, Limits}
-use Rattle.broker_spec.specs.Past.{session_of}
+use Rattle.broker_spec.specs.Past.{clean_session_of}
 use Rattle.broker_spec.specs.Commands.{past_of}
 use Rattle.broker_spec.specs.declared.command.Command.{Command}
 use Rattle.client_base.specs.Keeper.{Keeper, ids_in_use}
@@ -85,6 +85,6 @@ pub record HasKeeper (c : Client) (past : Past) (keeper : Keeper) (connections :
 pub record IsLife (limits : Limits) (c : Client) (s : Story) : Type 0 where
   pub list : List Command
   pub past_is : s.past ≡ past_of limits list
-  pub session : IsKeptSession (session_of s.past c)
+  pub session : IsKeptSession (clean_session_of s.past c)
   pub connections : HasConnections limits c s.past s.connections
   pub keeper : HasKeeper c s.past s.keeper s.connections

@@ -1,7 +1,7 @@
 -- An Expel of a client keeps what holds for its life, and leaves no session.
 use Rattle.std.proofs.Common.{◌≡◌, Bool, true, false, List, [], ◌∷◌, ◌++◌, Option, Some, None, refl, ◌∙◌, ap, inl}
 use Rattle.broker_spec.specs.Place.{Client, Past, Limits}
-use Rattle.broker_spec.specs.Past.{ends_any, newest_session, current_connection, session_of}
+use Rattle.broker_spec.specs.Past.{ends_any, newest_clean_session, current_connection, clean_session_of}
 use Rattle.broker_spec.specs.Commands.{place_of}
 use Rattle.broker_spec.specs.declared.command.Command.TheVariants as commands
 use Rattle.broker_spec.proofs.ClientsInOrder.{same_self}
@@ -15,16 +15,16 @@ pub none_expelled : (connections : List ClientConnection) (c : Client) → any_n
 none_expelled [] c = refl
 none_expelled (κ ∷ connections) c = none_expelled connections c
 
-none_left : (over : Bool) (session : Option Bool) → newest_session None true over session ≡ None
+none_left : (over : Bool) (session : Option Bool) → newest_clean_session None true over session ≡ None
 none_left over None = refl
 none_left over (Some clean) = refl
 
 -- leaves no session
-pub expelled_session : (limits : Limits) (past : Past) (c : Client) → session_of (place_of limits past (commands.Expel c) ∷ past) c ≡ None
-unfolding session_of
+pub expelled_session : (limits : Limits) (past : Past) (c : Client) → clean_session_of (place_of limits past (commands.Expel c) ∷ past) c ≡ None
+unfolding clean_session_of
 expelled_session limits past c =
     let place = place_of limits past (commands.Expel c) in
-    ap (λ b. newest_session None b (ends_any place c (current_connection past c)) (session_of past c)) (same_self c) ∙ none_left (ends_any place c (current_connection past c)) (session_of past c)
+    ap (λ b. newest_clean_session None b (ends_any place c (current_connection past c)) (clean_session_of past c)) (same_self c) ∙ none_left (ends_any place c (current_connection past c)) (clean_session_of past c)
 
 pub life_expelled : (limits : Limits) (c : Client) (s : Story) → IsLife limits c s → IsLife limits c (record s { past = place_of limits s.past (commands.Expel c) ∷ s.past })
 life_expelled limits c s life =

@@ -6,7 +6,7 @@ use Rattle.lists.specs.Lists.{Each}
 use Rattle.lists.proofs.Tests.{or_right}
 use Rattle.broker_spec.specs.Connection.{ConnectionName}
 use Rattle.broker_spec.specs.Place.{Client, Place, Past, Limits}
-use Rattle.broker_spec.specs.Past.{accepts, session_of, begins}
+use Rattle.broker_spec.specs.Past.{accepts, clean_session_of, begins}
 use Rattle.broker_spec.specs.NobodyLaws.{IsSteady}
 use Rattle.broker_spec.specs.AnswersInOrder.{answers_at}
 use Rattle.client_base.specs.Keeper.{Keeper}
@@ -39,7 +39,7 @@ pub record IsFrozen (limits : Limits) (c : Client) (flags : List Bool) (earlier 
 -- what came in the list since: nothing for the newest connection, of which this many packets are
 -- taken by now
 pub record IsSince (limits : Limits) (c : Client) (past earlier : Past) (x : ConnectionName) (count : ℕ) (others before : List ClientConnection) : Type 0 where
-  pub none : session_of past c ≡ None
+  pub none : clean_session_of past c ≡ None
   pub begun : has_begun past c ≡ true
   pub some : 1 ≤ count
   pub put : put_to limits past x ≡ put_to limits earlier x

@@ -8,7 +8,7 @@ use Rattle.packet.specs.declared.packet.Packet.TheVariants as packets
 use Rattle.lists.proofs.Tests.{or_none}
 use Rattle.broker_spec.specs.Connection.{ConnectionName, same_connection}
 use Rattle.broker_spec.specs.Place.{Client, Mark, Place, Past, Limits}
-use Rattle.broker_spec.specs.Past.{accepts, session_of, current_connection}
+use Rattle.broker_spec.specs.Past.{accepts, clean_session_of, current_connection}
 use Rattle.broker_spec.specs.AnswersInOrder.{answers_at}
 use Rattle.broker_spec.specs.Marks.{mark_of}
 use Rattle.broker_spec.specs.Commands.{place_of}
@@ -40,12 +40,12 @@ use Rattle.exactly_once.proofs.sessions.Lingering.{Lingers, lingers_placed}
 
 -- ---- nothing is sent to its newest connection
 
-nobody_there : (past : Past) (c : Client) (x : ConnectionName) (connections : List ClientConnection) → session_of past c ≡ None → NobodyElse past c connections → any_named (same_connection x) connections ≡ true
+nobody_there : (past : Past) (c : Client) (x : ConnectionName) (connections : List ClientConnection) → clean_session_of past c ≡ None → NobodyElse past c connections → any_named (same_connection x) connections ≡ true
     → (d : Client) → current_connection past d ≡ Some x → ⊥
 nobody_there past c x connections none nobody named d current =
     let same = same_is d c (nobody d x current named) in
     let mine : current_connection past c ≡ Some x = subst (λ (k : Client). current_connection past k ≡ Some x) same current in
-    both_ways (is_some (session_of past c)) (ap is_some none) (current_has_session past c x mine)
+    both_ways (is_some (clean_session_of past c)) (ap is_some none) (current_has_session past c x mine)
 
 nothing_answered : (limits : Limits) (past : Past) (x y : ConnectionName) (packet : Packet) → sends_to y (answers_at limits (at_packet x packet Mark.NoPart) past) ≡ []
 nothing_answered limits past x y (packets.Publish p) = refl
@@ -74,7 +74,7 @@ first_taken i connections κ newest count others names at are some new name =
         both_ways (same_connection κ.name newest.name) (other_name newest.name others j κ names.0 at) (ap (same_connection κ.name) (sym name) ∙ same_itself κ.name)
 
 -- nor is an older one's accepted, if the client is in step
-after_newest : (limits : Limits) (c : Client) (past : Past) (i : ℕ) (κ newest : ClientConnection) (count : ℕ) (others : List ClientConnection) → session_of past c ≡ None → has_begun past c ≡ true
+after_newest : (limits : Limits) (c : Client) (past : Past) (i : ℕ) (κ newest : ClientConnection) (count : ℕ) (others : List ClientConnection) → clean_session_of past c ≡ None → has_begun past c ≡ true
     → slice_get (record newest { taken = count } ∷ others) i ≡ Some κ → 1 ≤ count → κ.taken ≡ 0 → κ.confirmed ≡ false
     → AreWelcome (accepted_at κ.name c ∷ past) c (with_one_counted i (record newest { taken = count } ∷ others)) → ⊥
 after_newest limits c past zero κ newest count others none begun at some new unconfirmed step =

@@ -2,7 +2,7 @@
 use Rattle.std.proofs.Common.{◌≡◌, ◌≤◌, ℕ, true, List, [], ◌∷◌, length, Option, Some, None, refl, sym, ◌∙◌, ap, subst, inl, inr, ◌⊎◌, Bool, ◌++◌}
 use Rattle.lists.specs.Lists.{Each}
 use Rattle.broker_spec.specs.Place.{Client, Past, Limits}
-use Rattle.broker_spec.specs.Past.{session_of, session_start}
+use Rattle.broker_spec.specs.Past.{clean_session_of, session_start}
 use Rattle.broker_spec.specs.NobodyLaws.{IsSteady}
 use Rattle.broker_spec.specs.Commands.{place_of}
 use Rattle.broker_spec.specs.declared.command.Command.TheVariants as commands
@@ -59,7 +59,7 @@ pub data Stage (limits : Limits) (c : Client) (s : Story) : Type 0 where
   lasting : (flags : List Bool) → Numbered limits c flags s → Lasts limits c flags s.past s.connections → Stage limits c s
   over : IsOver limits c s → RisesSoFar c s.past s.keeper s.connections → Stage limits c s
 
-none_over : (limits : Limits) (c : Client) (s : Story) → IsOver limits c s → session_of s.past c ≡ None
+none_over : (limits : Limits) (c : Client) (s : Story) → IsOver limits c s → clean_session_of s.past c ≡ None
 none_over limits c s (lingers l) = l.since.none
 none_over limits c s (parts p) = p.none
 
@@ -91,7 +91,7 @@ stage_goes limits steady c s t life later (over (lingers l) r) h step = by (ling
 
 -- ---- an Expel of the client
 
-none_there : (past : Past) (c : Client) → IsKeptSession (session_of past c) → session_start past c ≡ None → session_of past c ≡ None
+none_there : (past : Past) (c : Client) → IsKeptSession (clean_session_of past c) → session_start past c ≡ None → clean_session_of past c ≡ None
 none_there past c (inl none) e = none
 none_there past c (inr live) e = absurd (both_ways (is_some (session_start past c)) (ap is_some e) (session_began past c (ap is_some live)))
 
@@ -106,7 +106,7 @@ stage_expelled limits steady c s life later (lasting flags n l) step = by (sessi
     by None e =
         let none = none_there s.past c life.session e in
         stage_goes limits steady c s t life later (lasting flags n l)
-        (others_take (commands.Expel c) (λ h. both_ways (is_some (session_of s.past s.keeper.client)) (ap (λ d. is_some (session_of s.past d)) life.keeper.client ∙ ap is_some none) h.1) (none_expelled s.connections c))
+        (others_take (commands.Expel c) (λ h. both_ways (is_some (clean_session_of s.past s.keeper.client)) (ap (λ d. is_some (clean_session_of s.past d)) life.keeper.client ∙ ap is_some none) h.1) (none_expelled s.connections c))
         step
     by (Some m) e =
         over (expelled_there limits steady c flags s.past s.keeper s.connections m e life (stands_numbered limits c flags s n) l

@@ -5,7 +5,7 @@ use Rattle.packet.specs.declared.packet.Packet.TheVariants as packets
 use Rattle.lists.specs.Lists.{Each}
 use Rattle.broker_spec.specs.Connection.{ConnectionName, same_connection}
 use Rattle.broker_spec.specs.Place.{Client, Mark, Past, Limits}
-use Rattle.broker_spec.specs.Past.{session_of, begins}
+use Rattle.broker_spec.specs.Past.{clean_session_of, begins}
 use Rattle.broker_spec.specs.Received.{is_new}
 use Rattle.broker_spec.specs.declared.command.Command.{Command}
 use Rattle.broker_spec.specs.declared.command.Command.TheVariants as commands
@@ -95,7 +95,7 @@ begun_counts (place ∷ past) c e = by (begins place past c) e (begun_counts pas
     by true f ih = omega arith
     by false f ih = let h = ih f in omega (arith, h)
 
-pub again_begun : (past : Past) (c : Client) (x : ConnectionName) → session_of past c ≡ None → has_begun past c ≡ true → sessions_begun (accepted_at x c ∷ past) c ≤ 1 → ⊥
+pub again_begun : (past : Past) (c : Client) (x : ConnectionName) → clean_session_of past c ≡ None → has_begun past c ≡ true → sessions_begun (accepted_at x c ∷ past) c ≤ 1 → ⊥
 again_begun past c x none begun one =
     let some = begun_counts past c begun in
     let two : sessions_begun (accepted_at x c ∷ past) c ≡ 1 + sessions_begun past c = ap (λ b. (if b then 1 else 0) + sessions_begun past c) (begins_there past c x none) in

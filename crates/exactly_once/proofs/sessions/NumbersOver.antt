@@ -8,7 +8,7 @@ use Rattle.lists.proofs.Prefixes.{prefix_then}
 use Rattle.lists.proofs.OfEach.{each_then}
 use Rattle.broker_spec.specs.Connection.{ConnectionName}
 use Rattle.broker_spec.specs.Place.{Client, Past, Limits}
-use Rattle.broker_spec.specs.Past.{current_connection, session_of}
+use Rattle.broker_spec.specs.Past.{current_connection, clean_session_of}
 use Rattle.broker_spec.specs.Received.{is_new}
 use Rattle.broker_spec.specs.Marks.{mark_of}
 use Rattle.broker_spec.specs.Commands.{place_of}
@@ -45,10 +45,10 @@ use Rattle.exactly_once.proofs.sessions.NumberedGoes.{counted_all_within, one_be
 
 -- ---- nothing is new
 
-nobody_current : (past : Past) (c : Client) (x : ConnectionName) → session_of past c ≡ None → current_connection past c ≡ Some x → ⊥
+nobody_current : (past : Past) (c : Client) (x : ConnectionName) → clean_session_of past c ≡ None → current_connection past c ≡ Some x → ⊥
 nobody_current past c x none e = let f : None ≡ Some x = sym (no_connection past c none) ∙ e in cc
 
-takes_nothing : (limits : Limits) (c : Client) (s : Story) (i : ℕ) (κ : ClientConnection) (w : Written) → IsLife limits c s → session_of s.past c ≡ None → slice_get s.connections i ≡ Some κ → (command : Command)
+takes_nothing : (limits : Limits) (c : Client) (s : Story) (i : ℕ) (κ : ClientConnection) (w : Written) → IsLife limits c s → clean_session_of s.past c ≡ None → slice_get s.connections i ≡ Some κ → (command : Command)
     → IsOwnCommand c κ w.packet command → more_by (is_new command (mark_of limits s.past command)) (carries (with_one_counted i s.connections) command s.past) ≡ []
 takes_nothing limits c s i κ w life none stands command (inl k) =
     ap (λ d. more_by (is_new d (mark_of limits s.past d)) (carries (with_one_counted i s.connections) d s.past)) k.1
@@ -56,7 +56,7 @@ takes_nothing limits c s i κ w life none stands command (inr k) =
     more_none (is_new command (mark_of limits s.past command)) (carries (with_one_counted i s.connections) command s.past)
     (ap (λ d. is_new d (mark_of limits s.past d)) k.1 ∙ nobodys_new limits s.past c i s.connections κ w.packet life.connections.nobody stands (nobody_current s.past c κ.name none))
 
-over_same : (limits : Limits) (c : Client) (s t : Story) → IsLife limits c s → session_of s.past c ≡ None → StoryStep limits s t → new_numbers t.connections s.past ≡ new_numbers s.connections s.past
+over_same : (limits : Limits) (c : Client) (s t : Story) → IsLife limits c s → clean_session_of s.past c ≡ None → StoryStep limits s t → new_numbers t.connections s.past ≡ new_numbers s.connections s.past
     → new_numbers t.connections t.past ≡ new_numbers s.connections s.past
 over_same limits c s t life none (takes i κ w stands next) e =
     ap₂ (λ xs ys. xs ++ ys) e (takes_nothing limits c s i κ w life none stands (command_of κ.name κ.taken w.packet) (life_command limits c s i κ w life stands next)) ∙ append-nil (new_numbers s.connections s.past)
@@ -71,7 +71,7 @@ over_same limits c s t life none (publishes_one p needs) e = e
 over_same limits c s t life none (subscribes p on id) e = e
 over_same limits c s t life none (unsubscribes p on id) e = e
 
-pub rises_over : (limits : Limits) (c : Client) (s t : Story) → IsLife limits c s → IsLife limits c t → session_of s.past c ≡ None → (h : StoryStep limits s t) → RisesSoFar c s.past s.keeper s.connections
+pub rises_over : (limits : Limits) (c : Client) (s t : Story) → IsLife limits c s → IsLife limits c t → clean_session_of s.past c ≡ None → (h : StoryStep limits s t) → RisesSoFar c s.past s.keeper s.connections
     → RisesSoFar c t.past t.keeper t.connections
 rises_over limits c s t life later none h r =
     let within = counted_all_within s.past s.connections life.connections.counted in
@@ -101,7 +101,7 @@ rises_placed limits c s command none r =
 
 -- ---- what the places say
 
-pub says_over : (limits : Limits) (c : Client) (s t : Story) → IsLife limits c s → session_of s.past c ≡ None → IsCarried limits s → (h : StoryStep limits s t) → SaysNext h
+pub says_over : (limits : Limits) (c : Client) (s t : Story) → IsLife limits c s → clean_session_of s.past c ≡ None → IsCarried limits s → (h : StoryStep limits s t) → SaysNext h
 says_over limits c s t life none carried (takes i κ w stands next) =
     subst (λ (d : Client). Says d ps (with_one_counted i s.connections) (place_of limits s.past command) s.past) (sym life.keeper.client) (by (life_command limits c s i κ w life stands next))
   where

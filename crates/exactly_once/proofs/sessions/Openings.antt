@@ -5,7 +5,7 @@ use Rattle.std.proofs.lemmas.Bool.{both_ways, cases_Bool}
 use Rattle.lists.proofs.Tests.{or_right}
 use Rattle.broker_spec.specs.Connection.{ConnectionName, same_connection}
 use Rattle.broker_spec.specs.Place.{Client, Mark, Place, Past, only_if}
-use Rattle.broker_spec.specs.Past.{accepts, expels, ends_any, newest_session, is_beginning, current_connection, session_of, session_start, begins}
+use Rattle.broker_spec.specs.Past.{accepts, expels, ends_any, newest_clean_session, is_beginning, current_connection, clean_session_of, session_start, begins}
 use Rattle.broker_spec.specs.declared.command.Command.{Command}
 use Rattle.broker_spec.proofs.ConnectionNames.{same_name}
 use Rattle.exactly_once.specs.StoryCommands.{is_packet_of, packet_count}
@@ -16,50 +16,50 @@ use Rattle.exactly_once.proofs.sessions.Starts.{began_below}
 -- ---- sessions
 
 -- one that is there, and did not begin here, was there before
-session_before : (opened : Option (ConnectionName × Bool)) (expelled over : Bool) (old : Option Bool) → is_beginning opened old ≡ false → is_some (newest_session opened expelled over old) ≡ true → is_some old ≡ true
+session_before : (opened : Option (ConnectionName × Bool)) (expelled over : Bool) (old : Option Bool) → is_beginning opened old ≡ false → is_some (newest_clean_session opened expelled over old) ≡ true → is_some old ≡ true
 session_before (Some opened) expelled over None e s = cc
 session_before (Some opened) expelled over (Some old) e s = refl
 session_before None expelled over None e s = s
 session_before None expelled over (Some old) e s = refl
 
 -- it began at a place
-pub session_began : (past : Past) (c : Client) → is_some (session_of past c) ≡ true → is_some (session_start past c) ≡ true
-unfolding session_of session_start
+pub session_began : (past : Past) (c : Client) → is_some (clean_session_of past c) ≡ true → is_some (session_start past c) ≡ true
+unfolding clean_session_of session_start
 session_began [] c e = cc
 session_began (place ∷ past) c e = by (begins place past c) refl (session_began past c)
   where
-    by : (b : Bool) → begins place past c ≡ b → (is_some (session_of past c) ≡ true → is_some (session_start past c) ≡ true)
-        → is_some (if b then Some (length past) else only_if (is_some (session_of (place ∷ past) c)) (session_start past c)) ≡ true
+    by : (b : Bool) → begins place past c ≡ b → (is_some (clean_session_of past c) ≡ true → is_some (session_start past c) ≡ true)
+        → is_some (if b then Some (length past) else only_if (is_some (clean_session_of (place ∷ past) c)) (session_start past c)) ≡ true
     by true f ih = refl
     by false f ih =
         ap (λ b. is_some (only_if b (session_start past c))) e
-        ∙ ih (session_before (accepts place.command place.mark c) (expels place.command c) (ends_any place c (current_connection past c)) (session_of past c) f e)
+        ∙ ih (session_before (accepts place.command place.mark c) (expels place.command c) (ends_any place c (current_connection past c)) (clean_session_of past c) f e)
 
 -- without a session none began that lasts
-pub no_start : (past : Past) (c : Client) → session_of past c ≡ None → session_start past c ≡ None
-unfolding session_of session_start
+pub no_start : (past : Past) (c : Client) → clean_session_of past c ≡ None → session_start past c ≡ None
+unfolding clean_session_of session_start
 no_start [] c e = refl
 no_start (place ∷ past) c e = by (accepts place.command place.mark c) refl
   where
     by : (o : Option (ConnectionName × Bool)) → accepts place.command place.mark c ≡ o → session_start (place ∷ past) c ≡ None
-    by (Some opened) f = absurd (let g : None ≡ Some opened.1 = sym e ∙ ap (λ o. newest_session o (expels place.command c) (ends_any place c (current_connection past c)) (session_of past c)) f in cc)
+    by (Some opened) f = absurd (let g : None ≡ Some opened.1 = sym e ∙ ap (λ o. newest_clean_session o (expels place.command c) (ends_any place c (current_connection past c)) (clean_session_of past c)) f in cc)
     by None f =
-        ap₂ (λ b s. if b then Some (length past) else only_if (is_some s) (session_start past c)) (ap (λ o. is_beginning o (session_of past c)) f) e
+        ap₂ (λ b s. if b then Some (length past) else only_if (is_some s) (session_start past c)) (ap (λ o. is_beginning o (clean_session_of past c)) f) e
 
 -- if none begins, and one is there, it began where it did
-pub start_stays : (place : Place) (past : Past) (c : Client) → begins place past c ≡ false → is_some (session_of (place ∷ past) c) ≡ true → session_start (place ∷ past) c ≡ session_start past c
+pub start_stays : (place : Place) (past : Past) (c : Client) → begins place past c ≡ false → is_some (clean_session_of (place ∷ past) c) ≡ true → session_start (place ∷ past) c ≡ session_start past c
 unfolding session_start
 start_stays place past c e s = ap₂ (λ b t. if b then Some (length past) else only_if t (session_start past c)) e s
 
 pub start_here : (place : Place) (past : Past) (c : Client) → begins place past c ≡ true → session_start (place ∷ past) c ≡ Some (length past)
 unfolding session_start
-start_here place past c e = ap (λ b. if b then Some (length past) else only_if (is_some (session_of (place ∷ past) c)) (session_start past c)) e
+start_here place past c e = ap (λ b. if b then Some (length past) else only_if (is_some (clean_session_of (place ∷ past) c)) (session_start past c)) e
 
 -- a session that began has begun
 pub started_begun : (past : Past) (c : Client) (n : ℕ) → session_start past c ≡ Some n → has_begun past c ≡ true
 unfolding session_start
 started_begun [] c n e = cc
-started_begun (place ∷ past) c n e = by (begins place past c) (is_some (session_of (place ∷ past) c)) e (started_begun past c n)
+started_begun (place ∷ past) c n e = by (begins place past c) (is_some (clean_session_of (place ∷ past) c)) e (started_begun past c n)
   where
     by : (b s : Bool) → (if b then Some (length past) else only_if s (session_start past c)) ≡ Some n → (session_start past c ≡ Some n → has_begun past c ≡ true) → (b || has_begun past c) ≡ true
     by true s f ih = refl

@@ -6,7 +6,7 @@ use Rattle.std.proofs.lemmas.Bool.{both_ways}
 use Rattle.lists.specs.Lists.{Each}
 use Rattle.lists.proofs.Tests.{or_right}
 use Rattle.broker_spec.specs.Place.{Client, Mark, Place, Past, Limits}
-use Rattle.broker_spec.specs.Past.{accepts, session_of, begins}
+use Rattle.broker_spec.specs.Past.{accepts, clean_session_of, begins}
 use Rattle.broker_spec.specs.Marks.{mark_of}
 use Rattle.broker_spec.specs.Commands.{place_of}
 use Rattle.broker_spec.specs.declared.command.Command.{Command}
@@ -29,14 +29,14 @@ IsHeadUnopened past c [] = Unit {0}
 IsHeadUnopened past c (κ ∷ others) = opened_in past c κ.name ≡ None
 
 pub record Parts (limits : Limits) (c : Client) (past : Past) (connections : List ClientConnection) : Type 0 where
-  pub none : session_of past c ≡ None
+  pub none : clean_session_of past c ≡ None
   pub begun : has_begun past c ≡ true
   pub head : IsHeadUnopened past c connections
   pub all : (start : ℕ) → Accepts limits c past connections start
 
 -- ---- a place that opens none of its connections
 
-pub entries_parted : (limits : Limits) (place : Place) (past : Past) (c : Client) (start : ℕ) → session_of (place ∷ past) c ≡ None → entries_in limits (place ∷ past) c start ≡ entries_in limits past c start
+pub entries_parted : (limits : Limits) (place : Place) (past : Past) (c : Client) (start : ℕ) → clean_session_of (place ∷ past) c ≡ None → entries_in limits (place ∷ past) c start ≡ entries_in limits past c start
 entries_parted limits place past c start none = entries_over limits place past c start (ap (is_this start) (no_start (place ∷ past) c none))
 
 head_placed : (place : Place) (past : Past) (c : Client) (i : ℕ) (connections : List ClientConnection) → accepts place.command place.mark c ≡ None → IsHeadUnopened past c connections
@@ -70,7 +70,7 @@ welcome_at P zero κ (μ ∷ others) at h = let same : μ ≡ κ = cc in subst (
 welcome_at P (suc j) κ (μ ∷ others) at h = welcome_at P j κ others at h.1
 
 -- in step, no Connect of an older connection begins a session again
-pub none_older : (past : Past) (c : Client) (j : ℕ) (κ μ : ClientConnection) (others : List ClientConnection) → session_of past c ≡ None → has_begun past c ≡ true → slice_get others j ≡ Some κ → κ.confirmed ≡ false
+pub none_older : (past : Past) (c : Client) (j : ℕ) (κ μ : ClientConnection) (others : List ClientConnection) → clean_session_of past c ≡ None → has_begun past c ≡ true → slice_get others j ≡ Some κ → κ.confirmed ≡ false
     → AreWelcome (accepted_at κ.name c ∷ past) c (with_one_counted (suc j) (μ ∷ others)) → ⊥
 none_older past c j κ μ others none begun at unconfirmed step =
     both_ways κ.confirmed unconfirmed (welcome_at (WasWelcome (accepted_at κ.name c ∷ past) c) j κ others at step (again_there past c κ.name none begun))

@@ -2,7 +2,7 @@
 use Rattle.std.proofs.Common.{◌≡◌, ◌<◌, ℕ, suc, Bool, true, false, if◌then◌else◌, [], ◌∷◌, length, Option, Some, None, refl, sym, ◌∙◌, ap, arith, inl, inr, ◌⊎◌}
 use Rattle.std.specs.Prelude.{is_some, ◌==◌}
 use Rattle.broker_spec.specs.Place.{Client, Place, Past, Limits, only_if}
-use Rattle.broker_spec.specs.Past.{session_of, session_start, begins}
+use Rattle.broker_spec.specs.Past.{clean_session_of, session_start, begins}
 use Rattle.broker_spec.specs.Times.{entries_of}
 use Rattle.exactly_once.specs.Carried.{is_this}
 use Rattle.exactly_once.specs.InStep.{entries_in}
@@ -10,7 +10,7 @@ use Rattle.exactly_once.specs.InStep.{entries_in}
 -- it began here, or below
 pub began_here_or_below : (place : Place) (past : Past) (c : Client) (n : ℕ) → session_start (place ∷ past) c ≡ Some n → (n ≡ length past) ⊎ (session_start past c ≡ Some n)
 unfolding session_start
-began_here_or_below place past c n e = by (begins place past c) (is_some (session_of (place ∷ past) c)) e
+began_here_or_below place past c n e = by (begins place past c) (is_some (clean_session_of (place ∷ past) c)) e
   where
     by : (b there : Bool) → (if b then Some (length past) else only_if there (session_start past c)) ≡ Some n → (n ≡ length past) ⊎ (session_start past c ≡ Some n)
     by true there f = inl (let g : length past ≡ n = cc in sym g)

@@ -5,7 +5,7 @@ use Rattle.std.proofs.lemmas.List.{append-nil}
 use Rattle.lists.specs.Lists.{Each}
 use Rattle.lists.proofs.OfEach.{each_append, each_then}
 use Rattle.broker_spec.specs.Place.{Client, Place, Past, only_if}
-use Rattle.broker_spec.specs.Past.{accepts, begins, is_beginning, session_of, session_start}
+use Rattle.broker_spec.specs.Past.{accepts, begins, is_beginning, clean_session_of, session_start}
 use Rattle.exactly_once.specs.InStep.{starts_of}
 
 -- ---- below a place
@@ -23,7 +23,7 @@ starts_below (place ∷ past) c =
 -- a place that opens none of the client's connections begins none
 pub starts_stay : (place : Place) (past : Past) (c : Client) → accepts place.command place.mark c ≡ None → starts_of (place ∷ past) c ≡ starts_of past c
 starts_stay place past c closed =
-    ap (λ o. starts_of past c ++ (if is_beginning o (session_of past c) then length past ∷ [] else [])) closed ∙ append-nil (starts_of past c)
+    ap (λ o. starts_of past c ++ (if is_beginning o (clean_session_of past c) then length past ∷ [] else [])) closed ∙ append-nil (starts_of past c)
 
 -- ---- the last one
 
@@ -39,7 +39,7 @@ apart_from n m less = grind (arith, less)
 pub started_last : (past : Past) (c : Client) (n : ℕ) → session_start past c ≡ Some n → IsLastOf (starts_of past c) n
 unfolding session_start
 started_last [] c n e = absurd (cc)
-started_last (place ∷ past) c n e = by (begins place past c) (is_some (session_of (place ∷ past) c)) e (started_last past c n)
+started_last (place ∷ past) c n e = by (begins place past c) (is_some (clean_session_of (place ∷ past) c)) e (started_last past c n)
   where
     by : (b s : Bool) → (if b then Some (length past) else only_if s (session_start past c)) ≡ Some n → (session_start past c ≡ Some n → IsLastOf (starts_of past c) n)
         → IsLastOf (starts_of past c ++ (if b then length past ∷ [] else [])) n

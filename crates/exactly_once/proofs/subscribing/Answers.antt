@@ -4,7 +4,7 @@ use Rattle.packet.specs.declared.packet.Packet.{Packet}
 use Rattle.session_base.specs.declared.publication.Publication.{Publication}
 use Rattle.broker_spec.specs.Connection.{ConnectionName, same_connection}
 use Rattle.broker_spec.specs.Place.{Client, same_client, Mark, Place, Past, Limits}
-use Rattle.broker_spec.specs.Past.{current_connection, session_of}
+use Rattle.broker_spec.specs.Past.{current_connection, clean_session_of}
 use Rattle.broker_spec.specs.Entries.{Entry, copies_at, queued}
 use Rattle.broker_spec.specs.Times.{answered_by, start_all, started, window_at, entries_of}
 use Rattle.broker_spec.specs.Sends.{all_started}
@@ -31,10 +31,10 @@ use Rattle.exactly_once.proofs.subscribing.Own.{stays_on}
 use Rattle.exactly_once.proofs.subscribing.places.Quiet.{current_same}
 
 -- a client that is served has a session
-pub session_there : (past : Past) (c : Client) (x : ConnectionName) → current_connection past c ≡ Some x → (clean : Bool) × (session_of past c ≡ Some clean)
-session_there past c x e = by (session_of past c) refl
+pub session_there : (past : Past) (c : Client) (x : ConnectionName) → current_connection past c ≡ Some x → (clean : Bool) × (clean_session_of past c ≡ Some clean)
+session_there past c x e = by (clean_session_of past c) refl
   where
-    by : (o : Option Bool) → session_of past c ≡ o → (clean : Bool) × (session_of past c ≡ Some clean)
+    by : (o : Option Bool) → clean_session_of past c ≡ o → (clean : Bool) × (clean_session_of past c ≡ Some clean)
     by None s = absurd (let none : current_connection past c ≡ None = no_connection past c s in let f : None ≡ Some x = sym none ∙ e in cc)
     by (Some clean) s = (clean, s)
 

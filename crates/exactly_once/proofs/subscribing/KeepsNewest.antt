@@ -6,7 +6,7 @@ use Rattle.std.proofs.lemmas.Bool.{both_ways, cases_Bool}
 use Rattle.packet.specs.declared.packet.Packet.TheVariants as packets
 use Rattle.broker_spec.specs.Connection.{ConnectionName, same_connection}
 use Rattle.broker_spec.specs.Place.{Client, same_client, Mark, Past, Limits}
-use Rattle.broker_spec.specs.Past.{accepts, current_connection, session_of}
+use Rattle.broker_spec.specs.Past.{accepts, current_connection, clean_session_of}
 use Rattle.broker_spec.specs.Owner.{clients, owner_of}
 use Rattle.broker_spec.specs.Marks.{mark_of, connect_mark}
 use Rattle.broker_spec.specs.Commands.{place_of}
@@ -86,21 +86,21 @@ newest_connect limits s i κ shape at taken unconfirmed = by (owner_of s.past κ
         two (inl f) = f ∙ e
         two (inr f) = f
 
-    turned : (session : Option Bool) → session_of s.past s.keeper.client ≡ session → is_some (session_of s.past s.keeper.client) ≡ false → goal Mark.Full
+    turned : (session : Option Bool) → clean_session_of s.past s.keeper.client ≡ session → is_some (clean_session_of s.past s.keeper.client) ≡ false → goal Mark.Full
     turned None e f = subst (λ (o : Option ConnectionName). NewestIsServed o (with_one_counted i s.connections)) (sym (none_now (no_connection s.past s.keeper.client e))) tt
     turned (Some clean) e f = absurd (both_ways true (sym (ap is_some e) ∙ f) refl)
 
-    room : (a b : Bool) → is_some (session_of s.past s.keeper.client) ≡ a → goal (if a || b then Mark.Accepted else Mark.Full)
+    room : (a b : Bool) → is_some (clean_session_of s.past s.keeper.client) ≡ a → goal (if a || b then Mark.Accepted else Mark.Full)
     room true b e = accepted
     room false true e = accepted
-    room false false e = turned (session_of s.past s.keeper.client) refl e
+    room false false e = turned (clean_session_of s.past s.keeper.client) refl e
 
     by : (owner : Option Client) → owner_of s.past κ.name ≡ owner → goal (connect_mark limits s.past s.keeper.client owner)
     by (Some d) e =
         let f = served_counted s.past d κ.name (owner_is s.past κ.name d e) in
         let g : packet_count κ.name s.past ≡ 0 = (each_at (ConnectionInShape limits s.past s.keeper.client) s.connections i κ shape.connections at).counted ∙ taken in
         absurd (omega (arith, f, g))
-    by None e = room (is_some (session_of s.past s.keeper.client)) (nat_lt (length (clients s.past)) limits.sessions) refl
+    by None e = room (is_some (clean_session_of s.past s.keeper.client)) (nat_lt (length (clients s.past)) limits.sessions) refl
 
 -- the next written packet is taken
 newest_taken : (limits : Limits) (s : Story) → HasShape limits s → (i : ℕ) (κ : ClientConnection) (w : Written) → slice_get s.connections i ≡ Some κ → slice_get κ.written κ.taken ≡ Some w

@@ -4,7 +4,7 @@ use Rattle.std.proofs.lemmas.List.{append-nil}
 use Rattle.session_base.specs.declared.publication.Publication.{Publication}
 use Rattle.broker_spec.specs.Connection.{ConnectionName, same_connection}
 use Rattle.broker_spec.specs.Place.{Client, Place, Past, Limits}
-use Rattle.broker_spec.specs.Past.{accepts, ends_any, current_connection, session_of}
+use Rattle.broker_spec.specs.Past.{accepts, ends_any, current_connection, clean_session_of}
 use Rattle.broker_spec.specs.Entries.{Entry, copies_at, queued}
 use Rattle.broker_spec.specs.Readings.{made_at}
 use Rattle.broker_spec.specs.Times.{answered_by, started, window_at, entries_of}
@@ -44,7 +44,7 @@ nothing_handed limits place past c e = ap (λ o. handed_to o (length past) (copi
 
 -- what it does to the client's entries
 pub plain_on : (limits : Limits) (s : Story) (place : Place) → IsPlain limits s place → (ps : List Publication) × GoesOn limits s place (entries_of limits s.past s.keeper.client) ps []
-plain_on limits s place p = by (session_of s.past s.keeper.client) refl
+plain_on limits s place p = by (clean_session_of s.past s.keeper.client) refl
   where
     c : Client
     c = s.keeper.client
@@ -62,7 +62,7 @@ plain_on limits s place p = by (session_of s.past s.keeper.client) refl
     none_sent x None all e = refl
     none_sent x (Some z) all e = absurd (cc)
 
-    by : (session : Option Bool) → session_of s.past s.keeper.client ≡ session → (ps : List Publication) × GoesOn limits s place es ps []
+    by : (session : Option Bool) → clean_session_of s.past s.keeper.client ≡ session → (ps : List Publication) × GoesOn limits s place es ps []
     by (Some clean) e =
         let entries : entries_of limits (place ∷ s.past) c ≡ started w (length s.past) current (es ++ map (Entry.Waits (length s.past)) (queued (copies_at place s.past c))) =
         entries_next limits place s.past c clean p.opens p.goes e

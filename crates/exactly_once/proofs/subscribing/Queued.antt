@@ -9,7 +9,7 @@ use Rattle.session_base.specs.Publication.{is_acknowledged, is_answered}
 use Rattle.session_base.specs.Identifiers.{least_free}
 use Rattle.broker_spec.specs.Connection.{ConnectionName}
 use Rattle.broker_spec.specs.Place.{Client, same_client, Mark, Past, Limits}
-use Rattle.broker_spec.specs.Past.{current_connection, session_of, begins, in_session}
+use Rattle.broker_spec.specs.Past.{current_connection, clean_session_of, begins, in_session}
 use Rattle.broker_spec.specs.Entries.{Entry, copies_at, queued}
 use Rattle.broker_spec.specs.Times.{at_puback, at_pubrec, at_pubcomp, answered_by, start_all, started, window_at, entries_of}
 use Rattle.broker_spec.specs.declared.command.Command.{Command}
@@ -128,7 +128,7 @@ pub kept_entries : (limits : Limits) (past : Past) (c : Client) → AreKept (ent
 unfolding entries_of
 kept_entries limits [] c = tt
 kept_entries limits (place ∷ past) c =
-    kept_in (session_of (place ∷ past) c) (begins place past c) (window_at limits (place ∷ past)) (length past) (current_connection (place ∷ past) c)
+    kept_in (clean_session_of (place ∷ past) c) (begins place past c) (window_at limits (place ∷ past)) (length past) (current_connection (place ∷ past) c)
     (answered_by place.command place.mark (length past) c (entries_of limits past c) ++ map (Entry.Waits (length past)) (queued (copies_at place past c)))
     (kept_both (answered_by place.command place.mark (length past) c (entries_of limits past c)) (map (Entry.Waits (length past)) (queued (copies_at place past c)))
     (kept_answered place.command place.mark (length past) c (entries_of limits past c) (kept_entries limits past c)) (kept_copies (length past) (copies_at place past c)))

@@ -6,7 +6,7 @@ use Rattle.packet.specs.declared.packet.Packet.TheVariants as packets
 use Rattle.lists.specs.Lists.{Each}
 use Rattle.broker_spec.specs.Connection.{ConnectionName, same_connection}
 use Rattle.broker_spec.specs.Place.{Client, Past, Limits, same_client}
-use Rattle.broker_spec.specs.Past.{current_connection, session_of}
+use Rattle.broker_spec.specs.Past.{current_connection, clean_session_of}
 use Rattle.exactly_once.specs.HandshakeInvariant.{IsGood}
 use Rattle.exactly_once.specs.Sends.{put_to}
 use Rattle.client_base.specs.Keeper.{Keeper}
@@ -54,7 +54,7 @@ HeldInShape limits past keeper (connection ∷ connections) =
 abbrev pub IsMeant : Client → Past → Packet → Type 0
 IsMeant client past packet =
     (present : Bool) → packet ≡ packets.Connack (connacks.Accepted present) →
-    session_of past client ≡ Some false
+    clean_session_of past client ≡ Some false
 
 -- each that is sent to a connection of this name
 abbrev pub IsWelcomed : Limits → Past → Client → ConnectionName → Type 0
@@ -81,11 +81,11 @@ pub record HasShape (limits : Limits) (story : Story) : Type 0 where
       same_client client story.keeper.client ≡ true
   pub held : HeldInShape limits story.past story.keeper story.connections
   -- a keeper's session is not clean, and exists once it was served; so none of its sessions ends
-  pub session : (session_of story.past story.keeper.client ≡ None)
-      ⊎ (session_of story.past story.keeper.client ≡ Some false)
+  pub session : (clean_session_of story.past story.keeper.client ≡ None)
+      ⊎ (clean_session_of story.past story.keeper.client ≡ Some false)
   pub welcomed : AreWelcomed limits story.past story.keeper.client story.connections
   pub served : story.keeper.was_served ≡ true →
-      session_of story.past story.keeper.client ≡ Some false
+      clean_session_of story.past story.keeper.client ≡ Some false
 
 -- a story has this shape, and both its handshakes are good
 pub record IsSoundStory (limits : Limits) (story : Story) : Type 0 where

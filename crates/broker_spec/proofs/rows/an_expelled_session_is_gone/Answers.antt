@@ -1,5 +1,5 @@
 use Rattle.std.proofs.Common.{refl}
-use Rattle.broker_spec.specs.Past.{current_connection, session_of, session_start}
+use Rattle.broker_spec.specs.Past.{current_connection, clean_session_of, session_start}
 use Rattle.broker_spec.specs.Owner.{named}
 use Rattle.broker_spec.specs.Subscriptions.{subscriptions_of}
 use Rattle.broker_spec.specs.Received.{received_of}
@@ -10,7 +10,7 @@ use Rattle.broker_spec.specs.AnswersInOrder.{answers_from}
 use Rattle.broker_spec.proofs.rows.an_expelled_session_is_gone.Goals as goal
 
 pub returns : goal.returns
-unfolding past_from answers_from current_connection session_of session_start named subscriptions_of received_of retained_publications entries_of
+unfolding past_from answers_from current_connection clean_session_of session_start named subscriptions_of received_of retained_publications entries_of
 returns c =
     record {
       once = refl;

@@ -1,5 +1,5 @@
 use Rattle.std.proofs.Common.{refl}
-use Rattle.broker_spec.specs.Past.{current_connection, session_of}
+use Rattle.broker_spec.specs.Past.{current_connection, clean_session_of}
 use Rattle.broker_spec.specs.Owner.{named}
 use Rattle.broker_spec.specs.Subscriptions.{subscriptions_of}
 use Rattle.broker_spec.specs.Received.{received_of}
@@ -9,6 +9,6 @@ use Rattle.broker_spec.specs.Commands.{past_from}
 use Rattle.broker_spec.proofs.rows.entries_have_their_places.Goals as goal
 
 pub returns : goal.returns
-unfolding past_from current_connection session_of named subscriptions_of received_of retained_publications entries_of
+unfolding past_from current_connection clean_session_of named subscriptions_of received_of retained_publications entries_of
 returns c =
     record { places = (refl, refl, refl, refl, refl); new = (refl, refl, refl, refl) }

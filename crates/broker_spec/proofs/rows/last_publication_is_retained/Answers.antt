@@ -1,5 +1,5 @@
 use Rattle.std.proofs.Common.{refl}
-use Rattle.broker_spec.specs.Past.{current_connection, session_of}
+use Rattle.broker_spec.specs.Past.{current_connection, clean_session_of}
 use Rattle.broker_spec.specs.Owner.{named}
 use Rattle.broker_spec.specs.Subscriptions.{subscriptions_of}
 use Rattle.broker_spec.specs.Received.{received_of}
@@ -10,6 +10,6 @@ use Rattle.broker_spec.specs.AnswersInOrder.{answers_from}
 use Rattle.broker_spec.proofs.rows.last_publication_is_retained.Goals as goal
 
 pub returns : goal.returns
-unfolding answers_from past_from current_connection session_of named subscriptions_of received_of retained_publications entries_of
+unfolding answers_from past_from current_connection clean_session_of named subscriptions_of received_of retained_publications entries_of
 returns c =
     record { qos = (refl, refl, refl, refl); last = (refl, refl, refl, refl) }

@@ -4,7 +4,7 @@ use Rattle.std.specs.Prelude.{slice_get, is_some}
 use Rattle.std.proofs.lemmas.Bool.{both_ways, cases_Bool}
 use Rattle.broker_spec.specs.Connection.{ConnectionName, same_connection}
 use Rattle.broker_spec.specs.Place.{Client, Mark, Place, Past, Limits, only_if}
-use Rattle.broker_spec.specs.Past.{any_connection, current_connection, session_of}
+use Rattle.broker_spec.specs.Past.{any_connection, current_connection, clean_session_of}
 use Rattle.broker_spec.specs.Marks.{connect_mark}
 use Rattle.broker_spec.specs.Owner.{clients}
 use Rattle.broker_spec.specs.Commands.{place_of}
@@ -74,7 +74,7 @@ takes_opening : (limits : Limits) (past : Past) (keeper : Keeper) (connections :
     (as_publisher limits (story_by (place_of limits past (commands.Connect κ.name keeper.client false) ∷ past) (with_one_counted i connections) keeper))
 takes_opening limits past keeper connections i κ shape stands none =
     subst (λ (m : Mark). GoesTo h (after m)) (sym (ap (connect_mark limits past c) (none_owns past c connections κ.name shape.nobody_else (is_named i connections κ stands) not)))
-    (by (is_some (session_of past c) || nat_lt (length (clients past)) limits.sessions))
+    (by (is_some (clean_session_of past c) || nat_lt (length (clients past)) limits.sessions))
   where
     c : Client
     c = keeper.client

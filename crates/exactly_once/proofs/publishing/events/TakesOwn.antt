@@ -5,7 +5,7 @@ use Rattle.std.specs.Prelude.{slice_get}
 use Rattle.lists.specs.Lists.{has_id}
 use Rattle.broker_spec.specs.Connection.{ConnectionName, same_connection}
 use Rattle.broker_spec.specs.Place.{Mark, Place, Past, Limits}
-use Rattle.broker_spec.specs.Past.{any_connection, current_connection, session_of, is_leaving}
+use Rattle.broker_spec.specs.Past.{any_connection, current_connection, clean_session_of, is_leaving}
 use Rattle.broker_spec.specs.Received.{is_new, received_by, received_of}
 use Rattle.broker_spec.specs.Answers.{packet_answers}
 use Rattle.broker_spec.specs.declared.command.Command.TheVariants as commands
@@ -40,7 +40,7 @@ pub record OnCurrent (limits : Limits) (past : Past) (keeper : Keeper) (connecti
   pub current : current_connection past keeper.client ≡ Some κ.name
   pub last : last_confirmed connections ≡ Some κ
   pub after : last_confirmed (with_one_counted i connections) ≡ Some (taken_more κ)
-  pub live : session_of past keeper.client ≡ Some false
+  pub live : clean_session_of past keeper.client ≡ Some false
 
 -- the story's handshake after a place
 abbrev pub after_place : Limits → Past → Keeper → List ClientConnection → ℕ → Place → Handshake ℕ

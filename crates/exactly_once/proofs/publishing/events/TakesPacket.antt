@@ -8,7 +8,7 @@ use Rattle.packet.specs.declared.packet.Packet.{Packet}
 use Rattle.packet.specs.declared.packet.Packet.TheVariants as packets
 use Rattle.broker_spec.specs.Connection.{ConnectionName, same_connection}
 use Rattle.broker_spec.specs.Place.{Client, Mark, Past, Limits}
-use Rattle.broker_spec.specs.Past.{current_connection, session_of}
+use Rattle.broker_spec.specs.Past.{current_connection, clean_session_of}
 use Rattle.broker_spec.specs.Received.{is_new, received_by, received_of}
 use Rattle.broker_spec.specs.Marks.{packet_mark}
 use Rattle.broker_spec.specs.declared.command.Command.TheVariants as commands
@@ -121,6 +121,6 @@ on_current limits past keeper connections i κ n w shape stands next some curren
     after last (inl other) = absurd (both_ways (same_connection κ.name κ.name) (other.1 κ last) (same_itself κ.name))
     after last (inr this) = this.1
 
-    live : IsKeptSession (session_of past keeper.client) → session_of past keeper.client ≡ Some false
-    live (inl none) = absurd (both_ways (is_some (session_of past keeper.client)) (ap is_some none) (current_has_session past keeper.client κ.name current))
+    live : IsKeptSession (clean_session_of past keeper.client) → clean_session_of past keeper.client ≡ Some false
+    live (inl none) = absurd (both_ways (is_some (clean_session_of past keeper.client)) (ap is_some none) (current_has_session past keeper.client κ.name current))
     live (inr e) = e

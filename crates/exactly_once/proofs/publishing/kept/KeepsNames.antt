@@ -5,7 +5,7 @@ use Rattle.packet.specs.declared.packet.Packet.{Packet}
 use Rattle.packet.specs.declared.packet.Packet.TheVariants as packets
 use Rattle.broker_spec.specs.Connection.{ConnectionName, same_connection}
 use Rattle.broker_spec.specs.Place.{Client, Mark, Place, Past, Limits, same_client}
-use Rattle.broker_spec.specs.Past.{accepts, session_of}
+use Rattle.broker_spec.specs.Past.{accepts, clean_session_of}
 use Rattle.broker_spec.specs.Marks.{mark_of}
 use Rattle.broker_spec.specs.Commands.{place_of}
 use Rattle.broker_spec.specs.declared.command.Command.{Command}
@@ -67,10 +67,10 @@ events_keep_names limits s t a (unsubscribes p on id) = written_apart (plain (pa
 abbrev pub OpensKept : Client → Place → Type 0
 OpensKept c place = (opened : ConnectionName × Bool) → accepts place.command place.mark c ≡ Some opened → opened.1 ≡ false
 
-pub session_kept : (place : Place) (past : Past) (c : Client) → OpensKept c place → IsSpared place.command past c → IsKeptSession (session_of past c) → IsKeptSession (session_of (place ∷ past) c)
+pub session_kept : (place : Place) (past : Past) (c : Client) → OpensKept c place → IsSpared place.command past c → IsKeptSession (clean_session_of past c) → IsKeptSession (clean_session_of (place ∷ past) c)
 session_kept place past c kept spared s = by (accepts place.command place.mark c) refl
   where
-    by : (o : Option (ConnectionName × Bool)) → accepts place.command place.mark c ≡ o → IsKeptSession (session_of (place ∷ past) c)
+    by : (o : Option (ConnectionName × Bool)) → accepts place.command place.mark c ≡ o → IsKeptSession (clean_session_of (place ∷ past) c)
     by (Some opened) e = inr (session_opens place past c opened e ∙ ap (λ b. Some b) (kept opened e))
     by None e = subst IsKeptSession (sym (session_spared place past c e spared s)) s
 
@@ -101,7 +101,7 @@ kept_other past c (commands.Lost x) mark other opened e = cc
 kept_other past c (commands.Start b) mark other opened e = cc
 kept_other past c (commands.Expel d) mark other opened e = cc
 
-pub events_keep_session : (limits : Limits) (s t : Story) → IsSoundStory limits s → StoryStep limits s t → IsKeptSession (session_of t.past s.keeper.client)
+pub events_keep_session : (limits : Limits) (s t : Story) → IsSoundStory limits s → StoryStep limits s t → IsKeptSession (clean_session_of t.past s.keeper.client)
 events_keep_session limits s t sound (takes i κ w stands next) =
     let this = each_there (ConnectionInShape limits s.past s.keeper.client) i s.connections κ stands sound.shape.connections in
     let command = command_of κ.name κ.taken w.packet in

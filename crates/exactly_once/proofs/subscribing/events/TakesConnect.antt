@@ -6,7 +6,7 @@ use Rattle.packet.specs.declared.connack.Connack.TheVariants as connacks
 use Rattle.packet.specs.declared.packet.Packet.TheVariants as packets
 use Rattle.broker_spec.specs.Connection.{ConnectionName}
 use Rattle.broker_spec.specs.Place.{Client, Mark, Place, Past, Limits}
-use Rattle.broker_spec.specs.Past.{ends_any, current_connection, session_of}
+use Rattle.broker_spec.specs.Past.{ends_any, current_connection, clean_session_of}
 use Rattle.broker_spec.specs.Owner.{clients, owner_of}
 use Rattle.broker_spec.specs.Marks.{connect_mark}
 use Rattle.broker_spec.specs.AnswersInOrder.{answers_at}
@@ -66,7 +66,7 @@ full_stale limits s i κ w o stale none =
     (ap (λ z. left_behind z (with_one_counted i s.connections)) none ∙ nothing_behind (with_one_counted i s.connections) ∙ sym (ap (λ z. left_behind z s.connections) none ∙ nothing_behind s.connections))
 
 -- and on the one that it holds
-full_fresh : (limits : Limits) (s : Story) (i : ℕ) (κ : ClientConnection) (w : Written) → IsOpening limits s i κ w → IsFresh s.keeper s.connections i κ → session_of s.past s.keeper.client ≡ None
+full_fresh : (limits : Limits) (s : Story) (i : ℕ) (κ : ClientConnection) (w : Written) → IsOpening limits s i κ w → IsFresh s.keeper s.connections i κ → clean_session_of s.past s.keeper.client ≡ None
     → current_connection s.past s.keeper.client ≡ None
     → GoesTo (as_subscriber limits s) (as_subscriber limits (placed s (at_full κ.name s.keeper.client) (with_one_counted i s.connections)))
 full_fresh limits s i κ w o fresh session none =
@@ -103,15 +103,15 @@ takes_connect limits s i κ w o = by (owner_of s.past κ.name) refl (fresh_or_st
         let g : packet_count κ.name s.past ≡ 0 = o.good.counted ∙ o.taken in
         absurd (omega (arith, f, g))
 
-    room : (a b : Bool) → is_some (session_of s.past s.keeper.client) ≡ a → IsFresh s.keeper s.connections i κ ⊎ IsStale s.keeper s.connections i
+    room : (a b : Bool) → is_some (clean_session_of s.past s.keeper.client) ≡ a → IsFresh s.keeper s.connections i κ ⊎ IsStale s.keeper s.connections i
         → GoesTo (as_subscriber limits s) (as_subscriber limits (placed s (at_connect κ.name s.keeper.client false (if a || b then Mark.Accepted else Mark.Full)) (with_one_counted i s.connections)))
     room true b e (inl fresh) = accepted_fresh limits s i κ w o fresh
     room true b e (inr stale) = accepted_stale limits s i κ w o stale
     room false true e (inl fresh) = accepted_fresh limits s i κ w o fresh
     room false true e (inr stale) = accepted_stale limits s i κ w o stale
-    room false false e f = turned f (session_of s.past s.keeper.client) refl e
+    room false false e f = turned f (clean_session_of s.past s.keeper.client) refl e
       where
-        turned : IsFresh s.keeper s.connections i κ ⊎ IsStale s.keeper s.connections i → (session : Option Bool) → session_of s.past s.keeper.client ≡ session → is_some (session_of s.past s.keeper.client) ≡ false
+        turned : IsFresh s.keeper s.connections i κ ⊎ IsStale s.keeper s.connections i → (session : Option Bool) → clean_session_of s.past s.keeper.client ≡ session → is_some (clean_session_of s.past s.keeper.client) ≡ false
             → GoesTo (as_subscriber limits s) (as_subscriber limits (placed s (at_full κ.name s.keeper.client) (with_one_counted i s.connections)))
         turned (inl fresh) None g e = full_fresh limits s i κ w o fresh g (no_connection s.past s.keeper.client g)
         turned (inr stale) None g e = full_stale limits s i κ w o stale (no_connection s.past s.keeper.client g)
@@ -120,4 +120,4 @@ takes_connect limits s i κ w o = by (owner_of s.past κ.name) refl (fresh_or_st
     by : (owner : Option Client) → owner_of s.past κ.name ≡ owner → IsFresh s.keeper s.connections i κ ⊎ IsStale s.keeper s.connections i
         → GoesTo (as_subscriber limits s) (as_subscriber limits (placed s (at_connect κ.name s.keeper.client false (connect_mark limits s.past s.keeper.client owner)) (with_one_counted i s.connections)))
     by (Some d) e f = absurd (served d e)
-    by None e f = room (is_some (session_of s.past s.keeper.client)) (nat_lt (length (clients s.past)) limits.sessions) refl f
+    by None e f = room (is_some (clean_session_of s.past s.keeper.client)) (nat_lt (length (clients s.past)) limits.sessions) refl f

@@ -7,7 +7,7 @@ use Rattle.packet.specs.declared.connack.Connack.TheVariants as connacks
 use Rattle.packet.specs.declared.packet.Packet.TheVariants as packets
 use Rattle.broker_spec.specs.Connection.{ConnectionName, same_connection}
 use Rattle.broker_spec.specs.Place.{Client, same_client, Mark, Place, Past, Limits, only_if}
-use Rattle.broker_spec.specs.Past.{accepts, expels, ends_any, newest_connection, newest_session, is_beginning, current_connection, session_of, begins, in_session}
+use Rattle.broker_spec.specs.Past.{accepts, expels, ends_any, newest_connection, newest_clean_session, is_beginning, current_connection, clean_session_of, begins, in_session}
 use Rattle.broker_spec.specs.Entries.{Entry}
 use Rattle.broker_spec.specs.Readings.{released_below}
 use Rattle.broker_spec.specs.Times.{start_all, started, window_at, entries_of}
@@ -56,7 +56,7 @@ name_of x None = x
 -- a session that is not clean continues, or none was there
 in_accepted : (o : Option (ConnectionName × Bool)) (y : ConnectionName) (expelled over : Bool) (session : Option Bool) (w n : ℕ) (current : Option ConnectionName) (es : List Entry)
     → o ≡ Some (y, false) → current ≡ Some y → ((session ≡ None) × (es ≡ [])) ⊎ (session ≡ Some false)
-    → in_session (newest_session o expelled over session) (is_beginning o session) [] (started w n current es) ≡ start_all w n [] es
+    → in_session (newest_clean_session o expelled over session) (is_beginning o session) [] (started w n current es) ≡ start_all w n [] es
 in_accepted (Some (z, true)) y expelled over session w n current es e f h = absurd (both_ways true (ap flag_of e) refl)
 in_accepted (Some (z, false)) y expelled over session w n None es e f h = absurd (cc)
 in_accepted (Some (z, false)) y expelled over None w n (Some x) es e f (inl h) = sym (ap (start_all w n []) h.1)
@@ -67,20 +67,20 @@ in_accepted (Some (z, false)) y expelled over (Some false) w n (Some x) es e f h
 in_accepted None y expelled over session w n current es e f h = absurd (cc)
 
 -- its entries continue, and what may starts
-pub accepted_entries : (limits : Limits) (past : Past) (y : ConnectionName) (c : Client) → (session_of past c ≡ None) ⊎ (session_of past c ≡ Some false)
+pub accepted_entries : (limits : Limits) (past : Past) (y : ConnectionName) (c : Client) → (clean_session_of past c ≡ None) ⊎ (clean_session_of past c ≡ Some false)
     → entries_of limits (at_accepted y c ∷ past) c ≡ start_all (window_at limits (at_accepted y c ∷ past)) (length past) [] (entries_of limits past c)
-unfolding entries_of session_of
+unfolding entries_of clean_session_of
 accepted_entries limits past y c session =
-    in_accepted (accepts (commands.Connect y c false) Mark.Accepted c) y (expels (commands.Connect y c false) c) (ends_any (at_accepted y c) c (current_connection past c)) (session_of past c) (window_at limits (at_accepted y c ∷ past)) (length past)
+    in_accepted (accepts (commands.Connect y c false) Mark.Accepted c) y (expels (commands.Connect y c false) c) (ends_any (at_accepted y c) c (current_connection past c)) (clean_session_of past c) (window_at limits (at_accepted y c ∷ past)) (length past)
     (current_connection (at_accepted y c ∷ past) c) (entries_of limits past c ++ []) (opened y c) (accepted_current past y c) (by session)
     ∙ ap (start_all (window_at limits (at_accepted y c ∷ past)) (length past) []) (append-nil (entries_of limits past c))
   where
-    by : (session_of past c ≡ None) ⊎ (session_of past c ≡ Some false) → ((session_of past c ≡ None) × (entries_of limits past c ++ [] ≡ [])) ⊎ (session_of past c ≡ Some false)
+    by : (clean_session_of past c ≡ None) ⊎ (clean_session_of past c ≡ Some false) → ((clean_session_of past c ≡ None) × (entries_of limits past c ++ [] ≡ [])) ⊎ (clean_session_of past c ≡ Some false)
     by (inl e) = inl (e, append-nil (entries_of limits past c) ∙ no_entries limits past c e)
     by (inr e) = inr e
 
 -- what its connection is sent
-pub accepted_sends : (limits : Limits) (past : Past) (y : ConnectionName) (c : Client) → (session_of past c ≡ None) ⊎ (session_of past c ≡ Some false)
+pub accepted_sends : (limits : Limits) (past : Past) (y : ConnectionName) (c : Client) → (clean_session_of past c ≡ None) ⊎ (clean_session_of past c ≡ Some false)
     → forward_of (sends_to y (answers_at limits (at_accepted y c) past))
     ≡ sender_resends (released_below (length past) (entries_of limits past c)) (items_of_entries (entries_of limits past c))
     ++ map publishing (rows_started (window_at limits (at_accepted y c ∷ past)) [] (entries_of limits past c))

@@ -3,7 +3,7 @@ use Rattle.std.proofs.Common.{◌≡◌, Bool, true, false, if◌then◌else◌,
 use Rattle.std.proofs.lemmas.Bool.{both_ways, cases_Bool}
 use Rattle.broker_spec.specs.Connection.{ConnectionName, same_connection}
 use Rattle.broker_spec.specs.Place.{Client, Past}
-use Rattle.broker_spec.specs.Past.{any_connection, current_connection, session_of}
+use Rattle.broker_spec.specs.Past.{any_connection, current_connection, clean_session_of}
 use Rattle.broker_spec.specs.Owner.{named, clients, first_client, owner_of}
 use Rattle.broker_spec.proofs.ClientsInOrder.{IsAbove, Rising, rising_named, IsNamed, session_is_named}
 use Rattle.broker_base.proofs.QuietPasts.{no_connection}
@@ -49,7 +49,7 @@ rising_filter test (d ∷ ds) h = by (test d) (rising_filter test ds h.1)
 
 -- the clients rise
 pub rising_clients : (past : Past) → Rising (clients past)
-rising_clients past = rising_filter (λ c. is_some (session_of past c)) (named past) (rising_named past)
+rising_clients past = rising_filter (λ c. is_some (clean_session_of past c)) (named past) (rising_named past)
 
 -- one that passes is kept
 named_filter : (test : Client → Bool) (c : Client) (ds : List Client) → test c ≡ true → IsNamed c ds → IsNamed c (filter test ds)
@@ -63,9 +63,9 @@ named_filter test c (d ∷ ds) t (inr h) = by (test d) (named_filter test c ds t
 
 -- a client that is served is among them
 pub served_named : (past : Past) (c : Client) (x : ConnectionName) → current_connection past c ≡ Some x → IsNamed c (clients past)
-served_named past c x e = by (session_of past c) refl (session_is_named past c)
+served_named past c x e = by (clean_session_of past c) refl (session_is_named past c)
   where
-    by : (session : Option Bool) → session_of past c ≡ session → (session_of past c ≡ None) ⊎ IsNamed c (named past) → IsNamed c (clients past)
+    by : (session : Option Bool) → clean_session_of past c ≡ session → (clean_session_of past c ≡ None) ⊎ IsNamed c (named past) → IsNamed c (clients past)
     by None s h = absurd (let none : current_connection past c ≡ None = no_connection past c s in cc)
     by (Some clean) s (inl n) = absurd (let f : None ≡ Some clean = sym n ∙ s in cc)
-    by (Some clean) s (inr h) = named_filter (λ d. is_some (session_of past d)) c (named past) (ap is_some s) h
+    by (Some clean) s (inr h) = named_filter (λ d. is_some (clean_session_of past d)) c (named past) (ap is_some s) h

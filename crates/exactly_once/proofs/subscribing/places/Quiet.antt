@@ -3,7 +3,7 @@ use Rattle.std.proofs.Common.{◌≡◌, ◌≤◌, ℕ, Bool, true, false, nat_
 use Rattle.session_base.specs.Identifiers.{least_free}
 use Rattle.broker_spec.specs.Connection.{ConnectionName}
 use Rattle.broker_spec.specs.Place.{Client, Place, Past, Limits}
-use Rattle.broker_spec.specs.Past.{accepts, ends_any, newest_connection, current_connection, session_of, begins, in_session}
+use Rattle.broker_spec.specs.Past.{accepts, ends_any, newest_connection, current_connection, clean_session_of, begins, in_session}
 use Rattle.broker_spec.specs.Entries.{Entry, copies_at, queued}
 use Rattle.broker_spec.specs.Times.{answered_by, start_all, started, window_at, entries_of}
 use Rattle.broker_spec.specs.Commands.{is_start}
@@ -30,11 +30,11 @@ none_kept None beginning fresh kept e = refl
 none_kept (Some clean) beginning fresh kept e = absurd (cc)
 
 -- a client without a session has no entries
-pub no_entries : (limits : Limits) (past : Past) (c : Client) → session_of past c ≡ None → entries_of limits past c ≡ []
+pub no_entries : (limits : Limits) (past : Past) (c : Client) → clean_session_of past c ≡ None → entries_of limits past c ≡ []
 unfolding entries_of
 no_entries limits [] c e = refl
 no_entries limits (place ∷ past) c e =
-    none_kept (session_of (place ∷ past) c) (begins place past c) []
+    none_kept (clean_session_of (place ∷ past) c) (begins place past c) []
     (started (window_at limits (place ∷ past)) (length past) (current_connection (place ∷ past) c)
     (answered_by place.command place.mark (length past) c (entries_of limits past c) ++ map (Entry.Waits (length past)) (queued (copies_at place past c)))) e
 

@@ -1,5 +1,5 @@
 use Rattle.std.proofs.Common.{refl}
-use Rattle.broker_form.specs.broker_spec.Past.{current_connection, session_of}
+use Rattle.broker_form.specs.broker_spec.Past.{current_connection, clean_session_of}
 use Rattle.broker_form.specs.broker_spec.Owner.{named}
 use Rattle.broker_form.specs.broker_spec.Subscriptions.{subscriptions_of}
 use Rattle.broker_form.specs.broker_spec.Received.{received_of}
@@ -10,5 +10,5 @@ use Rattle.broker_form.specs.broker_spec.AnswersInOrder.{answers_from}
 use Rattle.storage_tests.proofs.readings.expels_of_nobody_are_nothing.Goals as goal
 
 pub returns : goal.returns
-unfolding answers_from past_from current_connection session_of named subscriptions_of received_of retained_publications entries_of
+unfolding answers_from past_from current_connection clean_session_of named subscriptions_of received_of retained_publications entries_of
 returns c = record { nobody = refl; away = refl }

@@ -2,7 +2,7 @@ use Rattle.std.proofs.Common.{◌≡◌, ◌≤◌, ◌<◌, ◌+◌, ◌*◌, �
 use Rattle.std.specs.List.{list_all}
 use Rattle.headline.specs.agreement.MasterState.{refusal}
 use Rattle.headline.specs.broker_spec.Commands.{past_of, usual_limits}
-use Rattle.headline.specs.broker_spec.Past.{session_of}
+use Rattle.headline.specs.broker_spec.Past.{clean_session_of}
 use Rattle.escaping_client.specs.client.Core.{Core}
 use Rattle.escaping_nodes.proofs.of_master.Counting.{get_there}
 use Rattle.world_nodes.specs.Asking.{whole_log_of}
@@ -31,7 +31,7 @@ possible c =
     (ap (refusal c.args.self.now.nodes.master) (sym c.in_ok-config.ensures) ∙ (c.can_lead.ensures.0 c.if-not-can_lead.false).0)
     (ap (list_all (is_running c.args.self.now.nodes.nodes)) (sym (its_members c.args.members.now c.in_ok-config.config c.in_ok-config.ensures)) ∙ (c.can_lead.ensures.0 c.if-not-can_lead.false).1)
     c.in-Some.index c.in-Some.source c.in-Some.ensures.some c.in-Some-index_of_client.at c.index.result.now (sym c.in-Some-index_of_client.ensures.exact) (stands c)
-    (ap (session_of (past_of usual_limits (whole_log_of c.args.self.now.nodes c.in-Some.source))) (sym (named c)) ∙ c.in_ok-has_session.ensures.yes c.if-not-branch.false)
+    (ap (clean_session_of (past_of usual_limits (whole_log_of c.args.self.now.nodes c.in-Some.source))) (sym (named c)) ∙ c.in_ok-has_session.ensures.yes c.if-not-branch.false)
 
 -- the list that was written
 written : (c : goal.In_ok-way_out) → c.in_ok-way_out.field-0.items
