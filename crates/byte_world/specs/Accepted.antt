@@ -2,7 +2,7 @@
 use Rattle.std.specs.Prelude.{Bool, List, filter, map}
 use Rattle.node_group.specs.session_base.declared.publication.Publication.{Publication}
 use Rattle.node_group.specs.client_base.declared.accepted.Accepted.{Accepted}
-use Rattle.node_group.specs.exactly_once.Carried.{is_two}
+use Rattle.node_group.specs.exactly_once.Carried.{is_qos2}
 
 -- what a client accepted, as a publication
 abbrev pub publication_accepted : Accepted → Publication
@@ -15,9 +15,9 @@ publication_accepted accepted =
     }
 
 -- whether a publication was accepted at QoS 2
-abbrev pub is_accepted_once : Accepted → Bool
-is_accepted_once accepted = is_two accepted.qos
+abbrev pub is_accepted_at_qos2 : Accepted → Bool
+is_accepted_at_qos2 accepted = is_qos2 accepted.qos
 
 -- the oldest first
-abbrev pub accepted_once : List Accepted → List Publication
-accepted_once accepted = map publication_accepted (filter is_accepted_once accepted)
+abbrev pub accepted_at_qos2 : List Accepted → List Publication
+accepted_at_qos2 accepted = map publication_accepted (filter is_accepted_at_qos2 accepted)

@@ -15,7 +15,7 @@ use Rattle.exactly_once.specs.HandshakeInvariant.{IsGood, IsBehind, IsNew, IsUns
 use Rattle.client_base.specs.Keeper.{Own, ids_in_use}
 use Rattle.exactly_once.specs.Story.{Story}
 use Rattle.exactly_once.specs.StoryTrace.{AreUnsent, unserved}
-use Rattle.exactly_once.specs.Carried.{carries, new_numbers, more_by, is_two}
+use Rattle.exactly_once.specs.Carried.{carries, new_numbers, more_by, is_qos2}
 use Rattle.exactly_once.specs.Inside.Projections.{items_of_own, as_publisher}
 use Rattle.exactly_once.specs.Inside.AsSubscriber.{items_of_entries, as_subscriber, left_behind}
 use Rattle.exactly_once.specs.Inside.Shape.{HasShape, IsSoundStory, LastIsCurrent, NewestIsServed}
@@ -40,7 +40,7 @@ numbered n (Own.Done k p ∷ own) h = absurd h
 -- all of it waits
 all_wait : (n : ℕ) (own : List Own) → AreUnsent n own → Each IsUnsent (items_of_own own)
 all_wait n [] h = tt
-all_wait n (Own.Unsent k p id ∷ own) h = by (is_two p.qos) (all_wait (suc n) own h.1)
+all_wait n (Own.Unsent k p id ∷ own) h = by (is_qos2 p.qos) (all_wait (suc n) own h.1)
   where
     by : (b : Bool) → Each IsUnsent (items_of_own own) → Each IsUnsent (if b then SenderItem.Waits k ∷ items_of_own own else items_of_own own)
     by true w = (tt, w)
@@ -73,7 +73,7 @@ none_busy (SenderItem.Finished v ∷ items) h = absurd h.0
 -- none is released
 none_released : (id : ℕ) (n : ℕ) (own : List Own) → AreUnsent n own → false ≡ has_released id (items_of_own own)
 none_released id n [] h = refl
-none_released id n (Own.Unsent k p i ∷ own) h = by (is_two p.qos) (none_released id (suc n) own h.1)
+none_released id n (Own.Unsent k p i ∷ own) h = by (is_qos2 p.qos) (none_released id (suc n) own h.1)
   where
     by : (b : Bool) → false ≡ has_released id (items_of_own own) → false ≡ has_released id (if b then SenderItem.Waits k ∷ items_of_own own else items_of_own own)
     by true e = e

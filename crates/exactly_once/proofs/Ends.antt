@@ -13,9 +13,9 @@ use Rattle.exactly_once.specs.Exact.{is_pubrec_received}
 use Rattle.exactly_once.specs.Handshake.{Handshake}
 use Rattle.exactly_once.specs.HandshakeInvariant.{IsGood}
 use Rattle.exactly_once.proofs.Exact.{good_exact, good_run}
-use Rattle.exactly_once.specs.Carried.{is_two, new_numbers, own_qos2_numbers}
+use Rattle.exactly_once.specs.Carried.{is_qos2, new_numbers, own_qos2_numbers}
 use Rattle.client_base.specs.Keeper.{Own}
-use Rattle.exactly_once.specs.Acceptance.{AcceptedInOrder, two_entries, is_entry_released}
+use Rattle.exactly_once.specs.Acceptance.{AcceptedInOrder, qos2_entries, is_entry_released}
 use Rattle.exactly_once.specs.Inside.Projections.{items_of_own, as_publisher, IsLike, GoesTo}
 use Rattle.exactly_once.specs.Inside.AsSubscriber.{items_of_entries, two_item, as_subscriber}
 use Rattle.exactly_once.specs.Story.{Story}
@@ -35,15 +35,15 @@ item_of (Entry.Started made p id start) = SenderItem.Sent p id
 item_of (Entry.Released made p id start release) = SenderItem.Released p id
 item_of (Entry.Finished made p id start release finish) = SenderItem.Finished p
 
-two_by : (entry : Entry) (es : List Entry) (items : List (SenderItem Publication)) → map item_of (two_entries es) ≡ items
-    → map item_of (two_entries (entry ∷ es)) ≡ two_item (publication_in entry) (item_of entry) items
-two_by entry es items e = by (is_two (publication_in entry).qos)
+two_by : (entry : Entry) (es : List Entry) (items : List (SenderItem Publication)) → map item_of (qos2_entries es) ≡ items
+    → map item_of (qos2_entries (entry ∷ es)) ≡ two_item (publication_in entry) (item_of entry) items
+two_by entry es items e = by (is_qos2 (publication_in entry).qos)
   where
-    by : (b : Bool) → map item_of (if b then entry ∷ two_entries es else two_entries es) ≡ (if b then item_of entry ∷ items else items)
+    by : (b : Bool) → map item_of (if b then entry ∷ qos2_entries es else qos2_entries es) ≡ (if b then item_of entry ∷ items else items)
     by true = ap (λ l. item_of entry ∷ l) e
     by false = e
 
-items_are : (es : List Entry) → map item_of (two_entries es) ≡ items_of_entries es
+items_are : (es : List Entry) → map item_of (qos2_entries es) ≡ items_of_entries es
 items_are [] = refl
 items_are (Entry.Waits made p ∷ es) = two_by (Entry.Waits made p) es (items_of_entries es) (items_are es)
 items_are (Entry.Started made p id start ∷ es) = two_by (Entry.Started made p id start) es (items_of_entries es) (items_are es)
@@ -93,7 +93,7 @@ pub accepted_in_order : (limits : Limits) (s : Story) → IsGood (as_subscriber 
 accepted_in_order limits s g =
     let x = good_exact (as_subscriber limits s) g in
     let es = entries_of limits s.past s.keeper.client in
-    let cut = split_map item_of (two_entries es) x.prefix x.others (items_are es ∙ x.is) in
+    let cut = split_map item_of (qos2_entries es) x.prefix x.others (items_are es ∙ x.is) in
     record {
       prefix = cut.front;
       others = cut.behind;
@@ -111,10 +111,10 @@ own_by false k item items own e f = f
 
 numbers_are : (own : List Own) → map value_of (items_of_own own) ≡ own_qos2_numbers own
 numbers_are [] = refl
-numbers_are (Own.Unsent k p id ∷ own) = own_by (is_two p.qos) k (SenderItem.Waits k) (items_of_own own) (own_qos2_numbers own) refl (numbers_are own)
-numbers_are (Own.Sent k p id ∷ own) = own_by (is_two p.qos) k (SenderItem.Sent k id) (items_of_own own) (own_qos2_numbers own) refl (numbers_are own)
-numbers_are (Own.Released k p id ∷ own) = own_by (is_two p.qos) k (SenderItem.Released k id) (items_of_own own) (own_qos2_numbers own) refl (numbers_are own)
-numbers_are (Own.Done k p ∷ own) = own_by (is_two p.qos) k (SenderItem.Finished k) (items_of_own own) (own_qos2_numbers own) refl (numbers_are own)
+numbers_are (Own.Unsent k p id ∷ own) = own_by (is_qos2 p.qos) k (SenderItem.Waits k) (items_of_own own) (own_qos2_numbers own) refl (numbers_are own)
+numbers_are (Own.Sent k p id ∷ own) = own_by (is_qos2 p.qos) k (SenderItem.Sent k id) (items_of_own own) (own_qos2_numbers own) refl (numbers_are own)
+numbers_are (Own.Released k p id ∷ own) = own_by (is_qos2 p.qos) k (SenderItem.Released k id) (items_of_own own) (own_qos2_numbers own) refl (numbers_are own)
+numbers_are (Own.Done k p ∷ own) = own_by (is_qos2 p.qos) k (SenderItem.Finished k) (items_of_own own) (own_qos2_numbers own) refl (numbers_are own)
 
 pub numbers_in_order : (limits : Limits) (s : Story) → IsGood (as_publisher limits s) → IsPrefixOf (new_numbers s.connections s.past) (own_qos2_numbers s.keeper.own)
 numbers_in_order limits s g =

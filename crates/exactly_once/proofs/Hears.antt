@@ -31,7 +31,7 @@ use Rattle.client_base.specs.Handshakes.{own_at_pubrec, is_sent_with}
 use Rattle.client_base.specs.Written.{plain, writes}
 use Rattle.exactly_once.specs.Story.{Story, with_side}
 use Rattle.exactly_once.specs.StoryCommands.{is_packet_of, packet_count}
-use Rattle.exactly_once.specs.Carried.{is_two, carries, connection_named, written_number_at, written_number, more_by, new_numbers}
+use Rattle.exactly_once.specs.Carried.{is_qos2, carries, connection_named, written_number_at, written_number, more_by, new_numbers}
 use Rattle.exactly_once.specs.Inside.Projections.{items_of_own, own_item, forward_of_own, forward_of_one, carried_by, backward_of_own, to_come, to_be_taken, is_current, transit_of_own, last_confirmed, as_publisher, GoesTo}
 
 -- ---- its publications
@@ -44,18 +44,18 @@ OwnAnswered (Own.Released k p id ∷ own) = (is_answered p.qos ≡ true) × OwnA
 OwnAnswered (Own.Done k p ∷ own) = OwnAnswered own
 OwnAnswered [] = Unit {0}
 
-two_not_one : (q : QoS) → is_two q ≡ true → is_acknowledged q ≡ false
+two_not_one : (q : QoS) → is_qos2 q ≡ true → is_acknowledged q ≡ false
 two_not_one qualities.AtMostOnce e = absurd (both_ways false refl e)
 two_not_one qualities.AtLeastOnce e = absurd (both_ways false refl e)
 two_not_one qualities.ExactlyOnce e = refl
 
-not_two_one : (q : QoS) → is_answered q ≡ true → is_two q ≡ false → is_acknowledged q ≡ true
+not_two_one : (q : QoS) → is_answered q ≡ true → is_qos2 q ≡ false → is_acknowledged q ≡ true
 not_two_one qualities.AtMostOnce a e = absurd (both_ways false refl a)
 not_two_one qualities.AtLeastOnce a e = refl
 not_two_one qualities.ExactlyOnce a e = absurd (both_ways true e refl)
 
 own_map : (i : ℕ) (p : Publication) (x y : SenderItem ℕ) (es fs : List (SenderItem ℕ)) → y ≡ item_released i x → fs ≡ map (item_released i) es → own_item p y fs ≡ map (item_released i) (own_item p x es)
-own_map i p x y es fs e f = by (is_two p.qos)
+own_map i p x y es fs e f = by (is_qos2 p.qos)
   where
     by : (b : Bool) → (if b then y ∷ fs else fs) ≡ map (item_released i) (if b then x ∷ es else es)
     by true = ap₂ (λ z l. z ∷ l) e f
@@ -64,9 +64,9 @@ own_map i p x y es fs e f = by (is_two p.qos)
 pub own_pubrec : (i : ℕ) (own : List Own) → OwnAnswered own → items_of_own (map (own_at_pubrec i) own) ≡ map (item_released i) (items_of_own own)
 own_pubrec i [] h = refl
 own_pubrec i (Own.Unsent k p id ∷ own) h = own_map i p (SenderItem.Waits k) (SenderItem.Waits k) (items_of_own own) (items_of_own (map (own_at_pubrec i) own)) refl (own_pubrec i own h.1)
-own_pubrec i (Own.Sent k p id ∷ own) h = by (cases_Bool (i == id)) (cases_Bool (is_two p.qos)) (own_pubrec i own h.1)
+own_pubrec i (Own.Sent k p id ∷ own) h = by (cases_Bool (i == id)) (cases_Bool (is_qos2 p.qos)) (own_pubrec i own h.1)
   where
-    by : ((i == id) ≡ true) ⊎ ((i == id) ≡ false) → (is_two p.qos ≡ true) ⊎ (is_two p.qos ≡ false) → items_of_own (map (own_at_pubrec i) own) ≡ map (item_released i) (items_of_own own)
+    by : ((i == id) ≡ true) ⊎ ((i == id) ≡ false) → (is_qos2 p.qos ≡ true) ⊎ (is_qos2 p.qos ≡ false) → items_of_own (map (own_at_pubrec i) own) ≡ map (item_released i) (items_of_own own)
         → items_of_own (own_at_pubrec i (Own.Sent k p id) ∷ map (own_at_pubrec i) own) ≡ map (item_released i) (own_item p (SenderItem.Sent k id) (items_of_own own))
     by (inl b) (inl t) ih = rw (b, t, two_not_one p.qos t) (rw t (rw b (ap (λ l. SenderItem.Released k id ∷ l) ih)))
     by (inl b) (inr t) ih = rw (b, t, not_two_one p.qos h.0 t) (rw t ih)
@@ -82,17 +82,17 @@ skip i false x items e = refl
 
 pub sent_is : (i : ℕ) (own : List Own) → OwnAnswered own → has_sent i (items_of_own own) ≡ is_sent_with i own
 sent_is i [] h = refl
-sent_is i (Own.Unsent k p id ∷ own) h = skip i (is_two p.qos) (SenderItem.Waits k) (items_of_own own) refl ∙ sent_is i own h.1
-sent_is i (Own.Sent k p id ∷ own) h = by (cases_Bool (i == id)) (cases_Bool (is_two p.qos)) (sent_is i own h.1)
+sent_is i (Own.Unsent k p id ∷ own) h = skip i (is_qos2 p.qos) (SenderItem.Waits k) (items_of_own own) refl ∙ sent_is i own h.1
+sent_is i (Own.Sent k p id ∷ own) h = by (cases_Bool (i == id)) (cases_Bool (is_qos2 p.qos)) (sent_is i own h.1)
   where
-    by : ((i == id) ≡ true) ⊎ ((i == id) ≡ false) → (is_two p.qos ≡ true) ⊎ (is_two p.qos ≡ false) → has_sent i (items_of_own own) ≡ is_sent_with i own
+    by : ((i == id) ≡ true) ⊎ ((i == id) ≡ false) → (is_qos2 p.qos ≡ true) ⊎ (is_qos2 p.qos ≡ false) → has_sent i (items_of_own own) ≡ is_sent_with i own
         → has_sent i (own_item p (SenderItem.Sent k id) (items_of_own own)) ≡ (((i == id) && not (is_acknowledged p.qos)) || is_sent_with i own)
     by (inl b) (inl t) ih = rw (b, t, two_not_one p.qos t) (rw b refl)
     by (inl b) (inr t) ih = rw (b, t, not_two_one p.qos h.0 t) ih
     by (inr b) (inl t) ih = rw (b, t) (rw b ih)
     by (inr b) (inr t) ih = rw (b, t) ih
-sent_is i (Own.Released k p id ∷ own) h = skip i (is_two p.qos) (SenderItem.Released k id) (items_of_own own) refl ∙ sent_is i own h.1
-sent_is i (Own.Done k p ∷ own) h = skip i (is_two p.qos) (SenderItem.Finished k) (items_of_own own) refl ∙ sent_is i own h
+sent_is i (Own.Released k p id ∷ own) h = skip i (is_qos2 p.qos) (SenderItem.Released k id) (items_of_own own) refl ∙ sent_is i own h.1
+sent_is i (Own.Done k p ∷ own) h = skip i (is_qos2 p.qos) (SenderItem.Finished k) (items_of_own own) refl ∙ sent_is i own h
 
 -- ---- what it writes
 

@@ -8,7 +8,7 @@ use Rattle.session_base.specs.Publication.{is_acknowledged, is_answered}
 use Rattle.broker_spec.specs.Entries.{Entry}
 use Rattle.broker_spec.specs.Times.{at_pubrec, at_pubcomp}
 use Rattle.exactly_once.specs.Items.{SenderItem, item_released, finishing}
-use Rattle.exactly_once.specs.Carried.{is_two}
+use Rattle.exactly_once.specs.Carried.{is_qos2}
 use Rattle.exactly_once.specs.Inside.AsSubscriber.{items_of_entries, two_item}
 
 -- an entry is of QoS 1 or 2
@@ -18,17 +18,17 @@ IsQueued (Entry.Started made p id start) = is_answered p.qos ≡ true
 IsQueued (Entry.Released made p id start release) = is_answered p.qos ≡ true
 IsQueued (Entry.Finished made p id start release finish) = is_answered p.qos ≡ true
 
-two_or_one : (q : QoS) → is_answered q ≡ true → is_two q ≡ not (is_acknowledged q)
+two_or_one : (q : QoS) → is_answered q ≡ true → is_qos2 q ≡ not (is_acknowledged q)
 two_or_one qualities.AtMostOnce e = e
 two_or_one qualities.AtLeastOnce e = refl
 two_or_one qualities.ExactlyOnce e = refl
 
-two_not_one : (q : QoS) → is_two q ≡ true → is_acknowledged q ≡ false
+two_not_one : (q : QoS) → is_qos2 q ≡ true → is_acknowledged q ≡ false
 two_not_one qualities.AtMostOnce e = absurd (both_ways false refl e)
 two_not_one qualities.AtLeastOnce e = absurd (both_ways false refl e)
 two_not_one qualities.ExactlyOnce e = refl
 
-not_two_one : (q : QoS) → is_answered q ≡ true → is_two q ≡ false → is_acknowledged q ≡ true
+not_two_one : (q : QoS) → is_answered q ≡ true → is_qos2 q ≡ false → is_acknowledged q ≡ true
 not_two_one qualities.AtMostOnce a e = absurd (both_ways false refl a)
 not_two_one qualities.AtLeastOnce a e = refl
 not_two_one qualities.ExactlyOnce a e = absurd (both_ways true e refl)
@@ -41,27 +41,27 @@ AllQueued [] = Unit {0}
 
 pub items_pubrec : (n i : ℕ) (es : List Entry) → AllQueued es → items_of_entries (map (at_pubrec n i) es) ≡ map (item_released i) (items_of_entries es)
 items_pubrec n i [] h = refl
-items_pubrec n i (Entry.Waits made p ∷ es) h = by (is_two p.qos) (items_pubrec n i es h.1)
+items_pubrec n i (Entry.Waits made p ∷ es) h = by (is_qos2 p.qos) (items_pubrec n i es h.1)
   where
     by : (b : Bool) → items_of_entries (map (at_pubrec n i) es) ≡ map (item_released i) (items_of_entries es)
         → (if b then SenderItem.Waits p ∷ items_of_entries (map (at_pubrec n i) es) else items_of_entries (map (at_pubrec n i) es)) ≡ map (item_released i) (if b then SenderItem.Waits p ∷ items_of_entries es else items_of_entries es)
     by true ih = ap (λ l. SenderItem.Waits p ∷ l) ih
     by false ih = ih
-items_pubrec n i (Entry.Started made p id start ∷ es) h = by (cases_Bool (i == id)) (cases_Bool (is_two p.qos)) (items_pubrec n i es h.1)
+items_pubrec n i (Entry.Started made p id start ∷ es) h = by (cases_Bool (i == id)) (cases_Bool (is_qos2 p.qos)) (items_pubrec n i es h.1)
   where
-    by : ((i == id) ≡ true) ⊎ ((i == id) ≡ false) → (is_two p.qos ≡ true) ⊎ (is_two p.qos ≡ false) → items_of_entries (map (at_pubrec n i) es) ≡ map (item_released i) (items_of_entries es)
+    by : ((i == id) ≡ true) ⊎ ((i == id) ≡ false) → (is_qos2 p.qos ≡ true) ⊎ (is_qos2 p.qos ≡ false) → items_of_entries (map (at_pubrec n i) es) ≡ map (item_released i) (items_of_entries es)
         → items_of_entries (at_pubrec n i (Entry.Started made p id start) ∷ map (at_pubrec n i) es) ≡ map (item_released i) (two_item p (SenderItem.Sent p id) (items_of_entries es))
     by (inl b) (inl t) ih = rw (b, t, two_not_one p.qos t) (rw t (rw b (ap (λ l. SenderItem.Released p id ∷ l) ih)))
     by (inl b) (inr t) ih = rw (b, t, not_two_one p.qos h.0 t) (rw t ih)
     by (inr b) (inl t) ih = rw (b, t) (rw b (ap (λ l. SenderItem.Sent p id ∷ l) ih))
     by (inr b) (inr t) ih = rw (b, t) ih
-items_pubrec n i (Entry.Released made p id start release ∷ es) h = by (is_two p.qos) (items_pubrec n i es h.1)
+items_pubrec n i (Entry.Released made p id start release ∷ es) h = by (is_qos2 p.qos) (items_pubrec n i es h.1)
   where
     by : (b : Bool) → items_of_entries (map (at_pubrec n i) es) ≡ map (item_released i) (items_of_entries es)
         → (if b then SenderItem.Released p id ∷ items_of_entries (map (at_pubrec n i) es) else items_of_entries (map (at_pubrec n i) es)) ≡ map (item_released i) (if b then SenderItem.Released p id ∷ items_of_entries es else items_of_entries es)
     by true ih = ap (λ l. SenderItem.Released p id ∷ l) ih
     by false ih = ih
-items_pubrec n i (Entry.Finished made p id start release finish ∷ es) h = by (is_two p.qos) (items_pubrec n i es h.1)
+items_pubrec n i (Entry.Finished made p id start release finish ∷ es) h = by (is_qos2 p.qos) (items_pubrec n i es h.1)
   where
     by : (b : Bool) → items_of_entries (map (at_pubrec n i) es) ≡ map (item_released i) (items_of_entries es)
         → (if b then SenderItem.Finished p ∷ items_of_entries (map (at_pubrec n i) es) else items_of_entries (map (at_pubrec n i) es)) ≡ map (item_released i) (if b then SenderItem.Finished p ∷ items_of_entries es else items_of_entries es)
@@ -71,7 +71,7 @@ items_pubrec n i (Entry.Finished made p id start release finish ∷ es) h = by (
 -- ---- PUBCOMP
 
 two_map : (i : ℕ) (p : Publication) (x y : SenderItem Publication) (es fs : List (SenderItem Publication)) → y ≡ finishing i x → fs ≡ map (finishing i) es → two_item p y fs ≡ map (finishing i) (two_item p x es)
-two_map i p x y es fs e f = by (is_two p.qos)
+two_map i p x y es fs e f = by (is_qos2 p.qos)
   where
     by : (b : Bool) → (if b then y ∷ fs else fs) ≡ map (finishing i) (if b then x ∷ es else es)
     by true = ap₂ (λ z l. z ∷ l) e f
@@ -92,7 +92,7 @@ items_pubcomp n i (Entry.Finished made p id start release finish ∷ es) = two_m
 -- ---- new entries
 
 two_append : (p : Publication) (x : SenderItem Publication) (es more all : List (SenderItem Publication)) → all ≡ es ++ more → two_item p x all ≡ two_item p x es ++ more
-two_append p x es more all e = by (is_two p.qos)
+two_append p x es more all e = by (is_qos2 p.qos)
   where
     by : (b : Bool) → (if b then x ∷ all else all) ≡ (if b then x ∷ es else es) ++ more
     by true = ap (λ l. x ∷ l) e

@@ -14,7 +14,7 @@ use Rattle.broker_spec.specs.Sends.{publish_output, first_output, all_started}
 use Rattle.broker_spec.specs.declared.command.Output.{Output}
 use Rattle.exactly_once.specs.Handshake.{Forward, publishing}
 use Rattle.exactly_once.specs.Sends.{sends_to}
-use Rattle.exactly_once.specs.Carried.{is_two}
+use Rattle.exactly_once.specs.Carried.{is_qos2}
 use Rattle.exactly_once.specs.Inside.AsSubscriber.{forward_of}
 use Rattle.exactly_once.proofs.Starts.{rows_started}
 use Rattle.exactly_once.proofs.Takes.{same_name_self}
@@ -28,13 +28,13 @@ NoneStartedAt n [] = Unit {0}
 -- a PUBLISH of QoS 2 is of the handshake, with its publication as it was
 forward_fields : (dup : Bool) (id : ℕ) (retain : Bool) (q : QoS) (topic payload : List ℕ) (rest : List Packet)
     → forward_of (packets.Publish (publish_for dup id (record { retain = retain; qos = q; topic = topic; payload = payload })) ∷ rest)
-    ≡ (if is_two q then Forward.Publish id (record { retain = retain; qos = q; topic = topic; payload = payload }) ∷ forward_of rest else forward_of rest)
+    ≡ (if is_qos2 q then Forward.Publish id (record { retain = retain; qos = q; topic = topic; payload = payload }) ∷ forward_of rest else forward_of rest)
 forward_fields dup id retain qualities.AtMostOnce topic payload rest = refl
 forward_fields dup id retain qualities.AtLeastOnce topic payload rest = refl
 forward_fields dup id retain qualities.ExactlyOnce topic payload rest = refl
 
 pub forward_publish : (dup : Bool) (id : ℕ) (p : Publication) (rest : List Packet)
-    → forward_of (packets.Publish (publish_for dup id p) ∷ rest) ≡ (if is_two p.qos then Forward.Publish id p ∷ forward_of rest else forward_of rest)
+    → forward_of (packets.Publish (publish_for dup id p) ∷ rest) ≡ (if is_qos2 p.qos then Forward.Publish id p ∷ forward_of rest else forward_of rest)
 forward_publish dup id p rest = forward_fields dup id p.retain p.qos p.topic p.payload rest
 
 pub sends_publish : (x : ConnectionName) (dup : Bool) (id : ℕ) (p : Publication) (more : List Output) → sends_to x (publish_output x dup id p ∷ more) ≡ packets.Publish (publish_for dup id p) ∷ sends_to x more
@@ -75,10 +75,10 @@ forward_started x w n ids (Entry.Waits made p ∷ es) h = by (nat_lt (length ids
 
     by : (room : Bool) → forward_of (sends_to x (all_started x n (start_all w n (least_free ids ∷ ids) es))) ≡ map publishing (rows_started w (least_free ids ∷ ids) es)
         → forward_of (sends_to x (all_started x n (if room then Entry.Started made p (least_free ids) n ∷ start_all w n (least_free ids ∷ ids) es else Entry.Waits made p ∷ es)))
-        ≡ map publishing (if room then (if is_two p.qos then (least_free ids, p) ∷ rows_started w (least_free ids ∷ ids) es else rows_started w (least_free ids ∷ ids) es) else [])
+        ≡ map publishing (if room then (if is_qos2 p.qos then (least_free ids, p) ∷ rows_started w (least_free ids ∷ ids) es else rows_started w (least_free ids ∷ ids) es) else [])
     by false ih = ap (λ l. forward_of (sends_to x l)) (none_sent_waiting x n es h)
     by true ih =
         ap (λ l. forward_of (sends_to x l)) (here_sent x n made p (least_free ids) (all_started x n (start_all w n (least_free ids ∷ ids) es)))
         ∙ ap forward_of (sends_publish x false (least_free ids) p (all_started x n (start_all w n (least_free ids ∷ ids) es)))
         ∙ forward_publish false (least_free ids) p (sends_to x (all_started x n (start_all w n (least_free ids ∷ ids) es)))
-        ∙ two (is_two p.qos) ih
+        ∙ two (is_qos2 p.qos) ih

@@ -17,7 +17,7 @@ use Rattle.lists.proofs.Identifiers.{has_append}
 use Rattle.lists.proofs.Tests.{or_none, none_or}
 use Rattle.exactly_once.proofs.BusyIdentifiers.{busy_append}
 use Rattle.exactly_once.proofs.Exact.{run_then}
-use Rattle.exactly_once.specs.Carried.{is_two}
+use Rattle.exactly_once.specs.Carried.{is_qos2}
 use Rattle.exactly_once.specs.Inside.AsSubscriber.{items_of_entries}
 use Rattle.std.specs.List.{AllByRecursion}
 
@@ -51,7 +51,7 @@ start_after id (SenderItem.Finished v ∷ pre) more n = ap (λ l. SenderItem.Fin
 -- what waits is not busy
 waiting_free : (es : List Entry) → AllByRecursion IsWaitingEntry es → busy (items_of_entries es) ≡ []
 waiting_free [] w = refl
-waiting_free (Entry.Waits made p ∷ es) w = by (is_two p.qos) (waiting_free es w.1)
+waiting_free (Entry.Waits made p ∷ es) w = by (is_qos2 p.qos) (waiting_free es w.1)
   where
     by : (b : Bool) → busy (items_of_entries es) ≡ [] → busy (if b then SenderItem.Waits p ∷ items_of_entries es else items_of_entries es) ≡ []
     by true ih = ih
@@ -66,7 +66,7 @@ waiting_free (Entry.Finished made p id start release finish ∷ es) w = elim w.0
 abbrev pub rows_started : ℕ → List ℕ → List Entry → List (ℕ × Publication)
 rows_started w ids (Entry.Waits made p ∷ es) =
     if nat_lt (length ids) w
-    then (if is_two p.qos then (least_free ids, p) ∷ rows_started w (least_free ids ∷ ids) es else rows_started w (least_free ids ∷ ids) es)
+    then (if is_qos2 p.qos then (least_free ids, p) ∷ rows_started w (least_free ids ∷ ids) es else rows_started w (least_free ids ∷ ids) es)
     else []
 rows_started w ids (Entry.Started made p id start ∷ es) = rows_started w (id ∷ ids) es
 rows_started w ids (Entry.Released made p id start release ∷ es) = rows_started w (id ∷ ids) es
@@ -132,7 +132,7 @@ pub all_starts : (w n : ℕ) (ids : List ℕ) (pre : List (SenderItem Publicatio
     → Starts h (pre ++ items_of_entries (start_all w n ids es)) (rows_started w ids es)
 all_starts w n ids pre [] h e nw c l = record { after = h; run = stays; items_are = e; accepted = refl; received = refl; transit = refl }
 all_starts w n ids pre (Entry.Started made p id start ∷ es) h e nw c l =
-    by (is_two p.qos) e (λ e'. all_starts w n (id ∷ ids) pre es h e' nw (covers_more ids pre id c) l)
+    by (is_qos2 p.qos) e (λ e'. all_starts w n (id ∷ ids) pre es h e' nw (covers_more ids pre id c) l)
     (λ e'. all_starts w n (id ∷ ids) (pre ++ SenderItem.Sent p id ∷ []) es h e' (none_more pre (SenderItem.Sent p id ∷ []) nw tt) (covers_one ids pre (SenderItem.Sent p id) id refl c) l)
   where
     by : (b : Bool) → h.items ≡ pre ++ (if b then SenderItem.Sent p id ∷ items_of_entries es else items_of_entries es)
@@ -142,7 +142,7 @@ all_starts w n ids pre (Entry.Started made p id start ∷ es) h e nw c l =
     by true e f g = in_front h pre (items_of_entries (start_all w n (id ∷ ids) es)) (SenderItem.Sent p id) (rows_started w (id ∷ ids) es) (g (e ∙ sym (append_assoc pre (SenderItem.Sent p id ∷ []) (items_of_entries es))))
     by false e f g = f e
 all_starts w n ids pre (Entry.Released made p id start release ∷ es) h e nw c l =
-    by (is_two p.qos) e (λ e'. all_starts w n (id ∷ ids) pre es h e' nw (covers_more ids pre id c) l)
+    by (is_qos2 p.qos) e (λ e'. all_starts w n (id ∷ ids) pre es h e' nw (covers_more ids pre id c) l)
     (λ e'. all_starts w n (id ∷ ids) (pre ++ SenderItem.Released p id ∷ []) es h e' (none_more pre (SenderItem.Released p id ∷ []) nw tt) (covers_one ids pre (SenderItem.Released p id) id refl c) l)
   where
     by : (b : Bool) → h.items ≡ pre ++ (if b then SenderItem.Released p id ∷ items_of_entries es else items_of_entries es)
@@ -152,7 +152,7 @@ all_starts w n ids pre (Entry.Released made p id start release ∷ es) h e nw c 
     by true e f g = in_front h pre (items_of_entries (start_all w n (id ∷ ids) es)) (SenderItem.Released p id) (rows_started w (id ∷ ids) es) (g (e ∙ sym (append_assoc pre (SenderItem.Released p id ∷ []) (items_of_entries es))))
     by false e f g = f e
 all_starts w n ids pre (Entry.Finished made p id start release finish ∷ es) h e nw c l =
-    by (is_two p.qos) e (λ e'. all_starts w n ids pre es h e' nw c l)
+    by (is_qos2 p.qos) e (λ e'. all_starts w n ids pre es h e' nw c l)
     (λ e'. all_starts w n ids (pre ++ SenderItem.Finished p ∷ []) es h e' (none_more pre (SenderItem.Finished p ∷ []) nw tt) (covers_free ids pre (SenderItem.Finished p) refl c) l)
   where
     by : (b : Bool) → h.items ≡ pre ++ (if b then SenderItem.Finished p ∷ items_of_entries es else items_of_entries es)
@@ -163,7 +163,7 @@ all_starts w n ids pre (Entry.Finished made p id start release finish ∷ es) h 
     by false e f g = f e
 all_starts w n ids pre (Entry.Waits made p ∷ es) h e nw c l =
     by (nat_lt (length ids) w)
-    (two (is_two p.qos) e
+    (two (is_qos2 p.qos) e
     (λ e'. all_starts w n (least_free ids ∷ ids) pre es h e' nw (covers_more ids pre (least_free ids) c) (waits_after es l))
     (λ k e'. all_starts w n (least_free ids ∷ ids) (pre ++ SenderItem.Sent p (least_free ids) ∷ []) es k e' (none_more pre (SenderItem.Sent p (least_free ids) ∷ []) nw tt)
     (covers_one ids pre (SenderItem.Sent p (least_free ids)) (least_free ids) refl c) (waits_after es l)))
@@ -190,8 +190,8 @@ all_starts w n ids pre (Entry.Waits made p ∷ es) h e nw c l =
 
     by : (room : Bool)
         → Starts h (pre ++ items_of_entries (Entry.Started made p (least_free ids) n ∷ start_all w n (least_free ids ∷ ids) es))
-        (if is_two p.qos then (least_free ids, p) ∷ rows_started w (least_free ids ∷ ids) es else rows_started w (least_free ids ∷ ids) es)
+        (if is_qos2 p.qos then (least_free ids, p) ∷ rows_started w (least_free ids ∷ ids) es else rows_started w (least_free ids ∷ ids) es)
         → Starts h (pre ++ items_of_entries (if room then Entry.Started made p (least_free ids) n ∷ start_all w n (least_free ids ∷ ids) es else Entry.Waits made p ∷ es))
-        (if room then (if is_two p.qos then (least_free ids, p) ∷ rows_started w (least_free ids ∷ ids) es else rows_started w (least_free ids ∷ ids) es) else [])
+        (if room then (if is_qos2 p.qos then (least_free ids, p) ∷ rows_started w (least_free ids ∷ ids) es else rows_started w (least_free ids ∷ ids) es) else [])
     by true r = r
     by false r = record { after = h; run = stays; items_are = e; accepted = refl; received = refl; transit = refl }

@@ -8,15 +8,15 @@ use Rattle.broker_spec.specs.Times.{entries_of}
 use Rattle.lists.specs.Lists.{Each}
 use Rattle.exactly_once.specs.Sides.{ClientConnection}
 use Rattle.exactly_once.specs.Story.{Story}
-use Rattle.exactly_once.specs.Carried.{is_two}
+use Rattle.exactly_once.specs.Carried.{is_qos2}
 
 -- whether an entry was queued at QoS 2
-abbrev pub is_two_entry : Entry → Bool
-is_two_entry entry = is_two (publication_in entry).qos
+abbrev pub is_qos2_entry : Entry → Bool
+is_qos2_entry entry = is_qos2 (publication_in entry).qos
 
 -- the QoS 2 entries of a session
-abbrev pub two_entries : List Entry → List Entry
-two_entries = filter is_two_entry
+abbrev pub qos2_entries : List Entry → List Entry
+qos2_entries = filter is_qos2_entry
 
 -- what the client accepted, connection by connection, the oldest first
 abbrev pub accepted_on : List ClientConnection → List Publication
@@ -36,6 +36,6 @@ is_entry_released entry = is_there (release_place entry)
 pub record AcceptedInOrder (limits : Limits) (story : Story) : Type 0 where
   pub prefix : List Entry
   pub others : List Entry
-  pub is : two_entries (entries_of limits story.past story.keeper.client) ≡ prefix ++ others
+  pub is : qos2_entries (entries_of limits story.past story.keeper.client) ≡ prefix ++ others
   pub accepted : accepted_on story.connections ≡ map publication_in prefix
   pub rest : Each (λ entry. is_entry_released entry ≡ false) others

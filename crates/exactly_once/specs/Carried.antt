@@ -55,10 +55,10 @@ new_numbers connections (place ∷ past) =
 new_numbers connections [] = []
 
 -- whether a QoS is 2
-abbrev pub is_two : QoS → Bool
-is_two qualities.AtMostOnce = false
-is_two qualities.AtLeastOnce = false
-is_two qualities.ExactlyOnce = true
+abbrev pub is_qos2 : QoS → Bool
+is_qos2 qualities.AtMostOnce = false
+is_qos2 qualities.AtLeastOnce = false
+is_qos2 qualities.ExactlyOnce = true
 
 -- the publication itself
 abbrev pub own_publication : Own → Publication
@@ -74,6 +74,6 @@ own_publications = map own_publication
 -- the numbers of its QoS 2 publications, in the order of its calls
 abbrev pub own_qos2_numbers : List Own → List ℕ
 own_qos2_numbers (first ∷ own) =
-    if is_two (own_publication first).qos then number_in first ∷ own_qos2_numbers own
+    if is_qos2 (own_publication first).qos then number_in first ∷ own_qos2_numbers own
     else own_qos2_numbers own
 own_qos2_numbers [] = []

@@ -10,7 +10,7 @@ use Rattle.client_base.specs.Keeper.{all_own}
 use Rattle.exactly_once.specs.Story.{Story, StoryStep, no_story}
 use Rattle.exactly_once.specs.Carried.{new_numbers, own_qos2_numbers}
 use Rattle.exactly_once.specs.Headline.{EachPublished}
-use Rattle.exactly_once.specs.Acceptance.{two_entries, is_entry_released}
+use Rattle.exactly_once.specs.Acceptance.{qos2_entries, is_entry_released}
 use Rattle.exactly_once.specs.InStep.{sessions_begun, entries_in, accepted_in}
 
 -- what may happen in a story of one session, and an Expel of the client at any time
@@ -29,7 +29,7 @@ pub data Lived (limits : Limits) (client : Client) : Story → Type 0 where
 pub record AcceptedInSession (limits : Limits) (story : Story) (start : ℕ) : Type 0 where
   pub prefix : List Entry
   pub others : List Entry
-  pub is : two_entries (entries_in limits story.past story.keeper.client start) ≡ prefix ++ others
+  pub is : qos2_entries (entries_in limits story.past story.keeper.client start) ≡ prefix ++ others
   pub accepted : accepted_in story.past story.keeper.client start story.connections
       ≡ map publication_in prefix
   pub rest : Each (λ entry. is_entry_released entry ≡ false) others

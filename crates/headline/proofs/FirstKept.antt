@@ -21,7 +21,7 @@ use Rattle.exactly_once.proofs.Ends.{split_map}
 use Rattle.exactly_once.proofs.keeping.StoryTrace.{told_stories_are_sound}
 use Rattle.exactly_once.proofs.sessions.Beside.{beside}
 use Rattle.exactly_once.proofs.sessions.LivesExact.{HasOneStory, first_has_story}
-use Rattle.headline.specs.Shown.{AreUnacknowledged, at_two, unacknowledged_of}
+use Rattle.headline.specs.Shown.{AreUnacknowledged, at_qos2, unacknowledged_of}
 use Rattle.headline.proofs.NewNumbered.{same_some}
 use Rattle.headline.proofs.StillKept.{kept_both, kept_values, new_kept, some_of, two_kept, two_published}
 
@@ -55,13 +55,13 @@ module _ (s : Story) (state : ClientState) (lived : Lived usual_limits s.keeper.
       ap (map (slice_get qs)) (sym good.sides.accepted_is ∙ sym one.same)
       ∙ ap (λ (ps : List Publication). map (slice_get ps) (new_numbers s.connections s.past)) (sym all_said) ∙ are
 
-  published_parts : (new : List Publication) → map (slice_get qs) (map value_of good.old) ≡ some_of new → some_of (at_two qs) ≡ some_of new ++ rest
+  published_parts : (new : List Publication) → map (slice_get qs) (map value_of good.old) ≡ some_of new → some_of (at_qos2 qs) ≡ some_of new ++ rest
   published_parts new are =
       sym (two_published s.keeper.own numbered) ∙ ap (λ (l : List (SenderItem ℕ)). map (slice_get qs) (map value_of l)) good.sides.is
       ∙ ap (map (slice_get qs)) (map-append value_of good.old good.new) ∙ map-append (slice_get qs) (map value_of good.old) (map value_of good.new)
       ∙ ap (λ (l : List (Option Publication)). l ++ rest) are
 
-  kept_parts : history.KeeperStandsFor s.keeper state → some_of (at_two (unacknowledged_of state)) ≡ map (slice_get qs) (kept_values good.old) ++ rest
+  kept_parts : history.KeeperStandsFor s.keeper state → some_of (at_qos2 (unacknowledged_of state)) ≡ map (slice_get qs) (kept_values good.old) ++ rest
   kept_parts stands =
       sym (two_kept s.keeper state stands numbered) ∙ ap (λ (l : List (SenderItem ℕ)). map (slice_get qs) (kept_values l)) good.sides.is
       ∙ ap (map (slice_get qs)) (kept_both good.old good.new ∙ ap (λ (l : List ℕ). kept_values good.old ++ l) (new_kept _ good.new good.sides.news))
@@ -69,13 +69,13 @@ module _ (s : Story) (state : ClientState) (lived : Lived usual_limits s.keeper.
 
   pub first_kept : history.KeeperStandsFor s.keeper state → (new : List Publication)
       → map (slice_get (own_publications (all_own s.keeper))) (new_numbers s.connections s.past) ≡ some_of new
-      → AreUnacknowledged (at_two (own_publications (all_own s.keeper))) new (at_two (unacknowledged_of state))
+      → AreUnacknowledged (at_qos2 (own_publications (all_own s.keeper))) new (at_qos2 (unacknowledged_of state))
   first_kept stands new are =
-      let cut = split_map (λ (p : Publication). Some p) (at_two qs) (some_of new) rest (published_parts new (new_old new are)) in
-      let kept = split_map (λ (p : Publication). Some p) (at_two (unacknowledged_of state)) (map (slice_get qs) (kept_values good.old)) rest (kept_parts stands) in
+      let cut = split_map (λ (p : Publication). Some p) (at_qos2 qs) (some_of new) rest (published_parts new (new_old new are)) in
+      let kept = split_map (λ (p : Publication). Some p) (at_qos2 (unacknowledged_of state)) (map (slice_get qs) (kept_values good.old)) rest (kept_parts stands) in
       record {
         waiting = cut.behind;
-        published_are = ap at_two all_said ∙ cut.is ∙ ap (λ (l : List Publication). l ++ cut.behind) (same_some cut.front new cut.front_is);
+        published_are = ap at_qos2 all_said ∙ cut.is ∙ ap (λ (l : List Publication). l ++ cut.behind) (same_some cut.front new cut.front_is);
         again = kept.front;
         unacknowledged_are = kept.is ∙ ap (λ (l : List Publication). kept.front ++ l) (same_some kept.behind cut.behind (kept.behind_is ∙ sym cut.behind_is));
       }

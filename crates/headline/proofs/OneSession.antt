@@ -9,7 +9,7 @@ use Rattle.broker_spec.specs.Past.{clean_session_of, session_start}
 use Rattle.broker_spec.specs.Place.{Client, Past}
 use Rattle.broker_spec.specs.Readings.{publication_in}
 use Rattle.client_base.specs.State.{ClientState}
-use Rattle.exactly_once.specs.Acceptance.{two_entries}
+use Rattle.exactly_once.specs.Acceptance.{qos2_entries}
 use Rattle.exactly_once.specs.InStep.{IsFirstSession, starts_of}
 use Rattle.exactly_once.proofs.sessions.LastingAccepts.{entries_now}
 use Rattle.exactly_once.proofs.sessions.Openings.{session_began}
@@ -51,7 +51,7 @@ module _ (c : Client) (published : List Publication) (past : Past) (state : Clie
         unacknowledged = kept.unacknowledged_are;
         prefix = [];
         others = [];
-        entries = ap two_entries (no_entries usual_limits past c (none_there past c none));
+        entries = ap qos2_entries (no_entries usual_limits past c (none_there past c none));
         accepted = p.accepts.accepted ∙ ap (flat_map turn) none;
         rest = tt;
       }
@@ -65,7 +65,7 @@ module _ (c : Client) (published : List Publication) (past : Past) (state : Clie
         unacknowledged = kept.unacknowledged_are;
         prefix = session.prefix;
         others = session.others;
-        entries = sym (ap two_entries (entries_now usual_limits past c start e)) ∙ session.entries;
+        entries = sym (ap qos2_entries (entries_now usual_limits past c start e)) ∙ session.entries;
         accepted = p.accepts.accepted ∙ ap (flat_map turn) are ∙ append-nil (turn start);
         rest = session.rest;
       }

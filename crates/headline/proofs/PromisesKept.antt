@@ -46,7 +46,7 @@ use Rattle.exactly_once.proofs.sessions.InTurn.{flat_map_same}
 use Rattle.exactly_once.proofs.sessions.LivesExact.{all_well, lives_exact}
 use Rattle.headline.specs.Promise.{PromiseBy, PromiseInStep}
 use Rattle.headline.specs.Shown.{AcceptsInSessionOrder, IsAnswered, new_of}
-use Rattle.byte_world.specs.Accepted.{accepted_once}
+use Rattle.byte_world.specs.Accepted.{accepted_at_qos2}
 use Rattle.headline.proofs.NewByPlace.{all_new}
 use Rattle.headline.proofs.FirstKept.{first_kept}
 use Rattle.headline.proofs.NewNumbered.{new_in_order}
@@ -151,7 +151,7 @@ module _ (s : Story) (lived : Lived usual_limits s.keeper.client s) (step : IsIn
   new_all = all_new usual_limits c ps s.connections s.past carried.places own carried.marked
 
   -- what it accepted, session after session
-  accepted : (state : ClientState) → accepted_once state.accepted ≡ accepted_on s.connections → ExactlyOnceOverSessions usual_limits s → AcceptsInSessionOrder c s.past state
+  accepted : (state : ClientState) → accepted_at_qos2 state.accepted ≡ accepted_on s.connections → ExactlyOnceOverSessions usual_limits s → AcceptsInSessionOrder c s.past state
   accepted state shown exact =
       record {
         session = λ start. let a = exact.subscribers start in record { prefix = a.prefix; others = a.others; entries = a.is; rest = a.rest };
@@ -160,7 +160,7 @@ module _ (s : Story) (lived : Lived usual_limits s.keeper.client s) (step : IsIn
       }
 
   pub kept_in_step : (published : List Publication) (state : ClientState) → ps ≡ published → history.KeeperStandsFor s.keeper state
-      → accepted_once state.accepted ≡ accepted_on s.connections → ExactlyOnceOverSessions usual_limits s → PromiseInStep c published s.past state
+      → accepted_at_qos2 state.accepted ≡ accepted_on s.connections → ExactlyOnceOverSessions usual_limits s → PromiseInStep c published s.past state
   kept_in_step published state same stands shown exact =
       subst (λ (l : List Publication). PromiseInStep c l s.past state) same
       (record {
@@ -175,7 +175,7 @@ module _ (s : Story) (lived : Lived usual_limits s.keeper.client s) (step : IsIn
 -- ---- every life
 
 pub promise_kept : (s : Story) → Lived usual_limits s.keeper.client s → (published : List Publication) (state : ClientState) → own_publications (all_own s.keeper) ≡ published
-    → history.KeeperStandsFor s.keeper state → accepted_once state.accepted ≡ accepted_on s.connections → ((x : ConnectionName) → connects_of x s.past ≤ 1)
+    → history.KeeperStandsFor s.keeper state → accepted_at_qos2 state.accepted ≡ accepted_on s.connections → ((x : ConnectionName) → connects_of x s.past ≤ 1)
     → EndsWithTheSession usual_limits s.past → PromiseBy s.keeper.client s.connections published s.past state
 promise_kept s lived published state same stands shown names ended =
     record {

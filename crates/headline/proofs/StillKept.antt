@@ -10,10 +10,10 @@ use Rattle.client_base.specs.declared.unacknowledged_publication.UnacknowledgedP
 use Rattle.exactly_once.specs.Items.{SenderItem, value_of}
 use Rattle.exactly_once.specs.HandshakeInvariant.{IsNew}
 use Rattle.lists.specs.Lists.{Each}
-use Rattle.exactly_once.specs.Carried.{is_two, own_publication, own_publications}
+use Rattle.exactly_once.specs.Carried.{is_qos2, own_publication, own_publications}
 use Rattle.exactly_once.specs.Inside.Projections.{items_of_own}
 use Rattle.exactly_once.specs.Inside.OwnShape.{AreNumberedFrom}
-use Rattle.headline.specs.Shown.{at_two, unacknowledged_of}
+use Rattle.headline.specs.Shown.{at_qos2, unacknowledged_of}
 
 -- ---- of a handshake
 
@@ -97,19 +97,19 @@ one_two get false item k p items ps value is more = more
 
 -- all that it published at QoS 2
 pub two_numbered : (ps : List Publication) (n : ℕ) (own : List Own) → AreNumberedFrom n own → StandFrom ps n own
-    → map (slice_get ps) (map value_of (items_of_own own)) ≡ some_of (at_two (own_publications own))
+    → map (slice_get ps) (map value_of (items_of_own own)) ≡ some_of (at_qos2 (own_publications own))
 two_numbered ps n [] h stand = refl
 two_numbered ps n (Own.Unsent k p id ∷ own) h stand =
-    one_two (slice_get ps) (is_two p.qos) (SenderItem.Waits k) k p (items_of_own own) (at_two (own_publications own)) refl (first_is ps n k (Own.Unsent k p id) own h.0 stand)
+    one_two (slice_get ps) (is_qos2 p.qos) (SenderItem.Waits k) k p (items_of_own own) (at_qos2 (own_publications own)) refl (first_is ps n k (Own.Unsent k p id) own h.0 stand)
     (two_numbered ps (suc n) own h.1 (after ps n (Own.Unsent k p id) own stand))
 two_numbered ps n (Own.Sent k p id ∷ own) h stand =
-    one_two (slice_get ps) (is_two p.qos) (SenderItem.Sent k id) k p (items_of_own own) (at_two (own_publications own)) refl (first_is ps n k (Own.Sent k p id) own h.0 stand)
+    one_two (slice_get ps) (is_qos2 p.qos) (SenderItem.Sent k id) k p (items_of_own own) (at_qos2 (own_publications own)) refl (first_is ps n k (Own.Sent k p id) own h.0 stand)
     (two_numbered ps (suc n) own h.1 (after ps n (Own.Sent k p id) own stand))
 two_numbered ps n (Own.Released k p id ∷ own) h stand =
-    one_two (slice_get ps) (is_two p.qos) (SenderItem.Released k id) k p (items_of_own own) (at_two (own_publications own)) refl (first_is ps n k (Own.Released k p id) own h.0 stand)
+    one_two (slice_get ps) (is_qos2 p.qos) (SenderItem.Released k id) k p (items_of_own own) (at_qos2 (own_publications own)) refl (first_is ps n k (Own.Released k p id) own h.0 stand)
     (two_numbered ps (suc n) own h.2 (after ps n (Own.Released k p id) own stand))
 two_numbered ps n (Own.Done k p ∷ own) h stand =
-    one_two (slice_get ps) (is_two p.qos) (SenderItem.Finished k) k p (items_of_own own) (at_two (own_publications own)) refl (first_is ps n k (Own.Done k p) own h.0 stand)
+    one_two (slice_get ps) (is_qos2 p.qos) (SenderItem.Finished k) k p (items_of_own own) (at_qos2 (own_publications own)) refl (first_is ps n k (Own.Done k p) own h.0 stand)
     (two_numbered ps (suc n) own h.1 (after ps n (Own.Done k p) own stand))
 
 -- one that it keeps, and one that it does not
@@ -125,19 +125,19 @@ none_kept get true item items ps kept more = ap (map get) kept ∙ more
 none_kept get false item items ps kept more = more
 
 kept_numbered : (ps : List Publication) (n : ℕ) (own : List Own) → AreNumberedFrom n own → StandFrom ps n own
-    → map (slice_get ps) (kept_values (items_of_own own)) ≡ some_of (at_two (kept_own own))
+    → map (slice_get ps) (kept_values (items_of_own own)) ≡ some_of (at_qos2 (kept_own own))
 kept_numbered ps n [] h stand = refl
 kept_numbered ps n (Own.Unsent k p id ∷ own) h stand =
-    one_kept (slice_get ps) (is_two p.qos) k p (SenderItem.Waits k) (items_of_own own) (at_two (kept_own own)) refl (first_is ps n k (Own.Unsent k p id) own h.0 stand)
+    one_kept (slice_get ps) (is_qos2 p.qos) k p (SenderItem.Waits k) (items_of_own own) (at_qos2 (kept_own own)) refl (first_is ps n k (Own.Unsent k p id) own h.0 stand)
     (kept_numbered ps (suc n) own h.1 (after ps n (Own.Unsent k p id) own stand))
 kept_numbered ps n (Own.Sent k p id ∷ own) h stand =
-    one_kept (slice_get ps) (is_two p.qos) k p (SenderItem.Sent k id) (items_of_own own) (at_two (kept_own own)) refl (first_is ps n k (Own.Sent k p id) own h.0 stand)
+    one_kept (slice_get ps) (is_qos2 p.qos) k p (SenderItem.Sent k id) (items_of_own own) (at_qos2 (kept_own own)) refl (first_is ps n k (Own.Sent k p id) own h.0 stand)
     (kept_numbered ps (suc n) own h.1 (after ps n (Own.Sent k p id) own stand))
 kept_numbered ps n (Own.Released k p id ∷ own) h stand =
-    none_kept (slice_get ps) (is_two p.qos) (SenderItem.Released k id) (items_of_own own) (at_two (kept_own own)) refl
+    none_kept (slice_get ps) (is_qos2 p.qos) (SenderItem.Released k id) (items_of_own own) (at_qos2 (kept_own own)) refl
     (kept_numbered ps (suc n) own h.2 (after ps n (Own.Released k p id) own stand))
 kept_numbered ps n (Own.Done k p ∷ own) h stand =
-    none_kept (slice_get ps) (is_two p.qos) (SenderItem.Finished k) (items_of_own own) (at_two (kept_own own)) refl
+    none_kept (slice_get ps) (is_qos2 p.qos) (SenderItem.Finished k) (items_of_own own) (at_qos2 (kept_own own)) refl
     (kept_numbered ps (suc n) own h.1 (after ps n (Own.Done k p) own stand))
 
 -- ---- both
@@ -145,10 +145,10 @@ kept_numbered ps n (Own.Done k p ∷ own) h stand =
 pub whole_stands : (own : List Own) → StandFrom (own_publications own) 0 own
 whole_stands own j = let same : 0 + j ≡ j = omega arith in ap (slice_get (own_publications own)) same
 
-pub two_published : (own : List Own) → AreNumberedFrom 0 own → map (slice_get (own_publications own)) (map value_of (items_of_own own)) ≡ some_of (at_two (own_publications own))
+pub two_published : (own : List Own) → AreNumberedFrom 0 own → map (slice_get (own_publications own)) (map value_of (items_of_own own)) ≡ some_of (at_qos2 (own_publications own))
 two_published own numbered = two_numbered (own_publications own) 0 own numbered (whole_stands own)
 
 pub two_kept : (keeper : Keeper) (state : ClientState) → history.KeeperStandsFor keeper state → AreNumberedFrom 0 keeper.own
-    → map (slice_get (own_publications keeper.own)) (kept_values (items_of_own keeper.own)) ≡ some_of (at_two (unacknowledged_of state))
+    → map (slice_get (own_publications keeper.own)) (kept_values (items_of_own keeper.own)) ≡ some_of (at_qos2 (unacknowledged_of state))
 two_kept keeper state s numbered =
-    kept_numbered (own_publications keeper.own) 0 keeper.own numbered (whole_stands keeper.own) ∙ ap (λ (l : List Publication). some_of (at_two l)) (sym (kept_is keeper state s))
+    kept_numbered (own_publications keeper.own) 0 keeper.own numbered (whole_stands keeper.own) ∙ ap (λ (l : List Publication). some_of (at_qos2 l)) (sym (kept_is keeper state s))

@@ -23,7 +23,7 @@ use Rattle.node_group.specs.Steps.{all_proposed, groups_on_trace}
 use Rattle.node_group.specs.GroupMoments.{HasMoments}
 use Rattle.byte_world.specs.World.{ClientPipes, HasPipe, Pipe, ByteWorld}
 use Rattle.byte_world.specs.Carried.{trace_of}
-use Rattle.byte_world.specs.Accepted.{accepted_once}
+use Rattle.byte_world.specs.Accepted.{accepted_at_qos2}
 use Rattle.byte_world.specs.Published.{published_of, published_on_way}
 use Rattle.byte_world.specs.Steps.{Reached}
 use Rattle.byte_world.specs.InPipes.{IsInOrder}
@@ -53,7 +53,7 @@ IsInOneSession agreed client =
 -- the parts that a client without history shows
 pub record IsShownBy (client : ClientPipes) (state : ClientState) : Type 0 where
   pub keeper : history.KeeperStandsFor client.keeper state
-  pub accepted : accepted_once state.accepted ≡ accepted_on client.connections
+  pub accepted : accepted_at_qos2 state.accepted ≡ accepted_on client.connections
 
 -- what a world is promised if this is the list on which its nodes agree
 pub record IsExactBy (agreed : List Command) (world : ByteWorld) : Type 0 where

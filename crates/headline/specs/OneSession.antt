@@ -8,11 +8,11 @@ use Rattle.broker_spec.specs.Place.{Client, Past}
 use Rattle.broker_spec.specs.Readings.{publication_in}
 use Rattle.broker_spec.specs.Times.{entries_of}
 use Rattle.client_base.specs.State.{ClientState}
-use Rattle.exactly_once.specs.Acceptance.{is_entry_released, two_entries}
+use Rattle.exactly_once.specs.Acceptance.{is_entry_released, qos2_entries}
 use Rattle.exactly_once.specs.InStep.{IsFirstSession}
 use Rattle.headline.specs.Promise.{PromiseInStep}
-use Rattle.headline.specs.Shown.{at_two, new_of, unacknowledged_of}
-use Rattle.byte_world.specs.Accepted.{accepted_once}
+use Rattle.headline.specs.Shown.{at_qos2, new_of, unacknowledged_of}
+use Rattle.byte_world.specs.Accepted.{accepted_at_qos2}
 
 -- for this client, by the places of the list
 pub record PromiseOfOne (client : Client) (published : List Publication) (past : Past)
@@ -20,15 +20,15 @@ pub record PromiseOfOne (client : Client) (published : List Publication) (past :
   -- its QoS 2 publications are new in the order in which it was asked for them, each once; those
   -- that are not new yet it still keeps
   pub waiting : List Publication
-  pub in_order : at_two published ≡ new_of client past ++ waiting
+  pub in_order : at_qos2 published ≡ new_of client past ++ waiting
   pub again : List Publication
-  pub unacknowledged : at_two (unacknowledged_of state) ≡ again ++ waiting
+  pub unacknowledged : at_qos2 (unacknowledged_of state) ≡ again ++ waiting
   -- what it accepted at QoS 2 is a prefix of the QoS 2 entries of its session, each once, with
   -- every one that is released
   pub prefix : List Entry
   pub others : List Entry
-  pub entries : two_entries (entries_of usual_limits past client) ≡ prefix ++ others
-  pub accepted : accepted_once state.accepted ≡ map publication_in prefix
+  pub entries : qos2_entries (entries_of usual_limits past client) ≡ prefix ++ others
+  pub accepted : accepted_at_qos2 state.accepted ≡ map publication_in prefix
   pub rest : Each (λ (entry : Entry). is_entry_released entry ≡ false) others
 
 -- while a client's first session lasts, its promise over sessions says all of the promise for one

@@ -20,7 +20,7 @@ use Rattle.broker_spec.specs.Times.{entries_of}
 use Rattle.client_base.specs.State.{ClientState}
 use Rattle.exactly_once.specs.InStep.{AreWelcome, IsFirstSession, sessions_begun}
 use Rattle.exactly_once.specs.Sides.{ClientConnection}
-use Rattle.headline.specs.Shown.{AcceptsInSessionOrder, AreNewInOrder, AreUnacknowledged, IsAnswered, at_two, new_of, unacknowledged_of}
+use Rattle.headline.specs.Shown.{AcceptsInSessionOrder, AreNewInOrder, AreUnacknowledged, IsAnswered, at_qos2, new_of, unacknowledged_of}
 
 -- for a client, as long as it is in step, by the places of the list
 pub record PromiseInStep (client : Client) (published : List Publication) (past : Past)
@@ -28,10 +28,11 @@ pub record PromiseInStep (client : Client) (published : List Publication) (past 
   -- its QoS 2 publications are new in the order in which it was asked for them, each once
   pub rises : AreNewInOrder published (new_of client past)
   -- none is left out while it has had one session
-  pub in_order : sessions_begun past client ≤ 1 → IsPrefixOf (new_of client past) (at_two published)
+  pub in_order : sessions_begun past client ≤ 1 →
+      IsPrefixOf (new_of client past) (at_qos2 published)
   -- while its first session lasts, those that are not new yet are unacknowledged
   pub unacknowledged : IsFirstSession past client →
-      AreUnacknowledged (at_two published) (new_of client past) (at_two (unacknowledged_of state))
+      AreUnacknowledged (at_qos2 published) (new_of client past) (at_qos2 (unacknowledged_of state))
   -- one that is answered with PUBREC is new at that place or at an earlier one
   pub answered : (place : Place) (below : Past) (publish : Publish) (packet_id : ℕ) →
       IsAnswered past client (packets.Pubrec packet_id) place below publish →

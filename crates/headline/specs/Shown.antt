@@ -22,21 +22,21 @@ use Rattle.broker_spec.specs.Readings.{publication_in}
 use Rattle.broker_spec.specs.Received.{is_exactly_once}
 use Rattle.client_base.specs.State.{ClientState}
 use Rattle.client_base.specs.declared.unacknowledged_publication.UnacknowledgedPublication.{UnacknowledgedPublication}
-use Rattle.exactly_once.specs.Carried.{is_two}
-use Rattle.exactly_once.specs.Acceptance.{is_entry_released, two_entries}
+use Rattle.exactly_once.specs.Carried.{is_qos2}
+use Rattle.exactly_once.specs.Acceptance.{is_entry_released, qos2_entries}
 use Rattle.exactly_once.specs.InStep.{entries_in, starts_of}
 use Rattle.exactly_once.specs.Lives.{NumbersRise}
-use Rattle.byte_world.specs.Accepted.{accepted_once}
+use Rattle.byte_world.specs.Accepted.{accepted_at_qos2}
 
 -- ---- of its publications
 
 -- whether a publication has QoS 2
-abbrev pub is_at_two : Publication → Bool
-is_at_two publication = is_two publication.qos
+abbrev pub is_at_qos2 : Publication → Bool
+is_at_qos2 publication = is_qos2 publication.qos
 
 -- the publications at QoS 2
-abbrev pub at_two : List Publication → List Publication
-at_two = filter is_at_two
+abbrev pub at_qos2 : List Publication → List Publication
+at_qos2 = filter is_at_qos2
 
 -- the client's publications for which no PUBACK or PUBREC came yet, the oldest first
 abbrev pub unacknowledged_of : ClientState → List Publication
@@ -85,7 +85,7 @@ pub record AreUnacknowledged (published new unacknowledged : List Publication) :
 pub record HasPrefix (client : Client) (past : Past) (start : ℕ) : Type 0 where
   pub prefix : List Entry
   pub others : List Entry
-  pub entries : two_entries (entries_in usual_limits past client start) ≡ prefix ++ others
+  pub entries : qos2_entries (entries_in usual_limits past client start) ≡ prefix ++ others
   pub rest : Each (λ (entry : Entry). is_entry_released entry ≡ false) others
 
 -- What the client accepted at QoS 2 is, session after session, a prefix of the QoS 2 entries of
@@ -93,5 +93,5 @@ pub record HasPrefix (client : Client) (past : Past) (start : ℕ) : Type 0 wher
 pub record AcceptsInSessionOrder (client : Client) (past : Past) (state : ClientState) :
     Type 0 where
   pub session : (start : ℕ) → HasPrefix client past start
-  pub accepted : accepted_once state.accepted
+  pub accepted : accepted_at_qos2 state.accepted
       ≡ flat_map (λ start. map publication_in (session start).prefix) (starts_of past client)

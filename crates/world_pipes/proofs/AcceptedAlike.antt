@@ -26,18 +26,18 @@ use Rattle.client.specs.client_base.Handled.{packet_handled, handled_first, hand
 use Rattle.client.specs.client_base.Handshakes.{is_sent_with, pubrec_answered, takes_in}
 use Rattle.client.specs.client_base.Steps.{Call, disconnected, keeper_step, request_refusal, subscribed, unless_refused, unsubscribed}
 use Rattle.byte_world.specs.exactly_once.Sides.{Side}
-use Rattle.byte_world.specs.Accepted.{accepted_once, is_accepted_once, publication_accepted}
+use Rattle.byte_world.specs.Accepted.{accepted_at_qos2, is_accepted_at_qos2, publication_accepted}
 
 -- one more
-more_accepted : (accepted : List Accepted) (one : Accepted) → accepted_once (accepted ++ one ∷ []) ≡ accepted_once accepted ++ accepted_once (one ∷ [])
+more_accepted : (accepted : List Accepted) (one : Accepted) → accepted_at_qos2 (accepted ++ one ∷ []) ≡ accepted_at_qos2 accepted ++ accepted_at_qos2 (one ∷ [])
 more_accepted accepted one =
-    ap (map publication_accepted) (filter-append is_accepted_once accepted (one ∷ []))
-    ∙ map-append publication_accepted (filter is_accepted_once accepted) (filter is_accepted_once (one ∷ []))
+    ap (map publication_accepted) (filter-append is_accepted_at_qos2 accepted (one ∷ []))
+    ∙ map-append publication_accepted (filter is_accepted_at_qos2 accepted) (filter is_accepted_at_qos2 (one ∷ []))
 
 -- ---- of a packet, after what was accepted on other connections
 
 abbrev Alike : List Publication → Side → ClientState → Type 0
-Alike before side state = accepted_once state.accepted ≡ before ++ side.connection.accepted
+Alike before side state = accepted_at_qos2 state.accepted ≡ before ++ side.connection.accepted
 
 -- on two sides that test the same
 tested : (before : List Publication) (one other : Side) (here there : ClientState) (a b : Bool) → a ≡ b → Alike before one here → Alike before other there
@@ -48,13 +48,13 @@ tested before one other here there true false e x y = absurd (both_ways true e r
 tested before one other here there false true e x y = absurd (both_ways false refl e)
 
 module _ (before : List Publication) (side : Side) (state : ClientState) (alike : Alike before side state) where
-  not_at_two : (one : Accepted) → accepted_once (one ∷ []) ≡ [] → accepted_once (state.accepted ++ one ∷ []) ≡ before ++ side.connection.accepted
+  not_at_two : (one : Accepted) → accepted_at_qos2 (one ∷ []) ≡ [] → accepted_at_qos2 (state.accepted ++ one ∷ []) ≡ before ++ side.connection.accepted
   not_at_two one none =
-      more_accepted state.accepted one ∙ ap (λ (l : List Publication). accepted_once state.accepted ++ l) none ∙ append-nil (accepted_once state.accepted) ∙ alike
+      more_accepted state.accepted one ∙ ap (λ (l : List Publication). accepted_at_qos2 state.accepted ++ l) none ∙ append-nil (accepted_at_qos2 state.accepted) ∙ alike
 
-  at_two : (one : Accepted) (p : Publication) → accepted_once (one ∷ []) ≡ p ∷ [] → accepted_once (state.accepted ++ one ∷ []) ≡ before ++ (side.connection.accepted ++ p ∷ [])
+  at_two : (one : Accepted) (p : Publication) → accepted_at_qos2 (one ∷ []) ≡ p ∷ [] → accepted_at_qos2 (state.accepted ++ one ∷ []) ≡ before ++ (side.connection.accepted ++ p ∷ [])
   at_two one p is =
-      more_accepted state.accepted one ∙ ap (λ (l : List Publication). accepted_once state.accepted ++ l) is ∙ ap (λ (l : List Publication). l ++ p ∷ []) alike
+      more_accepted state.accepted one ∙ ap (λ (l : List Publication). accepted_at_qos2 state.accepted ++ l) is ∙ ap (λ (l : List Publication). l ++ p ∷ []) alike
       ∙ append_assoc before side.connection.accepted (p ∷ [])
 
   published_alike : (topic payload : List ℕ) (retain : Bool) (delivery : Delivery) → ((id : ℕ) → has_id id state.received ≡ has_id id side.keeper.received)
@@ -85,7 +85,7 @@ module _ (before : List Publication) (side : Side) (state : ClientState) (alike 
   outcome_still false one other x y = y
 
   still : (later : Side) (after : ClientState) → later.connection.accepted ≡ side.connection.accepted → after.accepted ≡ state.accepted → Alike before later after
-  still later after one two = ap accepted_once two ∙ alike ∙ ap (λ (l : List Publication). before ++ l) (sym one)
+  still later after one two = ap accepted_at_qos2 two ∙ alike ∙ ap (λ (l : List Publication). before ++ l) (sym one)
 
   releasing_still : (id : ℕ) → (pubrec_answered id side).connection.accepted ≡ side.connection.accepted
   releasing_still id = side_still (is_sent_with id side.keeper.own) _ _ refl (side_still (has_id id side.keeper.releases) _ side refl refl)
@@ -114,7 +114,7 @@ module _ (before : List Publication) (side : Side) (state : ClientState) (alike 
   kept_still false = refl
 
   first_alike : (packet : Packet) → Alike before (handled_first packet side) (on_first packet state).state
-  first_alike (packets.Connack (connacks.Accepted present)) = ap accepted_once (kept_still (loses_session present state)) ∙ alike
+  first_alike (packets.Connack (connacks.Accepted present)) = ap accepted_at_qos2 (kept_still (loses_session present state)) ∙ alike
   first_alike (packets.Connack (connacks.Refused code)) = alike
   first_alike (packets.Publish p) = alike
   first_alike (packets.Pubrec id) = alike
@@ -140,8 +140,8 @@ handled_where before packet side state after true false e x y = absurd (both_way
 handled_where before packet side state after false true e x y = absurd (both_ways false refl e)
 
 pub accepts_alike : (before : List Publication) (packet : Packet) (stage : Stage) (side : Side) (state : ClientState) → is_open stage ≡ true → is_online stage ≡ side.keeper.is_online
-    → ((id : ℕ) → has_id id state.received ≡ has_id id side.keeper.received) → accepted_once state.accepted ≡ before ++ side.connection.accepted
-    → accepted_once (client_receives packet stage state).state.accepted ≡ before ++ (packet_handled packet side).connection.accepted
+    → ((id : ℕ) → has_id id state.received ≡ has_id id side.keeper.received) → accepted_at_qos2 state.accepted ≡ before ++ side.connection.accepted
+    → accepted_at_qos2 (client_receives packet stage state).state.accepted ≡ before ++ (packet_handled packet side).connection.accepted
 accepts_alike before packet stages.Closed side state up online kept alike = absurd (both_ways false refl up)
 accepts_alike before packet stages.Opened side state up online kept alike =
     let counted : Side = record side { connection = record side.connection { handled = suc side.connection.handled } } in

@@ -26,7 +26,7 @@ use Rattle.world_pipes.specs.Piped.{Calls, GoesUp, GoesUpWhere, Piped, TakesLeav
 use Rattle.world_pipes.specs.Piped as pipings
 use Rattle.byte_world.specs.exactly_once.Acceptance.{accepted_on}
 use Rattle.world_pipes.specs.StandsFor.{AreWays, CanGoOut, ClientStandsFor}
-use Rattle.byte_world.specs.Accepted.{accepted_once}
+use Rattle.byte_world.specs.Accepted.{accepted_at_qos2}
 use Rattle.world_pipes.proofs.CarryingFollows.{IsLeft, finished, left_lost, way_up}
 use Rattle.world_pipes.proofs.ModelsCalls.{IsCalled}
 use Rattle.world_pipes.proofs.PacketsHandled.{appended}
@@ -69,7 +69,7 @@ has_called outcome old core older way m c s up splits whole same appends unread 
       left = record {
         keeper = subst (history.KeeperStandsFor c.keeper) (sym same) c.stands;
         fits = subst CanGoOut (sym same) whole.left;
-        accepted = ap (λ (state : ClientState). accepted_once state.accepted) same ∙ ap accepted_once none ∙ s.accepted ∙ ap accepted_on held.connections ∙ sym (ap accepted_on first);
+        accepted = ap (λ (state : ClientState). accepted_at_qos2 state.accepted) same ∙ ap accepted_at_qos2 none ∙ s.accepted ∙ ap accepted_on held.connections ∙ sym (ap accepted_on first);
         connection = writes c.more κ;
         connections = first;
         pipe = record p { up = p.up ++ spelled (newly_written m.connections c.connections) };

@@ -29,7 +29,7 @@ use Rattle.world_pipes.specs.Following.{CallingFollows}
 use Rattle.world_pipes.specs.Piped.{GoesUpWhere, Piped, is_holding, piped}
 use Rattle.byte_world.specs.exactly_once.Acceptance.{accepted_on}
 use Rattle.world_pipes.specs.StandsFor.{AreWays, CanGoOut, ClientStandsFor}
-use Rattle.byte_world.specs.Accepted.{accepted_once}
+use Rattle.byte_world.specs.Accepted.{accepted_at_qos2}
 use Rattle.world_pipes.proofs.CallsFollow.{HasCall, up_follows}
 use Rattle.world_pipes.proofs.Ways.{none_sent}
 
@@ -101,7 +101,7 @@ idle_follows published outcome old core new closed stays none has is = λ m s.
           (record {
             keeper = subst (history.KeeperStandsFor c.keeper) (sym has.state) c.stands;
             fits = subst CanGoOut (sym has.state) (has.fits s.fits).left;
-            accepted = ap (λ (state : ClientState). accepted_once state.accepted) has.state ∙ ap accepted_once has.accepts_none ∙ s.accepted
+            accepted = ap (λ (state : ClientState). accepted_at_qos2 state.accepted) has.state ∙ ap accepted_at_qos2 has.accepts_none ∙ s.accepted
                 ∙ sym (ap accepted_on c.on_first ∙ same_accepted c.more m.connections);
             many = ap length c.on_first ∙ as_many c.more m.connections ∙ s.many ∙ ap length (sym same);
             ways = subst (AreWays (reverse old.ways)) (sym same) s.ways;

@@ -20,7 +20,7 @@ use Rattle.world_pipes.specs.Steps.{ClientTrace, ClientStep, published_in_steps,
 use Rattle.world_pipes.specs.Piped.{CarriesDown, Piped, broken, come_down, piped, piped_up}
 use Rattle.byte_world.specs.exactly_once.Acceptance.{accepted_on}
 use Rattle.world_pipes.specs.StandsFor.{AreWays, CanGoOut, IsWay, ClientStandsFor}
-use Rattle.byte_world.specs.Accepted.{accepted_once}
+use Rattle.byte_world.specs.Accepted.{accepted_at_qos2}
 use Rattle.world_pipes.proofs.PacketsHandled.{GoFar, IsInMidst, all_go, one_goes}
 use Rattle.world_pipes.proofs.StaysOpen.{handled_stays}
 use Rattle.world_pipes.proofs.Ways.{last_same, losing, losing_silent, lost_fits, newest_way, same_pipes, with_newest}
@@ -31,7 +31,7 @@ use Rattle.world_pipes.proofs.Ways.{last_same, losing, losing_silent, lost_fits,
 pub record IsLeft (before : List ℕ) (core : Core) (m : ClientPipes) (others : List ClientConnection) (p₀ : Pipe) (further : List Pipe) : Type 0 where
   pub keeper : history.KeeperStandsFor m.keeper core.state
   pub fits : CanGoOut core.state
-  pub accepted : accepted_once core.state.accepted ≡ accepted_on m.connections
+  pub accepted : accepted_at_qos2 core.state.accepted ≡ accepted_on m.connections
   pub connection : ClientConnection
   pub connections : m.connections ≡ connection ∷ others
   pub pipe : Pipe
@@ -136,7 +136,7 @@ finished older way before core shown m others p₀ further up rest l same many w
     record {
       keeper = subst (history.KeeperStandsFor m.keeper) (sym same) l.keeper;
       fits = subst CanGoOut (sym same) l.fits;
-      accepted = ap (λ (state : ClientState). accepted_once state.accepted) same ∙ l.accepted;
+      accepted = ap (λ (state : ClientState). accepted_at_qos2 state.accepted) same ∙ l.accepted;
       many = ap length l.connections ∙ ap suc many ∙ sym (ap length l.pipes);
       ways = subst (AreWays (reverse (older ++ record way { up = up } ∷ []))) (sym l.pipes) (with_newest older (record way { up = up }) further l.pipe one ways);
       held = λ open-now.

@@ -25,7 +25,7 @@ use Rattle.world_pipes.specs.Steps.{ClientTrace}
 use Rattle.world_pipes.specs.Piped.{SendsConnect, Piped, is_holding, new_piped, new_way, piped, piped_up}
 use Rattle.byte_world.specs.exactly_once.Acceptance.{accepted_on}
 use Rattle.world_pipes.specs.StandsFor.{AreWays, CanGoOut, ClientStandsFor}
-use Rattle.byte_world.specs.Accepted.{accepted_once}
+use Rattle.byte_world.specs.Accepted.{accepted_at_qos2}
 use Rattle.world_pipes.proofs.PacketsHandled.{appended}
 use Rattle.world_pipes.proofs.TakenBack.{opened_and_lost}
 use Rattle.world_pipes.proofs.Ways.{with_newest}
@@ -102,7 +102,7 @@ connected node port old core m x s opens =
     record {
       keeper = subst (history.KeeperStandsFor (record (handling.lost m.keeper) { is_open = true })) (sym opens.0) (opened_stands m.keeper old.core.state s.keeper);
       fits = subst CanGoOut (sym opens.0) (opened_fits old.core.state s.fits);
-      accepted = ap (λ (state : ClientState). accepted_once state.accepted) opens.0 ∙ s.accepted ∙ sym (append-nil (accepted_on m.connections));
+      accepted = ap (λ (state : ClientState). accepted_at_qos2 state.accepted) opens.0 ∙ s.accepted ∙ sym (append-nil (accepted_on m.connections));
       many = ap suc s.many;
       ways = with_newest old.ways way m.pipes _
           (record { node = refl; port = refl; up = record { rest = []; is = sym out ∙ sym (append-nil core.out) }; down = refl }) s.ways;

@@ -23,7 +23,7 @@ use Rattle.byte_world.proofs.OnTheWay.{newly_is}
 use Rattle.world_pipes.specs.Steps.{ClientTrace, ClientStep, published_in_steps, published_with}
 use Rattle.byte_world.specs.exactly_once.Acceptance.{accepted_on}
 use Rattle.world_pipes.specs.StandsFor.{CanGoOut}
-use Rattle.byte_world.specs.Accepted.{accepted_once}
+use Rattle.byte_world.specs.Accepted.{accepted_at_qos2}
 use Rattle.world_pipes.proofs.AcceptedAlike.{accepts_alike}
 use Rattle.world_pipes.proofs.Renamed.{handled_renamed, renamed}
 use Rattle.world_pipes.proofs.StaysOpen.{handled_stays}
@@ -46,7 +46,7 @@ appended old new (p ∷ packets) fits (between, (bytes, spells, is), more) =
 pub record IsInMidst (before : List ℕ) (core : Core) (m : ClientPipes) (others : List ClientConnection) (p₀ : Pipe) (further : List Pipe) : Type 0 where
   pub keeper : history.KeeperStandsFor m.keeper core.state
   pub fits : CanGoOut core.state
-  pub accepted : accepted_once core.state.accepted ≡ accepted_on m.connections
+  pub accepted : accepted_at_qos2 core.state.accepted ≡ accepted_on m.connections
   pub connection : ClientConnection
   pub connections : m.connections ≡ connection ∷ others
   pub pipe : Pipe
@@ -95,9 +95,9 @@ one_goes before core next after m others p₀ further packet up s reads done =
       stands = record {
         keeper = subst (history.KeeperStandsFor later.keeper) (sym done.0) same.stands;
         fits = subst CanGoOut (sym done.0) whole.left;
-        accepted = ap (λ (state : ClientState). accepted_once state.accepted) done.0
+        accepted = ap (λ (state : ClientState). accepted_at_qos2 state.accepted) done.0
             ∙ accepts_alike (accepted_on others) packet next.state.stage side next.state opened stands.is_online stands.received
-            (ap (λ (state : ClientState). accepted_once state.accepted) reads.1 ∙ s.accepted ∙ ap accepted_on s.connections);
+            (ap (λ (state : ClientState). accepted_at_qos2 state.accepted) reads.1 ∙ s.accepted ∙ ap accepted_on s.connections);
         connection = later.connection;
         connections = refl;
         pipe = record p { came = next.unread; up = p.up ++ spelled (newly_written m.connections (later.connection ∷ others)) };

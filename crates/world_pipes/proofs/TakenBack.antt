@@ -14,7 +14,7 @@ use Rattle.world_pipes.specs.declared.way.Way.{Way}
 use Rattle.world_pipes.specs.Following.{FollowsAll, after_losing}
 use Rattle.world_pipes.specs.Piped.{SendsConnect, Piped, new_way, piped, taken_back}
 use Rattle.world_pipes.specs.StandsFor.{AreWays, CanGoOut}
-use Rattle.byte_world.specs.Accepted.{accepted_once}
+use Rattle.byte_world.specs.Accepted.{accepted_at_qos2}
 use Rattle.world_pipes.proofs.Ways.{losing_goes, losing_publishes, same_pipes}
 
 -- the model's client lost its connection, and opened none
@@ -28,7 +28,7 @@ opened_and_lost old core opens m s =
         keeper = subst (λ state. history.KeeperStandsFor (lost m.keeper) (closing.lost state)) (sym opens) (lost_stands m.keeper old.core.state s.keeper);
         fits = subst (λ state. CanGoOut (closing.lost state)) (sym opens)
             (record { keep_alive = s.fits.keep_alive; client = s.fits.client; released = s.fits.released; sent = s.fits.sent; unsent = s.fits.unsent });
-        accepted = ap (λ (state : ClientState). accepted_once state.accepted) opens ∙ s.accepted;
+        accepted = ap (λ (state : ClientState). accepted_at_qos2 state.accepted) opens ∙ s.accepted;
         many = s.many ∙ ap length (sym (same_pipes m));
         ways = subst (AreWays (reverse old.ways)) (sym (same_pipes m)) s.ways;
         held = λ up. absurd (both_ways false refl up);

@@ -9,7 +9,7 @@ use Rattle.client.specs.client_base.State.{ClientState, publish_kept}
 use Rattle.client.specs.client_base.History as history
 use Rattle.byte_world.specs.exactly_once.Acceptance.{accepted_on}
 use Rattle.byte_world.specs.exactly_once.Sides.{ClientConnection}
-use Rattle.byte_world.specs.Accepted.{accepted_once}
+use Rattle.byte_world.specs.Accepted.{accepted_at_qos2}
 use Rattle.byte_world.specs.World.{ClientPipes, Pipe}
 use Rattle.world_pipes.specs.declared.way.Way.{Way}
 use Rattle.world_pipes.specs.Piped.{Piped, is_holding}
@@ -59,7 +59,7 @@ pub record ClientStandsFor (client : Piped) (model : ClientPipes) : Type 0 where
   pub keeper : history.KeeperStandsFor model.keeper client.core.state
   pub fits : CanGoOut client.core.state
   -- at QoS 2 it shows what the model's client accepted, connection by connection
-  pub accepted : accepted_once client.core.state.accepted ≡ accepted_on model.connections
+  pub accepted : accepted_at_qos2 client.core.state.accepted ≡ accepted_on model.connections
   pub many : length model.connections ≡ length model.pipes
   pub ways : AreWays (reverse client.ways) model.pipes
   pub held : is_holding client ≡ true → IsHolding client model

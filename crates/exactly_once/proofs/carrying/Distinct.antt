@@ -8,7 +8,7 @@ use Rattle.lists.specs.Lists.{In, has_id, IsDistinct}
 use Rattle.lists.specs.Lists.In.{here, there}
 use Rattle.lists.proofs.Tests.{none_or, or_none, eq_turn}
 use Rattle.client_base.specs.Keeper.{Own, number_in}
-use Rattle.exactly_once.specs.Carried.{is_two, own_qos2_numbers, own_publications, own_publication}
+use Rattle.exactly_once.specs.Carried.{is_qos2, own_qos2_numbers, own_publications, own_publication}
 use Rattle.client_base.specs.OrderLaws.{AreNumbered}
 use Rattle.exactly_once.specs.Inside.OwnShape as shape
 
@@ -37,7 +37,7 @@ less_none j n [] h less = refl
 less_none j n (o ∷ own) h less =
     let first = number_first n o own h in
     let is = first.0 in
-    by (is_two (own_publication o).qos) (less_none j (suc n) own first.1 (omega (arith, less))) (not_same j (number_in o) (omega (arith, less, is)))
+    by (is_qos2 (own_publication o).qos) (less_none j (suc n) own first.1 (omega (arith, less))) (not_same j (number_in o) (omega (arith, less, is)))
   where
     by : (b : Bool) → has_id j (own_qos2_numbers own) ≡ false → (j == number_in o) ≡ false → has_id j (if b then number_in o ∷ own_qos2_numbers own else own_qos2_numbers own) ≡ false
     by true ih other = none_or (j == number_in o) (has_id j (own_qos2_numbers own)) other ih
@@ -48,7 +48,7 @@ published_apart n [] h = tt
 published_apart n (o ∷ own) h =
     let first = number_first n o own h in
     let is = first.0 in
-    by (is_two (own_publication o).qos) (less_none (number_in o) (suc n) own first.1 (omega (arith, is))) (published_apart (suc n) own first.1)
+    by (is_qos2 (own_publication o).qos) (less_none (number_in o) (suc n) own first.1 (omega (arith, is))) (published_apart (suc n) own first.1)
   where
     by : (b : Bool) → has_id (number_in o) (own_qos2_numbers own) ≡ false → IsDistinct (own_qos2_numbers own) → IsDistinct (if b then number_in o ∷ own_qos2_numbers own else own_qos2_numbers own)
     by true none ih = (none, ih)
@@ -58,18 +58,18 @@ published_apart n (o ∷ own) h =
 pub record IsTwo (ps : List Publication) (j : ℕ) : Type 0 where
   pub publication : Publication
   pub there' : slice_get ps j ≡ Some publication
-  pub two : is_two publication.qos ≡ true
+  pub two : is_qos2 publication.qos ≡ true
 
 two_from : (n k : ℕ) (own : List Own) → AreNumbered n own → In k (own_qos2_numbers own) → (j : ℕ) × (k ≡ n + j) × IsTwo (own_publications own) j
 two_from n k [] h i = elim i [ ]
 two_from n k (o ∷ own) h i =
     let first = number_first n o own h in
-    by (is_two (own_publication o).qos) refl (number_in o) first.0 (two_from (suc n) k own first.1) i
+    by (is_qos2 (own_publication o).qos) refl (number_in o) first.0 (two_from (suc n) k own first.1) i
   where
     behind : (j : ℕ) × (k ≡ suc n + j) × IsTwo (own_publications own) j → (j : ℕ) × (k ≡ n + j) × IsTwo (own_publications (o ∷ own)) j
     behind (j, e, two) = (suc j, (omega (arith, e)), record { publication = two.publication; there' = two.there'; two = two.two })
 
-    by : (b : Bool) → is_two (own_publication o).qos ≡ b → (m : ℕ) → m ≡ n → (In k (own_qos2_numbers own) → (j : ℕ) × (k ≡ suc n + j) × IsTwo (own_publications own) j)
+    by : (b : Bool) → is_qos2 (own_publication o).qos ≡ b → (m : ℕ) → m ≡ n → (In k (own_qos2_numbers own) → (j : ℕ) × (k ≡ suc n + j) × IsTwo (own_publications own) j)
         → In k (if b then m ∷ own_qos2_numbers own else own_qos2_numbers own) → (j : ℕ) × (k ≡ n + j) × IsTwo (own_publications (o ∷ own)) j
     by true e m is ih here = (0, (omega (arith, is)), record { publication = own_publication o; there' = refl; two = e })
     by true e m is ih (there i) = behind (ih i)

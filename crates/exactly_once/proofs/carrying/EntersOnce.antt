@@ -23,7 +23,7 @@ use Rattle.broker_spec.proofs.EntersOnce.{one_if, MadeBelow, none-yet, made-belo
 use Rattle.broker_spec.proofs.EntersWhereTaken.{enters_where_taken}
 use Rattle.lists.specs.Lists.{In, IsDistinct}
 use Rattle.exactly_once.specs.Story.{Story}
-use Rattle.exactly_once.specs.Carried.{carries, is_two, more_by, new_numbers, own_qos2_numbers, own_publications, is_this}
+use Rattle.exactly_once.specs.Carried.{carries, is_qos2, more_by, new_numbers, own_qos2_numbers, own_publications, is_this}
 use Rattle.exactly_once.specs.Headline.{made_by}
 use Rattle.exactly_once.proofs.carrying.PlacesSay.{Says}
 use Rattle.exactly_once.proofs.carrying.KeepsPlaces.{IsCarried}
@@ -68,7 +68,7 @@ untaken_none limits later front earlier below place d e none = by (either_side l
 
 -- ---- one place
 
-two_delivered : (d : Delivery) → is_two (delivery_qos d) ≡ true → is_exactly_once d ≡ true
+two_delivered : (d : Delivery) → is_qos2 (delivery_qos d) ≡ true → is_exactly_once d ≡ true
 two_delivered deliveries.AtMostOnce e = e
 two_delivered (deliveries.AtLeastOnce dup id) e = e
 two_delivered (deliveries.ExactlyOnce dup id) e = refl
@@ -108,7 +108,7 @@ one_place limits s c later front earlier below place d k two cut stands = by (ca
         let publish = carried_publish s.connections place.command below k e in
         let is = says.of k publish.on publish.publish e publish.is in
         let same : two.publication ≡ publication_of publish.publish = some_same two.publication (publication_of publish.publish) (sym two.there' ∙ is) in
-        let level : is_exactly_once publish.publish.delivery ≡ true = two_delivered publish.publish.delivery (ap (λ (q : Publication). is_two q.qos) (sym same) ∙ two.two) in
+        let level : is_exactly_once publish.publish.delivery ≡ true = two_delivered publish.publish.delivery (ap (λ (q : Publication). is_qos2 q.qos) (sym same) ∙ two.two) in
         subst (λ (z : Command). (is_new z place.mark ≡ true) ⊎ (takes_publication z place.mark ≡ false)) (sym publish.is) (new_or_none publish.on publish.publish place.mark level)
 
     this : (b : Bool) → b ≡ true → (new : Bool) → (new ≡ true) ⊎ (n ≡ 0) → (if b then n else 0) ≤ count_id k (more_by new (Some k))

@@ -9,17 +9,17 @@ use Rattle.exactly_once.specs.Items.{SenderItem, item_released, finishing, has_s
 use Rattle.lists.proofs.Tests.{or_right}
 use Rattle.client_base.specs.Keeper.{Own}
 use Rattle.client_base.specs.Handshakes.{own_at_puback, own_at_pubrec, own_at_pubcomp, is_sent_with}
-use Rattle.exactly_once.specs.Carried.{is_two}
+use Rattle.exactly_once.specs.Carried.{is_qos2}
 use Rattle.exactly_once.specs.Inside.Projections.{items_of_own, own_item}
 
-two_unacknowledged : (q : QoS) → is_two q ≡ true → is_acknowledged q ≡ false
+two_unacknowledged : (q : QoS) → is_qos2 q ≡ true → is_acknowledged q ≡ false
 two_unacknowledged qualities.AtMostOnce e = refl
 two_unacknowledged qualities.AtLeastOnce e = absurd (both_ways false refl e)
 two_unacknowledged qualities.ExactlyOnce e = refl
 
 -- one item changes, and the others change as a map does
 own_map : (g : SenderItem ℕ → SenderItem ℕ) (p : Publication) (x y : SenderItem ℕ) (es fs : List (SenderItem ℕ)) → y ≡ g x → fs ≡ map g es → own_item p y fs ≡ map g (own_item p x es)
-own_map g p x y es fs e f = by (is_two p.qos)
+own_map g p x y es fs e f = by (is_qos2 p.qos)
   where
     by : (b : Bool) → (if b then y ∷ fs else fs) ≡ map g (if b then x ∷ es else es)
     by true = ap₂ (λ z l. z ∷ l) e f
@@ -29,9 +29,9 @@ own_map g p x y es fs e f = by (is_two p.qos)
 pub items_released : (i : ℕ) (own : List Own) → items_of_own (map (own_at_pubrec i) own) ≡ map (item_released i) (items_of_own own)
 items_released i [] = refl
 items_released i (Own.Unsent k p id ∷ own) = own_map (item_released i) p (SenderItem.Waits k) (SenderItem.Waits k) (items_of_own own) (items_of_own (map (own_at_pubrec i) own)) refl (items_released i own)
-items_released i (Own.Sent k p id ∷ own) = by (cases_Bool (i == id)) (is_acknowledged p.qos) (cases_Bool (is_two p.qos)) (two_unacknowledged p.qos) (items_released i own)
+items_released i (Own.Sent k p id ∷ own) = by (cases_Bool (i == id)) (is_acknowledged p.qos) (cases_Bool (is_qos2 p.qos)) (two_unacknowledged p.qos) (items_released i own)
   where
-    by : ((i == id) ≡ true) ⊎ ((i == id) ≡ false) → (a : Bool) → (is_two p.qos ≡ true) ⊎ (is_two p.qos ≡ false) → (is_two p.qos ≡ true → a ≡ false)
+    by : ((i == id) ≡ true) ⊎ ((i == id) ≡ false) → (a : Bool) → (is_qos2 p.qos ≡ true) ⊎ (is_qos2 p.qos ≡ false) → (is_qos2 p.qos ≡ true → a ≡ false)
         → items_of_own (map (own_at_pubrec i) own) ≡ map (item_released i) (items_of_own own)
         → items_of_own ((if (i == id) && not a then Own.Released k p id else Own.Sent k p id) ∷ map (own_at_pubrec i) own) ≡ map (item_released i) (own_item p (SenderItem.Sent k id) (items_of_own own))
     by (inl b) true (inl t) n ih = absurd (both_ways true (n t) refl)
@@ -65,9 +65,9 @@ own_same p x es fs e = ap (own_item p x) e
 pub items_acknowledged : (i : ℕ) (own : List Own) → items_of_own (map (own_at_puback i) own) ≡ items_of_own own
 items_acknowledged i [] = refl
 items_acknowledged i (Own.Unsent k p id ∷ own) = own_same p (SenderItem.Waits k) (items_of_own own) (items_of_own (map (own_at_puback i) own)) (items_acknowledged i own)
-items_acknowledged i (Own.Sent k p id ∷ own) = by (i == id) (is_acknowledged p.qos) (cases_Bool (is_two p.qos)) (two_unacknowledged p.qos) (items_acknowledged i own)
+items_acknowledged i (Own.Sent k p id ∷ own) = by (i == id) (is_acknowledged p.qos) (cases_Bool (is_qos2 p.qos)) (two_unacknowledged p.qos) (items_acknowledged i own)
   where
-    by : (b a : Bool) → (is_two p.qos ≡ true) ⊎ (is_two p.qos ≡ false) → (is_two p.qos ≡ true → a ≡ false) → items_of_own (map (own_at_puback i) own) ≡ items_of_own own
+    by : (b a : Bool) → (is_qos2 p.qos ≡ true) ⊎ (is_qos2 p.qos ≡ false) → (is_qos2 p.qos ≡ true → a ≡ false) → items_of_own (map (own_at_puback i) own) ≡ items_of_own own
         → items_of_own ((if b && a then Own.Done k p else Own.Sent k p id) ∷ map (own_at_puback i) own) ≡ own_item p (SenderItem.Sent k id) (items_of_own own)
     by true true (inl t) n ih = absurd (both_ways true (n t) refl)
     by true true (inr t) n ih = rw t ih
@@ -84,8 +84,8 @@ skipped i false x items e h = h
 
 pub sent_then : (i : ℕ) (own : List Own) → has_sent i (items_of_own own) ≡ true → is_sent_with i own ≡ true
 sent_then i [] h = h
-sent_then i (Own.Unsent k p id ∷ own) h = sent_then i own (skipped i (is_two p.qos) (SenderItem.Waits k) (items_of_own own) refl h)
-sent_then i (Own.Sent k p id ∷ own) h = by (cases_Bool (is_two p.qos)) (sent_then i own)
+sent_then i (Own.Unsent k p id ∷ own) h = sent_then i own (skipped i (is_qos2 p.qos) (SenderItem.Waits k) (items_of_own own) refl h)
+sent_then i (Own.Sent k p id ∷ own) h = by (cases_Bool (is_qos2 p.qos)) (sent_then i own)
   where
     first : (b a : Bool) → a ≡ false → (b || has_sent i (items_of_own own)) ≡ true → (has_sent i (items_of_own own) ≡ true → is_sent_with i own ≡ true)
         → ((b && not a) || is_sent_with i own) ≡ true
@@ -93,7 +93,7 @@ sent_then i (Own.Sent k p id ∷ own) h = by (cases_Bool (is_two p.qos)) (sent_t
     first true false n h ih = refl
     first false false n h ih = ih h
 
-    by : (is_two p.qos ≡ true) ⊎ (is_two p.qos ≡ false) → (has_sent i (items_of_own own) ≡ true → is_sent_with i own ≡ true)
+    by : (is_qos2 p.qos ≡ true) ⊎ (is_qos2 p.qos ≡ false) → (has_sent i (items_of_own own) ≡ true → is_sent_with i own ≡ true)
         → ((((i == id) && not (is_acknowledged p.qos)) || is_sent_with i own) ≡ true)
     by (inl t) ih =
         first (i == id) (is_acknowledged p.qos) (two_unacknowledged p.qos t)
@@ -101,5 +101,5 @@ sent_then i (Own.Sent k p id ∷ own) h = by (cases_Bool (is_two p.qos)) (sent_t
     by (inr t) ih =
         or_right ((i == id) && not (is_acknowledged p.qos)) (is_sent_with i own)
         (ih (sym (ap (λ b. has_sent i (if b then SenderItem.Sent k id ∷ items_of_own own else items_of_own own)) t) ∙ h))
-sent_then i (Own.Released k p id ∷ own) h = sent_then i own (skipped i (is_two p.qos) (SenderItem.Released k id) (items_of_own own) refl h)
-sent_then i (Own.Done k p ∷ own) h = sent_then i own (skipped i (is_two p.qos) (SenderItem.Finished k) (items_of_own own) refl h)
+sent_then i (Own.Released k p id ∷ own) h = sent_then i own (skipped i (is_qos2 p.qos) (SenderItem.Released k id) (items_of_own own) refl h)
+sent_then i (Own.Done k p ∷ own) h = sent_then i own (skipped i (is_qos2 p.qos) (SenderItem.Finished k) (items_of_own own) refl h)

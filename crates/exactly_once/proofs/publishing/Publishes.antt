@@ -7,14 +7,14 @@ use Rattle.session_base.specs.Publication.{delivery_with}
 use Rattle.exactly_once.specs.Handshake.{Forward}
 use Rattle.client_base.specs.Keeper.{Written}
 use Rattle.client_base.specs.Written.{written_publish}
-use Rattle.exactly_once.specs.Carried.{is_two}
+use Rattle.exactly_once.specs.Carried.{is_qos2}
 use Rattle.exactly_once.specs.Inside.Projections.{forward_of_own, carried_by}
 
 pub forward_publishes : (dup : Bool) (k id : ℕ) (p : Publication) (ws : List Written)
-    → forward_of_own (written_publish dup k id p ∷ ws) ≡ (if is_two p.qos then Forward.Publish id k ∷ forward_of_own ws else forward_of_own ws)
+    → forward_of_own (written_publish dup k id p ∷ ws) ≡ (if is_qos2 p.qos then Forward.Publish id k ∷ forward_of_own ws else forward_of_own ws)
 forward_publishes dup k id p ws = by p.qos
   where
-    by : (q : QoS) → carried_by (delivery_with q dup id) (Some k) (forward_of_own ws) ≡ (if is_two q then Forward.Publish id k ∷ forward_of_own ws else forward_of_own ws)
+    by : (q : QoS) → carried_by (delivery_with q dup id) (Some k) (forward_of_own ws) ≡ (if is_qos2 q then Forward.Publish id k ∷ forward_of_own ws else forward_of_own ws)
     by qualities.AtMostOnce = refl
     by qualities.AtLeastOnce = refl
     by qualities.ExactlyOnce = refl

@@ -6,7 +6,7 @@ use Rattle.exactly_once.specs.Items.{SenderItem, sent}
 use Rattle.exactly_once.specs.Handshake.{Forward, publishing, sender_resends}
 use Rattle.client_base.specs.Keeper.{Own, Keeper}
 use Rattle.client_base.specs.Written.{plain, written_again, written_first, resent_written}
-use Rattle.exactly_once.specs.Carried.{is_two}
+use Rattle.exactly_once.specs.Carried.{is_qos2}
 use Rattle.exactly_once.specs.Inside.Projections.{items_of_own, own_item, forward_of_own}
 use Rattle.exactly_once.proofs.Hears.{forward_append}
 use Rattle.exactly_once.proofs.publishing.Publishes.{forward_publishes}
@@ -18,7 +18,7 @@ releases_again (id ∷ ids) = ap (λ l. Forward.Pubrel id ∷ l) (releases_again
 
 -- an item that is not sent is not sent again
 not_again : (p : Publication) (item : SenderItem ℕ) (items : List (SenderItem ℕ)) → sent (item ∷ items) ≡ sent items → sent items ≡ sent (own_item p item items)
-not_again p item items e = by (is_two p.qos)
+not_again p item items e = by (is_qos2 p.qos)
   where
     by : (b : Bool) → sent items ≡ sent (if b then item ∷ items else items)
     by true = sym e
@@ -28,7 +28,7 @@ not_again p item items e = by (is_two p.qos)
 publishes_again : (own : List Own) → forward_of_own (written_again own) ≡ map publishing (sent (items_of_own own))
 publishes_again [] = refl
 publishes_again (Own.Unsent k p id ∷ own) = publishes_again own ∙ ap (map publishing) (not_again p (SenderItem.Waits k) (items_of_own own) refl)
-publishes_again (Own.Sent k p id ∷ own) = forward_publishes true k id p (written_again own) ∙ by (is_two p.qos) (publishes_again own)
+publishes_again (Own.Sent k p id ∷ own) = forward_publishes true k id p (written_again own) ∙ by (is_qos2 p.qos) (publishes_again own)
   where
     by : (b : Bool) → forward_of_own (written_again own) ≡ map publishing (sent (items_of_own own))
         → (if b then Forward.Publish id k ∷ forward_of_own (written_again own) else forward_of_own (written_again own)) ≡ map publishing (sent (if b then SenderItem.Sent k id ∷ items_of_own own else items_of_own own))

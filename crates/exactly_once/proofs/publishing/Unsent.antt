@@ -9,7 +9,7 @@ use Rattle.lists.proofs.Tests.{or_none, or_left, or_right, none_or, eq_turn, eq_
 use Rattle.exactly_once.proofs.BusyIdentifiers.{busy_append}
 use Rattle.client_base.specs.Keeper.{Own, ids_of_own}
 use Rattle.client_base.specs.Written.{sent_all, written_first}
-use Rattle.exactly_once.specs.Carried.{is_two}
+use Rattle.exactly_once.specs.Carried.{is_qos2}
 use Rattle.exactly_once.specs.Inside.Projections.{items_of_own, forward_of_own}
 use Rattle.exactly_once.proofs.publishing.Links.{link_by, Reaches, reaches_itself, reaches_then}
 use Rattle.exactly_once.proofs.publishing.Publishes.{forward_publishes}
@@ -52,16 +52,16 @@ item_free false i item items e f = f
 pub not_busy : (i : ℕ) (own : List Own) → has_id i (ids_of_own own) ≡ false → has_id i (busy (items_of_own own)) ≡ false
 not_busy i [] h = refl
 not_busy i (Own.Unsent k p id ∷ own) h =
-    let free = not_busy i own (or_none (i == id) (has_id i (ids_of_own own)) h).1 in item_free (is_two p.qos) i (SenderItem.Waits k) (items_of_own own) free free
+    let free = not_busy i own (or_none (i == id) (has_id i (ids_of_own own)) h).1 in item_free (is_qos2 p.qos) i (SenderItem.Waits k) (items_of_own own) free free
 not_busy i (Own.Sent k p id ∷ own) h =
     let both = or_none (i == id) (has_id i (ids_of_own own)) h in
     let free = not_busy i own both.1 in
-    item_free (is_two p.qos) i (SenderItem.Sent k id) (items_of_own own) (none_or (i == id) (has_id i (busy (items_of_own own))) both.0 free) free
+    item_free (is_qos2 p.qos) i (SenderItem.Sent k id) (items_of_own own) (none_or (i == id) (has_id i (busy (items_of_own own))) both.0 free) free
 not_busy i (Own.Released k p id ∷ own) h =
     let both = or_none (i == id) (has_id i (ids_of_own own)) h in
     let free = not_busy i own both.1 in
-    item_free (is_two p.qos) i (SenderItem.Released k id) (items_of_own own) (none_or (i == id) (has_id i (busy (items_of_own own))) both.0 free) free
-not_busy i (Own.Done k p ∷ own) h = let free = not_busy i own h in item_free (is_two p.qos) i (SenderItem.Finished k) (items_of_own own) free free
+    item_free (is_qos2 p.qos) i (SenderItem.Released k id) (items_of_own own) (none_or (i == id) (has_id i (busy (items_of_own own))) both.0 free) free
+not_busy i (Own.Done k p ∷ own) h = let free = not_busy i own h in item_free (is_qos2 p.qos) i (SenderItem.Finished k) (items_of_own own) free free
 
 -- all start, in order
 pub starts_unsent : (own : List Own) (pre : List (SenderItem ℕ)) (k : Handshake ℕ) (cur : Bool) (f : List (Forward ℕ)) (b : List Backward) → k.items ≡ pre ++ items_of_own own → NoneWaits pre
@@ -71,23 +71,23 @@ starts_unsent [] pre k cur f b e n a d l =
     subst (λ (items : List (SenderItem ℕ)). Reaches k items (link_by cur true (f ++ []) b)) e
     (reaches_itself k (link_by cur true (f ++ []) b) (l ∙ ap (λ g. link_by cur true g b) (sym (append-nil f))))
 starts_unsent (Own.Sent v p id ∷ own) pre k cur f b e n a d l =
-    let two = is_two p.qos in
+    let two = is_qos2 p.qos in
     let item = SenderItem.Sent v id in
     past_item two item pre (items_of_own own) (items_of_own (sent_all own)) k (link_by cur true (f ++ forward_of_own (written_first own)) b) e
     (λ e'. starts_unsent own (fronted two item pre) k cur f b e' (none_fronted two item pre tt n) (apart_fronted two item pre id (ids_of_own own) refl d.0 a) d.1 l)
 starts_unsent (Own.Released v p id ∷ own) pre k cur f b e n a d l =
-    let two = is_two p.qos in
+    let two = is_qos2 p.qos in
     let item = SenderItem.Released v id in
     past_item two item pre (items_of_own own) (items_of_own (sent_all own)) k (link_by cur true (f ++ forward_of_own (written_first own)) b) e
     (λ e'. starts_unsent own (fronted two item pre) k cur f b e' (none_fronted two item pre tt n) (apart_fronted two item pre id (ids_of_own own) refl d.0 a) d.1 l)
 starts_unsent (Own.Done v p ∷ own) pre k cur f b e n a d l =
-    let two = is_two p.qos in
+    let two = is_qos2 p.qos in
     let item = SenderItem.Finished v in
     past_item two item pre (items_of_own own) (items_of_own (sent_all own)) k (link_by cur true (f ++ forward_of_own (written_first own)) b) e
     (λ e'. starts_unsent own (fronted two item pre) k cur f b e' (none_fronted two item pre tt n) (apart_over two item pre (ids_of_own own) refl a) d l)
 starts_unsent (Own.Unsent v p id ∷ own) pre k cur f b e n a d l =
     subst (λ (g : List (Forward ℕ)). Reaches k (pre ++ items_of_own (sent_all (Own.Unsent v p id ∷ own))) (link_by cur true (f ++ g) b)) (sym (forward_publishes false v id p (written_first own)))
-    (by (is_two p.qos) e
+    (by (is_qos2 p.qos) e
     (λ e' m. starts_unsent own pre k cur f b e' n (λ i h. a i (or_right (i == id) (has_id i (ids_of_own own)) h)) d.1 l)
     (λ j e' l'. starts_unsent own (pre ++ SenderItem.Sent v id ∷ []) j cur (f ++ Forward.Publish id v ∷ []) b e' (none_fronted true (SenderItem.Sent v id) pre tt n)
     (apart_fronted true (SenderItem.Sent v id) pre id (ids_of_own own) refl d.0 a) d.1 l'))

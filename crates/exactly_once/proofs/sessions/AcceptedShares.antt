@@ -8,7 +8,7 @@ use Rattle.client_base.specs.Keeper.{Written, new_keeper}
 use Rattle.client_base.specs.Written.{writes_first}
 use Rattle.exactly_once.specs.Sides.{ClientConnection}
 use Rattle.exactly_once.specs.StoryCommands.{with_one_counted}
-use Rattle.exactly_once.specs.Acceptance.{two_entries, accepted_on}
+use Rattle.exactly_once.specs.Acceptance.{qos2_entries, accepted_on}
 use Rattle.exactly_once.specs.Carried.{is_this}
 use Rattle.exactly_once.specs.InStep.{opened_in, entries_in, accepted_in}
 use Rattle.exactly_once.specs.Lives.{AcceptedInSession}
@@ -27,7 +27,7 @@ Accepts limits c past connections start = AcceptedInSession limits (with_connect
 pub accepts_same : (limits : Limits) (c : Client) (past later : Past) (connections after : List ClientConnection) (start : ℕ) → entries_in limits later c start ≡ entries_in limits past c start
     → accepted_in later c start after ≡ accepted_in past c start connections → Accepts limits c past connections start → Accepts limits c later after start
 accepts_same limits c past later connections after start entries accepted a =
-    record { prefix = a.prefix; others = a.others; is = ap two_entries entries ∙ a.is; accepted = accepted ∙ a.accepted; rest = a.rest }
+    record { prefix = a.prefix; others = a.others; is = ap qos2_entries entries ∙ a.is; accepted = accepted ∙ a.accepted; rest = a.rest }
 
 -- ---- nothing
 

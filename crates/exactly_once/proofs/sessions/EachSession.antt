@@ -9,7 +9,7 @@ use Rattle.broker_spec.specs.declared.command.Command.TheVariants as commands
 use Rattle.exactly_once.specs.Story.{Story, StoryStep, no_story}
 use Rattle.exactly_once.specs.StoryTrace.StoryTrace.{begins}
 use Rattle.exactly_once.specs.InStep.{IsInStep, entries_in, accepted_in}
-use Rattle.exactly_once.specs.Acceptance.{two_entries}
+use Rattle.exactly_once.specs.Acceptance.{qos2_entries}
 use Rattle.exactly_once.specs.Lives.{Lived}
 use Rattle.exactly_once.specs.LivesAreExact.{AcceptsInEachSession}
 use Rattle.exactly_once.specs.Lives.Lived.{opens, goes_on, is_expelled}
@@ -134,7 +134,7 @@ lives_accept limits steady c s lived step start =
     record {
       prefix = a.prefix;
       others = a.others;
-      is = ap (λ d. two_entries (entries_in limits s.past d start)) w.life.keeper.client ∙ a.is;
+      is = ap (λ d. qos2_entries (entries_in limits s.past d start)) w.life.keeper.client ∙ a.is;
       accepted = ap (λ d. accepted_in s.past d start s.connections) w.life.keeper.client ∙ a.accepted;
       rest = a.rest;
     }

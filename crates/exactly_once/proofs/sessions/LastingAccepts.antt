@@ -10,7 +10,7 @@ use Rattle.client_base.specs.Keeper.{Keeper}
 use Rattle.exactly_once.specs.Sides.{ClientConnection}
 use Rattle.exactly_once.specs.Story.{Story}
 use Rattle.exactly_once.specs.StoryTrace.{StoryTrace}
-use Rattle.exactly_once.specs.Acceptance.{two_entries}
+use Rattle.exactly_once.specs.Acceptance.{qos2_entries}
 use Rattle.exactly_once.specs.Carried.{is_this}
 use Rattle.exactly_once.specs.InStep.{entries_in}
 use Rattle.exactly_once.proofs.keeping.StoryTrace.{told_stories_accept}
@@ -35,7 +35,7 @@ accepts_now limits steady c flags past keeper connections start client head shut
     record {
       prefix = a.prefix;
       others = a.others;
-      is = ap two_entries (entries_now limits past c start e) ∙ ap (λ d. two_entries (entries_of limits past d)) (sym client) ∙ a.is;
+      is = ap qos2_entries (entries_now limits past c start e) ∙ ap (λ d. qos2_entries (entries_of limits past d)) (sym client) ∙ a.is;
       accepted = all_kept limits c flags past connections start head shut h e ∙ a.accepted;
       rest = a.rest;
     }

@@ -19,7 +19,7 @@ use Rattle.client_base.specs.Handshakes.{own_at_pubrec, is_sent_with, takes_in, 
 use Rattle.client_base.proofs.NumbersStay.{AreAllNumbered, joined_numbers}
 use Rattle.exactly_once.specs.Sides.{Side}
 use Rattle.exactly_once.specs.Story.{Story, StoryStep}
-use Rattle.exactly_once.specs.Carried.{is_two, own_qos2_numbers, own_publications, own_publication}
+use Rattle.exactly_once.specs.Carried.{is_qos2, own_qos2_numbers, own_publications, own_publication}
 use Rattle.exactly_once.proofs.carrying.Distinct.{number_first}
 use Rattle.exactly_once.proofs.carrying.KeepsWritten.{events_say}
 use Rattle.exactly_once.proofs.subscribing.Given.{one_handled}
@@ -27,18 +27,18 @@ use Rattle.exactly_once.proofs.subscribing.Given.{one_handled}
 -- ---- the numbers are those of the places
 
 abbrev twos : ℕ → List Publication → List ℕ
-twos n (p ∷ ps) = if is_two p.qos then n ∷ twos (suc n) ps else twos (suc n) ps
+twos n (p ∷ ps) = if is_qos2 p.qos then n ∷ twos (suc n) ps else twos (suc n) ps
 twos n [] = []
 
 published_is : (n : ℕ) (own : List Own) → AreNumbered n own → own_qos2_numbers own ≡ twos n (own_publications own)
 published_is n [] h = refl
 published_is n (o ∷ own) h =
     let first = number_first n o own h in
-    ap₂ (λ k l. if is_two (own_publication o).qos then k ∷ l else l) first.0 (published_is (suc n) own first.1)
+    ap₂ (λ k l. if is_qos2 (own_publication o).qos then k ∷ l else l) first.0 (published_is (suc n) own first.1)
 
 twos_more : (n : ℕ) (ps qs : List Publication) → twos n (ps ++ qs) ≡ twos n ps ++ twos (n + length ps) qs
 twos_more n [] qs = let same : n ≡ n + 0 = omega arith in ap (λ m. twos m qs) same
-twos_more n (p ∷ ps) qs = by (is_two p.qos) (twos_more (suc n) ps qs ∙ (let same : suc n + length ps ≡ n + suc (length ps) = omega arith in ap (λ m. twos (suc n) ps ++ twos m qs) same))
+twos_more n (p ∷ ps) qs = by (is_qos2 p.qos) (twos_more (suc n) ps qs ∙ (let same : suc n + length ps ≡ n + suc (length ps) = omega arith in ap (λ m. twos (suc n) ps ++ twos m qs) same))
   where
     by : (b : Bool) → twos (suc n) (ps ++ qs) ≡ twos (suc n) ps ++ twos (n + suc (length ps)) qs
         → (if b then n ∷ twos (suc n) (ps ++ qs) else twos (suc n) (ps ++ qs)) ≡ (if b then n ∷ twos (suc n) ps else twos (suc n) ps) ++ twos (n + suc (length ps)) qs

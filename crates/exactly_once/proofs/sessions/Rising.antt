@@ -6,7 +6,7 @@ use Rattle.lists.proofs.OfEach.{each_then, each_left}
 use Rattle.lists.proofs.Tests.{none_or}
 use Rattle.client_base.specs.Keeper.{Own, number_in}
 use Rattle.client_base.specs.OrderLaws.{AreNumbered}
-use Rattle.exactly_once.specs.Carried.{is_two, own_qos2_numbers, own_publication}
+use Rattle.exactly_once.specs.Carried.{is_qos2, own_qos2_numbers, own_publication}
 use Rattle.exactly_once.specs.Lives.{NumbersRise}
 use Rattle.exactly_once.proofs.carrying.Distinct.{number_first}
 
@@ -48,7 +48,7 @@ published_from n [] h = tt
 published_from n (o ∷ own) h =
     let first = number_first n o own h in
     let is = first.0 in
-    by (is_two (own_publication o).qos) (omega (arith, is)) (each_then (λ m. suc n ≤ m) (λ m. n ≤ m) (own_qos2_numbers own) (λ m more. omega (arith, more)) (published_from (suc n) own first.1))
+    by (is_qos2 (own_publication o).qos) (omega (arith, is)) (each_then (λ m. suc n ≤ m) (λ m. n ≤ m) (own_qos2_numbers own) (λ m more. omega (arith, more)) (published_from (suc n) own first.1))
   where
     by : (b : Bool) → n ≤ number_in o → Each (λ m. n ≤ m) (own_qos2_numbers own) → Each (λ m. n ≤ m) (if b then number_in o ∷ own_qos2_numbers own else own_qos2_numbers own)
     by true first rest = (first, rest)
@@ -60,7 +60,7 @@ published_below n [] h = tt
 published_below n (o ∷ own) h =
     let first = number_first n o own h in
     let is = first.0 in
-    by (is_two (own_publication o).qos) (omega (arith, is))
+    by (is_qos2 (own_publication o).qos) (omega (arith, is))
     (each_then (λ m. m < suc n + length own) (λ m. m < n + suc (length own)) (own_qos2_numbers own) (λ m less. omega (arith, less)) (published_below (suc n) own first.1))
   where
     by : (b : Bool) → number_in o < n + suc (length own) → Each (λ m. m < n + suc (length own)) (own_qos2_numbers own)
@@ -73,7 +73,7 @@ published_rises n [] h = tt
 published_rises n (o ∷ own) h =
     let first = number_first n o own h in
     let is = first.0 in
-    by (is_two (own_publication o).qos) (each_then (λ m. suc n ≤ m) (λ m. number_in o < m) (own_qos2_numbers own) (λ m more. omega (arith, more, is)) (published_from (suc n) own first.1))
+    by (is_qos2 (own_publication o).qos) (each_then (λ m. suc n ≤ m) (λ m. number_in o < m) (own_qos2_numbers own) (λ m more. omega (arith, more, is)) (published_from (suc n) own first.1))
     (published_rises (suc n) own first.1)
   where
     by : (b : Bool) → Each (λ m. number_in o < m) (own_qos2_numbers own) → NumbersRise (own_qos2_numbers own) → NumbersRise (if b then number_in o ∷ own_qos2_numbers own else own_qos2_numbers own)

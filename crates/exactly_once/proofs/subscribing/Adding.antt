@@ -15,7 +15,7 @@ use Rattle.exactly_once.specs.HandshakeSteps.{HandshakeTrace}
 use Rattle.exactly_once.specs.HandshakeSteps.HandshakeStep.{adds}
 use Rattle.exactly_once.specs.HandshakeSteps.HandshakeTrace.{stays, goes_on}
 use Rattle.exactly_once.proofs.Exact.{run_then}
-use Rattle.exactly_once.specs.Carried.{is_two}
+use Rattle.exactly_once.specs.Carried.{is_qos2}
 use Rattle.exactly_once.specs.Inside.Projections.{GoesTo}
 use Rattle.exactly_once.specs.Inside.AsSubscriber.{items_of_entries}
 use Rattle.exactly_once.proofs.Items.{items_append}
@@ -26,7 +26,7 @@ use Rattle.exactly_once.proofs.Starts.{Starts, rows_started, sending_all, all_st
 -- those of QoS 2 are added, one after another
 pub adds_all : (n : ℕ) (ps : List Publication) (h : Handshake Publication) → Starts h (h.items ++ items_of_entries (map (Entry.Waits n) ps)) []
 adds_all n [] h = record { after = h; run = stays; items_are = sym (append-nil h.items); accepted = refl; received = refl; transit = refl }
-adds_all n (p ∷ ps) h = by (is_two p.qos) (adds_all n ps (with_items (h.items ++ SenderItem.Waits p ∷ []) h.transit h)) (adds_all n ps h)
+adds_all n (p ∷ ps) h = by (is_qos2 p.qos) (adds_all n ps (with_items (h.items ++ SenderItem.Waits p ∷ []) h.transit h)) (adds_all n ps h)
   where
     by : (b : Bool) → Starts (with_items (h.items ++ SenderItem.Waits p ∷ []) h.transit h) ((h.items ++ SenderItem.Waits p ∷ []) ++ items_of_entries (map (Entry.Waits n) ps)) []
         → Starts h (h.items ++ items_of_entries (map (Entry.Waits n) ps)) []

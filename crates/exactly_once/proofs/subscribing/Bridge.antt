@@ -19,13 +19,13 @@ use Rattle.broker_base.proofs.flights.EntriesOfPlaces.{busy_from, busy_from_is, 
 use Rattle.broker_base.proofs.QuietPasts.{QuietEntries}
 use Rattle.exactly_once.specs.Handshake.{Forward, publishing}
 use Rattle.exactly_once.specs.Sends.{sends_to}
-use Rattle.exactly_once.specs.Carried.{is_two}
+use Rattle.exactly_once.specs.Carried.{is_qos2}
 use Rattle.exactly_once.specs.Inside.AsSubscriber.{forward_of}
 use Rattle.exactly_once.proofs.Starts.{rows_started}
 use Rattle.exactly_once.proofs.Sent.{forward_publish, sends_publish}
 
 -- QoS 0 is not of the handshake
-none_two : (q : QoS) → is_answered q ≡ false → is_two q ≡ false
+none_two : (q : QoS) → is_answered q ≡ false → is_qos2 q ≡ false
 none_two qualities.AtMostOnce e = refl
 none_two qualities.AtLeastOnce e = absurd (both_ways true e refl)
 none_two qualities.ExactlyOnce e = absurd (both_ways true e refl)
@@ -45,7 +45,7 @@ rows_full w n ids (p ∷ ps) h = rw (shut (length ids) w h) refl
 
 -- one that is published first
 one_sent : (x : ConnectionName) (dup : Bool) (id : ℕ) (p : Publication) (more : List _)
-    → forward_of (sends_to x (publish_output x dup id p ∷ more)) ≡ (if is_two p.qos then Forward.Publish id p ∷ forward_of (sends_to x more) else forward_of (sends_to x more))
+    → forward_of (sends_to x (publish_output x dup id p ∷ more)) ≡ (if is_qos2 p.qos then Forward.Publish id p ∷ forward_of (sends_to x more) else forward_of (sends_to x more))
 one_sent x dup id p more = ap forward_of (sends_publish x dup id p more) ∙ forward_publish dup id p (sends_to x more)
 
 -- if an entry starts at this place it is sent
@@ -76,9 +76,9 @@ forward_handed x w n ids (p ∷ copies) = by (cases_Bool (is_answered p.qos)) (f
     room : (b : Bool) → nat_lt (length ids) w ≡ b → sent (rest ids) ≡ map publishing (rows ids) → sent (rest (least_free ids ∷ ids)) ≡ map publishing (rows (least_free ids ∷ ids))
         → forward_of (sends_to x (all_started x n (take 1 (if b then Entry.Started n p (least_free ids) n ∷ rest (least_free ids ∷ ids) else Entry.Waits n p ∷ map (Entry.Waits n) (queued copies)))
         ++ copy_outputs x n copies (drop 1 (if b then Entry.Started n p (least_free ids) n ∷ rest (least_free ids ∷ ids) else Entry.Waits n p ∷ map (Entry.Waits n) (queued copies)))))
-        ≡ map publishing (if b then (if is_two p.qos then (least_free ids, p) ∷ rows (least_free ids ∷ ids) else rows (least_free ids ∷ ids)) else [])
+        ≡ map publishing (if b then (if is_qos2 p.qos then (least_free ids, p) ∷ rows (least_free ids ∷ ids) else rows (least_free ids ∷ ids)) else [])
     room true b shut_rest open_rest =
-        rw (same_place n) (one_sent x false (least_free ids) p (copy_outputs x n copies (rest (least_free ids ∷ ids))) ∙ starts (is_two p.qos) open_rest)
+        rw (same_place n) (one_sent x false (least_free ids) p (copy_outputs x n copies (rest (least_free ids ∷ ids))) ∙ starts (is_qos2 p.qos) open_rest)
     room false b shut_rest open_rest =
         ap sent (sym (starts_full w n ids (queued copies) (beyond (length ids) w b))) ∙ shut_rest ∙ ap (map publishing) (rows_full w n ids (queued copies) (beyond (length ids) w b))
 

@@ -14,24 +14,24 @@ use Rattle.broker_spec.specs.Entries.{Entry, copies_at, queued}
 use Rattle.broker_spec.specs.Times.{at_puback, at_pubrec, at_pubcomp, answered_by, start_all, started, window_at, entries_of}
 use Rattle.broker_spec.specs.declared.command.Command.{Command}
 use Rattle.broker_spec.specs.declared.command.Command.TheVariants as commands
-use Rattle.exactly_once.specs.Carried.{is_two}
+use Rattle.exactly_once.specs.Carried.{is_qos2}
 
 -- each is of QoS 1 or 2, and a released one of QoS 2
 abbrev pub AreKept : List Entry → Type 0
 AreKept (Entry.Waits made p ∷ es) = (is_answered p.qos ≡ true) × AreKept es
 AreKept (Entry.Started made p id start ∷ es) = (is_answered p.qos ≡ true) × AreKept es
-AreKept (Entry.Released made p id start release ∷ es) = (is_two p.qos ≡ true) × AreKept es
+AreKept (Entry.Released made p id start release ∷ es) = (is_qos2 p.qos ≡ true) × AreKept es
 AreKept (Entry.Finished made p id start release finish ∷ es) = (is_answered p.qos ≡ true) × AreKept es
 AreKept [] = Unit {0}
 
 -- what is answered otherwise than by a PUBACK is of QoS 2
-two_of : (q : QoS) → is_answered q ≡ true → is_acknowledged q ≡ false → is_two q ≡ true
+two_of : (q : QoS) → is_answered q ≡ true → is_acknowledged q ≡ false → is_qos2 q ≡ true
 two_of qualities.AtMostOnce a e = absurd (both_ways false refl a)
 two_of qualities.AtLeastOnce a e = absurd (both_ways true e refl)
 two_of qualities.ExactlyOnce a e = refl
 
 -- QoS 2 is answered
-pub two_answered : (q : QoS) → is_two q ≡ true → is_answered q ≡ true
+pub two_answered : (q : QoS) → is_qos2 q ≡ true → is_answered q ≡ true
 two_answered qualities.AtMostOnce e = absurd (both_ways false refl e)
 two_answered qualities.AtLeastOnce e = refl
 two_answered qualities.ExactlyOnce e = refl

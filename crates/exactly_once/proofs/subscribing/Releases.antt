@@ -14,7 +14,7 @@ use Rattle.lists.specs.Lists.{has_id, IsDistinct, Each}
 use Rattle.exactly_once.specs.Items.{SenderItem, has_released}
 use Rattle.lists.proofs.OfEach.{each_append, each_then}
 use Rattle.lists.proofs.Tests.{or_right, or_left, none_or, eq_same}
-use Rattle.exactly_once.specs.Carried.{is_two}
+use Rattle.exactly_once.specs.Carried.{is_qos2}
 use Rattle.exactly_once.specs.Inside.AsSubscriber.{items_of_entries}
 use Rattle.exactly_once.proofs.subscribing.Queued.{AreKept}
 
@@ -28,10 +28,10 @@ more_by id false item items f e = e
 
 -- an entry more in front
 has_more : (id : ℕ) (e : Entry) (es : List Entry) → has_released id (items_of_entries es) ≡ true → has_released id (items_of_entries (e ∷ es)) ≡ true
-has_more id (Entry.Waits made p) es h = more_by id (is_two p.qos) (SenderItem.Waits p) (items_of_entries es) (λ e. e) h
-has_more id (Entry.Started made p i start) es h = more_by id (is_two p.qos) (SenderItem.Sent p i) (items_of_entries es) (λ e. e) h
-has_more id (Entry.Released made p i start release) es h = more_by id (is_two p.qos) (SenderItem.Released p i) (items_of_entries es) (or_right (id == i) (has_released id (items_of_entries es))) h
-has_more id (Entry.Finished made p i start release finish) es h = more_by id (is_two p.qos) (SenderItem.Finished p) (items_of_entries es) (λ e. e) h
+has_more id (Entry.Waits made p) es h = more_by id (is_qos2 p.qos) (SenderItem.Waits p) (items_of_entries es) (λ e. e) h
+has_more id (Entry.Started made p i start) es h = more_by id (is_qos2 p.qos) (SenderItem.Sent p i) (items_of_entries es) (λ e. e) h
+has_more id (Entry.Released made p i start release) es h = more_by id (is_qos2 p.qos) (SenderItem.Released p i) (items_of_entries es) (or_right (id == i) (has_released id (items_of_entries es))) h
+has_more id (Entry.Finished made p i start release finish) es h = more_by id (is_qos2 p.qos) (SenderItem.Finished p) (items_of_entries es) (λ e. e) h
 
 -- those of one place
 released_here : (t : ℕ) (es : List Entry) → AreKept es → Each (λ id. has_released id (items_of_entries es) ≡ true) (released_at t es)
@@ -49,7 +49,7 @@ released_here t (Entry.Released made p i start release ∷ es) h =
     (each_then (λ id. has_released id (items_of_entries es) ≡ true) (λ id. has_released id (items_of_entries (Entry.Released made p i start release ∷ es)) ≡ true) (released_at t es)
     (λ id. has_more id (Entry.Released made p i start release) es) (released_here t es h.1))
   where
-    first : has_released i (if is_two p.qos then SenderItem.Released p i ∷ items_of_entries es else items_of_entries es) ≡ true
+    first : has_released i (if is_qos2 p.qos then SenderItem.Released p i ∷ items_of_entries es else items_of_entries es) ≡ true
     first = rw h.0 (or_left (i == i) (has_released i (items_of_entries es)) (eq_same i))
 
     by : (b : Bool) → Each (λ id. has_released id (items_of_entries (Entry.Released made p i start release ∷ es)) ≡ true) (released_at t es)

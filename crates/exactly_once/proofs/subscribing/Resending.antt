@@ -17,7 +17,7 @@ use Rattle.exactly_once.specs.Handshake.{Forward, publishing, sender_resends}
 use Rattle.exactly_once.specs.Items.{SenderItem, sent}
 use Rattle.lists.proofs.Tests.{eq_same}
 use Rattle.exactly_once.specs.Sends.{sends_to}
-use Rattle.exactly_once.specs.Carried.{is_two}
+use Rattle.exactly_once.specs.Carried.{is_qos2}
 use Rattle.exactly_once.specs.Inside.AsSubscriber.{items_of_entries, forward_of}
 use Rattle.exactly_once.proofs.Deliveries.{sends_append}
 use Rattle.exactly_once.proofs.Starts.{rows_started}
@@ -59,20 +59,20 @@ skip false item items e = refl
 -- what was sent before is sent again
 pub forward_again : (x : ConnectionName) (n : ℕ) (es : List Entry) → StartedBefore n es → forward_of (sends_to x (flat_map (repeated_output x n) es)) ≡ map publishing (sent (items_of_entries es))
 forward_again x n [] h = refl
-forward_again x n (Entry.Waits made p ∷ es) h = forward_again x n es h ∙ ap (map publishing) (skip (is_two p.qos) (SenderItem.Waits p) (items_of_entries es) refl)
+forward_again x n (Entry.Waits made p ∷ es) h = forward_again x n es h ∙ ap (map publishing) (skip (is_qos2 p.qos) (SenderItem.Waits p) (items_of_entries es) refl)
 forward_again x n (Entry.Started made p id start ∷ es) h =
     rw (earlier start n h.0)
     (ap forward_of (sends_publish x true id p (flat_map (repeated_output x n) es))
     ∙ forward_publish true id p (sends_to x (flat_map (repeated_output x n) es))
-    ∙ by (is_two p.qos) (forward_again x n es h.1))
+    ∙ by (is_qos2 p.qos) (forward_again x n es h.1))
   where
     by : (b : Bool) → forward_of (sends_to x (flat_map (repeated_output x n) es)) ≡ map publishing (sent (items_of_entries es))
         → (if b then Forward.Publish id p ∷ forward_of (sends_to x (flat_map (repeated_output x n) es)) else forward_of (sends_to x (flat_map (repeated_output x n) es)))
         ≡ map publishing (sent (if b then SenderItem.Sent p id ∷ items_of_entries es else items_of_entries es))
     by true e = ap (λ l. Forward.Publish id p ∷ l) e
     by false e = e
-forward_again x n (Entry.Released made p id start release ∷ es) h = forward_again x n es h ∙ ap (map publishing) (skip (is_two p.qos) (SenderItem.Released p id) (items_of_entries es) refl)
-forward_again x n (Entry.Finished made p id start release finish ∷ es) h = forward_again x n es h ∙ ap (map publishing) (skip (is_two p.qos) (SenderItem.Finished p) (items_of_entries es) refl)
+forward_again x n (Entry.Released made p id start release ∷ es) h = forward_again x n es h ∙ ap (map publishing) (skip (is_qos2 p.qos) (SenderItem.Released p id) (items_of_entries es) refl)
+forward_again x n (Entry.Finished made p id start release finish ∷ es) h = forward_again x n es h ∙ ap (map publishing) (skip (is_qos2 p.qos) (SenderItem.Finished p) (items_of_entries es) refl)
 
 -- ---- all of it
 

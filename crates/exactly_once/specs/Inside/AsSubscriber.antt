@@ -17,14 +17,14 @@ use Rattle.exactly_once.specs.Handshake.{Forward, Backward, Transit, Handshake}
 use Rattle.client_base.specs.Keeper.{Written, Keeper}
 use Rattle.exactly_once.specs.Sides.{ClientConnection}
 use Rattle.exactly_once.specs.Story.{Story}
-use Rattle.exactly_once.specs.Carried.{is_two}
+use Rattle.exactly_once.specs.Carried.{is_qos2}
 use Rattle.exactly_once.specs.Acceptance.{accepted_on}
 use Rattle.exactly_once.specs.Inside.Projections.{to_come, to_be_taken, is_current}
 
 -- the item before these, if its publication has QoS 2
 abbrev pub two_item : Publication → SenderItem Publication → List (SenderItem Publication) →
     List (SenderItem Publication)
-two_item publication item items = if is_two publication.qos then item ∷ items else items
+two_item publication item items = if is_qos2 publication.qos then item ∷ items else items
 
 -- the QoS 2 entries of a session, as items of the handshake
 abbrev pub items_of_entries : List Entry → List (SenderItem Publication)

@@ -3,7 +3,7 @@ use Rattle.std.specs.Prelude.{◌≡◌, ℕ, suc, Bool, true, false, List, [], 
 use Rattle.lists.specs.Lists.{has_id, IsDistinct}
 use Rattle.exactly_once.specs.Items.{has_released}
 use Rattle.client_base.specs.Keeper.{Own, Keeper, ids_in_use}
-use Rattle.exactly_once.specs.Carried.{is_two}
+use Rattle.exactly_once.specs.Carried.{is_qos2}
 use Rattle.exactly_once.specs.Inside.Projections.{items_of_own}
 
 -- each has the number of how many come before it, counted from this one on
@@ -13,7 +13,7 @@ AreNumberedFrom next (Own.Unsent number publication id ∷ own) =
 AreNumberedFrom next (Own.Sent number publication id ∷ own) =
     (number ≡ next) × AreNumberedFrom (suc next) own
 AreNumberedFrom next (Own.Released number publication id ∷ own) =
-    (number ≡ next) × (is_two publication.qos ≡ true) × AreNumberedFrom (suc next) own
+    (number ≡ next) × (is_qos2 publication.qos ≡ true) × AreNumberedFrom (suc next) own
 AreNumberedFrom next (Own.Done number publication ∷ own) =
     (number ≡ next) × AreNumberedFrom (suc next) own
 AreNumberedFrom next [] = Unit {0}

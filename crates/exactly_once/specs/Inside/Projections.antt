@@ -17,7 +17,7 @@ use Rattle.exactly_once.specs.Sends.{put_to}
 use Rattle.client_base.specs.Keeper.{Own, Written}
 use Rattle.exactly_once.specs.Sides.{ClientConnection}
 use Rattle.exactly_once.specs.Story.{Story}
-use Rattle.exactly_once.specs.Carried.{is_two, new_numbers}
+use Rattle.exactly_once.specs.Carried.{is_qos2, new_numbers}
 
 -- ---- what is in transit on a connection, and whether the broker has it as current
 
@@ -38,7 +38,7 @@ is_current None name = false
 
 -- the item before these, if its publication has QoS 2
 abbrev pub own_item : Publication → SenderItem ℕ → List (SenderItem ℕ) → List (SenderItem ℕ)
-own_item publication item items = if is_two publication.qos then item ∷ items else items
+own_item publication item items = if is_qos2 publication.qos then item ∷ items else items
 
 -- the client's QoS 2 publications, as items of the handshake
 abbrev pub items_of_own : List Own → List (SenderItem ℕ)

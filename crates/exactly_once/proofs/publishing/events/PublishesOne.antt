@@ -18,7 +18,7 @@ use Rattle.exactly_once.specs.Sides.{ClientConnection}
 use Rattle.client_base.specs.Written.{written_publish}
 use Rattle.client_base.specs.Written.{writes_first}
 use Rattle.client_base.specs.Called.{adds_own, written_for}
-use Rattle.exactly_once.specs.Carried.{is_two}
+use Rattle.exactly_once.specs.Carried.{is_qos2}
 use Rattle.exactly_once.specs.Inside.Projections.{items_of_own, forward_of_own, backward_of_own, to_come, to_be_taken, is_current, as_publisher, GoesTo}
 use Rattle.exactly_once.specs.Inside.Shape.{HeldInShape}
 use Rattle.exactly_once.specs.Inside.OwnShape.{OwnInShape, none_unsent}
@@ -31,14 +31,14 @@ use Rattle.exactly_once.proofs.publishing.First.{story_by, first_link, goes_firs
 use Rattle.exactly_once.proofs.publishing.Calls.{holds_of}
 
 -- one of QoS 2 is answered
-two_answered : (q : QoS) → is_answered q ≡ false → is_two q ≡ false
+two_answered : (q : QoS) → is_answered q ≡ false → is_qos2 q ≡ false
 two_answered qualities.AtMostOnce e = refl
 two_answered qualities.AtLeastOnce e = refl
 two_answered qualities.ExactlyOnce e = e
 
 -- what the new publication is as an item, if it is sent and if it is not
-sent_item : (a : Bool) (n id : ℕ) (p : Publication) → (a ≡ false → is_two p.qos ≡ false)
-    → items_of_own ((if a then Own.Sent n p id else Own.Done n p) ∷ []) ≡ (if is_two p.qos then SenderItem.Sent n id ∷ [] else [])
+sent_item : (a : Bool) (n id : ℕ) (p : Publication) → (a ≡ false → is_qos2 p.qos ≡ false)
+    → items_of_own ((if a then Own.Sent n p id else Own.Done n p) ∷ []) ≡ (if is_qos2 p.qos then SenderItem.Sent n id ∷ [] else [])
 sent_item true n id p none = refl
 sent_item false n id p none = rw (none refl) refl
 
@@ -70,7 +70,7 @@ writes_none [] = refl
 writes_none (κ ∷ others) = λ i. record κ { written = append-nil κ.written i } ∷ others
 
 -- what is written of it
-forward_one : (n id : ℕ) (p : Publication) → forward_of_own (written_publish false n id p ∷ []) ≡ (if is_two p.qos then Forward.Publish id n ∷ [] else [])
+forward_one : (n id : ℕ) (p : Publication) → forward_of_own (written_publish false n id p ∷ []) ≡ (if is_qos2 p.qos then Forward.Publish id n ∷ [] else [])
 forward_one n id p = forward_publishes false n id p []
 
 -- ---- the event
@@ -81,15 +81,15 @@ with_own o keeper = record keeper { own = keeper.own ++ o ∷ [] }
 
 online_one : (limits : Limits) (past : Past) (keeper : Keeper) (connections : List ClientConnection) (p : Publication) (o : Own) → OwnInShape keeper
     → Each (ConnectionInShape limits past keeper.client) connections → HeldInShape limits past keeper connections → keeper.is_online ≡ true
-    → items_of_own (o ∷ []) ≡ (if is_two p.qos then SenderItem.Sent (next_own_number keeper) (least_free (ids_in_use keeper)) ∷ [] else [])
+    → items_of_own (o ∷ []) ≡ (if is_qos2 p.qos then SenderItem.Sent (next_own_number keeper) (least_free (ids_in_use keeper)) ∷ [] else [])
     → GoesTo (as_publisher limits (story_by past connections keeper))
     (as_publisher limits (story_by past (writes_first (written_publish false (next_own_number keeper) (least_free (ids_in_use keeper)) p ∷ []) connections) (with_own o keeper)))
 online_one limits past keeper [] p o own each held on item =
     let h = as_publisher limits (story_by past [] keeper) in
     let id = least_free (ids_in_use keeper) in
     let n = next_own_number keeper in
-    goes_of h (as_publisher limits (story_by past [] (with_own o keeper))) (h.items ++ (if is_two p.qos then SenderItem.Sent n id ∷ [] else [])) h.transit
-    (runs_online h false (is_two p.qos) [] [] keeper n refl (own.online_sent on) refl)
+    goes_of h (as_publisher limits (story_by past [] (with_own o keeper))) (h.items ++ (if is_qos2 p.qos then SenderItem.Sent n id ∷ [] else [])) h.transit
+    (runs_online h false (is_qos2 p.qos) [] [] keeper n refl (own.online_sent on) refl)
     (ap (λ l. items_of_own keeper.own ++ l) (sym item) ∙ sym (items_more keeper.own (o ∷ []))) refl (λ j. refl) refl
 online_one limits past keeper (κ ∷ others) p o own each held on item =
     let h = as_publisher limits (story_by past (κ ∷ others) keeper) in
@@ -100,21 +100,21 @@ online_one limits past keeper (κ ∷ others) p o own each held on item =
     let cur = is_current (current_connection past keeper.client) κ.name in
     let f = forward_of_own (to_be_taken κ) in
     let b = backward_of_own (to_come limits past κ) in
-    let more = if is_two p.qos then Forward.Publish id n ∷ [] else [] in
-    let items = h.items ++ (if is_two p.qos then SenderItem.Sent n id ∷ [] else []) in
+    let more = if is_qos2 p.qos then Forward.Publish id n ∷ [] else [] in
+    let items = h.items ++ (if is_qos2 p.qos then SenderItem.Sent n id ∷ [] else []) in
     goes_first limits past keeper (with_own o keeper) κ others (κ.written ++ ws) ws κ.handled κ.confirmed κ.accepted items (f ++ more) b holds.shape refl (holds.confirmed on) refl
     (subst (λ (online : Bool). Reaches h items (link_by cur online (f ++ more) b)) (sym on)
-    (runs_online h cur (is_two p.qos) f b keeper n refl (own.online_sent on) (first_link limits past keeper κ others (holds.confirmed on) ∙ ap (λ online. link_by cur online f b) on)))
+    (runs_online h cur (is_qos2 p.qos) f b keeper n refl (own.online_sent on) (first_link limits past keeper κ others (holds.confirmed on) ∙ ap (λ online. link_by cur online f b) on)))
     (ap (λ l. items_of_own keeper.own ++ l) (sym item) ∙ sym (items_more keeper.own (o ∷ []))) (ap (λ l. f ++ l) (sym (forward_one n id p))) refl
 
 offline_one : (limits : Limits) (past : Past) (keeper : Keeper) (connections : List ClientConnection) (p : Publication) (o : Own)
-    → items_of_own (o ∷ []) ≡ (if is_two p.qos then SenderItem.Waits (next_own_number keeper) ∷ [] else [])
+    → items_of_own (o ∷ []) ≡ (if is_qos2 p.qos then SenderItem.Waits (next_own_number keeper) ∷ [] else [])
     → GoesTo (as_publisher limits (story_by past connections keeper)) (as_publisher limits (story_by past (writes_first [] connections) (with_own o keeper)))
 offline_one limits past keeper connections p o item =
     let h = as_publisher limits (story_by past connections keeper) in
     let n = next_own_number keeper in
     subst (λ (later : List ClientConnection). GoesTo h (as_publisher limits (story_by past later (with_own o keeper)))) (sym (writes_none connections))
-    (goes_of h (as_publisher limits (story_by past connections (with_own o keeper))) (h.items ++ (if is_two p.qos then SenderItem.Waits n ∷ [] else [])) h.transit (runs_offline h (is_two p.qos) n)
+    (goes_of h (as_publisher limits (story_by past connections (with_own o keeper))) (h.items ++ (if is_qos2 p.qos then SenderItem.Waits n ∷ [] else [])) h.transit (runs_offline h (is_qos2 p.qos) n)
     (ap (λ l. items_of_own keeper.own ++ l) (sym item) ∙ sym (items_more keeper.own (o ∷ []))) refl (λ j. refl) refl)
 
 pub publishes_it : (limits : Limits) (past : Past) (keeper : Keeper) (connections : List ClientConnection) (p : Publication) → OwnInShape keeper

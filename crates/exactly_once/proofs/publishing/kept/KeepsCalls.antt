@@ -23,7 +23,7 @@ use Rattle.client_base.specs.Handled.{packet_handled}
 use Rattle.exactly_once.specs.Story.{Story, StoryStep}
 use Rattle.client_base.specs.Called.{adds_own}
 use Rattle.exactly_once.specs.Story.StoryStep.{takes, others_take, receives, opens_anew, loses, disconnects, publishes_one, subscribes, unsubscribes}
-use Rattle.exactly_once.specs.Carried.{is_two}
+use Rattle.exactly_once.specs.Carried.{is_qos2}
 use Rattle.exactly_once.specs.Inside.Projections.{items_of_own, as_publisher}
 use Rattle.exactly_once.specs.Inside.Shape.{HeldInShape, HasShape, IsSoundStory}
 use Rattle.exactly_once.specs.Inside.OwnShape.{OwnInShape, AreNumberedFrom, none_unsent}
@@ -85,13 +85,13 @@ publishes_keeps keeper p s = by keeper.is_online refl (is_answered p.qos)
         → OwnInShape (record keeper { own = keeper.own ++ (if a then (if on then Own.Sent n p id else Own.Unsent n p id) else Own.Done n p) ∷ [] })
     by true e true =
         next_keeps keeper (Own.Sent n p id) s
-        (record { ids = inl refl; numbered = (same, tt); unreleased = λ j. no_release (is_two p.qos) j (SenderItem.Sent n id) refl; online_sent = λ on. refl })
+        (record { ids = inl refl; numbered = (same, tt); unreleased = λ j. no_release (is_qos2 p.qos) j (SenderItem.Sent n id) refl; online_sent = λ on. refl })
     by false e true =
         next_keeps keeper (Own.Unsent n p id) s
-        (record { ids = inl refl; numbered = (same, tt); unreleased = λ j. no_release (is_two p.qos) j (SenderItem.Waits n) refl; online_sent = λ on. absurd (both_ways keeper.is_online e on) })
+        (record { ids = inl refl; numbered = (same, tt); unreleased = λ j. no_release (is_qos2 p.qos) j (SenderItem.Waits n) refl; online_sent = λ on. absurd (both_ways keeper.is_online e on) })
     by on e false =
         next_keeps keeper (Own.Done n p) s
-        (record { ids = inr refl; numbered = (same, tt); unreleased = λ j. no_release (is_two p.qos) j (SenderItem.Finished n) refl; online_sent = λ on. refl })
+        (record { ids = inr refl; numbered = (same, tt); unreleased = λ j. no_release (is_qos2 p.qos) j (SenderItem.Finished n) refl; online_sent = λ on. refl })
 
 -- ---- one more request
 

@@ -4,7 +4,7 @@ use Rattle.std.proofs.lemmas.Bool.{both_ways}
 use Rattle.exactly_once.specs.Items.{SenderItem, has_released}
 use Rattle.client_base.specs.Keeper.{Own, ids_of_own}
 use Rattle.client_base.specs.Written.{sent_all}
-use Rattle.exactly_once.specs.Carried.{is_two}
+use Rattle.exactly_once.specs.Carried.{is_qos2}
 use Rattle.exactly_once.specs.Inside.Projections.{items_of_own}
 use Rattle.exactly_once.specs.Inside.OwnShape.{AreNumberedFrom, none_unsent}
 
@@ -67,26 +67,26 @@ unsent_sent (Own.Done k p ∷ own) = unsent_sent own
 
 pub released_sent : (j : ℕ) (own : List Own) → has_released j (items_of_own own) ≡ has_released j (items_of_own (sent_all own))
 released_sent j [] = refl
-released_sent j (Own.Unsent k p id ∷ own) = by (is_two p.qos) (released_sent j own)
+released_sent j (Own.Unsent k p id ∷ own) = by (is_qos2 p.qos) (released_sent j own)
   where
     by : (b : Bool) → has_released j (items_of_own own) ≡ has_released j (items_of_own (sent_all own))
         → has_released j (if b then SenderItem.Waits k ∷ items_of_own own else items_of_own own) ≡ has_released j (if b then SenderItem.Sent k id ∷ items_of_own (sent_all own) else items_of_own (sent_all own))
     by true ih = ih
     by false ih = ih
-released_sent j (Own.Sent k p id ∷ own) = by (is_two p.qos) (released_sent j own)
+released_sent j (Own.Sent k p id ∷ own) = by (is_qos2 p.qos) (released_sent j own)
   where
     by : (b : Bool) → has_released j (items_of_own own) ≡ has_released j (items_of_own (sent_all own))
         → has_released j (if b then SenderItem.Sent k id ∷ items_of_own own else items_of_own own) ≡ has_released j (if b then SenderItem.Sent k id ∷ items_of_own (sent_all own) else items_of_own (sent_all own))
     by true ih = ih
     by false ih = ih
-released_sent j (Own.Released k p id ∷ own) = by (is_two p.qos) (released_sent j own)
+released_sent j (Own.Released k p id ∷ own) = by (is_qos2 p.qos) (released_sent j own)
   where
     by : (b : Bool) → has_released j (items_of_own own) ≡ has_released j (items_of_own (sent_all own))
         → has_released j (if b then SenderItem.Released k id ∷ items_of_own own else items_of_own own)
         ≡ has_released j (if b then SenderItem.Released k id ∷ items_of_own (sent_all own) else items_of_own (sent_all own))
     by true ih = ap (λ b. (j == id) || b) ih
     by false ih = ih
-released_sent j (Own.Done k p ∷ own) = by (is_two p.qos) (released_sent j own)
+released_sent j (Own.Done k p ∷ own) = by (is_qos2 p.qos) (released_sent j own)
   where
     by : (b : Bool) → has_released j (items_of_own own) ≡ has_released j (items_of_own (sent_all own))
         → has_released j (if b then SenderItem.Finished k ∷ items_of_own own else items_of_own own) ≡ has_released j (if b then SenderItem.Finished k ∷ items_of_own (sent_all own) else items_of_own (sent_all own))

@@ -8,7 +8,7 @@ use Rattle.lists.specs.Lists.{has_id}
 use Rattle.lists.proofs.Identifiers.{has_split}
 use Rattle.client_base.specs.Keeper.{Own, Keeper, ids_of_own, ids_in_use}
 use Rattle.client_base.specs.State.{id_of_request}
-use Rattle.exactly_once.specs.Carried.{is_two}
+use Rattle.exactly_once.specs.Carried.{is_qos2}
 use Rattle.exactly_once.specs.Inside.Projections.{items_of_own}
 use Rattle.exactly_once.specs.Inside.OwnShape.{none_unsent}
 use Rattle.exactly_once.proofs.publishing.Starting.{NoneWaits}
@@ -17,25 +17,25 @@ use Rattle.exactly_once.proofs.publishing.Unsent.{not_busy}
 -- the items after another publication
 pub items_more : (own more : List Own) → items_of_own (own ++ more) ≡ items_of_own own ++ items_of_own more
 items_more [] more = refl
-items_more (Own.Unsent k p id ∷ own) more = by (is_two p.qos) (items_more own more)
+items_more (Own.Unsent k p id ∷ own) more = by (is_qos2 p.qos) (items_more own more)
   where
     by : (b : Bool) → items_of_own (own ++ more) ≡ items_of_own own ++ items_of_own more
         → (if b then SenderItem.Waits k ∷ items_of_own (own ++ more) else items_of_own (own ++ more)) ≡ (if b then SenderItem.Waits k ∷ items_of_own own else items_of_own own) ++ items_of_own more
     by true ih = ap (λ l. SenderItem.Waits k ∷ l) ih
     by false ih = ih
-items_more (Own.Sent k p id ∷ own) more = by (is_two p.qos) (items_more own more)
+items_more (Own.Sent k p id ∷ own) more = by (is_qos2 p.qos) (items_more own more)
   where
     by : (b : Bool) → items_of_own (own ++ more) ≡ items_of_own own ++ items_of_own more
         → (if b then SenderItem.Sent k id ∷ items_of_own (own ++ more) else items_of_own (own ++ more)) ≡ (if b then SenderItem.Sent k id ∷ items_of_own own else items_of_own own) ++ items_of_own more
     by true ih = ap (λ l. SenderItem.Sent k id ∷ l) ih
     by false ih = ih
-items_more (Own.Released k p id ∷ own) more = by (is_two p.qos) (items_more own more)
+items_more (Own.Released k p id ∷ own) more = by (is_qos2 p.qos) (items_more own more)
   where
     by : (b : Bool) → items_of_own (own ++ more) ≡ items_of_own own ++ items_of_own more
         → (if b then SenderItem.Released k id ∷ items_of_own (own ++ more) else items_of_own (own ++ more)) ≡ (if b then SenderItem.Released k id ∷ items_of_own own else items_of_own own) ++ items_of_own more
     by true ih = ap (λ l. SenderItem.Released k id ∷ l) ih
     by false ih = ih
-items_more (Own.Done k p ∷ own) more = by (is_two p.qos) (items_more own more)
+items_more (Own.Done k p ∷ own) more = by (is_qos2 p.qos) (items_more own more)
   where
     by : (b : Bool) → items_of_own (own ++ more) ≡ items_of_own own ++ items_of_own more
         → (if b then SenderItem.Finished k ∷ items_of_own (own ++ more) else items_of_own (own ++ more)) ≡ (if b then SenderItem.Finished k ∷ items_of_own own else items_of_own own) ++ items_of_own more
@@ -50,9 +50,9 @@ skips false item items n m = m
 pub none_waits : (own : List Own) → none_unsent own ≡ true → NoneWaits (items_of_own own)
 none_waits [] e = tt
 none_waits (Own.Unsent k p id ∷ own) e = absurd (both_ways false refl e)
-none_waits (Own.Sent k p id ∷ own) e = let n = none_waits own e in skips (is_two p.qos) (SenderItem.Sent k id) (items_of_own own) n n
-none_waits (Own.Released k p id ∷ own) e = let n = none_waits own e in skips (is_two p.qos) (SenderItem.Released k id) (items_of_own own) n n
-none_waits (Own.Done k p ∷ own) e = let n = none_waits own e in skips (is_two p.qos) (SenderItem.Finished k) (items_of_own own) n n
+none_waits (Own.Sent k p id ∷ own) e = let n = none_waits own e in skips (is_qos2 p.qos) (SenderItem.Sent k id) (items_of_own own) n n
+none_waits (Own.Released k p id ∷ own) e = let n = none_waits own e in skips (is_qos2 p.qos) (SenderItem.Released k id) (items_of_own own) n n
+none_waits (Own.Done k p ∷ own) e = let n = none_waits own e in skips (is_qos2 p.qos) (SenderItem.Finished k) (items_of_own own) n n
 
 -- the identifier that it gets is free
 pub new_is_free : (keeper : Keeper) → has_id (least_free (ids_in_use keeper)) (busy (items_of_own keeper.own)) ≡ false

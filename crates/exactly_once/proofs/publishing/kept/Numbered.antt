@@ -8,7 +8,7 @@ use Rattle.lists.proofs.Tests.{or_none, or_second, eq_is}
 use Rattle.exactly_once.proofs.BusyIdentifiers.{sent_busy}
 use Rattle.client_base.specs.Keeper.{Own, ids_of_own}
 use Rattle.client_base.specs.Handshakes.{own_at_pubrec, own_at_puback, own_at_pubcomp}
-use Rattle.exactly_once.specs.Carried.{is_two}
+use Rattle.exactly_once.specs.Carried.{is_qos2}
 use Rattle.exactly_once.specs.Inside.Projections.{items_of_own}
 use Rattle.exactly_once.specs.Inside.OwnShape.{AreNumberedFrom}
 use Rattle.exactly_once.proofs.publishing.Unsent.{not_busy}
@@ -42,7 +42,7 @@ numbered_pubrec i n [] h d s = tt
 numbered_pubrec i n (Own.Unsent k p id ∷ own) h d s = (h.0, numbered_pubrec i (suc n) own h.1 d.1 (there s))
   where
     there : (has_sent i (items_of_own (Own.Unsent k p id ∷ own)) ≡ true) ⊎ (has_id i (id ∷ ids_of_own own) ≡ false) → (has_sent i (items_of_own own) ≡ true) ⊎ (has_id i (ids_of_own own) ≡ false)
-    there (inl e) = inl (skip (is_two p.qos) e)
+    there (inl e) = inl (skip (is_qos2 p.qos) e)
       where
         skip : (b : Bool) → has_sent i (if b then SenderItem.Waits k ∷ items_of_own own else items_of_own own) ≡ true → has_sent i (items_of_own own) ≡ true
         skip true e = e
@@ -51,7 +51,7 @@ numbered_pubrec i n (Own.Unsent k p id ∷ own) h d s = (h.0, numbered_pubrec i 
 numbered_pubrec i n (Own.Released k p id ∷ own) h d s = (h.0, h.1, numbered_pubrec i (suc n) own h.2 d.1 (there s))
   where
     there : (has_sent i (items_of_own (Own.Released k p id ∷ own)) ≡ true) ⊎ (has_id i (id ∷ ids_of_own own) ≡ false) → (has_sent i (items_of_own own) ≡ true) ⊎ (has_id i (ids_of_own own) ≡ false)
-    there (inl e) = inl (skip (is_two p.qos) e)
+    there (inl e) = inl (skip (is_qos2 p.qos) e)
       where
         skip : (b : Bool) → has_sent i (if b then SenderItem.Released k id ∷ items_of_own own else items_of_own own) ≡ true → has_sent i (items_of_own own) ≡ true
         skip true e = e
@@ -60,19 +60,19 @@ numbered_pubrec i n (Own.Released k p id ∷ own) h d s = (h.0, h.1, numbered_pu
 numbered_pubrec i n (Own.Done k p ∷ own) h d s = (h.0, numbered_pubrec i (suc n) own h.1 d (there s))
   where
     there : (has_sent i (items_of_own (Own.Done k p ∷ own)) ≡ true) ⊎ (has_id i (ids_of_own own) ≡ false) → (has_sent i (items_of_own own) ≡ true) ⊎ (has_id i (ids_of_own own) ≡ false)
-    there (inl e) = inl (skip (is_two p.qos) e)
+    there (inl e) = inl (skip (is_qos2 p.qos) e)
       where
         skip : (b : Bool) → has_sent i (if b then SenderItem.Finished k ∷ items_of_own own else items_of_own own) ≡ true → has_sent i (items_of_own own) ≡ true
         skip true e = e
         skip false e = e
     there (inr e) = inr e
-numbered_pubrec i n (Own.Sent k p id ∷ own) h d s = by (cases_Bool (i == id)) (cases_Bool (is_two p.qos)) s (numbered_pubrec i (suc n) own h.1 d.1)
+numbered_pubrec i n (Own.Sent k p id ∷ own) h d s = by (cases_Bool (i == id)) (cases_Bool (is_qos2 p.qos)) s (numbered_pubrec i (suc n) own h.1 d.1)
   where
     clear : (i == id) ≡ true → has_id i (ids_of_own own) ≡ false
     clear e = subst (λ (j : ℕ). has_id j (ids_of_own own) ≡ false) (sym (eq_is i id e)) d.0
 
     -- sent or released, it keeps its number
-    numbered : (b : Bool) → (b ≡ true → is_two p.qos ≡ true) → AreNumberedFrom (suc n) (map (own_at_pubrec i) own)
+    numbered : (b : Bool) → (b ≡ true → is_qos2 p.qos ≡ true) → AreNumberedFrom (suc n) (map (own_at_pubrec i) own)
         → AreNumberedFrom n ((if b then Own.Released k p id else Own.Sent k p id) ∷ map (own_at_pubrec i) own)
     numbered true two rest = (h.0, two refl, rest)
     numbered false two rest = (h.0, rest)
@@ -81,7 +81,7 @@ numbered_pubrec i n (Own.Sent k p id ∷ own) h d s = by (cases_Bool (i == id)) 
     both true b e = refl
     both false b e = absurd (both_ways false refl e)
 
-    by : ((i == id) ≡ true) ⊎ ((i == id) ≡ false) → (is_two p.qos ≡ true) ⊎ (is_two p.qos ≡ false)
+    by : ((i == id) ≡ true) ⊎ ((i == id) ≡ false) → (is_qos2 p.qos ≡ true) ⊎ (is_qos2 p.qos ≡ false)
         → (has_sent i (items_of_own (Own.Sent k p id ∷ own)) ≡ true) ⊎ (has_id i (id ∷ ids_of_own own) ≡ false)
         → ((has_sent i (items_of_own own) ≡ true) ⊎ (has_id i (ids_of_own own) ≡ false) → AreNumberedFrom (suc n) (map (own_at_pubrec i) own))
         → AreNumberedFrom n ((if (i == id) && not (is_acknowledged p.qos) then Own.Released k p id else Own.Sent k p id) ∷ map (own_at_pubrec i) own)
@@ -95,7 +95,7 @@ numbered_pubrec i n (Own.Sent k p id ∷ own) h d s = by (cases_Bool (i == id)) 
         (ih (inr (or_none (i == id) (has_id i (ids_of_own own)) none).1))
     by (inr e) two (inl has) ih =
         numbered ((i == id) && not (is_acknowledged p.qos)) (λ b. absurd (both_ways (i == id) e (both (i == id) (not (is_acknowledged p.qos)) b)))
-        (ih (inl (there (is_two p.qos) has)))
+        (ih (inl (there (is_qos2 p.qos) has)))
       where
         there : (b : Bool) → has_sent i (if b then SenderItem.Sent k id ∷ items_of_own own else items_of_own own) ≡ true → has_sent i (items_of_own own) ≡ true
         there true f = or_second (i == id) (has_sent i (items_of_own own)) (has_sent i (items_of_own own)) e f (λ g. g)

@@ -12,7 +12,7 @@ use Rattle.broker_spec.specs.Times.{at_puback, at_pubrec}
 use Rattle.broker_spec.proofs.NothingWaits.{IsFull}
 use Rattle.exactly_once.specs.Items.{SenderItem, has_sent}
 use Rattle.lists.proofs.Tests.{or_right, or_left, eq_same}
-use Rattle.exactly_once.specs.Carried.{is_two}
+use Rattle.exactly_once.specs.Carried.{is_qos2}
 use Rattle.exactly_once.specs.Inside.AsSubscriber.{items_of_entries, two_item}
 use Rattle.exactly_once.proofs.Items.{AllQueued}
 use Rattle.exactly_once.proofs.subscribing.Queued.{AreKept, two_answered}
@@ -26,10 +26,10 @@ all_queued (Entry.Released made p id start release ∷ es) h = (two_answered p.q
 all_queued (Entry.Finished made p id start release finish ∷ es) h = (h.0, all_queued es h.1)
 
 -- QoS 2 is not acknowledged by a PUBACK
-two_not : (p : Publication) → is_two p.qos ≡ true → is_acknowledged p.qos ≡ false
+two_not : (p : Publication) → is_qos2 p.qos ≡ true → is_acknowledged p.qos ≡ false
 two_not p e = by p.qos e
   where
-    by : (q : QoS) → is_two q ≡ true → is_acknowledged q ≡ false
+    by : (q : QoS) → is_qos2 q ≡ true → is_acknowledged q ≡ false
     by qualities.AtMostOnce e = absurd (both_ways false refl e)
     by qualities.AtLeastOnce e = absurd (both_ways false refl e)
     by qualities.ExactlyOnce e = refl
@@ -42,14 +42,14 @@ one_more p x es fs e = ap (two_item p x) e
 pub items_puback : (n i : ℕ) (es : List Entry) → items_of_entries (map (at_puback n i) es) ≡ items_of_entries es
 items_puback n i [] = refl
 items_puback n i (Entry.Waits made p ∷ es) = one_more p (SenderItem.Waits p) (items_of_entries (map (at_puback n i) es)) (items_of_entries es) (items_puback n i es)
-items_puback n i (Entry.Started made p id start ∷ es) = by (i == id) (cases_Bool (is_two p.qos)) (items_puback n i es)
+items_puback n i (Entry.Started made p id start ∷ es) = by (i == id) (cases_Bool (is_qos2 p.qos)) (items_puback n i es)
   where
-    pick : (b : Bool) → is_two p.qos ≡ false → items_of_entries (map (at_puback n i) es) ≡ items_of_entries es
+    pick : (b : Bool) → is_qos2 p.qos ≡ false → items_of_entries (map (at_puback n i) es) ≡ items_of_entries es
         → items_of_entries ((if b then Entry.Finished made p id start None n else Entry.Started made p id start) ∷ map (at_puback n i) es) ≡ two_item p (SenderItem.Sent p id) (items_of_entries es)
     pick true t ih = rw t ih
     pick false t ih = one_more p (SenderItem.Sent p id) (items_of_entries (map (at_puback n i) es)) (items_of_entries es) ih
 
-    by : (b : Bool) → (is_two p.qos ≡ true) ⊎ (is_two p.qos ≡ false) → items_of_entries (map (at_puback n i) es) ≡ items_of_entries es
+    by : (b : Bool) → (is_qos2 p.qos ≡ true) ⊎ (is_qos2 p.qos ≡ false) → items_of_entries (map (at_puback n i) es) ≡ items_of_entries es
         → items_of_entries ((if b && is_acknowledged p.qos then Entry.Finished made p id start None n else Entry.Started made p id start) ∷ map (at_puback n i) es) ≡ two_item p (SenderItem.Sent p id) (items_of_entries es)
     by false t ih = one_more p (SenderItem.Sent p id) (items_of_entries (map (at_puback n i) es)) (items_of_entries es) ih
     by true (inl t) ih = rw (two_not p t) (one_more p (SenderItem.Sent p id) (items_of_entries (map (at_puback n i) es)) (items_of_entries es) ih)
@@ -77,8 +77,8 @@ skipped i false x items f e = e
 -- a sent item is released by its PUBREC
 pub now_released : (n i : ℕ) (es : List Entry) → has_sent i (items_of_entries es) ≡ true → has_id i (released_at n (map (at_pubrec n i) es)) ≡ true
 now_released n i [] e = absurd (both_ways false refl e)
-now_released n i (Entry.Waits made p ∷ es) e = now_released n i es (skipped i (is_two p.qos) (SenderItem.Waits p) (items_of_entries es) (λ e. e) e)
-now_released n i (Entry.Started made p id start ∷ es) e = by (cases_Bool (i == id)) (cases_Bool (is_two p.qos)) (now_released n i es)
+now_released n i (Entry.Waits made p ∷ es) e = now_released n i es (skipped i (is_qos2 p.qos) (SenderItem.Waits p) (items_of_entries es) (λ e. e) e)
+now_released n i (Entry.Started made p id start ∷ es) e = by (cases_Bool (i == id)) (cases_Bool (is_qos2 p.qos)) (now_released n i es)
   where
     rest : Entry → List ℕ
     rest entry = released_at n (entry ∷ map (at_pubrec n i) es)
@@ -91,17 +91,17 @@ now_released n i (Entry.Started made p id start ∷ es) e = by (cases_Bool (i ==
     drop_sent true n e = sym (ap (λ b. b || has_sent i (items_of_entries es)) n) ∙ e
     drop_sent false n e = e
 
-    by : ((i == id) ≡ true) ⊎ ((i == id) ≡ false) → (is_two p.qos ≡ true) ⊎ (is_two p.qos ≡ false) → (has_sent i (items_of_entries es) ≡ true → has_id i (released_at n (map (at_pubrec n i) es)) ≡ true)
+    by : ((i == id) ≡ true) ⊎ ((i == id) ≡ false) → (is_qos2 p.qos ≡ true) ⊎ (is_qos2 p.qos ≡ false) → (has_sent i (items_of_entries es) ≡ true → has_id i (released_at n (map (at_pubrec n i) es)) ≡ true)
         → has_id i (rest (at_pubrec n i (Entry.Started made p id start))) ≡ true
     by (inl b) (inl t) ih = rw (b, two_not p t) (rw (eq_same n) (or_left (i == id) (has_id i (released_at n (map (at_pubrec n i) es))) b))
     by (inl b) (inr t) ih = kept ((i == id) && not (is_acknowledged p.qos)) (ih (sym (ap (λ z. has_sent i (if z then SenderItem.Sent p id ∷ items_of_entries es else items_of_entries es)) t) ∙ e))
-    by (inr b) t ih = kept ((i == id) && not (is_acknowledged p.qos)) (ih (drop_sent (is_two p.qos) b e))
-now_released n i (Entry.Released made p id start release ∷ es) e = by (release == n) (now_released n i es (skipped i (is_two p.qos) (SenderItem.Released p id) (items_of_entries es) (λ e. e) e))
+    by (inr b) t ih = kept ((i == id) && not (is_acknowledged p.qos)) (ih (drop_sent (is_qos2 p.qos) b e))
+now_released n i (Entry.Released made p id start release ∷ es) e = by (release == n) (now_released n i es (skipped i (is_qos2 p.qos) (SenderItem.Released p id) (items_of_entries es) (λ e. e) e))
   where
     by : (b : Bool) → has_id i (released_at n (map (at_pubrec n i) es)) ≡ true → has_id i (if b then id ∷ released_at n (map (at_pubrec n i) es) else released_at n (map (at_pubrec n i) es)) ≡ true
     by true h = or_right (i == id) (has_id i (released_at n (map (at_pubrec n i) es))) h
     by false h = h
-now_released n i (Entry.Finished made p id start release finish ∷ es) e = now_released n i es (skipped i (is_two p.qos) (SenderItem.Finished p) (items_of_entries es) (λ e. e) e)
+now_released n i (Entry.Finished made p id start release finish ∷ es) e = now_released n i es (skipped i (is_qos2 p.qos) (SenderItem.Finished p) (items_of_entries es) (λ e. e) e)
 
 -- identifiers after others
 pub has_after : (i : ℕ) (xs ys : List ℕ) → has_id i ys ≡ true → has_id i (xs ++ ys) ≡ true
