@@ -1,6 +1,6 @@
 -- The client's answers keep the entries sound.
 use Rattle.std.proofs.Common.{ℕ, ◌+◌, ◌≤◌, suc, Bool, true, false, not, ◌&&◌, ◌==◌, if◌then◌else◌, Some, None, List, [], ◌∷◌, map, arith}
-use Rattle.session_base.specs.Publication.{is_acknowledged}
+use Rattle.session_base.specs.Publication.{is_qos1}
 use Rattle.broker_spec.specs.Entries.{Entry}
 use Rattle.broker_spec.specs.Readings.{busy_ids}
 use Rattle.broker_spec.specs.Times.{at_puback, at_pubrec, at_pubcomp}
@@ -31,7 +31,7 @@ wait_pubcomp n i (Entry.Finished made p id start release finish ∷ es) h = absu
 order_puback : (n i : ℕ) (es : List Entry) → InOrder es → InOrder (map (at_puback n i) es)
 order_puback n i [] h = tt
 order_puback n i (Entry.Waits made p ∷ es) h = wait_puback n i es h
-order_puback n i (Entry.Started made p id start ∷ es) h = one ((i == id) && is_acknowledged p.qos) (order_puback n i es h)
+order_puback n i (Entry.Started made p id start ∷ es) h = one ((i == id) && is_qos1 p.qos) (order_puback n i es h)
   where
     one : (b : Bool) → InOrder (map (at_puback n i) es) →
         InOrder ((if b then Entry.Finished made p id start None n else Entry.Started made p id start) ∷ map (at_puback n i) es)
@@ -43,7 +43,7 @@ order_puback n i (Entry.Finished made p id start release finish ∷ es) h = orde
 order_pubrec : (n i : ℕ) (es : List Entry) → InOrder es → InOrder (map (at_pubrec n i) es)
 order_pubrec n i [] h = tt
 order_pubrec n i (Entry.Waits made p ∷ es) h = wait_pubrec n i es h
-order_pubrec n i (Entry.Started made p id start ∷ es) h = one ((i == id) && not (is_acknowledged p.qos)) (order_pubrec n i es h)
+order_pubrec n i (Entry.Started made p id start ∷ es) h = one ((i == id) && not (is_qos1 p.qos)) (order_pubrec n i es h)
   where
     one : (b : Bool) → InOrder (map (at_pubrec n i) es) →
         InOrder ((if b then Entry.Released made p id start n else Entry.Started made p id start) ∷ map (at_pubrec n i) es)
@@ -67,7 +67,7 @@ order_pubcomp n i (Entry.Finished made p id start release finish ∷ es) h = ord
 busy_puback : (test : ℕ → Bool) (n i : ℕ) (es : List Entry) → count test (busy_ids (map (at_puback n i) es)) ≤ count test (busy_ids es)
 busy_puback test n i [] = omega arith
 busy_puback test n i (Entry.Waits made p ∷ es) = busy_puback test n i es
-busy_puback test n i (Entry.Started made p id start ∷ es) = one ((i == id) && is_acknowledged p.qos) (busy_puback test n i es)
+busy_puback test n i (Entry.Started made p id start ∷ es) = one ((i == id) && is_qos1 p.qos) (busy_puback test n i es)
   where
     one : (b : Bool) → count test (busy_ids (map (at_puback n i) es)) ≤ count test (busy_ids es) →
         count test (busy_ids ((if b then Entry.Finished made p id start None n else Entry.Started made p id start) ∷ map (at_puback n i) es))
@@ -80,7 +80,7 @@ busy_puback test n i (Entry.Finished made p id start release finish ∷ es) = bu
 busy_pubrec : (test : ℕ → Bool) (n i : ℕ) (es : List Entry) → count test (busy_ids (map (at_pubrec n i) es)) ≤ count test (busy_ids es)
 busy_pubrec test n i [] = omega arith
 busy_pubrec test n i (Entry.Waits made p ∷ es) = busy_pubrec test n i es
-busy_pubrec test n i (Entry.Started made p id start ∷ es) = one ((i == id) && not (is_acknowledged p.qos)) (busy_pubrec test n i es)
+busy_pubrec test n i (Entry.Started made p id start ∷ es) = one ((i == id) && not (is_qos1 p.qos)) (busy_pubrec test n i es)
   where
     one : (b : Bool) → count test (busy_ids (map (at_pubrec n i) es)) ≤ count test (busy_ids es) →
         count test (busy_ids ((if b then Entry.Released made p id start n else Entry.Started made p id start) ∷ map (at_pubrec n i) es))

@@ -7,7 +7,7 @@ use Rattle.broker_spec.specs.Connection.{ConnectionName}
 use Rattle.broker_spec.specs.Place.{Client, same_client, Mark}
 use Rattle.broker_spec.specs.Past.{current_connection, clean_session_of, begins, in_session}
 use Rattle.session_base.specs.declared.publication.Publication.{Publication}
-use Rattle.session_base.specs.Publication.{is_acknowledged}
+use Rattle.session_base.specs.Publication.{is_qos1}
 use Rattle.broker_spec.specs.Entries.{Entry, copies_at, queued}
 use Rattle.session_base.specs.Identifiers.{least_free}
 use Rattle.broker_spec.specs.Times.{entries_of, window_at, start_all, started, answered_by, at_puback, at_pubrec, at_pubcomp}
@@ -33,7 +33,7 @@ nothing-answers n (Entry.Finished made p id start release finish) = refl
 
 puback-answers : (n i : ℕ) → Answering n (at_puback n i)
 puback-answers n i (Entry.Waits made p) = refl
-puback-answers n i (Entry.Started made p id start) = by ((i == id) && is_acknowledged p.qos)
+puback-answers n i (Entry.Started made p id start) = by ((i == id) && is_qos1 p.qos)
   where
     by : (b : Bool) → Answered n (Entry.Started made p id start) (if b then Entry.Finished made p id start None n else Entry.Started made p id start)
     by true = inr (inr refl)
@@ -43,7 +43,7 @@ puback-answers n i (Entry.Finished made p id start release finish) = refl
 
 pubrec-answers : (n i : ℕ) → Answering n (at_pubrec n i)
 pubrec-answers n i (Entry.Waits made p) = refl
-pubrec-answers n i (Entry.Started made p id start) = by ((i == id) && not (is_acknowledged p.qos))
+pubrec-answers n i (Entry.Started made p id start) = by ((i == id) && not (is_qos1 p.qos))
   where
     by : (b : Bool) → Answered n (Entry.Started made p id start) (if b then Entry.Released made p id start n else Entry.Started made p id start)
     by true = inr (inl refl)

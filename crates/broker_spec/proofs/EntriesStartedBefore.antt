@@ -2,7 +2,7 @@
 use Rattle.std.proofs.Common.{ℕ, ◌<◌, Bool, true, false, not, ◌&&◌, ◌==◌, if◌then◌else◌, Some, None, List, [], ◌∷◌, ◌++◌, map}
 use Rattle.packet.specs.declared.packet.Packet.TheVariants as packets
 use Rattle.session_base.specs.declared.publication.Publication.{Publication}
-use Rattle.session_base.specs.Publication.{is_acknowledged}
+use Rattle.session_base.specs.Publication.{is_qos1}
 use Rattle.broker_spec.specs.Place.{Client, same_client, Mark}
 use Rattle.broker_spec.specs.Entries.{Entry}
 use Rattle.broker_spec.specs.Times.{at_puback, at_pubrec, at_pubcomp, answered_by}
@@ -27,7 +27,7 @@ before_below n (Entry.Finished made p id start release finish ∷ es) h = before
 before_puback : (n i : ℕ) (es : List Entry) → StartedBefore n es → StartedBefore n (map (at_puback n i) es)
 before_puback n i [] h = tt
 before_puback n i (Entry.Waits made p ∷ es) h = before_puback n i es h
-before_puback n i (Entry.Started made p id start ∷ es) h = one ((i == id) && is_acknowledged p.qos) (before_puback n i es h.1)
+before_puback n i (Entry.Started made p id start ∷ es) h = one ((i == id) && is_qos1 p.qos) (before_puback n i es h.1)
   where
     one : (b : Bool) → StartedBefore n (map (at_puback n i) es) →
         StartedBefore n ((if b then Entry.Finished made p id start None n else Entry.Started made p id start) ∷ map (at_puback n i) es)
@@ -39,7 +39,7 @@ before_puback n i (Entry.Finished made p id start release finish ∷ es) h = bef
 before_pubrec : (n i : ℕ) (es : List Entry) → StartedBefore n es → StartedBefore n (map (at_pubrec n i) es)
 before_pubrec n i [] h = tt
 before_pubrec n i (Entry.Waits made p ∷ es) h = before_pubrec n i es h
-before_pubrec n i (Entry.Started made p id start ∷ es) h = one ((i == id) && not (is_acknowledged p.qos)) (before_pubrec n i es h.1)
+before_pubrec n i (Entry.Started made p id start ∷ es) h = one ((i == id) && not (is_qos1 p.qos)) (before_pubrec n i es h.1)
   where
     one : (b : Bool) → StartedBefore n (map (at_pubrec n i) es) →
         StartedBefore n ((if b then Entry.Released made p id start n else Entry.Started made p id start) ∷ map (at_pubrec n i) es)

@@ -1,7 +1,7 @@
 -- What the entries of every past meet: places below the number of the place, those that wait after
 -- all others, and each identifier in use at most once.
 use Rattle.std.proofs.Common.{ℕ, ◌<◌, ◌≤◌, suc, Bool, true, false, not, ◌&&◌, ◌==◌, if◌then◌else◌, Some, None, List, [], ◌∷◌, map, arith}
-use Rattle.session_base.specs.Publication.{is_acknowledged}
+use Rattle.session_base.specs.Publication.{is_qos1}
 use Rattle.broker_spec.specs.Entries.{Entry}
 use Rattle.broker_spec.specs.Readings.{busy_ids}
 use Rattle.broker_spec.specs.Times.{at_puback, at_pubrec, at_pubcomp}
@@ -44,7 +44,7 @@ sound_none n = record { below = tt; in_order = tt; unique = λ i. omega arith }
 pub below_puback : (n i : ℕ) (es : List Entry) → IsBelow n es → IsBelow (suc n) (map (at_puback n i) es)
 below_puback n i [] h = tt
 below_puback n i (Entry.Waits made p ∷ es) h = (omega (arith, h.0), below_puback n i es h.1)
-below_puback n i (Entry.Started made p id start ∷ es) h = one ((i == id) && is_acknowledged p.qos) (below_puback n i es h.2)
+below_puback n i (Entry.Started made p id start ∷ es) h = one ((i == id) && is_qos1 p.qos) (below_puback n i es h.2)
   where
     one : (b : Bool) → IsBelow (suc n) (map (at_puback n i) es) →
         IsBelow (suc n) ((if b then Entry.Finished made p id start None n else Entry.Started made p id start) ∷ map (at_puback n i) es)
@@ -56,7 +56,7 @@ below_puback n i (Entry.Finished made p id start release finish ∷ es) h = (ome
 pub below_pubrec : (n i : ℕ) (es : List Entry) → IsBelow n es → IsBelow (suc n) (map (at_pubrec n i) es)
 below_pubrec n i [] h = tt
 below_pubrec n i (Entry.Waits made p ∷ es) h = (omega (arith, h.0), below_pubrec n i es h.1)
-below_pubrec n i (Entry.Started made p id start ∷ es) h = one ((i == id) && not (is_acknowledged p.qos)) (below_pubrec n i es h.2)
+below_pubrec n i (Entry.Started made p id start ∷ es) h = one ((i == id) && not (is_qos1 p.qos)) (below_pubrec n i es h.2)
   where
     one : (b : Bool) → IsBelow (suc n) (map (at_pubrec n i) es) →
         IsBelow (suc n) ((if b then Entry.Released made p id start n else Entry.Started made p id start) ∷ map (at_pubrec n i) es)

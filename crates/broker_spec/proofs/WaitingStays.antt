@@ -1,6 +1,6 @@
 -- The client's answers leave what waits as it is.
 use Rattle.std.proofs.Common.{◌≡◌, ℕ, Bool, true, false, not, ◌&&◌, ◌==◌, if◌then◌else◌, Some, None, List, [], ◌∷◌, map, refl, ap, ◌∙◌}
-use Rattle.session_base.specs.Publication.{is_acknowledged}
+use Rattle.session_base.specs.Publication.{is_qos1}
 use Rattle.broker_spec.specs.Entries.{Entry}
 use Rattle.broker_spec.specs.Readings.{waiting_of}
 use Rattle.broker_spec.specs.Times.{at_puback, at_pubrec, at_pubcomp}
@@ -10,7 +10,7 @@ use Rattle.broker_spec.specs.Times.{at_puback, at_pubrec, at_pubcomp}
 pub waiting_puback : (n i : ℕ) (es : List Entry) → waiting_of (map (at_puback n i) es) ≡ waiting_of es
 waiting_puback n i [] = refl
 waiting_puback n i (Entry.Waits made p ∷ es) = ap (λ ps. p ∷ ps) (waiting_puback n i es)
-waiting_puback n i (Entry.Started made p id start ∷ es) = one ((i == id) && is_acknowledged p.qos) ∙ waiting_puback n i es
+waiting_puback n i (Entry.Started made p id start ∷ es) = one ((i == id) && is_qos1 p.qos) ∙ waiting_puback n i es
   where
     one : (b : Bool) → waiting_of ((if b then Entry.Finished made p id start None n else Entry.Started made p id start) ∷ map (at_puback n i) es)
         ≡ waiting_of (map (at_puback n i) es)
@@ -22,7 +22,7 @@ waiting_puback n i (Entry.Finished made p id start release finish ∷ es) = wait
 pub waiting_pubrec : (n i : ℕ) (es : List Entry) → waiting_of (map (at_pubrec n i) es) ≡ waiting_of es
 waiting_pubrec n i [] = refl
 waiting_pubrec n i (Entry.Waits made p ∷ es) = ap (λ ps. p ∷ ps) (waiting_pubrec n i es)
-waiting_pubrec n i (Entry.Started made p id start ∷ es) = one ((i == id) && not (is_acknowledged p.qos)) ∙ waiting_pubrec n i es
+waiting_pubrec n i (Entry.Started made p id start ∷ es) = one ((i == id) && not (is_qos1 p.qos)) ∙ waiting_pubrec n i es
   where
     one : (b : Bool) → waiting_of ((if b then Entry.Released made p id start n else Entry.Started made p id start) ∷ map (at_pubrec n i) es)
         ≡ waiting_of (map (at_pubrec n i) es)

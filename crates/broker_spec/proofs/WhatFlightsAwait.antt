@@ -2,7 +2,7 @@
 use Rattle.std.proofs.Common.{◌≡◌, ℕ, Bool, true, false, not, ◌&&◌, ◌==◌, if◌then◌else◌, List, [], ◌∷◌, map, filter, refl, ap, ◌∙◌}
 use Rattle.session_base.specs.declared.publication.Publication.{Publication}
 use Rattle.session_base.specs.declared.awaits.Awaits.TheVariants as waits_for
-use Rattle.session_base.specs.Publication.{is_acknowledged}
+use Rattle.session_base.specs.Publication.{is_qos1}
 use Rattle.session_base.specs.Queue.{awaited, is_puback, is_pubrec, is_pubcomp, awaits_puback, awaits_pubrec, awaits_pubcomp}
 
 -- ---- lists
@@ -39,14 +39,14 @@ pubcomp_by : (b : Bool) (p : Publication) → is_pubcomp (if b then waits_for.Pu
 pubcomp_by true p = refl
 pubcomp_by false p = refl
 
-pub awaits_puback_is : (i id : ℕ) (p : Publication) → awaits_puback i (id, awaited p) ≡ ((i == id) && is_acknowledged p.qos)
-awaits_puback_is i id p = ap (λ b. (i == id) && b) (puback_by (is_acknowledged p.qos) p)
+pub awaits_puback_is : (i id : ℕ) (p : Publication) → awaits_puback i (id, awaited p) ≡ ((i == id) && is_qos1 p.qos)
+awaits_puback_is i id p = ap (λ b. (i == id) && b) (puback_by (is_qos1 p.qos) p)
 
-pub awaits_pubrec_is : (i id : ℕ) (p : Publication) → awaits_pubrec i (id, awaited p) ≡ ((i == id) && not (is_acknowledged p.qos))
-awaits_pubrec_is i id p = ap (λ b. (i == id) && b) (pubrec_by (is_acknowledged p.qos) p)
+pub awaits_pubrec_is : (i id : ℕ) (p : Publication) → awaits_pubrec i (id, awaited p) ≡ ((i == id) && not (is_qos1 p.qos))
+awaits_pubrec_is i id p = ap (λ b. (i == id) && b) (pubrec_by (is_qos1 p.qos) p)
 
 pub not_released : (p : Publication) → is_pubcomp (awaited p) ≡ false
-not_released p = pubcomp_by (is_acknowledged p.qos) p
+not_released p = pubcomp_by (is_qos1 p.qos) p
 
 pub and_no : (b : Bool) → (b && false) ≡ false
 and_no true = refl

@@ -6,7 +6,7 @@ use Rattle.session_base.specs.Identifiers.{least_free}
 use Rattle.broker_spec.specs.Connection.{ConnectionName}
 use Rattle.broker_spec.specs.Place.{Client, same_client, Mark, Past, Limits}
 use Rattle.broker_spec.specs.Past.{current_connection, clean_session_of, begins, in_session}
-use Rattle.session_base.specs.Publication.{is_acknowledged}
+use Rattle.session_base.specs.Publication.{is_qos1}
 use Rattle.broker_spec.specs.Entries.{Entry, copies_at, queued, is_unfinished}
 use Rattle.broker_spec.specs.declared.command.Command.{Command}
 use Rattle.broker_spec.specs.declared.command.Command.TheVariants as commands
@@ -16,7 +16,7 @@ use Rattle.broker_spec.specs.declared.command.Command.TheVariants as commands
 -- PUBACK finishes a QoS 1 entry with this identifier (MQTT 4.3.2)
 abbrev pub at_puback : ℕ → ℕ → Entry → Entry
 at_puback place id (Entry.Started made publication other start) =
-    if (id == other) && is_acknowledged publication.qos
+    if (id == other) && is_qos1 publication.qos
     then Entry.Finished made publication other start None place
     else Entry.Started made publication other start
 at_puback place id entry = entry
@@ -24,7 +24,7 @@ at_puback place id entry = entry
 -- PUBREC releases a QoS 2 entry (MQTT 4.3.3)
 abbrev pub at_pubrec : ℕ → ℕ → Entry → Entry
 at_pubrec place id (Entry.Started made publication other start) =
-    if (id == other) && not (is_acknowledged publication.qos)
+    if (id == other) && not (is_qos1 publication.qos)
     then Entry.Released made publication other start place
     else Entry.Started made publication other start
 at_pubrec place id entry = entry

@@ -9,7 +9,7 @@ use Rattle.packet.specs.declared.packet.Packet.TheVariants as packets
 use Rattle.packet.specs.declared.delivery.Delivery.{Delivery}
 use Rattle.packet.specs.declared.delivery.Delivery.TheVariants as deliveries
 use Rattle.packet.specs.declared.publish.Publish.{Publish}
-use Rattle.session_base.specs.Publication.{publication_of, is_acknowledged}
+use Rattle.session_base.specs.Publication.{publication_of, is_qos1}
 use Rattle.client_base.specs.declared.accepted.Accepted.{Accepted}
 use Rattle.client_base.specs.State.{ClientState}
 use Rattle.client_base.specs.Answered.{ClientOutcome, awaits_puback, on_publish, on_puback, on_pubrel}
@@ -117,7 +117,7 @@ first_puback : (i : ℕ) (own : List Own) → IsSentFirst own → IsSentFirst (m
 first_puback i [] first = tt
 first_puback i (Own.Unsent k p id ∷ own) first =
     (puback_sent i own ∙ ap (λ l. filter (λ one. not (awaits_puback i one)) l) first.0, first_puback i own first.1)
-first_puback i (Own.Sent k p id ∷ own) first = by ((i == id) && is_acknowledged p.qos) (first_puback i own first)
+first_puback i (Own.Sent k p id ∷ own) first = by ((i == id) && is_qos1 p.qos) (first_puback i own first)
   where
     by : (b : Bool) → IsSentFirst (map (own_at_puback i) own) → IsSentFirst ((if b then Own.Done k p else Own.Sent k p id) ∷ map (own_at_puback i) own)
     by true ih = ih

@@ -6,7 +6,7 @@ use Rattle.std.specs.List.{list_any}
 use Rattle.session_base.specs.lists.Lists.{has_id}
 use Rattle.session_base.proofs.of_lists.Identifiers.{has_append}
 use Rattle.packet.specs.declared.packet.Packet.TheVariants as packets
-use Rattle.session_base.specs.Publication.{is_acknowledged}
+use Rattle.session_base.specs.Publication.{is_qos1}
 use Rattle.client_base.specs.State.{ClientState}
 use Rattle.client_base.specs.Answered.{awaits_pubrec, on_pubrec, on_pubcomp}
 use Rattle.session_base.specs.Identifiers.{without_id}
@@ -24,7 +24,7 @@ first_pubrec : (i : ℕ) (own : List Own) → IsSentFirst own → IsSentFirst (m
 first_pubrec i [] first = tt
 first_pubrec i (Own.Unsent k p id ∷ own) first =
     (pubrec_sent i own ∙ ap (λ l. filter (λ one. not (awaits_pubrec i one)) l) first.0, first_pubrec i own first.1)
-first_pubrec i (Own.Sent k p id ∷ own) first = by ((i == id) && not (is_acknowledged p.qos)) (first_pubrec i own first)
+first_pubrec i (Own.Sent k p id ∷ own) first = by ((i == id) && not (is_qos1 p.qos)) (first_pubrec i own first)
   where
     by : (b : Bool) → IsSentFirst (map (own_at_pubrec i) own) → IsSentFirst ((if b then Own.Released k p id else Own.Sent k p id) ∷ map (own_at_pubrec i) own)
     by true ih = ih

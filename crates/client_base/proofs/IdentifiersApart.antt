@@ -3,7 +3,7 @@ use Rattle.std.proofs.Common.{◌≡◌, ℕ, ◌+◌, ◌≤◌, Bool, true, fa
 use Rattle.std.specs.List.{list_any}
 use Rattle.std.proofs.lemmas.Bool.{both_ways, eqb-true}
 use Rattle.session_base.specs.lists.Lists.{IsDistinct}
-use Rattle.session_base.specs.Publication.{is_acknowledged}
+use Rattle.session_base.specs.Publication.{is_qos1}
 use Rattle.session_base.proofs.CountedIdentifiers.{count, one_if, count-append, not_counted, not_among}
 use Rattle.client_base.specs.declared.unacknowledged_publication.UnacknowledgedPublication.{UnacknowledgedPublication}
 use Rattle.client_base.specs.declared.request.Request.{Request}
@@ -69,7 +69,7 @@ fewer_ids i test (one ∷ ids) = by (test one) (fewer_ids i test ids)
 pub released_leaves : (i id : ℕ) (sent : List UnacknowledgedPublication) → list_any (awaits_pubrec id) sent ≡ true
     → one_if (i == id) + often i (ids_of_kept (filter (λ one. not (awaits_pubrec id one)) sent)) ≤ often i (ids_of_kept sent)
 released_leaves i id [] waits = absurd (both_ways false refl waits)
-released_leaves i id (one ∷ sent) waits = by (id == one.id) (not (is_acknowledged one.publication.qos)) refl waits (released_leaves i id sent) (fewer_kept i (λ x. not (awaits_pubrec id x)) sent)
+released_leaves i id (one ∷ sent) waits = by (id == one.id) (not (is_qos1 one.publication.qos)) refl waits (released_leaves i id sent) (fewer_kept i (λ x. not (awaits_pubrec id x)) sent)
   where
     left : List UnacknowledgedPublication
     left = filter (λ x. not (awaits_pubrec id x)) sent

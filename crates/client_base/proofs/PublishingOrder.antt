@@ -1,7 +1,7 @@
 -- PublishingOrder.antt: publications keep their numbers, and are sent in the order of these.
 use Rattle.std.proofs.Common.{◌≡◌, ℕ, ◌+◌, suc, Bool, true, false, not, ◌&&◌, ◌==◌, if◌then◌else◌, List, [], ◌∷◌, ◌++◌, map, length, refl, ap, sym, ◌∙◌, subst, arith}
 use Rattle.std.proofs.lemmas.Bool.{both_ways}
-use Rattle.session_base.specs.Publication.{is_acknowledged}
+use Rattle.session_base.specs.Publication.{is_qos1}
 use Rattle.client_base.specs.declared.unacknowledged_publication.UnacknowledgedPublication.{UnacknowledgedPublication}
 use Rattle.client_base.specs.Keeper.{Own, Written, number_in}
 use Rattle.client_base.specs.Written.{sent_all, written_again, written_first, written_publish}
@@ -55,7 +55,7 @@ changed f same n (o ∷ own) numbered = (same o ∙ numbered.0, changed f same (
 
 pub puback_same : (i : ℕ) (o : Own) → number_in (own_at_puback i o) ≡ number_in o
 puback_same i (Own.Unsent k p id) = refl
-puback_same i (Own.Sent k p id) = by ((i == id) && is_acknowledged p.qos)
+puback_same i (Own.Sent k p id) = by ((i == id) && is_qos1 p.qos)
   where
     by : (b : Bool) → number_in (if b then Own.Done k p else Own.Sent k p id) ≡ k
     by true = refl
@@ -65,7 +65,7 @@ puback_same i (Own.Done k p) = refl
 
 pub pubrec_same : (i : ℕ) (o : Own) → number_in (own_at_pubrec i o) ≡ number_in o
 pubrec_same i (Own.Unsent k p id) = refl
-pubrec_same i (Own.Sent k p id) = by ((i == id) && not (is_acknowledged p.qos))
+pubrec_same i (Own.Sent k p id) = by ((i == id) && not (is_qos1 p.qos))
   where
     by : (b : Bool) → number_in (if b then Own.Released k p id else Own.Sent k p id) ≡ k
     by true = refl

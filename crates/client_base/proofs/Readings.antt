@@ -2,7 +2,7 @@
 -- kept of it.
 use Rattle.std.proofs.Common.{◌≡◌, ℕ, Bool, true, false, not, ◌&&◌, ◌||◌, ◌==◌, if◌then◌else◌, List, [], ◌∷◌, map, filter, refl, ap}
 use Rattle.std.specs.List.{list_any}
-use Rattle.session_base.specs.Publication.{is_acknowledged}
+use Rattle.session_base.specs.Publication.{is_qos1}
 use Rattle.client_base.specs.declared.unacknowledged_publication.UnacknowledgedPublication.{UnacknowledgedPublication}
 use Rattle.client_base.specs.Answered.{awaits_puback, awaits_pubrec}
 use Rattle.session_base.specs.Identifiers.{without_id}
@@ -15,7 +15,7 @@ use Rattle.client_base.specs.History.{sent_of, unsent_of, released_of}
 pub puback_sent : (i : ℕ) (own : List Own) → sent_of (map (own_at_puback i) own) ≡ filter (λ one. not (awaits_puback i one)) (sent_of own)
 puback_sent i [] = refl
 puback_sent i (Own.Unsent k p id ∷ own) = puback_sent i own
-puback_sent i (Own.Sent k p id ∷ own) = by ((i == id) && is_acknowledged p.qos) (puback_sent i own)
+puback_sent i (Own.Sent k p id ∷ own) = by ((i == id) && is_qos1 p.qos) (puback_sent i own)
   where
     left : List UnacknowledgedPublication
     left = filter (λ one. not (awaits_puback i one)) (sent_of own)
@@ -30,7 +30,7 @@ puback_sent i (Own.Done k p ∷ own) = puback_sent i own
 pub puback_unsent : (i : ℕ) (own : List Own) → unsent_of (map (own_at_puback i) own) ≡ unsent_of own
 puback_unsent i [] = refl
 puback_unsent i (Own.Unsent k p id ∷ own) = ap (λ (l : List UnacknowledgedPublication). record { id = id; publication = p } ∷ l) (puback_unsent i own)
-puback_unsent i (Own.Sent k p id ∷ own) = by ((i == id) && is_acknowledged p.qos) (puback_unsent i own)
+puback_unsent i (Own.Sent k p id ∷ own) = by ((i == id) && is_qos1 p.qos) (puback_unsent i own)
   where
     by : (b : Bool) → unsent_of (map (own_at_puback i) own) ≡ unsent_of own → unsent_of ((if b then Own.Done k p else Own.Sent k p id) ∷ map (own_at_puback i) own) ≡ unsent_of own
     by true ih = ih
@@ -41,7 +41,7 @@ puback_unsent i (Own.Done k p ∷ own) = puback_unsent i own
 pub puback_released : (i : ℕ) (own : List Own) → released_of (map (own_at_puback i) own) ≡ released_of own
 puback_released i [] = refl
 puback_released i (Own.Unsent k p id ∷ own) = puback_released i own
-puback_released i (Own.Sent k p id ∷ own) = by ((i == id) && is_acknowledged p.qos) (puback_released i own)
+puback_released i (Own.Sent k p id ∷ own) = by ((i == id) && is_qos1 p.qos) (puback_released i own)
   where
     by : (b : Bool) → released_of (map (own_at_puback i) own) ≡ released_of own → released_of ((if b then Own.Done k p else Own.Sent k p id) ∷ map (own_at_puback i) own) ≡ released_of own
     by true ih = ih
@@ -54,7 +54,7 @@ puback_released i (Own.Done k p ∷ own) = puback_released i own
 pub pubrec_sent : (i : ℕ) (own : List Own) → sent_of (map (own_at_pubrec i) own) ≡ filter (λ one. not (awaits_pubrec i one)) (sent_of own)
 pubrec_sent i [] = refl
 pubrec_sent i (Own.Unsent k p id ∷ own) = pubrec_sent i own
-pubrec_sent i (Own.Sent k p id ∷ own) = by ((i == id) && not (is_acknowledged p.qos)) (pubrec_sent i own)
+pubrec_sent i (Own.Sent k p id ∷ own) = by ((i == id) && not (is_qos1 p.qos)) (pubrec_sent i own)
   where
     left : List UnacknowledgedPublication
     left = filter (λ one. not (awaits_pubrec i one)) (sent_of own)
@@ -69,7 +69,7 @@ pubrec_sent i (Own.Done k p ∷ own) = pubrec_sent i own
 pub pubrec_unsent : (i : ℕ) (own : List Own) → unsent_of (map (own_at_pubrec i) own) ≡ unsent_of own
 pubrec_unsent i [] = refl
 pubrec_unsent i (Own.Unsent k p id ∷ own) = ap (λ (l : List UnacknowledgedPublication). record { id = id; publication = p } ∷ l) (pubrec_unsent i own)
-pubrec_unsent i (Own.Sent k p id ∷ own) = by ((i == id) && not (is_acknowledged p.qos)) (pubrec_unsent i own)
+pubrec_unsent i (Own.Sent k p id ∷ own) = by ((i == id) && not (is_qos1 p.qos)) (pubrec_unsent i own)
   where
     by : (b : Bool) → unsent_of (map (own_at_pubrec i) own) ≡ unsent_of own → unsent_of ((if b then Own.Released k p id else Own.Sent k p id) ∷ map (own_at_pubrec i) own) ≡ unsent_of own
     by true ih = ih
@@ -80,7 +80,7 @@ pubrec_unsent i (Own.Done k p ∷ own) = pubrec_unsent i own
 pub pubrec_waits : (i : ℕ) (own : List Own) → list_any (awaits_pubrec i) (sent_of own) ≡ is_sent_with i own
 pubrec_waits i [] = refl
 pubrec_waits i (Own.Unsent k p id ∷ own) = pubrec_waits i own
-pubrec_waits i (Own.Sent k p id ∷ own) = ap (λ b. ((i == id) && not (is_acknowledged p.qos)) || b) (pubrec_waits i own)
+pubrec_waits i (Own.Sent k p id ∷ own) = ap (λ b. ((i == id) && not (is_qos1 p.qos)) || b) (pubrec_waits i own)
 pubrec_waits i (Own.Released k p id ∷ own) = pubrec_waits i own
 pubrec_waits i (Own.Done k p ∷ own) = pubrec_waits i own
 

@@ -1,7 +1,7 @@
 -- Released.antt: identifiers of released publications, as the order of their PUBREC has them and as all that was published has them.
 use Rattle.std.proofs.Common.{◌≡◌, ℕ, Bool, true, false, not, ◌&&◌, ◌||◌, ◌==◌, if◌then◌else◌, List, [], ◌∷◌, map, refl, ap, ap₂, sym, ◌∙◌, arith}
 use Rattle.session_base.specs.lists.Lists.{has_id}
-use Rattle.session_base.specs.Publication.{is_acknowledged}
+use Rattle.session_base.specs.Publication.{is_qos1}
 use Rattle.session_base.specs.Identifiers.{without_id}
 use Rattle.client_base.specs.Keeper.{Own}
 use Rattle.client_base.specs.Handshakes.{own_at_pubrec, is_sent_with}
@@ -44,7 +44,7 @@ pubrec_released j i [] = none (j == i)
     none true = refl
     none false = refl
 pubrec_released j i (Own.Unsent k p id ∷ own) = pubrec_released j i own
-pubrec_released j i (Own.Sent k p id ∷ own) = by (i == id) (not (is_acknowledged p.qos)) refl (pubrec_released j i own)
+pubrec_released j i (Own.Sent k p id ∷ own) = by (i == id) (not (is_qos1 p.qos)) refl (pubrec_released j i own)
   where
     same : (i == id) ≡ true → (j == id) ≡ (j == i)
     same h = grind arith

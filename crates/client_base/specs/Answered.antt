@@ -8,7 +8,7 @@ use Rattle.packet.specs.declared.publish.Publish.{Publish}
 use Rattle.packet.specs.declared.packet.Packet.{Packet}
 use Rattle.packet.specs.declared.packet.Packet.TheVariants as packets
 use Rattle.packet.specs.Delivery.{delivery_qos}
-use Rattle.session_base.specs.Publication.{is_acknowledged}
+use Rattle.session_base.specs.Publication.{is_qos1}
 use Rattle.session_base.specs.lists.Lists.{has_id}
 use Rattle.client_base.specs.declared.accepted.Accepted.{Accepted}
 use Rattle.client_base.specs.declared.error.ClientError.{ClientError}
@@ -71,11 +71,11 @@ on_pubrel id state =
 
 -- whether PUBACK with this identifier ends the publication
 abbrev pub awaits_puback : ℕ → UnacknowledgedPublication → Bool
-awaits_puback id kept = (id == kept.id) && is_acknowledged kept.publication.qos
+awaits_puback id kept = (id == kept.id) && is_qos1 kept.publication.qos
 
 -- whether PUBREC with this identifier releases it
 abbrev pub awaits_pubrec : ℕ → UnacknowledgedPublication → Bool
-awaits_pubrec id kept = (id == kept.id) && not (is_acknowledged kept.publication.qos)
+awaits_pubrec id kept = (id == kept.id) && not (is_qos1 kept.publication.qos)
 
 -- PUBACK ends a QoS 1 publication that was sent (MQTT 4.3.2)
 abbrev pub on_puback : ℕ → ClientState → ClientOutcome

@@ -5,7 +5,7 @@ use Rattle.packet.specs.declared.delivery.Delivery.{Delivery}
 use Rattle.packet.specs.declared.delivery.Delivery.TheVariants as deliveries
 use Rattle.packet.specs.declared.packet.Packet.TheVariants as packets
 use Rattle.session_base.specs.declared.publication.Publication.{Publication}
-use Rattle.session_base.specs.Publication.{is_acknowledged}
+use Rattle.session_base.specs.Publication.{is_qos1}
 use Rattle.session_base.specs.lists.Lists.{has_id}
 use Rattle.client_base.specs.Keeper.{Own, Side}
 use Rattle.client_base.specs.Written.{plain, writing}
@@ -13,7 +13,7 @@ use Rattle.client_base.specs.Written.{plain, writing}
 -- a publication at PUBACK: one of QoS 1 with this identifier is done
 abbrev pub own_at_puback : ℕ → Own → Own
 own_at_puback given (Own.Sent number publication id) =
-    if (given == id) && is_acknowledged publication.qos
+    if (given == id) && is_qos1 publication.qos
     then Own.Done number publication
     else Own.Sent number publication id
 own_at_puback given own = own
@@ -21,7 +21,7 @@ own_at_puback given own = own
 -- at PUBREC: one of QoS 2 with this identifier is released
 abbrev pub own_at_pubrec : ℕ → Own → Own
 own_at_pubrec given (Own.Sent number publication id) =
-    if (given == id) && not (is_acknowledged publication.qos)
+    if (given == id) && not (is_qos1 publication.qos)
     then Own.Released number publication id
     else Own.Sent number publication id
 own_at_pubrec given own = own
@@ -35,7 +35,7 @@ own_at_pubcomp given own = own
 -- whether a publication of QoS 2 with this identifier waits for PUBREC
 abbrev pub is_sent_with : ℕ → List Own → Bool
 is_sent_with given (Own.Sent number publication id ∷ own) =
-    ((given == id) && not (is_acknowledged publication.qos)) || is_sent_with given own
+    ((given == id) && not (is_qos1 publication.qos)) || is_sent_with given own
 is_sent_with given (_ ∷ own) = is_sent_with given own
 is_sent_with given [] = false
 

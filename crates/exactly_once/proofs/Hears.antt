@@ -10,7 +10,7 @@ use Rattle.packet.specs.declared.delivery.Delivery.TheVariants as deliveries
 use Rattle.packet.specs.declared.packet.Packet.{Packet}
 use Rattle.packet.specs.declared.packet.Packet.TheVariants as packets
 use Rattle.session_base.specs.declared.publication.Publication.{Publication}
-use Rattle.session_base.specs.Publication.{is_acknowledged, is_answered}
+use Rattle.session_base.specs.Publication.{is_qos1, is_answered}
 use Rattle.broker_spec.specs.Connection.{ConnectionName, same_connection}
 use Rattle.broker_spec.specs.Place.{Place, Past, Limits}
 use Rattle.broker_spec.specs.Received.{is_new}
@@ -44,12 +44,12 @@ OwnAnswered (Own.Released k p id ∷ own) = (is_answered p.qos ≡ true) × OwnA
 OwnAnswered (Own.Done k p ∷ own) = OwnAnswered own
 OwnAnswered [] = Unit {0}
 
-two_not_one : (q : QoS) → is_qos2 q ≡ true → is_acknowledged q ≡ false
+two_not_one : (q : QoS) → is_qos2 q ≡ true → is_qos1 q ≡ false
 two_not_one qualities.AtMostOnce e = absurd (both_ways false refl e)
 two_not_one qualities.AtLeastOnce e = absurd (both_ways false refl e)
 two_not_one qualities.ExactlyOnce e = refl
 
-not_two_one : (q : QoS) → is_answered q ≡ true → is_qos2 q ≡ false → is_acknowledged q ≡ true
+not_two_one : (q : QoS) → is_answered q ≡ true → is_qos2 q ≡ false → is_qos1 q ≡ true
 not_two_one qualities.AtMostOnce a e = absurd (both_ways false refl a)
 not_two_one qualities.AtLeastOnce a e = refl
 not_two_one qualities.ExactlyOnce a e = absurd (both_ways true e refl)
@@ -86,7 +86,7 @@ sent_is i (Own.Unsent k p id ∷ own) h = skip i (is_qos2 p.qos) (SenderItem.Wai
 sent_is i (Own.Sent k p id ∷ own) h = by (cases_Bool (i == id)) (cases_Bool (is_qos2 p.qos)) (sent_is i own h.1)
   where
     by : ((i == id) ≡ true) ⊎ ((i == id) ≡ false) → (is_qos2 p.qos ≡ true) ⊎ (is_qos2 p.qos ≡ false) → has_sent i (items_of_own own) ≡ is_sent_with i own
-        → has_sent i (own_item p (SenderItem.Sent k id) (items_of_own own)) ≡ (((i == id) && not (is_acknowledged p.qos)) || is_sent_with i own)
+        → has_sent i (own_item p (SenderItem.Sent k id) (items_of_own own)) ≡ (((i == id) && not (is_qos1 p.qos)) || is_sent_with i own)
     by (inl b) (inl t) ih = rw (b, t, two_not_one p.qos t) (rw b refl)
     by (inl b) (inr t) ih = rw (b, t, not_two_one p.qos h.0 t) ih
     by (inr b) (inl t) ih = rw (b, t) (rw b ih)

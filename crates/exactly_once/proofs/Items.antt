@@ -4,7 +4,7 @@ use Rattle.std.proofs.lemmas.Bool.{both_ways, cases_Bool}
 use Rattle.packet_base.specs.declared.qos.QoS.{QoS}
 use Rattle.packet_base.specs.declared.qos.QoS.TheVariants as qualities
 use Rattle.session_base.specs.declared.publication.Publication.{Publication}
-use Rattle.session_base.specs.Publication.{is_acknowledged, is_answered}
+use Rattle.session_base.specs.Publication.{is_qos1, is_answered}
 use Rattle.broker_spec.specs.Entries.{Entry}
 use Rattle.broker_spec.specs.Times.{at_pubrec, at_pubcomp}
 use Rattle.exactly_once.specs.Items.{SenderItem, item_released, finishing}
@@ -18,17 +18,17 @@ IsQueued (Entry.Started made p id start) = is_answered p.qos ≡ true
 IsQueued (Entry.Released made p id start release) = is_answered p.qos ≡ true
 IsQueued (Entry.Finished made p id start release finish) = is_answered p.qos ≡ true
 
-two_or_one : (q : QoS) → is_answered q ≡ true → is_qos2 q ≡ not (is_acknowledged q)
+two_or_one : (q : QoS) → is_answered q ≡ true → is_qos2 q ≡ not (is_qos1 q)
 two_or_one qualities.AtMostOnce e = e
 two_or_one qualities.AtLeastOnce e = refl
 two_or_one qualities.ExactlyOnce e = refl
 
-two_not_one : (q : QoS) → is_qos2 q ≡ true → is_acknowledged q ≡ false
+two_not_one : (q : QoS) → is_qos2 q ≡ true → is_qos1 q ≡ false
 two_not_one qualities.AtMostOnce e = absurd (both_ways false refl e)
 two_not_one qualities.AtLeastOnce e = absurd (both_ways false refl e)
 two_not_one qualities.ExactlyOnce e = refl
 
-not_two_one : (q : QoS) → is_answered q ≡ true → is_qos2 q ≡ false → is_acknowledged q ≡ true
+not_two_one : (q : QoS) → is_answered q ≡ true → is_qos2 q ≡ false → is_qos1 q ≡ true
 not_two_one qualities.AtMostOnce a e = absurd (both_ways false refl a)
 not_two_one qualities.AtLeastOnce a e = refl
 not_two_one qualities.ExactlyOnce a e = absurd (both_ways true e refl)

@@ -12,7 +12,7 @@ use Rattle.packet_base.specs.declared.qos.QoS.TheVariants as qualities
 use Rattle.session_base.specs.declared.publication.Publication.{Publication}
 use Rattle.session_base.specs.declared.awaits.Awaits.{Awaits}
 use Rattle.session_base.specs.declared.awaits.Awaits.TheVariants as waits_for
-use Rattle.session_base.specs.Publication.{is_answered, is_acknowledged}
+use Rattle.session_base.specs.Publication.{is_answered, is_qos1}
 use Rattle.session_base.specs.Subscriptions.{GrantedFilter}
 use Rattle.session_base.specs.Queue.{Flight}
 use Rattle.session_base.specs.InRange.{CanBeSent, MayWait, IsInFlight, IsGrantedFilter}
@@ -93,9 +93,9 @@ waits p q e a h = (ap is_answered e ∙ a, h)
 awaits_again : (id : ℕ) (awaits : Awaits) (rest : List ℕ) → IsInFlight (id, awaits) → awaits_at (awaits_bytes awaits ++ rest) ≡ Ok (awaits, rest)
 unfolding awaits_at sent_at
 awaits_again id (waits_for.Puback p) rest h =
-    rw (waiting_again p (waits p qualities.AtLeastOnce h.1 refl h.2) rest, ap is_acknowledged h.1) refl
+    rw (waiting_again p (waits p qualities.AtLeastOnce h.1 refl h.2) rest, ap is_qos1 h.1) refl
 awaits_again id (waits_for.Pubrec p) rest h =
-    rw (waiting_again p (waits p qualities.ExactlyOnce h.1 refl h.2) rest, ap is_acknowledged h.1) refl
+    rw (waiting_again p (waits p qualities.ExactlyOnce h.1 refl h.2) rest, ap is_qos1 h.1) refl
 awaits_again id waits_for.Pubcomp rest h = refl
 
 id_of : (id : ℕ) (awaits : Awaits) → IsInFlight (id, awaits) → IsId id

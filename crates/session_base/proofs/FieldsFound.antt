@@ -17,7 +17,7 @@ use Rattle.packet_base.specs.declared.qos.QoS.TheVariants as qualities
 use Rattle.session_base.specs.declared.publication.Publication.{Publication}
 use Rattle.session_base.specs.declared.awaits.Awaits.{Awaits}
 use Rattle.session_base.specs.declared.awaits.Awaits.TheVariants as waits_for
-use Rattle.session_base.specs.Publication.{is_answered, is_acknowledged}
+use Rattle.session_base.specs.Publication.{is_answered, is_qos1}
 use Rattle.session_base.specs.Subscriptions.{GrantedFilter}
 use Rattle.session_base.specs.Queue.{Flight}
 use Rattle.session_base.specs.InRange.{CanBeSent, MayWait, IsInFlight, IsGrantedFilter}
@@ -121,12 +121,12 @@ a_held_one bytes fits =
 abbrev Awaiting : Awaits → Type 0
 Awaiting awaits = (id : ℕ) → IsId id → IsInFlight (id, awaits)
 
-of_qos_1 : (q : QoS) → is_acknowledged q ≡ true → is_answered q ≡ true → q ≡ qualities.AtLeastOnce
+of_qos_1 : (q : QoS) → is_qos1 q ≡ true → is_answered q ≡ true → q ≡ qualities.AtLeastOnce
 of_qos_1 qualities.AtMostOnce e f = absurd (cc)
 of_qos_1 qualities.AtLeastOnce e f = refl
 of_qos_1 qualities.ExactlyOnce e f = absurd (cc)
 
-of_qos_2 : (q : QoS) → not (is_acknowledged q) ≡ true → is_answered q ≡ true → q ≡ qualities.ExactlyOnce
+of_qos_2 : (q : QoS) → not (is_qos1 q) ≡ true → is_answered q ≡ true → q ≡ qualities.ExactlyOnce
 of_qos_2 qualities.AtMostOnce e f = absurd (cc)
 of_qos_2 qualities.AtLeastOnce e f = absurd (cc)
 of_qos_2 qualities.ExactlyOnce e f = refl
@@ -136,11 +136,11 @@ unfolding sent_at
 a_sent_one true bytes fits =
     let Q : Awaits × List ℕ → Type 0 = λ x. Awaiting x.0 × AreBytes x.1 in
     then_if (waiting_at bytes) _ (λ x. MayWait x.0 × AreBytes x.1) Q (a_waiting_one bytes fits) (λ p h.
-    check_if (is_acknowledged p.0.qos) _ _ Q (λ test. ((λ id i. (i, of_qos_1 p.0.qos test h.0.0, h.0.1)), h.1)))
+    check_if (is_qos1 p.0.qos) _ _ Q (λ test. ((λ id i. (i, of_qos_1 p.0.qos test h.0.0, h.0.1)), h.1)))
 a_sent_one false bytes fits =
     let Q : Awaits × List ℕ → Type 0 = λ x. Awaiting x.0 × AreBytes x.1 in
     then_if (waiting_at bytes) _ (λ x. MayWait x.0 × AreBytes x.1) Q (a_waiting_one bytes fits) (λ p h.
-    check_if (not (is_acknowledged p.0.qos)) _ _ Q (λ test. ((λ id i. (i, of_qos_2 p.0.qos test h.0.0, h.0.1)), h.1)))
+    check_if (not (is_qos1 p.0.qos)) _ _ Q (λ test. ((λ id i. (i, of_qos_2 p.0.qos test h.0.0, h.0.1)), h.1)))
 
 an_awaiting_one : IsFound awaits_at Awaiting
 unfolding awaits_at

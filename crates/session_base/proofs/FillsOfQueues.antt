@@ -4,7 +4,7 @@ use Rattle.std.proofs.lemmas.List.{append_assoc, length-append}
 use Rattle.packet.specs.declared.packet.Packet.TheVariants as packets
 use Rattle.session_base.specs.declared.publication.Publication.{Publication}
 use Rattle.session_base.specs.declared.awaits.Awaits.TheVariants as waits_for
-use Rattle.session_base.specs.Publication.{is_acknowledged, publish_for}
+use Rattle.session_base.specs.Publication.{is_qos1, publish_for}
 use Rattle.session_base.specs.Identifiers.{least_free}
 use Rattle.session_base.specs.Queue.{Flight, ids_of, started_flight, fill}
 use Rattle.session_base.specs.Sending.{fill_sends}
@@ -75,7 +75,7 @@ fill_order w fs (p ∷ ps) =
       | true ↦ (
         front_still fs (started_flight fs p) (fill w (fs ++ started_flight fs p ∷ []) ps).in_flight (fill_order w (fs ++ started_flight fs p ∷ []) ps).0,
         (fill_order w (fs ++ started_flight fs p ∷ []) ps).1
-            ∙ ap (λ qs. qs ++ ps) (publications_append fs (started_flight fs p ∷ []) ∙ ap (λ qs. publications_in_flight fs ++ qs) (one_publication (is_acknowledged p.qos) (least_free (ids_of fs)) p))
+            ∙ ap (λ qs. qs ++ ps) (publications_append fs (started_flight fs p ∷ []) ∙ ap (λ qs. publications_in_flight fs ++ qs) (one_publication (is_qos1 p.qos) (least_free (ids_of fs)) p))
             ∙ append_assoc (publications_in_flight fs) (p ∷ []) ps,
       )
       | false ↦ (own_front fs, refl)
@@ -109,7 +109,7 @@ fill_sends_starts w fs (p ∷ ps) =
     elim (nat_lt (length fs) w) as (λ (b : Bool).
     (if b then packets.Publish (publish_for false (least_free (ids_of fs)) p) ∷ fill_sends w (fs ++ started_flight fs p ∷ []) ps else [])
     ≡ map (λ (flight : Flight). first_sent flight.0 flight.1) (drop (length fs) (if b then fill w (fs ++ started_flight fs p ∷ []) ps else record { in_flight = fs; waiting = p ∷ ps }).in_flight)) [
-      | true ↦ ap₂ (λ packet rest. packet ∷ rest) (sym (sent_first_by (is_acknowledged p.qos) (least_free (ids_of fs)) p)) (fill_sends_starts w (fs ++ started_flight fs p ∷ []) ps)
+      | true ↦ ap₂ (λ packet rest. packet ∷ rest) (sym (sent_first_by (is_qos1 p.qos) (least_free (ids_of fs)) p)) (fill_sends_starts w (fs ++ started_flight fs p ∷ []) ps)
           ∙ sym (ap (map (λ (flight : Flight). first_sent flight.0 flight.1))
           (drop_one_more fs (started_flight fs p) (fill w (fs ++ started_flight fs p ∷ []) ps).in_flight (fill_order w (fs ++ started_flight fs p ∷ []) ps).0))
       | false ↦ sym (ap (map (λ (flight : Flight). first_sent flight.0 flight.1)) (all_dropped fs))

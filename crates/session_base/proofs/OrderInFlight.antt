@@ -4,7 +4,7 @@ use Rattle.std.specs.List.{list_any}
 use Rattle.std.proofs.lemmas.List.{map-append}
 use Rattle.session_base.specs.declared.publication.Publication.{Publication}
 use Rattle.session_base.specs.declared.awaits.Awaits.TheVariants as waits_for
-use Rattle.session_base.specs.Publication.{is_acknowledged}
+use Rattle.session_base.specs.Publication.{is_qos1}
 use Rattle.session_base.specs.Queue.{Flight, is_pubcomp, is_released, awaits_puback, awaits_pubrec, awaits_pubcomp, released_with, on_pubrec, started_flight, fill}
 use Rattle.session_base.specs.Sending.{sent_anew}
 use Rattle.session_base.specs.OrderLaws.{NoneReleased, IsReleasedFirst, KeepsReleasedFirst, ResendsInOrder}
@@ -68,7 +68,7 @@ first_fill : (w : ℕ) (fs : List Flight) (ps : List Publication) → IsReleased
 first_fill w fs [] h = h
 first_fill w fs (p ∷ ps) h =
     elim (nat_lt (length fs) w) as (λ (b : Bool). IsReleasedFirst (if b then fill w (fs ++ started_flight fs p ∷ []) ps else record { in_flight = fs; waiting = p ∷ ps }).in_flight) [
-      | true ↦ first_fill w (fs ++ started_flight fs p ∷ []) ps (first_more fs (started_flight fs p) (not_yet (is_acknowledged p.qos) p) h)
+      | true ↦ first_fill w (fs ++ started_flight fs p ∷ []) ps (first_more fs (started_flight fs p) (not_yet (is_qos1 p.qos) p) h)
       | false ↦ h
     ]
 

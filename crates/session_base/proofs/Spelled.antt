@@ -17,7 +17,7 @@ use Rattle.packet_base.proofs.QoSReads.{qos_found}
 use Rattle.session_base.specs.declared.publication.Publication.{Publication}
 use Rattle.session_base.specs.declared.awaits.Awaits.{Awaits}
 use Rattle.session_base.specs.declared.awaits.Awaits.TheVariants as waits_for
-use Rattle.session_base.specs.Publication.{is_answered, is_acknowledged}
+use Rattle.session_base.specs.Publication.{is_answered, is_qos1}
 use Rattle.session_base.specs.Session.{SessionState}
 use Rattle.session_base.specs.Counted.{counted_bytes, counted_items_at, items_after}
 use Rattle.session_base.specs.Form.{long_number, one_byte, publication_bytes, granted_filter_bytes, awaits_bytes, flight_bytes, state_bytes, flag_at, long_number_at, qos_at, body_length, sized, publication_at, granted_filter_at, waiting_at, sent_at, awaits_at, flight_at, is_new_filter, is_above, may_follow, anything}
@@ -127,11 +127,11 @@ unfolding sent_at
 sent_spelled true given rest h =
     let Q : Awaits × List ℕ → Type 0 = λ x. Splits given (awaits_bytes x.0) x.1 in
     then_if (waiting_at rest) _ (λ x. Splits rest (publication_bytes x.0) x.1) Q (waiting_spelled rest h.left) (λ p k.
-    check_if (is_acknowledged p.0.qos) _ _ Q (λ test. Splits-then given (0 ∷ []) rest (publication_bytes p.0) p.1 h k))
+    check_if (is_qos1 p.0.qos) _ _ Q (λ test. Splits-then given (0 ∷ []) rest (publication_bytes p.0) p.1 h k))
 sent_spelled false given rest h =
     let Q : Awaits × List ℕ → Type 0 = λ x. Splits given (awaits_bytes x.0) x.1 in
     then_if (waiting_at rest) _ (λ x. Splits rest (publication_bytes x.0) x.1) Q (waiting_spelled rest h.left) (λ p k.
-    check_if (not (is_acknowledged p.0.qos)) _ _ Q (λ test. Splits-then given (1 ∷ []) rest (publication_bytes p.0) p.1 h k))
+    check_if (not (is_qos1 p.0.qos)) _ _ Q (λ test. Splits-then given (1 ∷ []) rest (publication_bytes p.0) p.1 h k))
 
 by_state : (given : List ℕ) (state : ℕ) (rest : List ℕ) → state < 3 → Splits given (state ∷ []) rest →
     IfOk (if state == 2 then Ok (waits_for.Pubcomp, rest) else sent_at (state == 0) rest) (λ x. Splits given (awaits_bytes x.0) x.1)

@@ -12,7 +12,7 @@ use Rattle.packet.specs.Spelling.{max_body}
 use Rattle.session_base.specs.declared.publication.Publication.{Publication}
 use Rattle.session_base.specs.declared.awaits.Awaits.{Awaits}
 use Rattle.session_base.specs.declared.awaits.Awaits.TheVariants as waits_for
-use Rattle.session_base.specs.Publication.{is_answered, is_acknowledged}
+use Rattle.session_base.specs.Publication.{is_answered, is_qos1}
 use Rattle.session_base.specs.Subscriptions.{GrantedFilter}
 use Rattle.session_base.specs.Queue.{Flight}
 use Rattle.session_base.specs.Counted.{check_form}
@@ -84,7 +84,7 @@ waiting_at bytes = do
 unfoldable pub sent_at : Bool → List ℕ → Result (Awaits × List ℕ) Stop
 sent_at acknowledged bytes = do
   sent ← waiting_at bytes
-  check_form (if acknowledged then is_acknowledged sent.0.qos else not (is_acknowledged sent.0.qos))
+  check_form (if acknowledged then is_qos1 sent.0.qos else not (is_qos1 sent.0.qos))
   Ok (if acknowledged then waits_for.Puback sent.0 else waits_for.Pubrec sent.0, sent.1)
 
 -- what an entry waits for, by a byte of 0 to 2

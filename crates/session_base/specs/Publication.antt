@@ -40,8 +40,8 @@ is_answered qualities.AtMostOnce = false
 is_answered qualities.AtLeastOnce = true
 is_answered qualities.ExactlyOnce = true
 
--- whether PUBACK is the whole answer
-abbrev pub is_acknowledged : QoS → Bool
-is_acknowledged qualities.AtMostOnce = false
-is_acknowledged qualities.AtLeastOnce = true
-is_acknowledged qualities.ExactlyOnce = false
+-- whether a QoS is 1: PUBACK is the whole answer
+abbrev pub is_qos1 : QoS → Bool
+is_qos1 qualities.AtMostOnce = false
+is_qos1 qualities.AtLeastOnce = true
+is_qos1 qualities.ExactlyOnce = false

@@ -6,7 +6,7 @@ use Rattle.std.specs.List.{list_any}
 use Rattle.session_base.specs.declared.publication.Publication.{Publication}
 use Rattle.session_base.specs.declared.awaits.Awaits.{Awaits}
 use Rattle.session_base.specs.declared.awaits.Awaits.TheVariants as waits_for
-use Rattle.session_base.specs.Publication.{is_acknowledged}
+use Rattle.session_base.specs.Publication.{is_qos1}
 use Rattle.session_base.specs.Identifiers.{least_free}
 
 -- an entry in flight: its Packet Identifier, and what it waits for
@@ -26,7 +26,7 @@ empty_queue = record { in_flight = []; waiting = [] }
 -- what a publication waits for once it is sent (MQTT 4.3.2, 4.3.3)
 abbrev pub awaited : Publication → Awaits
 awaited publication =
-    if is_acknowledged publication.qos then waits_for.Puback publication
+    if is_qos1 publication.qos then waits_for.Puback publication
     else waits_for.Pubrec publication
 
 -- ---- the client's answers

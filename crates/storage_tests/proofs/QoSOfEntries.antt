@@ -5,7 +5,7 @@ use Rattle.std.specs.List.{AllByRecursion}
 use Rattle.packet.specs.declared.packet.Packet.TheVariants as packets
 use Rattle.session.specs.session_base.declared.publication.Publication.{Publication}
 use Rattle.session.specs.session_base.Identifiers.{least_free}
-use Rattle.session.specs.session_base.Publication.{is_acknowledged}
+use Rattle.session.specs.session_base.Publication.{is_qos1}
 use Rattle.broker_form.specs.broker_spec.Connection.{ConnectionName}
 use Rattle.broker_form.specs.broker_spec.Place.{Client, same_client, Mark}
 use Rattle.broker_form.specs.broker_spec.Past.{current_connection, clean_session_of, begins, in_session}
@@ -22,9 +22,9 @@ AllFit = AllByRecursion FitsItsQoS
 
 puback_fits : (n i : ℕ) (entry : Entry) → FitsItsQoS entry → FitsItsQoS (at_puback n i entry)
 puback_fits n i (Entry.Waits made p) h = h
-puback_fits n i (Entry.Started made p id start) h = by (i == id) (is_acknowledged p.qos) refl
+puback_fits n i (Entry.Started made p id start) h = by (i == id) (is_qos1 p.qos) refl
   where
-    by : (a b : Bool) → is_acknowledged p.qos ≡ b → FitsItsQoS (if a && b then Entry.Finished made p id start None n else Entry.Started made p id start)
+    by : (a b : Bool) → is_qos1 p.qos ≡ b → FitsItsQoS (if a && b then Entry.Finished made p id start None n else Entry.Started made p id start)
     by true true e = e
     by true false e = tt
     by false b e = tt
@@ -33,9 +33,9 @@ puback_fits n i (Entry.Finished made p id start release finish) h = h
 
 pubrec_fits : (n i : ℕ) (entry : Entry) → FitsItsQoS entry → FitsItsQoS (at_pubrec n i entry)
 pubrec_fits n i (Entry.Waits made p) h = h
-pubrec_fits n i (Entry.Started made p id start) h = by (i == id) (is_acknowledged p.qos) refl
+pubrec_fits n i (Entry.Started made p id start) h = by (i == id) (is_qos1 p.qos) refl
   where
-    by : (a b : Bool) → is_acknowledged p.qos ≡ b → FitsItsQoS (if a && not b then Entry.Released made p id start n else Entry.Started made p id start)
+    by : (a b : Bool) → is_qos1 p.qos ≡ b → FitsItsQoS (if a && not b then Entry.Released made p id start n else Entry.Started made p id start)
     by true true e = tt
     by true false e = e
     by false b e = tt

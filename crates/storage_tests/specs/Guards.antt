@@ -5,7 +5,7 @@ use Rattle.std.specs.List.{AllByRecursion}
 use Rattle.packet.specs.declared.delivery.Delivery.TheVariants as deliveries
 use Rattle.packet.specs.declared.packet.Packet.TheVariants as packets
 use Rattle.session.specs.packet.packet_base.declared.qos.QoS.TheVariants as qualities
-use Rattle.session.specs.session_base.Publication.{is_acknowledged}
+use Rattle.session.specs.session_base.Publication.{is_qos1}
 use Rattle.broker_form.specs.broker_spec.Commands.{usual_limits}
 use Rattle.broker_form.specs.broker_spec.Entries.{Entry}
 use Rattle.broker_form.specs.broker_spec.Place.{Client, Past, Limits}
@@ -18,11 +18,11 @@ use Rattle.broker_form.specs.broker_spec.declared.command.Output.TheVariants.{Cl
 -- an entry is released at QoS 2 alone, and finished without a release at QoS 1 alone
 abbrev pub FitsItsQoS : Entry → Type 0
 FitsItsQoS (Entry.Released made publication id start release) =
-    is_acknowledged publication.qos ≡ false
+    is_qos1 publication.qos ≡ false
 FitsItsQoS (Entry.Finished made publication id start None finish) =
-    is_acknowledged publication.qos ≡ true
+    is_qos1 publication.qos ≡ true
 FitsItsQoS (Entry.Finished made publication id start (Some release) finish) =
-    is_acknowledged publication.qos ≡ false
+    is_qos1 publication.qos ≡ false
 FitsItsQoS _ = Unit {0}
 
 -- each entry of each session fits its QoS

@@ -1,7 +1,7 @@
 -- What PUBACK and PUBCOMP do to the entries is what they do to the queue (MQTT 4.3.2, 4.3.3).
 use Rattle.std.proofs.Common.{◌≡◌, ℕ, zero, suc, Bool, true, false, not, ◌&&◌, ◌==◌, if◌then◌else◌, Some, None, List, [], ◌∷◌, ◌++◌, map, filter, refl, ap, ap₂, ◌∙◌, sym}
 use Rattle.std.proofs.lemmas.List.Elements.{filter-append}
-use Rattle.session_base.specs.Publication.{is_acknowledged}
+use Rattle.session_base.specs.Publication.{is_qos1}
 use Rattle.session_base.specs.Queue.{awaited, awaits_puback, awaits_pubcomp, on_puback, on_pubcomp}
 use Rattle.broker_spec.specs.Entries.{Entry}
 use Rattle.broker_spec.specs.Readings.{released_at, released_below}
@@ -15,9 +15,9 @@ pub sent_puback : (n i : ℕ) (es : List Entry) → sent_flights (map (at_puback
 sent_puback n i [] = refl
 sent_puback n i (Entry.Waits made p ∷ es) = sent_puback n i es
 sent_puback n i (Entry.Started made p id start ∷ es) =
-    one ((i == id) && is_acknowledged p.qos)
-    ∙ ap (λ xs. if (i == id) && is_acknowledged p.qos then xs else (id, awaited p) ∷ xs) (sent_puback n i es)
-    ∙ sym (filter_out (awaits_puback i) (id, awaited p) (sent_flights es) ((i == id) && is_acknowledged p.qos) (awaits_puback_is i id p))
+    one ((i == id) && is_qos1 p.qos)
+    ∙ ap (λ xs. if (i == id) && is_qos1 p.qos then xs else (id, awaited p) ∷ xs) (sent_puback n i es)
+    ∙ sym (filter_out (awaits_puback i) (id, awaited p) (sent_flights es) ((i == id) && is_qos1 p.qos) (awaits_puback_is i id p))
   where
     one : (b : Bool) → sent_flights ((if b then Entry.Finished made p id start None n else Entry.Started made p id start) ∷ map (at_puback n i) es)
         ≡ (if b then sent_flights (map (at_puback n i) es) else (id, awaited p) ∷ sent_flights (map (at_puback n i) es))
@@ -29,7 +29,7 @@ sent_puback n i (Entry.Finished made p id start release finish ∷ es) = sent_pu
 released_at_puback : (t n i : ℕ) (es : List Entry) → released_at t (map (at_puback n i) es) ≡ released_at t es
 released_at_puback t n i [] = refl
 released_at_puback t n i (Entry.Waits made p ∷ es) = released_at_puback t n i es
-released_at_puback t n i (Entry.Started made p id start ∷ es) = one ((i == id) && is_acknowledged p.qos) ∙ released_at_puback t n i es
+released_at_puback t n i (Entry.Started made p id start ∷ es) = one ((i == id) && is_qos1 p.qos) ∙ released_at_puback t n i es
   where
     one : (b : Bool) → released_at t ((if b then Entry.Finished made p id start None n else Entry.Started made p id start) ∷ map (at_puback n i) es)
         ≡ released_at t (map (at_puback n i) es)

@@ -1,6 +1,6 @@
 -- What a PUBREC does to the sent and the released entries (MQTT 4.3.3).
 use Rattle.std.proofs.Common.{◌≡◌, ℕ, ◌<◌, ◌≤◌, zero, suc, Bool, true, false, not, ◌&&◌, ◌==◌, if◌then◌else◌, List, [], ◌∷◌, ◌++◌, map, filter, refl, ap, ap₂, ◌∙◌, sym, arith}
-use Rattle.session_base.specs.Publication.{is_acknowledged}
+use Rattle.session_base.specs.Publication.{is_qos1}
 use Rattle.session_base.specs.Queue.{awaited, awaits_pubrec, ids_of}
 use Rattle.session_base.proofs.PubrecAlone.{ids_if}
 use Rattle.broker_spec.specs.Entries.{Entry}
@@ -26,9 +26,9 @@ pub sent_pubrec : (n i : ℕ) (es : List Entry) → sent_flights (map (at_pubrec
 sent_pubrec n i [] = refl
 sent_pubrec n i (Entry.Waits made p ∷ es) = sent_pubrec n i es
 sent_pubrec n i (Entry.Started made p id start ∷ es) =
-    one ((i == id) && not (is_acknowledged p.qos))
-    ∙ ap (λ xs. if (i == id) && not (is_acknowledged p.qos) then xs else (id, awaited p) ∷ xs) (sent_pubrec n i es)
-    ∙ sym (filter_out (awaits_pubrec i) (id, awaited p) (sent_flights es) ((i == id) && not (is_acknowledged p.qos)) (awaits_pubrec_is i id p))
+    one ((i == id) && not (is_qos1 p.qos))
+    ∙ ap (λ xs. if (i == id) && not (is_qos1 p.qos) then xs else (id, awaited p) ∷ xs) (sent_pubrec n i es)
+    ∙ sym (filter_out (awaits_pubrec i) (id, awaited p) (sent_flights es) ((i == id) && not (is_qos1 p.qos)) (awaits_pubrec_is i id p))
   where
     one : (b : Bool) → sent_flights ((if b then Entry.Released made p id start n else Entry.Started made p id start) ∷ map (at_pubrec n i) es)
         ≡ (if b then sent_flights (map (at_pubrec n i) es) else (id, awaited p) ∷ sent_flights (map (at_pubrec n i) es))
@@ -56,7 +56,7 @@ flights_more n es h = ap (λ ids. map released_flight ids ++ sent_flights es) (r
 released_at_before : (t n i : ℕ) (es : List Entry) → t < n → released_at t (map (at_pubrec n i) es) ≡ released_at t es
 released_at_before t n i [] h = refl
 released_at_before t n i (Entry.Waits made p ∷ es) h = released_at_before t n i es h
-released_at_before t n i (Entry.Started made p id start ∷ es) h = one ((i == id) && not (is_acknowledged p.qos)) ∙ released_at_before t n i es h
+released_at_before t n i (Entry.Started made p id start ∷ es) h = one ((i == id) && not (is_qos1 p.qos)) ∙ released_at_before t n i es h
   where
     one : (b : Bool) → released_at t ((if b then Entry.Released made p id start n else Entry.Started made p id start) ∷ map (at_pubrec n i) es)
         ≡ released_at t (map (at_pubrec n i) es)
@@ -74,9 +74,9 @@ pub released_now : (n i : ℕ) (es : List Entry) → IsBelow n es → released_a
 released_now n i [] h = refl
 released_now n i (Entry.Waits made p ∷ es) h = released_now n i es h.1
 released_now n i (Entry.Started made p id start ∷ es) h =
-    one ((i == id) && not (is_acknowledged p.qos))
-    ∙ ap (λ xs. if (i == id) && not (is_acknowledged p.qos) then id ∷ xs else xs) (released_now n i es h.2)
-    ∙ sym (ids_if ((i == id) && not (is_acknowledged p.qos)) i (id, awaited p) (sent_flights es) (awaits_pubrec_is i id p))
+    one ((i == id) && not (is_qos1 p.qos))
+    ∙ ap (λ xs. if (i == id) && not (is_qos1 p.qos) then id ∷ xs else xs) (released_now n i es h.2)
+    ∙ sym (ids_if ((i == id) && not (is_qos1 p.qos)) i (id, awaited p) (sent_flights es) (awaits_pubrec_is i id p))
   where
     one : (b : Bool) → released_at n ((if b then Entry.Released made p id start n else Entry.Started made p id start) ∷ map (at_pubrec n i) es)
         ≡ (if b then id ∷ released_at n (map (at_pubrec n i) es) else released_at n (map (at_pubrec n i) es))

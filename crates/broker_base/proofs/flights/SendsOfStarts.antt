@@ -6,7 +6,7 @@ use Rattle.std.proofs.lemmas.List.{map-append, length-map}
 use Rattle.session_base.specs.packet.declared.packet.Packet.TheVariants as packets
 use Rattle.session_base.specs.declared.publication.Publication.{Publication}
 use Rattle.session_base.specs.declared.awaits.Awaits.TheVariants as waits_for
-use Rattle.session_base.specs.Publication.{is_acknowledged, publish_for}
+use Rattle.session_base.specs.Publication.{is_qos1, publish_for}
 use Rattle.session_base.specs.Identifiers.{least_free}
 use Rattle.session_base.specs.Queue.{Flight, ids_of, started_flight}
 use Rattle.session_base.specs.Sending.{fill_sends, sent_anew, resend}
@@ -88,7 +88,7 @@ again_sent : (x : ConnectionName) (n : ℕ) (es : List Entry) → StartedBefore 
 again_sent x n [] h = refl
 again_sent x n (Entry.Waits made p ∷ es) h = again_sent x n es h
 again_sent x n (Entry.Started made p id start ∷ es) h =
-    rw (earlier start n h.0) (ap₂ (λ packet answers. Send x packet ∷ answers) (sym (anew_by (is_acknowledged p.qos) id p)) (again_sent x n es h.1))
+    rw (earlier start n h.0) (ap₂ (λ packet answers. Send x packet ∷ answers) (sym (anew_by (is_qos1 p.qos) id p)) (again_sent x n es h.1))
 again_sent x n (Entry.Released made p id start release ∷ es) h = again_sent x n es h
 again_sent x n (Entry.Finished made p id start release finish ∷ es) h = again_sent x n es h
 

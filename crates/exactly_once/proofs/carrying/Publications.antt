@@ -7,7 +7,7 @@ use Rattle.packet.specs.Delivery.{delivery_qos}
 use Rattle.packet.specs.declared.packet.Packet.{Packet}
 use Rattle.packet.specs.declared.packet.Packet.TheVariants as packets
 use Rattle.session_base.specs.declared.publication.Publication.{Publication}
-use Rattle.session_base.specs.Publication.{publication_of, publish_for, delivery_with, is_acknowledged}
+use Rattle.session_base.specs.Publication.{publication_of, publish_for, delivery_with, is_qos1}
 use Rattle.lists.specs.Lists.{Each, IsPrefixOf}
 use Rattle.lists.proofs.Prefixes.{prefix_get}
 use Rattle.lists.proofs.OfEach.{each_append}
@@ -57,7 +57,7 @@ carried_is dup id p = λ i. record { retain = p.retain; qos = level p.qos i; top
 pub said_puback : (i : ℕ) (own : List Own) → own_publications (map (own_at_puback i) own) ≡ own_publications own
 said_puback i [] = refl
 said_puback i (Own.Unsent k p id ∷ own) = ap (λ l. p ∷ l) (said_puback i own)
-said_puback i (Own.Sent k p id ∷ own) = ap₂ (λ q l. q ∷ l) (by ((i == id) && is_acknowledged p.qos)) (said_puback i own)
+said_puback i (Own.Sent k p id ∷ own) = ap₂ (λ q l. q ∷ l) (by ((i == id) && is_qos1 p.qos)) (said_puback i own)
   where
     by : (b : Bool) → own_publication (if b then Own.Done k p else Own.Sent k p id) ≡ p
     by true = refl
@@ -68,7 +68,7 @@ said_puback i (Own.Done k p ∷ own) = ap (λ l. p ∷ l) (said_puback i own)
 pub said_pubrec : (i : ℕ) (own : List Own) → own_publications (map (own_at_pubrec i) own) ≡ own_publications own
 said_pubrec i [] = refl
 said_pubrec i (Own.Unsent k p id ∷ own) = ap (λ l. p ∷ l) (said_pubrec i own)
-said_pubrec i (Own.Sent k p id ∷ own) = ap₂ (λ q l. q ∷ l) (by ((i == id) && not (is_acknowledged p.qos))) (said_pubrec i own)
+said_pubrec i (Own.Sent k p id ∷ own) = ap₂ (λ q l. q ∷ l) (by ((i == id) && not (is_qos1 p.qos))) (said_pubrec i own)
   where
     by : (b : Bool) → own_publication (if b then Own.Released k p id else Own.Sent k p id) ≡ p
     by true = refl

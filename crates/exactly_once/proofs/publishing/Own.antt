@@ -4,7 +4,7 @@ use Rattle.std.proofs.lemmas.Bool.{both_ways, cases_Bool}
 use Rattle.packet_base.specs.declared.qos.QoS.{QoS}
 use Rattle.packet_base.specs.declared.qos.QoS.TheVariants as qualities
 use Rattle.session_base.specs.declared.publication.Publication.{Publication}
-use Rattle.session_base.specs.Publication.{is_acknowledged}
+use Rattle.session_base.specs.Publication.{is_qos1}
 use Rattle.exactly_once.specs.Items.{SenderItem, item_released, finishing, has_sent}
 use Rattle.lists.proofs.Tests.{or_right}
 use Rattle.client_base.specs.Keeper.{Own}
@@ -12,7 +12,7 @@ use Rattle.client_base.specs.Handshakes.{own_at_puback, own_at_pubrec, own_at_pu
 use Rattle.exactly_once.specs.Carried.{is_qos2}
 use Rattle.exactly_once.specs.Inside.Projections.{items_of_own, own_item}
 
-two_unacknowledged : (q : QoS) → is_qos2 q ≡ true → is_acknowledged q ≡ false
+two_unacknowledged : (q : QoS) → is_qos2 q ≡ true → is_qos1 q ≡ false
 two_unacknowledged qualities.AtMostOnce e = refl
 two_unacknowledged qualities.AtLeastOnce e = absurd (both_ways false refl e)
 two_unacknowledged qualities.ExactlyOnce e = refl
@@ -29,7 +29,7 @@ own_map g p x y es fs e f = by (is_qos2 p.qos)
 pub items_released : (i : ℕ) (own : List Own) → items_of_own (map (own_at_pubrec i) own) ≡ map (item_released i) (items_of_own own)
 items_released i [] = refl
 items_released i (Own.Unsent k p id ∷ own) = own_map (item_released i) p (SenderItem.Waits k) (SenderItem.Waits k) (items_of_own own) (items_of_own (map (own_at_pubrec i) own)) refl (items_released i own)
-items_released i (Own.Sent k p id ∷ own) = by (cases_Bool (i == id)) (is_acknowledged p.qos) (cases_Bool (is_qos2 p.qos)) (two_unacknowledged p.qos) (items_released i own)
+items_released i (Own.Sent k p id ∷ own) = by (cases_Bool (i == id)) (is_qos1 p.qos) (cases_Bool (is_qos2 p.qos)) (two_unacknowledged p.qos) (items_released i own)
   where
     by : ((i == id) ≡ true) ⊎ ((i == id) ≡ false) → (a : Bool) → (is_qos2 p.qos ≡ true) ⊎ (is_qos2 p.qos ≡ false) → (is_qos2 p.qos ≡ true → a ≡ false)
         → items_of_own (map (own_at_pubrec i) own) ≡ map (item_released i) (items_of_own own)
@@ -65,7 +65,7 @@ own_same p x es fs e = ap (own_item p x) e
 pub items_acknowledged : (i : ℕ) (own : List Own) → items_of_own (map (own_at_puback i) own) ≡ items_of_own own
 items_acknowledged i [] = refl
 items_acknowledged i (Own.Unsent k p id ∷ own) = own_same p (SenderItem.Waits k) (items_of_own own) (items_of_own (map (own_at_puback i) own)) (items_acknowledged i own)
-items_acknowledged i (Own.Sent k p id ∷ own) = by (i == id) (is_acknowledged p.qos) (cases_Bool (is_qos2 p.qos)) (two_unacknowledged p.qos) (items_acknowledged i own)
+items_acknowledged i (Own.Sent k p id ∷ own) = by (i == id) (is_qos1 p.qos) (cases_Bool (is_qos2 p.qos)) (two_unacknowledged p.qos) (items_acknowledged i own)
   where
     by : (b a : Bool) → (is_qos2 p.qos ≡ true) ⊎ (is_qos2 p.qos ≡ false) → (is_qos2 p.qos ≡ true → a ≡ false) → items_of_own (map (own_at_puback i) own) ≡ items_of_own own
         → items_of_own ((if b && a then Own.Done k p else Own.Sent k p id) ∷ map (own_at_puback i) own) ≡ own_item p (SenderItem.Sent k id) (items_of_own own)
@@ -94,12 +94,12 @@ sent_then i (Own.Sent k p id ∷ own) h = by (cases_Bool (is_qos2 p.qos)) (sent_
     first false false n h ih = ih h
 
     by : (is_qos2 p.qos ≡ true) ⊎ (is_qos2 p.qos ≡ false) → (has_sent i (items_of_own own) ≡ true → is_sent_with i own ≡ true)
-        → ((((i == id) && not (is_acknowledged p.qos)) || is_sent_with i own) ≡ true)
+        → ((((i == id) && not (is_qos1 p.qos)) || is_sent_with i own) ≡ true)
     by (inl t) ih =
-        first (i == id) (is_acknowledged p.qos) (two_unacknowledged p.qos t)
+        first (i == id) (is_qos1 p.qos) (two_unacknowledged p.qos t)
         (sym (ap (λ b. has_sent i (if b then SenderItem.Sent k id ∷ items_of_own own else items_of_own own)) t) ∙ h) ih
     by (inr t) ih =
-        or_right ((i == id) && not (is_acknowledged p.qos)) (is_sent_with i own)
+        or_right ((i == id) && not (is_qos1 p.qos)) (is_sent_with i own)
         (ih (sym (ap (λ b. has_sent i (if b then SenderItem.Sent k id ∷ items_of_own own else items_of_own own)) t) ∙ h))
 sent_then i (Own.Released k p id ∷ own) h = sent_then i own (skipped i (is_qos2 p.qos) (SenderItem.Released k id) (items_of_own own) refl h)
 sent_then i (Own.Done k p ∷ own) h = sent_then i own (skipped i (is_qos2 p.qos) (SenderItem.Finished k) (items_of_own own) refl h)

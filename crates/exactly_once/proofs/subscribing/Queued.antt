@@ -5,7 +5,7 @@ use Rattle.packet_base.specs.declared.qos.QoS.{QoS}
 use Rattle.packet_base.specs.declared.qos.QoS.TheVariants as qualities
 use Rattle.packet.specs.declared.packet.Packet.TheVariants as packets
 use Rattle.session_base.specs.declared.publication.Publication.{Publication}
-use Rattle.session_base.specs.Publication.{is_acknowledged, is_answered}
+use Rattle.session_base.specs.Publication.{is_qos1, is_answered}
 use Rattle.session_base.specs.Identifiers.{least_free}
 use Rattle.broker_spec.specs.Connection.{ConnectionName}
 use Rattle.broker_spec.specs.Place.{Client, same_client, Mark, Past, Limits}
@@ -25,7 +25,7 @@ AreKept (Entry.Finished made p id start release finish ∷ es) = (is_answered p.
 AreKept [] = Unit {0}
 
 -- what is answered otherwise than by a PUBACK is of QoS 2
-two_of : (q : QoS) → is_answered q ≡ true → is_acknowledged q ≡ false → is_qos2 q ≡ true
+two_of : (q : QoS) → is_answered q ≡ true → is_qos1 q ≡ false → is_qos2 q ≡ true
 two_of qualities.AtMostOnce a e = absurd (both_ways false refl a)
 two_of qualities.AtLeastOnce a e = absurd (both_ways true e refl)
 two_of qualities.ExactlyOnce a e = refl
@@ -40,7 +40,7 @@ two_answered qualities.ExactlyOnce e = refl
 kept_puback : (n i : ℕ) (es : List Entry) → AreKept es → AreKept (map (at_puback n i) es)
 kept_puback n i [] h = tt
 kept_puback n i (Entry.Waits made p ∷ es) h = (h.0, kept_puback n i es h.1)
-kept_puback n i (Entry.Started made p id start ∷ es) h = by ((i == id) && is_acknowledged p.qos) (kept_puback n i es h.1)
+kept_puback n i (Entry.Started made p id start ∷ es) h = by ((i == id) && is_qos1 p.qos) (kept_puback n i es h.1)
   where
     by : (b : Bool) → AreKept (map (at_puback n i) es) → AreKept ((if b then Entry.Finished made p id start None n else Entry.Started made p id start) ∷ map (at_puback n i) es)
     by true k = (h.0, k)
@@ -52,10 +52,10 @@ kept_puback n i (Entry.Finished made p id start release finish ∷ es) h = (h.0,
 kept_pubrec : (n i : ℕ) (es : List Entry) → AreKept es → AreKept (map (at_pubrec n i) es)
 kept_pubrec n i [] h = tt
 kept_pubrec n i (Entry.Waits made p ∷ es) h = (h.0, kept_pubrec n i es h.1)
-kept_pubrec n i (Entry.Started made p id start ∷ es) h = by (i == id) (cases_Bool (is_acknowledged p.qos)) (kept_pubrec n i es h.1)
+kept_pubrec n i (Entry.Started made p id start ∷ es) h = by (i == id) (cases_Bool (is_qos1 p.qos)) (kept_pubrec n i es h.1)
   where
-    by : (b : Bool) → (is_acknowledged p.qos ≡ true) ⊎ (is_acknowledged p.qos ≡ false) → AreKept (map (at_pubrec n i) es)
-        → AreKept ((if b && not (is_acknowledged p.qos) then Entry.Released made p id start n else Entry.Started made p id start) ∷ map (at_pubrec n i) es)
+    by : (b : Bool) → (is_qos1 p.qos ≡ true) ⊎ (is_qos1 p.qos ≡ false) → AreKept (map (at_pubrec n i) es)
+        → AreKept ((if b && not (is_qos1 p.qos) then Entry.Released made p id start n else Entry.Started made p id start) ∷ map (at_pubrec n i) es)
     by true (inl e) k = rw e (h.0, k)
     by true (inr e) k = rw e (two_of p.qos h.0 e, k)
     by false e k = (h.0, k)

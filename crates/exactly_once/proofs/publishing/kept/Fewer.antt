@@ -1,7 +1,7 @@
 -- Identifiers of which some are removed stay distinct.
 use Rattle.std.proofs.Common.{◌≡◌, ℕ, Bool, true, false, not, ◌&&◌, ◌==◌, if◌then◌else◌, List, [], ◌∷◌, ◌++◌, map, filter}
 use Rattle.lists.specs.Lists.{has_id, IsDistinct}
-use Rattle.session_base.specs.Publication.{is_acknowledged}
+use Rattle.session_base.specs.Publication.{is_qos1}
 use Rattle.lists.proofs.Tests.{or_none, none_or}
 use Rattle.client_base.specs.Keeper.{Own, ids_of_own}
 use Rattle.client_base.specs.declared.request.Request.{Request}
@@ -39,7 +39,7 @@ fewer_distinct xs ys (IsFewer.skips {x = x} {ys = qs} f) d = fewer_distinct xs q
 pub fewer_puback : (i : ℕ) (own : List Own) → IsFewer (ids_of_own (map (own_at_puback i) own)) (ids_of_own own)
 fewer_puback i [] = IsFewer.none
 fewer_puback i (Own.Unsent k p id ∷ own) = IsFewer.keeps (fewer_puback i own)
-fewer_puback i (Own.Sent k p id ∷ own) = by ((i == id) && is_acknowledged p.qos) (fewer_puback i own)
+fewer_puback i (Own.Sent k p id ∷ own) = by ((i == id) && is_qos1 p.qos) (fewer_puback i own)
   where
     by : (b : Bool) → IsFewer (ids_of_own (map (own_at_puback i) own)) (ids_of_own own)
         → IsFewer (ids_of_own ((if b then Own.Done k p else Own.Sent k p id) ∷ map (own_at_puback i) own)) (id ∷ ids_of_own own)
@@ -51,7 +51,7 @@ fewer_puback i (Own.Done k p ∷ own) = fewer_puback i own
 pub fewer_pubrec : (i : ℕ) (own : List Own) → IsFewer (ids_of_own (map (own_at_pubrec i) own)) (ids_of_own own)
 fewer_pubrec i [] = IsFewer.none
 fewer_pubrec i (Own.Unsent k p id ∷ own) = IsFewer.keeps (fewer_pubrec i own)
-fewer_pubrec i (Own.Sent k p id ∷ own) = by ((i == id) && not (is_acknowledged p.qos)) (fewer_pubrec i own)
+fewer_pubrec i (Own.Sent k p id ∷ own) = by ((i == id) && not (is_qos1 p.qos)) (fewer_pubrec i own)
   where
     by : (b : Bool) → IsFewer (ids_of_own (map (own_at_pubrec i) own)) (ids_of_own own)
         → IsFewer (ids_of_own ((if b then Own.Released k p id else Own.Sent k p id) ∷ map (own_at_pubrec i) own)) (id ∷ ids_of_own own)

@@ -1,7 +1,7 @@
 -- PUBACK, PUBREC and PUBCOMP keep the shape of a client's publications.
 use Rattle.std.proofs.Common.{◌≡◌, ℕ, Bool, true, false, not, ◌&&◌, ◌||◌, ◌==◌, if◌then◌else◌, List, [], ◌∷◌, ◌++◌, map, refl, ap, sym, ◌∙◌, inl, length}
 use Rattle.std.proofs.lemmas.Bool.{both_ways}
-use Rattle.session_base.specs.Publication.{is_acknowledged}
+use Rattle.session_base.specs.Publication.{is_qos1}
 use Rattle.lists.specs.Lists.{IsDistinct}
 use Rattle.exactly_once.specs.Items.{busy, has_sent, has_released}
 use Rattle.lists.proofs.Identifiers.{has_append, distinct_front, distinct_push}
@@ -47,13 +47,13 @@ either_sent true x y e f = e
 either_sent false x y e f = f
 
 puback_sent : (i : ℕ) (o : Own) → none_unsent (o ∷ []) ≡ true → none_unsent (own_at_puback i o ∷ []) ≡ true
-puback_sent i (Own.Sent k p id) e = either_sent ((i == id) && is_acknowledged p.qos) (Own.Done k p) (Own.Sent k p id) refl refl
+puback_sent i (Own.Sent k p id) e = either_sent ((i == id) && is_qos1 p.qos) (Own.Done k p) (Own.Sent k p id) refl refl
 puback_sent i (Own.Unsent k p id) e = e
 puback_sent i (Own.Released k p id) e = e
 puback_sent i (Own.Done k p) e = e
 
 pubrec_sends : (i : ℕ) (o : Own) → none_unsent (o ∷ []) ≡ true → none_unsent (own_at_pubrec i o ∷ []) ≡ true
-pubrec_sends i (Own.Sent k p id) e = either_sent ((i == id) && not (is_acknowledged p.qos)) (Own.Released k p id) (Own.Sent k p id) refl refl
+pubrec_sends i (Own.Sent k p id) e = either_sent ((i == id) && not (is_qos1 p.qos)) (Own.Released k p id) (Own.Sent k p id) refl refl
 pubrec_sends i (Own.Unsent k p id) e = e
 pubrec_sends i (Own.Released k p id) e = e
 pubrec_sends i (Own.Done k p) e = e

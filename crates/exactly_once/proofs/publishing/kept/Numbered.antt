@@ -1,7 +1,7 @@
 -- The answers keep the numbers of a client's publications, and what a PUBREC releases is of QoS 2.
 use Rattle.std.proofs.Common.{◌≡◌, ℕ, suc, Bool, true, false, not, ◌&&◌, ◌==◌, if◌then◌else◌, List, [], ◌∷◌, map, refl, ap, sym, ◌∙◌, subst, inl, inr, ◌⊎◌}
 use Rattle.std.proofs.lemmas.Bool.{both_ways, cases_Bool}
-use Rattle.session_base.specs.Publication.{is_acknowledged}
+use Rattle.session_base.specs.Publication.{is_qos1}
 use Rattle.lists.specs.Lists.{has_id, IsDistinct}
 use Rattle.exactly_once.specs.Items.{SenderItem, busy, has_sent}
 use Rattle.lists.proofs.Tests.{or_none, or_second, eq_is}
@@ -16,7 +16,7 @@ use Rattle.exactly_once.proofs.publishing.Unsent.{not_busy}
 pub numbered_puback : (i n : ℕ) (own : List Own) → AreNumberedFrom n own → AreNumberedFrom n (map (own_at_puback i) own)
 numbered_puback i n [] h = tt
 numbered_puback i n (Own.Unsent k p id ∷ own) h = (h.0, numbered_puback i (suc n) own h.1)
-numbered_puback i n (Own.Sent k p id ∷ own) h = by ((i == id) && is_acknowledged p.qos) (numbered_puback i (suc n) own h.1)
+numbered_puback i n (Own.Sent k p id ∷ own) h = by ((i == id) && is_qos1 p.qos) (numbered_puback i (suc n) own h.1)
   where
     by : (b : Bool) → AreNumberedFrom (suc n) (map (own_at_puback i) own) → AreNumberedFrom n ((if b then Own.Done k p else Own.Sent k p id) ∷ map (own_at_puback i) own)
     by true ih = (h.0, ih)
@@ -84,17 +84,17 @@ numbered_pubrec i n (Own.Sent k p id ∷ own) h d s = by (cases_Bool (i == id)) 
     by : ((i == id) ≡ true) ⊎ ((i == id) ≡ false) → (is_qos2 p.qos ≡ true) ⊎ (is_qos2 p.qos ≡ false)
         → (has_sent i (items_of_own (Own.Sent k p id ∷ own)) ≡ true) ⊎ (has_id i (id ∷ ids_of_own own) ≡ false)
         → ((has_sent i (items_of_own own) ≡ true) ⊎ (has_id i (ids_of_own own) ≡ false) → AreNumberedFrom (suc n) (map (own_at_pubrec i) own))
-        → AreNumberedFrom n ((if (i == id) && not (is_acknowledged p.qos) then Own.Released k p id else Own.Sent k p id) ∷ map (own_at_pubrec i) own)
-    by (inl e) (inl two) s ih = numbered ((i == id) && not (is_acknowledged p.qos)) (λ b. two) (ih (inr (clear e)))
+        → AreNumberedFrom n ((if (i == id) && not (is_qos1 p.qos) then Own.Released k p id else Own.Sent k p id) ∷ map (own_at_pubrec i) own)
+    by (inl e) (inl two) s ih = numbered ((i == id) && not (is_qos1 p.qos)) (λ b. two) (ih (inr (clear e)))
     by (inl e) (inr one) (inl has) ih =
         let there : has_sent i (items_of_own own) ≡ true = sym (ap (λ b. has_sent i (if b then SenderItem.Sent k id ∷ items_of_own own else items_of_own own)) one) ∙ has in
         absurd (both_ways (has_id i (busy (items_of_own own))) (not_busy i own (clear e)) (sent_busy i (items_of_own own) there))
     by (inl e) (inr one) (inr none) ih = absurd (both_ways (i == id) (or_none (i == id) (has_id i (ids_of_own own)) none).0 e)
     by (inr e) two (inr none) ih =
-        numbered ((i == id) && not (is_acknowledged p.qos)) (λ b. absurd (both_ways (i == id) e (both (i == id) (not (is_acknowledged p.qos)) b)))
+        numbered ((i == id) && not (is_qos1 p.qos)) (λ b. absurd (both_ways (i == id) e (both (i == id) (not (is_qos1 p.qos)) b)))
         (ih (inr (or_none (i == id) (has_id i (ids_of_own own)) none).1))
     by (inr e) two (inl has) ih =
-        numbered ((i == id) && not (is_acknowledged p.qos)) (λ b. absurd (both_ways (i == id) e (both (i == id) (not (is_acknowledged p.qos)) b)))
+        numbered ((i == id) && not (is_qos1 p.qos)) (λ b. absurd (both_ways (i == id) e (both (i == id) (not (is_qos1 p.qos)) b)))
         (ih (inl (there (is_qos2 p.qos) has)))
       where
         there : (b : Bool) → has_sent i (if b then SenderItem.Sent k id ∷ items_of_own own else items_of_own own) ≡ true → has_sent i (items_of_own own) ≡ true

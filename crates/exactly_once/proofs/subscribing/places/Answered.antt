@@ -4,7 +4,7 @@ use Rattle.std.proofs.lemmas.Bool.{both_ways, cases_Bool}
 use Rattle.packet_base.specs.declared.qos.QoS.{QoS}
 use Rattle.packet_base.specs.declared.qos.QoS.TheVariants as qualities
 use Rattle.session_base.specs.declared.publication.Publication.{Publication}
-use Rattle.session_base.specs.Publication.{is_acknowledged}
+use Rattle.session_base.specs.Publication.{is_qos1}
 use Rattle.lists.specs.Lists.{has_id}
 use Rattle.broker_spec.specs.Entries.{Entry}
 use Rattle.broker_spec.specs.Readings.{released_at}
@@ -26,10 +26,10 @@ all_queued (Entry.Released made p id start release ∷ es) h = (two_answered p.q
 all_queued (Entry.Finished made p id start release finish ∷ es) h = (h.0, all_queued es h.1)
 
 -- QoS 2 is not acknowledged by a PUBACK
-two_not : (p : Publication) → is_qos2 p.qos ≡ true → is_acknowledged p.qos ≡ false
+two_not : (p : Publication) → is_qos2 p.qos ≡ true → is_qos1 p.qos ≡ false
 two_not p e = by p.qos e
   where
-    by : (q : QoS) → is_qos2 q ≡ true → is_acknowledged q ≡ false
+    by : (q : QoS) → is_qos2 q ≡ true → is_qos1 q ≡ false
     by qualities.AtMostOnce e = absurd (both_ways false refl e)
     by qualities.AtLeastOnce e = absurd (both_ways false refl e)
     by qualities.ExactlyOnce e = refl
@@ -50,10 +50,10 @@ items_puback n i (Entry.Started made p id start ∷ es) = by (i == id) (cases_Bo
     pick false t ih = one_more p (SenderItem.Sent p id) (items_of_entries (map (at_puback n i) es)) (items_of_entries es) ih
 
     by : (b : Bool) → (is_qos2 p.qos ≡ true) ⊎ (is_qos2 p.qos ≡ false) → items_of_entries (map (at_puback n i) es) ≡ items_of_entries es
-        → items_of_entries ((if b && is_acknowledged p.qos then Entry.Finished made p id start None n else Entry.Started made p id start) ∷ map (at_puback n i) es) ≡ two_item p (SenderItem.Sent p id) (items_of_entries es)
+        → items_of_entries ((if b && is_qos1 p.qos then Entry.Finished made p id start None n else Entry.Started made p id start) ∷ map (at_puback n i) es) ≡ two_item p (SenderItem.Sent p id) (items_of_entries es)
     by false t ih = one_more p (SenderItem.Sent p id) (items_of_entries (map (at_puback n i) es)) (items_of_entries es) ih
     by true (inl t) ih = rw (two_not p t) (one_more p (SenderItem.Sent p id) (items_of_entries (map (at_puback n i) es)) (items_of_entries es) ih)
-    by true (inr t) ih = pick (is_acknowledged p.qos) t ih
+    by true (inr t) ih = pick (is_qos1 p.qos) t ih
 items_puback n i (Entry.Released made p id start release ∷ es) = one_more p (SenderItem.Released p id) (items_of_entries (map (at_puback n i) es)) (items_of_entries es) (items_puback n i es)
 items_puback n i (Entry.Finished made p id start release finish ∷ es) = one_more p (SenderItem.Finished p) (items_of_entries (map (at_puback n i) es)) (items_of_entries es) (items_puback n i es)
 
@@ -61,7 +61,7 @@ items_puback n i (Entry.Finished made p id start release finish ∷ es) = one_mo
 pub full_pubrec : (w k n i : ℕ) (es : List Entry) → IsFull w k es → IsFull w k (map (at_pubrec n i) es)
 full_pubrec w k n i [] f = tt
 full_pubrec w k n i (Entry.Waits made p ∷ es) f = (f.0, full_pubrec w (suc k) n i es f.1)
-full_pubrec w k n i (Entry.Started made p id start ∷ es) f = by ((i == id) && not (is_acknowledged p.qos)) (full_pubrec w (suc k) n i es f)
+full_pubrec w k n i (Entry.Started made p id start ∷ es) f = by ((i == id) && not (is_qos1 p.qos)) (full_pubrec w (suc k) n i es f)
   where
     by : (b : Bool) → IsFull w (suc k) (map (at_pubrec n i) es) → IsFull w k ((if b then Entry.Released made p id start n else Entry.Started made p id start) ∷ map (at_pubrec n i) es)
     by true g = g
@@ -94,8 +94,8 @@ now_released n i (Entry.Started made p id start ∷ es) e = by (cases_Bool (i ==
     by : ((i == id) ≡ true) ⊎ ((i == id) ≡ false) → (is_qos2 p.qos ≡ true) ⊎ (is_qos2 p.qos ≡ false) → (has_sent i (items_of_entries es) ≡ true → has_id i (released_at n (map (at_pubrec n i) es)) ≡ true)
         → has_id i (rest (at_pubrec n i (Entry.Started made p id start))) ≡ true
     by (inl b) (inl t) ih = rw (b, two_not p t) (rw (eq_same n) (or_left (i == id) (has_id i (released_at n (map (at_pubrec n i) es))) b))
-    by (inl b) (inr t) ih = kept ((i == id) && not (is_acknowledged p.qos)) (ih (sym (ap (λ z. has_sent i (if z then SenderItem.Sent p id ∷ items_of_entries es else items_of_entries es)) t) ∙ e))
-    by (inr b) t ih = kept ((i == id) && not (is_acknowledged p.qos)) (ih (drop_sent (is_qos2 p.qos) b e))
+    by (inl b) (inr t) ih = kept ((i == id) && not (is_qos1 p.qos)) (ih (sym (ap (λ z. has_sent i (if z then SenderItem.Sent p id ∷ items_of_entries es else items_of_entries es)) t) ∙ e))
+    by (inr b) t ih = kept ((i == id) && not (is_qos1 p.qos)) (ih (drop_sent (is_qos2 p.qos) b e))
 now_released n i (Entry.Released made p id start release ∷ es) e = by (release == n) (now_released n i es (skipped i (is_qos2 p.qos) (SenderItem.Released p id) (items_of_entries es) (λ e. e) e))
   where
     by : (b : Bool) → has_id i (released_at n (map (at_pubrec n i) es)) ≡ true → has_id i (if b then id ∷ released_at n (map (at_pubrec n i) es) else released_at n (map (at_pubrec n i) es)) ≡ true
