@@ -12,7 +12,7 @@ use Rattle.broker_base.specs.Step.{is_about, window_after, step}
 use Rattle.broker_base.specs.StateLaws.{IsNobodys}
 use Rattle.broker_spec.specs.declared.command.Command.{Command}
 use Rattle.broker_spec.specs.declared.command.Command.TheVariants as commands
-use Rattle.broker_rows.specs.Touched.{Untouched, comes_on, is_accepted, IsIdle}
+use Rattle.broker_rows.specs.Touched.{Untouched, comes_on, is_accepted, TouchesNoRow}
 use Rattle.broker_rows.proofs.OneRow.{left_untouched}
 use Rattle.broker_rows.proofs.OneCommand.{ends_none, spares}
 use Rattle.broker_rows.proofs.CommandOfOwner.{only_left}
@@ -28,7 +28,7 @@ nobody_owns x (row ∷ rows) e = by (any_connection (same_connection x) row.1.co
     by false off later f = (off, later f)
 
 -- a command without a part is about no client
-about_nobody : (command : Command) (mark : Mark) (c : Client) (held : List GrantedFilter) → IsIdle mark → is_about command mark c held ≡ false
+about_nobody : (command : Command) (mark : Mark) (c : Client) (held : List GrantedFilter) → TouchesNoRow mark → is_about command mark c held ≡ false
 about_nobody (commands.Connect x d clean) Mark.Accepted c held idle = absurd idle
 about_nobody (commands.Packet x (packets.Publish p)) (Mark.Taken d) c held idle = absurd idle
 about_nobody command (Mark.Granted d which) c held idle = absurd idle
@@ -36,7 +36,7 @@ about_nobody command (Mark.Handled d) c held idle = absurd idle
 about_nobody _ _ c held idle = refl
 
 -- nor does it touch any client's row
-none_touched : (command : Command) (mark : Mark) (x : ConnectionName) (rows : Sessions) → comes_on command ≡ Some x → IsIdle mark → IsNobodys x rows →
+none_touched : (command : Command) (mark : Mark) (x : ConnectionName) (rows : Sessions) → comes_on command ≡ Some x → TouchesNoRow mark → IsNobodys x rows →
     Untouched (record { command = command; mark = mark }) rows
 none_touched command mark x [] on idle nobodys = tt
 none_touched command mark x (row ∷ rows) on idle nobodys = (
@@ -45,20 +45,20 @@ none_touched command mark x (row ∷ rows) on idle nobodys = (
 )
 
 -- the mark of a Connect that is not accepted
-full_mark : (b : Bool) → is_accepted (if b then Mark.Accepted else Mark.Full) ≡ false → IsIdle (if b then Mark.Accepted else Mark.Full)
+full_mark : (b : Bool) → is_accepted (if b then Mark.Accepted else Mark.Full) ≡ false → TouchesNoRow (if b then Mark.Accepted else Mark.Full)
 full_mark true e = absurd (cc)
 full_mark false e = tt
 
 -- the mark of any command without a client that is not an accepted Connect
 nobodys_mark : (limits : Limits) (state : State) (command : Command) (x : ConnectionName) → comes_on command ≡ Some x → owner_in x state.sessions ≡ None →
-    is_accepted (mark_in limits state command) ≡ false → IsIdle (mark_in limits state command)
+    is_accepted (mark_in limits state command) ≡ false → TouchesNoRow (mark_in limits state command)
 nobodys_mark limits state (commands.Packet y packet) x on none e =
     let same : y ≡ x = cc in
-    subst (λ o. IsIdle (packet_mark_in limits state packet o)) (sym (ap (λ n. owner_in n state.sessions) same ∙ none)) tt
+    subst (λ o. TouchesNoRow (packet_mark_in limits state packet o)) (sym (ap (λ n. owner_in n state.sessions) same ∙ none)) tt
 nobodys_mark limits state (commands.Connect y c clean) x on none e =
     let same : y ≡ x = cc in
     let here : owner_in y state.sessions ≡ None = ap (λ n. owner_in n state.sessions) same ∙ none in
-    subst (λ o. IsIdle (connect_mark_in limits state c o)) (sym here)
+    subst (λ o. TouchesNoRow (connect_mark_in limits state c o)) (sym here)
     (full_mark (is_some (session_in c state.sessions) || nat_lt (length state.sessions) limits.sessions)
     (ap (λ o. is_accepted (connect_mark_in limits state c o)) (sym here) ∙ e))
 nobodys_mark limits state (commands.Lost y) x on none e = tt

@@ -15,7 +15,7 @@ use Rattle.broker_base.specs.Decisions.{refuses, repeats_taken, owned_mark, pack
 use Rattle.broker_base.specs.Step.{is_about}
 use Rattle.broker_spec.specs.declared.command.Command.{Command}
 use Rattle.broker_spec.specs.declared.command.Command.TheVariants as commands
-use Rattle.broker_rows.specs.Touched.{IsOnes, comes_on, is_taken, IsMarkOf}
+use Rattle.broker_rows.specs.Touched.{TouchesNoOther, comes_on, is_taken, IsMarkOf}
 
 -- ---- what ends
 
@@ -55,7 +55,7 @@ about_one _ _ d c of other subscriptions = refl
 
 -- so it touches no other session
 pub ones_marked : (command : Command) (mark : Mark) (x : ConnectionName) (d : Client) → comes_on command ≡ Some x → IsMarkOf d mark →
-    IsOnes (record { command = command; mark = mark }) x d
+    TouchesNoOther (record { command = command; mark = mark }) x d
 ones_marked command mark x d on of c kept other off =
     ap₂ (λ a b. a || b) (ap₂ (λ a b. a || b) (spares command x c on) (ends_none command mark x kept.connection on off)) (about_one command mark d c of other kept.state.subscriptions)
 
@@ -96,6 +96,6 @@ owners_mark limits state (commands.Expel c) x owner on found e = absurd (cc)
 
 -- a command of an owner concerns only its connection and client
 pub ones_owned : (limits : Limits) (state : State) (command : Command) (x : ConnectionName) (owner : Client × ClientSession) → comes_on command ≡ Some x →
-    owner_in x state.sessions ≡ Some owner → is_taken (mark_in limits state command) ≡ false → IsOnes (place_in limits state command) x owner.0
+    owner_in x state.sessions ≡ Some owner → is_taken (mark_in limits state command) ≡ false → TouchesNoOther (place_in limits state command) x owner.0
 ones_owned limits state command x owner on found e =
     ones_marked command (mark_in limits state command) x owner.0 on (owners_mark limits state command x owner on found e)

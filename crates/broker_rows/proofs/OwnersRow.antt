@@ -11,7 +11,7 @@ use Rattle.broker_base.specs.State.{Sessions, session_in, owner_in}
 use Rattle.broker_base.proofs.SessionsStayByClient.{ComesBefore}
 use Rattle.broker_base.specs.StateLaws.{AreByClient, IsNobodys, ConnectionsAreApart}
 use Rattle.broker_spec.proofs.ClientsInOrder.{same_self, less_turned}
-use Rattle.broker_rows.specs.Touched.{Untouched, TouchesOnly, IsOnes}
+use Rattle.broker_rows.specs.Touched.{Untouched, TouchesOnly, TouchesNoOther}
 
 -- ---- connections
 
@@ -39,7 +39,7 @@ on_is x (Some y) e = ap Some (sym (connection_is x y e))
 -- ---- rows after a row
 
 -- no row after the owner's is touched
-pub none_after : (place : Place) (x : ConnectionName) (d : Client) (rows : Sessions) → IsOnes place x d → ComesBefore d rows → IsNobodys x rows → Untouched place rows
+pub none_after : (place : Place) (x : ConnectionName) (d : Client) (rows : Sessions) → TouchesNoOther place x d → ComesBefore d rows → IsNobodys x rows → Untouched place rows
 none_after place x d [] ones before nobodys = tt
 none_after place x d (row ∷ rows) ones before nobodys =
     (ones row.0 row.1 (ap is_eq before.0) nobodys.0, none_after place x d rows ones before.1 nobodys.1)
@@ -71,7 +71,7 @@ owner_found x owner (row ∷ rows) by_client found = by (any_connection (same_co
         ∙ later e
 
 -- and only it is changed
-pub owner_only : (place : Place) (x : ConnectionName) (owner : Client × ClientSession) (rows : Sessions) → IsOnes place x owner.0 → AreByClient rows → ConnectionsAreApart rows →
+pub owner_only : (place : Place) (x : ConnectionName) (owner : Client × ClientSession) (rows : Sessions) → TouchesNoOther place x owner.0 → AreByClient rows → ConnectionsAreApart rows →
     owner_in x rows ≡ Some owner → TouchesOnly place owner.0 rows
 unfolding IsStrictlySortedBy
 owner_only place x owner [] ones by_client apart found = tt

@@ -19,7 +19,7 @@ use Rattle.broker_rows.specs.Served.{left_off}
 use Rattle.broker_rows.specs.ConnectLaws.{all_left_off}
 use Rattle.broker_rows.specs.Published.{session_changed, received_on, all_delivered}
 use Rattle.broker_rows.specs.Indexed.{content_in, all_set, all_cleared, all_dropped}
-use Rattle.broker_rows.specs.Indexed.{clean_clients, all_told}
+use Rattle.broker_rows.specs.Indexed.{clean_clients, all_subscribed}
 
 -- nothing changes if a session is written with the subscriptions that it had
 abbrev pub WritingKeepsContent : Type 0
@@ -81,4 +81,4 @@ PublishingKeepsContent =
 abbrev pub IndexMadeAnew : Type 0
 IndexMadeAnew =
     (rows : Sessions) → AreByClient rows → AllSound rows
-    → content_in rows ≡ all_told rows no_subscriptions
+    → content_in rows ≡ all_subscribed rows no_subscriptions

@@ -44,6 +44,7 @@ abbrev pub clean_clients : Sessions → List (List ℕ)
 clean_clients sessions = keys_of (filter (λ (row : Client × ClientSession). row.1.clean) sessions)
 
 -- the filters of all these sessions are subscribed, client by client
-abbrev pub all_told : Sessions → Content → Content
-all_told (row ∷ rows) content = all_told rows (all_set row.0 row.1.state.subscriptions content)
-all_told [] content = content
+abbrev pub all_subscribed : Sessions → Content → Content
+all_subscribed (row ∷ rows) content =
+    all_subscribed rows (all_set row.0 row.1.state.subscriptions content)
+all_subscribed [] content = content

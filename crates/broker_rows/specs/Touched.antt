@@ -30,8 +30,8 @@ written client (Some kept) rows = set_value (is_at (by_bytes client)) rows kept
 written client None rows = remove_entry (is_at (by_bytes client)) rows
 
 -- the place touches no session but the client's and that of the connection
-abbrev pub IsOnes : Place → ConnectionName → Client → Type 0
-IsOnes place connection client =
+abbrev pub TouchesNoOther : Place → ConnectionName → Client → Type 0
+TouchesNoOther place connection client =
     (other : Client) (kept : ClientSession) → same_client client other ≡ false →
     any_connection (same_connection connection) kept.connection ≡ false →
     touches place other kept ≡ false
@@ -67,7 +67,7 @@ IsMarkOf client (Mark.Granted sender which) = sender ≡ client
 IsMarkOf client (Mark.Handled sender) = sender ≡ client
 
 -- the mark is that of a command that touches no row
-abbrev pub IsIdle : Mark → Type 0
-IsIdle Mark.NoPart = Unit {0}
-IsIdle Mark.Full = Unit {0}
-IsIdle _ = ⊥
+abbrev pub TouchesNoRow : Mark → Type 0
+TouchesNoRow Mark.NoPart = Unit {0}
+TouchesNoRow Mark.Full = Unit {0}
+TouchesNoRow _ = ⊥

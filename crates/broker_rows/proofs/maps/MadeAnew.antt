@@ -15,7 +15,7 @@ use Rattle.broker_base.proofs.ConnectionsOfSessions.{same_turned}
 use Rattle.broker_base.proofs.SessionsStayByClient.{ComesBefore}
 use Rattle.subs_base.specs.Content.{Content, no_subscriptions, with_row}
 use Rattle.broker_rows.specs.Owners.{Owners, owners_in, no_owners, owned_by, all_owned}
-use Rattle.broker_rows.specs.Indexed.{subscribed_in, all_set, all_told}
+use Rattle.broker_rows.specs.Indexed.{subscribed_in, all_set, all_subscribed}
 use Rattle.broker_spec.specs.Subscriptions.{qos_asked}
 use Rattle.broker_rows.specs.OwnerLaws.{OwnersMadeAnew}
 use Rattle.broker_rows.specs.IndexLaws.{IndexMadeAnew}
@@ -65,7 +65,7 @@ set_at d (new ∷ more) content c f apart =
 
 -- the content if all sessions' filters are set
 told_at : (rows : Sessions) (content : Content) (c f : List ℕ) → AreByClient rows → AllSound rows →
-    all_told rows content c f ≡ first_of (subscribed_in f (session_in c rows)) (content c f)
+    all_subscribed rows content c f ≡ first_of (subscribed_in f (session_in c rows)) (content c f)
 unfolding IsStrictlySortedBy
 told_at [] content c f by_client sound = refl
 told_at (row ∷ rows) content c f by_client sound =
