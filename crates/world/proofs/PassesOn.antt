@@ -21,7 +21,7 @@ use Rattle.world_clients.specs.declared.world_client.WorldClient.{WorldClient}
 use Rattle.world.specs.Found.{slot_numbered, port_at_node}
 use Rattle.world_clients.specs.Handing.{with_down}
 use Rattle.world.specs.Gathering.{GatheredWhere, Gathers, GathersAmong, IsGathered, leads_open_to}
-use Rattle.world_clients.specs.Handing.{HandsOverBytes, is_told_open, bytes_put_out}
+use Rattle.world_clients.specs.Handing.{HandsOverBytes, is_reported_open, bytes_put_out}
 use Rattle.world_clients.specs.NodesGoOn.{NodesGo}
 use Rattle.world_clients.specs.SlotsAreValid.{SlotsAreValid, targets_of_clients}
 use Rattle.world_clients.specs.Handing.{MayHandDown, MayPutDown}
@@ -142,15 +142,15 @@ module _ (number : ℕ) (old new : WorldState) (a : IsGathered number old new) (
       subst (Passes [] old) (sym a.is)
       (record {
         nodes = given.goes;
-        world = world_goes_join old down (record down { connections = set old.connections (number - 1) (record place { is_open = is_told_open port a.node }) })
+        world = world_goes_join old down (record down { connections = set old.connections (number - 1) (record place { is_open = is_reported_open port a.node }) })
             (puts_down old number place a.connected.client a.between later (led_there (targets_of_clients old.clients) old.connections number place housed found positive) a.connected.owned may_put)
-            (world_stays down (record down { connections = set old.connections (number - 1) (record place { is_open = is_told_open port a.node }) }) refl refl);
-        housed = housed_mark (targets_of_clients down.clients) old.connections (number - 1) place (is_told_open port a.node) found
+            (world_stays down (record down { connections = set old.connections (number - 1) (record place { is_open = is_reported_open port a.node }) }) refl refl);
+        housed = housed_mark (targets_of_clients down.clients) old.connections (number - 1) place (is_reported_open port a.node) found
             (housed_client old.clients old.connections place.client a.connected.client (record a.connected.client { piped = later }) a.connected.owned
             (leads_set a.connected.client.piped.ways place.at a.connected.way (record a.connected.way { down = bytes }) a.connected.stands refl) housed);
         clients = map-set seen_of old.clients place.client (record a.connected.client { piped = later })
             ∙ set_itself (map seen_of old.clients) place.client (seen_of a.connected.client) (get_mapped seen_of old.clients place.client a.connected.client a.connected.owned);
-        many = length-set old.connections (number - 1) (record place { is_open = is_told_open port a.node });
+        many = length-set old.connections (number - 1) (record place { is_open = is_reported_open port a.node });
         come = given.come;
       })
 

@@ -27,7 +27,7 @@ use Rattle.world_events.specs.declared.event.Event.TheVariants as events
 use Rattle.world_clients.specs.Clients.{is_named}
 use Rattle.world.specs.Found.{port_at_node}
 use Rattle.world.specs.Gathering.{Gathers}
-use Rattle.world_clients.specs.Handing.{is_told_open, bytes_put_out}
+use Rattle.world_clients.specs.Handing.{is_reported_open, bytes_put_out}
 use Rattle.world.specs.Trace.{WorldLosesNothing}
 use Rattle.world_clients.specs.NodesGoOn.{NodesGo}
 use Rattle.world.specs.Happening.{EventsHappen}
@@ -78,7 +78,7 @@ module _ (name : List ℕ) (i at number place : ℕ) (core : Core) (up : List �
       record {
         up = up;
         down = bytes_put_out (port_at_node number) (numbered_node w.nodes.nodes (suc place));
-        is_open = is_told_open (port_at_node number) (numbered_node w.nodes.nodes (suc place));
+        is_open = is_reported_open (port_at_node number) (numbered_node w.nodes.nodes (suc place));
         newest = own_gathered i at number (suc place) core up positive [] w after (let e : 0 < suc place = omega arith in e) gathers housed s;
         begins = subst (λ (l : List ℕ). IsPrefixOf (spelling session_present) l)
             (sym (ap (λ (o : Option CountedCore). bytes_put_out (port_at_node number) o) stands ∙ ap pending_bytes puts.listed)) puts.first;

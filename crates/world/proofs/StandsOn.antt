@@ -16,7 +16,7 @@ use Rattle.world_clients.specs.declared.world_client.WorldClient.{WorldClient}
 use Rattle.world.specs.Found.{slot_numbered, port_at_node}
 use Rattle.world_clients.specs.Handing.{with_down}
 use Rattle.world.specs.Gathering.{GatheredWhere, Gathers, GathersAmong, IsGathered, leads_open_to}
-use Rattle.world_clients.specs.Handing.{is_told_open, bytes_put_out}
+use Rattle.world_clients.specs.Handing.{is_reported_open, bytes_put_out}
 use Rattle.world_clients.specs.SlotsAreValid.{SlotsAreValid, targets_of_clients}
 use Rattle.world.specs.World.{WorldState}
 use Rattle.world_clients.proofs.LeadsKept.{IsLed, led, led_there}
@@ -42,7 +42,7 @@ newest_place i at node is_open = record { client = i; at = at; node = node; is_o
 -- ---- it is asked itself
 
 module _ (i at number node : ℕ) (core : Core) (up down : List ℕ) (is_open : Bool) (old new : WorldState) (s : IsNewest i at number node core up down is_open old) where
-  pub gathered_itself : 0 < number → (a : IsGathered number old new) → IsNewest i at number node core up (down ++ bytes_put_out (port_at_node number) (numbered_node old.nodes.nodes node)) (is_told_open (port_at_node number) (numbered_node old.nodes.nodes node)) new
+  pub gathered_itself : 0 < number → (a : IsGathered number old new) → IsNewest i at number node core up (down ++ bytes_put_out (port_at_node number) (numbered_node old.nodes.nodes node)) (is_reported_open (port_at_node number) (numbered_node old.nodes.nodes node)) new
   gathered_itself positive a =
       record {
         client = later;
@@ -58,11 +58,11 @@ module _ (i at number node : ℕ) (core : Core) (up down : List ℕ) (is_open : 
             ∙ ap (λ (l : List ℕ). l ++ bytes_put_out (port_at_node number) a.node) s.down_is
             ∙ ap (λ (o : Option CountedCore). down ++ bytes_put_out (port_at_node number) o) node_is;
         place = ap (λ (w : WorldState). slice_get w.connections (number - 1)) a.is
-            ∙ get_set old.connections (number - 1) a.connected.slot (record a.connected.slot { is_open = is_told_open (port_at_node number) a.node }) found
-            ∙ ap (λ (p : ConnectionSlot). Some (let q : ConnectionSlot = record p { is_open = is_told_open (port_at_node number) a.node } in q)) place_is
-            ∙ ap (λ (o : Option CountedCore). Some (newest_place i at node (is_told_open (port_at_node number) o))) node_is;
+            ∙ get_set old.connections (number - 1) a.connected.slot (record a.connected.slot { is_open = is_reported_open (port_at_node number) a.node }) found
+            ∙ ap (λ (p : ConnectionSlot). Some (let q : ConnectionSlot = record p { is_open = is_reported_open (port_at_node number) a.node } in q)) place_is
+            ∙ ap (λ (o : Option CountedCore). Some (newest_place i at node (is_reported_open (port_at_node number) o))) node_is;
         last = ap (λ (w : WorldState). length w.connections) a.is
-            ∙ length-set old.connections (number - 1) (record a.connected.slot { is_open = is_told_open (port_at_node number) a.node }) ∙ s.last;
+            ∙ length-set old.connections (number - 1) (record a.connected.slot { is_open = is_reported_open (port_at_node number) a.node }) ∙ s.last;
       }
     where
       found : slice_get old.connections (number - 1) ≡ Some a.connected.slot
@@ -112,11 +112,11 @@ module _ (i at number node : ℕ) (core : Core) (up down : List ℕ) (is_open : 
 
       place : slice_get new.connections (number - 1) ≡ Some (newest_place i at node is_open)
       place = ap (λ (w : WorldState). slice_get w.connections (number - 1)) a.is
-          ∙ get_set_other old.connections (other - 1) (number - 1) (record a.connected.slot { is_open = is_told_open (port_at_node other) a.node }) elsewhere ∙ s.place
+          ∙ get_set_other old.connections (other - 1) (number - 1) (record a.connected.slot { is_open = is_reported_open (port_at_node other) a.node }) elsewhere ∙ s.place
 
       last : length new.connections ≡ number
       last = ap (λ (w : WorldState). length w.connections) a.is
-          ∙ length-set old.connections (other - 1) (record a.connected.slot { is_open = is_told_open (port_at_node other) a.node }) ∙ s.last
+          ∙ length-set old.connections (other - 1) (record a.connected.slot { is_open = is_reported_open (port_at_node other) a.node }) ∙ s.last
 
       bytes : List ℕ
       bytes = a.connected.way.down ++ bytes_put_out (port_at_node other) a.node
@@ -216,7 +216,7 @@ module _ (i at number node : ℕ) (core : Core) (up : List ℕ) (positive : 0 < 
   -- all of its own
   pub own_gathered : (down : List ℕ) (old new : WorldState) → 0 < node → Gathers true node old new → SlotsAreValid (targets_of_clients old.clients) old.connections →
       IsNewest i at number node core up down true old →
-      IsNewest i at number node core up (down ++ bytes_put_out (port_at_node number) (numbered_node old.nodes.nodes node)) (is_told_open (port_at_node number) (numbered_node old.nodes.nodes node)) new
+      IsNewest i at number node core up (down ++ bytes_put_out (port_at_node number) (numbered_node old.nodes.nodes node)) (is_reported_open (port_at_node number) (numbered_node old.nodes.nodes node)) new
   own_gathered down old new some g housed s = by number refl (among node some g)
     where
       among : (to : ℕ) → 0 < to → Gathers true to old new → GathersAmong true number to old new
@@ -224,13 +224,13 @@ module _ (i at number node : ℕ) (core : Core) (up : List ℕ) (positive : 0 < 
       among (suc to) low h = subst (λ (k : ℕ). GathersAmong true k (suc to) old new) s.last h
 
       by : (k : ℕ) → k ≡ number → GathersAmong true k node old new →
-          IsNewest i at number node core up (down ++ bytes_put_out (port_at_node number) (numbered_node old.nodes.nodes node)) (is_told_open (port_at_node number) (numbered_node old.nodes.nodes node)) new
+          IsNewest i at number node core up (down ++ bytes_put_out (port_at_node number) (numbered_node old.nodes.nodes node)) (is_reported_open (port_at_node number) (numbered_node old.nodes.nodes node)) new
       by zero e h = absurd (omega (arith, e, positive))
       by (suc k) e h =
           let up_there : leads_open_to node (slot_numbered (suc k) old.connections) ≡ true =
           ap (λ (j : ℕ). leads_open_to node (slot_numbered j old.connections)) e
           ∙ asks node true true down old s (ap (λ (b : Bool). b && true) (eq-eqb node node refl)) in
           let a : IsGathered number old h.0 = subst (λ (j : ℕ). IsGathered j old h.0) e (subst (λ (b : Bool). GatheredWhere true b (suc k) old h.0) up_there h.1) in
-          older_asked k node (down ++ bytes_put_out (port_at_node number) (numbered_node old.nodes.nodes node)) (is_told_open (port_at_node number) (numbered_node old.nodes.nodes node)) h.0 new h.2 (omega (arith, e))
+          older_asked k node (down ++ bytes_put_out (port_at_node number) (numbered_node old.nodes.nodes node)) (is_reported_open (port_at_node number) (numbered_node old.nodes.nodes node)) h.0 new h.2 (omega (arith, e))
           (where_passes (leads_open_to node (slot_numbered (suc k) old.connections)) (suc k) old h.0 h.1 housed (omega arith)).housed
           (gathered_itself i at number node core up down true old h.0 s positive a)

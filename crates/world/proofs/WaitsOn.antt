@@ -34,7 +34,7 @@ use Rattle.world_nodes.specs.Nodes.{NodesState}
 use Rattle.world_events.specs.declared.event.Event.TheVariants as events
 use Rattle.world.specs.Found.{port_at_node}
 use Rattle.world.specs.Gathering.{Gathers}
-use Rattle.world_clients.specs.Handing.{is_more, is_told_open, bytes_put_out}
+use Rattle.world_clients.specs.Handing.{is_more, is_reported_open, bytes_put_out}
 use Rattle.world.specs.Trace.{WorldLosesNothing}
 use Rattle.world.specs.Happening.{EventsHappen}
 use Rattle.world_clients.specs.SlotsAreValid.{SlotsAreValid, targets_of_clients}
@@ -58,7 +58,7 @@ module _ (port : Port) (x : ConnectionName) (node : CountedCore) (w : AwaitsAnsw
   pub nothing_out : bytes_put_out port (Some node) ≡ []
   nothing_out = ap pending_bytes w.listed ∙ w.none
 
-  pub told_open : is_told_open port (Some node) ≡ true
+  pub told_open : is_reported_open port (Some node) ≡ true
   told_open =
       ap (λ (o : Option Connection). is_more (handed_after o)) w.listed
       ∙ ap (λ (b : Bool). is_more (let h : Handed = if b then answers.Closed else answers.Open in h))
@@ -89,7 +89,7 @@ pub own_waits : (i at number place : ℕ) (core : Core) (up : List ℕ) (x : Con
 own_waits i at number place core up x old new node positive there w g housed s =
     subst (λ (l : List ℕ). IsNewest i at number (suc place) core up l true new) (ap (bytes_put_out (port_at_node number)) there ∙ nothing_out (port_at_node number) x node w)
     (subst (λ (b : Bool). IsNewest i at number (suc place) core up (bytes_put_out (port_at_node number) (numbered_node old.nodes.nodes (suc place))) b new)
-    (ap (is_told_open (port_at_node number)) there ∙ told_open (port_at_node number) x node w)
+    (ap (is_reported_open (port_at_node number)) there ∙ told_open (port_at_node number) x node w)
     (own_gathered i at number (suc place) core up positive [] old new (omega arith) g housed s))
 
 -- ---- while messages come

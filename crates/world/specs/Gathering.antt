@@ -12,7 +12,7 @@ use Rattle.world_clients.specs.declared.connection_slot.ConnectionSlot.{Connecti
 use Rattle.world.specs.Found.{Connected, slot_numbered, port_at_node, with_piped}
 use Rattle.world_clients.specs.Handing.{with_down}
 use Rattle.world.specs.World.{WorldState}
-use Rattle.world_clients.specs.Handing.{bytes_put_out, is_told_open, HandsOverBytes}
+use Rattle.world_clients.specs.Handing.{bytes_put_out, is_reported_open, HandsOverBytes}
 
 -- ---- one connection
 
@@ -30,7 +30,7 @@ pub record IsGathered (number : ℕ) (old new : WorldState) : Type 0 where
       old) {
         nodes = between;
         connections = set old.connections (number - 1)
-            (record connected.slot { is_open = is_told_open (port_at_node number) node });
+            (record connected.slot { is_open = is_reported_open (port_at_node number) node });
       }
 
 -- whether a connection leads to this node, and its end there is open

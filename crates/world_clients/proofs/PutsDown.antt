@@ -15,7 +15,7 @@ use Rattle.world_nodes.proofs.Exactly.{gives_acts}
 use Rattle.world_pipes.specs.declared.way.Way.{Way}
 use Rattle.world_pipes.specs.Piped.{Piped}
 use Rattle.world_clients.specs.SlotsAreValid.{connection_targets}
-use Rattle.world_clients.specs.Handing.{with_down, HandsOverBytes, is_more, is_told_open, bytes_put_out, BytesDownOrLost, MayHandDown, MayPutDown, PipeBytesDownOrLost, tells_open}
+use Rattle.world_clients.specs.Handing.{with_down, HandsOverBytes, is_more, is_reported_open, bytes_put_out, BytesDownOrLost, MayHandDown, MayPutDown, PipeBytesDownOrLost, tells_open}
 use Rattle.world_clients.specs.NodesGoOn.{NodesGoOn}
 use Rattle.world_clients.proofs.NodesGoOn.{acts_go, nodes_forget, nodes_stay, staying_goes}
 use Rattle.world_clients.proofs.LeadsKept.{leads_set}
@@ -23,7 +23,7 @@ use Rattle.world_clients.proofs.LeadsKept.{leads_set}
 -- ---- one call of a node
 
 abbrev HandsExactly : ℕ → Port → NodesState → List ℕ → NodesState → List ℕ → Bool → Option CountedCore → Type 0
-HandsExactly node port old before new after is_open o = HandsOverBytes o node port old new × (after ≡ before ++ bytes_put_out port o) × (is_open ≡ is_told_open port o)
+HandsExactly node port old before new after is_open o = HandsOverBytes o node port old new × (after ≡ before ++ bytes_put_out port o) × (is_open ≡ is_reported_open port o)
 
 pub handed_down : (r : Result Handed Idle) (is_open : Bool) (node : ℕ) (port : Port) (old new : NodesState) (before after : List ℕ) → is_open ≡ tells_open r
     → IsErr r ↔ (numbered_node old.nodes node ≡ None) → IfOk r (λ handed. HandoverOrLost node port old new before after handed) → OnErr r ((new ≡ old) × (after ≡ before))

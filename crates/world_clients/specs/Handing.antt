@@ -27,9 +27,9 @@ is_more answers.Open = true
 is_more answers.Closed = false
 
 -- whether the node's end of the connection is open
-abbrev pub is_told_open : Port → Option CountedCore → Bool
-is_told_open port None = false
-is_told_open port (Some node) = is_more (handed_after (listed_at port node.core))
+abbrev pub is_reported_open : Port → Option CountedCore → Bool
+is_reported_open port None = false
+is_reported_open port (Some node) = is_more (handed_after (listed_at port node.core))
 
 -- the node hands over the bytes of the port
 abbrev pub HandsOverBytes : Option CountedCore → ℕ → Port → NodesState → NodesState → Type 0
@@ -58,7 +58,7 @@ abbrev pub BytesDownOrLost : ℕ → Port → NodesState → List ℕ → NodesS
 BytesDownOrLost node port old before new after is_open =
     (HandsOverBytes (numbered_node old.nodes node) node port old new
     × (after ≡ before ++ bytes_put_out port (numbered_node old.nodes node))
-    × (is_open ≡ is_told_open port (numbered_node old.nodes node)))
+    × (is_open ≡ is_reported_open port (numbered_node old.nodes node)))
     ⊎ ((new ≡ nodes_with_loss old) × (after ≡ before) × (is_open ≡ true))
 
 -- a node hands down what it queued, or counts a loss, after what is in transit on the connection at

@@ -8,7 +8,7 @@ use Rattle.world_pipes.specs.declared.way.Way.{Way}
 use Rattle.world_clients.specs.declared.connection_slot.ConnectionSlot.{ConnectionSlot}
 use Rattle.world_clients.specs.declared.world_client.WorldClient.{WorldClient}
 use Rattle.world.specs.Found.{slot_numbered, port_at_node, with_piped}
-use Rattle.world_clients.specs.Handing.{with_down, HandsOverBytes, is_told_open, bytes_put_out}
+use Rattle.world_clients.specs.Handing.{with_down, HandsOverBytes, is_reported_open, bytes_put_out}
 use Rattle.world.specs.Gathering.{GatheredWhere, leads_open_to}
 use Rattle.world_clients.specs.SlotsAreValid.{open_from}
 use Rattle.world.specs.World.{WorldState}
@@ -24,7 +24,8 @@ pub record GathersOn (number : ℕ) (slot : ConnectionSlot) (old : WorldState) (
   pub between : NodesState
   pub gives : HandsOverBytes (numbered_node old.nodes.nodes slot.node) slot.node
       (port_at_node number) old.nodes between
-  pub told : is_open ≡ is_told_open (port_at_node number) (numbered_node old.nodes.nodes slot.node)
+  pub told : is_open
+      ≡ is_reported_open (port_at_node number) (numbered_node old.nodes.nodes slot.node)
   pub is : new ≡ record (with_piped slot.client client
       (with_down slot.at way
       (way.down ++ bytes_put_out (port_at_node number) (numbered_node old.nodes.nodes slot.node))
