@@ -26,7 +26,7 @@ use Rattle.node_group.specs.node_core.declared.item.Item.{Item}
 use Rattle.node_group.specs.ballot_base.Cutting.{can_cut}
 use Rattle.node_group.specs.node_core.declared.item.Item.TheVariants.{Peer, Tick, Opened, Bytes, Ended, Expel, Cut, Crash}
 use Rattle.node_group.specs.node_core.declared.Port.{Port}
-use Rattle.node_group.specs.node_connections.Connections.{fresh, is_at, is_first, is_listed, is_open_at, is_open_named, is_proposed}
+use Rattle.node_group.specs.node_connections.Connections.{fresh, is_at, awaits_first_packet, is_listed, is_open_at, is_open_named, is_proposed}
 use Rattle.node_group.specs.node_connections.ConnectionChanges.{noted_proposed, changed_where, closed_connection, failing, nothing_pending, with_unread, left_with, max_pending, with_queued, putting}
 use Rattle.node_group.specs.node_core.Core.{CoreState, StepOutcome, serves}
 use Rattle.node_group.specs.node_core.Handing.{hands_over, left_by, listed_at}
@@ -147,7 +147,7 @@ module _ (P : Connection → Type 0) (follows : IsFollowed P) where
   each_begun port name _ core all = shut_at port core all
 
   read_packet : (now : ℕ) (port : Port) (c : Connection) (core : CoreState) (packet : Packet) (rest : List ℕ) → AllOf core → AllOf (reads now port c core (Ok (packet, rest))).core
-  read_packet now port c core packet rest all = by (is_first c.stage)
+  read_packet now port c core packet rest all = by (awaits_first_packet c.stage)
     where
       left : CoreState
       left = changes port (left_with now rest) core
@@ -160,7 +160,7 @@ module _ (P : Connection → Type 0) (follows : IsFollowed P) where
       by false = proposed_or_shut port (commands.Packet c.name packet) left (has_room left) all_left
 
   read_refused : (now : ℕ) (port : Port) (c : Connection) (core : CoreState) (code : RefusalCode) → AllOf core → AllOf (reads now port c core (Err (stops.Refused code))).core
-  read_refused now port c core code all = by (is_first c.stage)
+  read_refused now port c core code all = by (awaits_first_packet c.stage)
     where
       by : (b : Bool) → AllOf (let t : StepOutcome = if b then without_messages (changes port (connect_refused code) core) else loses port c core in t).core
       by true = each_at port (connect_refused code) core (λ d e. record { port = refl; name = refl; lives = λ f. absurd cc }) all

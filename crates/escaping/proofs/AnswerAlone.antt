@@ -27,7 +27,7 @@ use Rattle.packet_world.specs.broker_spec.declared.command.Output.TheVariants as
 use Rattle.node_moves.specs.node_core.declared.Connection.{Connection}
 use Rattle.node_moves.specs.node_core.declared.item.Item.TheVariants.{Bytes}
 use Rattle.node_moves.specs.node_core.declared.Port.{Port}
-use Rattle.node_moves.specs.node_connections.Connections.{is_at, is_first, is_open_at, is_open_named, is_closed, is_proposed}
+use Rattle.node_moves.specs.node_connections.Connections.{is_at, awaits_first_packet, is_open_at, is_open_named, is_closed, is_proposed}
 use Rattle.node_moves.specs.node_connections.ConnectionChanges.{noted_proposed, changed_where, closed_connection, with_unread, left_with, max_pending}
 use Rattle.node_moves.specs.node_core.Core.{CoreState, StepOutcome, rules, serves}
 use Rattle.node_moves.specs.node_core.Handing.{listed_at}
@@ -82,12 +82,12 @@ module _ (at : Port) (front : List ℕ) (some : 0 < length front) where
   keeps_read : (now : ℕ) (port : Port) (c : Connection) (core : CoreState) (v : Result (Packet × List ℕ) Stop) → HasFront core → HasFront (reads now port c core v).core
   keeps_read now port c core (Err stops.More) z = z
   keeps_read now port c core (Err (stops.Malformed kind)) z = keeps_lost port c core z
-  keeps_read now port c core (Err (stops.Refused code)) z = by (is_first c.stage)
+  keeps_read now port c core (Err (stops.Refused code)) z = by (awaits_first_packet c.stage)
     where
       by : (b : Bool) → HasFront (let t : StepOutcome = if b then without_messages (changes port (connect_refused code) core) else loses port c core in t).core
       by true = keeps_change port (connect_refused code) core (refused_keeps code) z
       by false = keeps_lost port c core z
-  keeps_read now port c core (Ok (packet, rest)) z = by (is_first c.stage)
+  keeps_read now port c core (Ok (packet, rest)) z = by (awaits_first_packet c.stage)
     where
       left : HasFront (changes port (left_with now rest) core)
       left = keeps_change port (left_with now rest) core (plain (left_with now rest) (λ d. refl) (λ d. refl)) z
@@ -118,7 +118,7 @@ module _ (at : Port) (front : List ℕ) (some : 0 < length front) where
 
 module _ (core : CoreState) (port : Port) (now : ℕ) (piece : List ℕ) (c : Connection) (connect : Connect) (place : ℕ) (packet : Packet) (others : List Output)
     (more : List (Effect Command Output)) (room : has_room core ≡ true) (opened : open_at port core ≡ Some c) (listed : listed_at port core ≡ Some c)
-    (named : find (is_open_named c.name) core.connections ≡ Some c) (awaits : is_first c.stage ≡ true) (unread : c.unread ≡ []) (none : c.pending ≡ [])
+    (named : find (is_open_named c.name) core.connections ≡ Some c) (awaits : awaits_first_packet c.stage ≡ true) (unread : c.unread ≡ []) (none : c.pending ≡ [])
     (whole : verdict piece ≡ Ok (packets.Connect connect, []))
     (effects : (proposal_at core (commands.Connect c.name connect.client connect.clean)).effects ≡ map (Out place) (outputs.Send c.name packet ∷ others) ++ more)
     (some : 0 < length (spelling packet)) (short : length (spelling packet) ≤ max_pending) where

@@ -24,7 +24,7 @@ use Rattle.packet_world.specs.broker_base.State.{State}
 use Rattle.node_moves.specs.node_core.declared.Connection.{Connection}
 use Rattle.node_moves.specs.node_core.declared.item.Item.TheVariants.{Bytes}
 use Rattle.node_moves.specs.node_core.declared.Port.{Port}
-use Rattle.node_moves.specs.node_connections.Connections.{has_failed, is_at, is_first, is_listed, is_open_at, is_closed}
+use Rattle.node_moves.specs.node_connections.Connections.{has_failed, is_at, awaits_first_packet, is_listed, is_open_at, is_closed}
 use Rattle.node_moves.specs.node_connections.ConnectionChanges.{noted_proposed, changed_where, closed_connection, with_unread, left_with}
 use Rattle.node_moves.specs.node_core.Core.{CoreState, StepOutcome, rules, serves}
 use Rattle.node_moves.specs.node_core.Failing.{loses_all_failed}
@@ -117,7 +117,7 @@ repeated_once n next core t first rests =
     ∙ ap (λ (l : List (Effect Command Output)). let v : StepOutcome = record { core = t.core; messages = l } in v) (append-nil t.messages)
 
 module _ (core : CoreState) (port : Port) (now : ℕ) (piece : List ℕ) (c : Connection) (connect : Connect) (room : has_room core ≡ true) (calm : ReportsItsLosses core)
-    (opened : open_at port core ≡ Some c) (awaits : is_first c.stage ≡ true) (unread : c.unread ≡ []) (whole : verdict piece ≡ Ok (packets.Connect connect, []))
+    (opened : open_at port core ≡ Some c) (awaits : awaits_first_packet c.stage ≡ true) (unread : c.unread ≡ []) (whole : verdict piece ≡ Ok (packets.Connect connect, []))
     (silent : outputs (proposal_at core (commands.Connect c.name connect.client connect.clean)).effects ≡ []) where
   abbrev command : Command
   command = commands.Connect c.name connect.client connect.clean

@@ -19,7 +19,7 @@ use Rattle.packet_world.specs.broker_spec.declared.command.Output.TheVariants.{S
 use Rattle.node_moves.specs.node_core.declared.Connection.{Connection}
 use Rattle.node_moves.specs.node_core.declared.item.Item.TheVariants.{Bytes, Peer}
 use Rattle.node_moves.specs.node_core.declared.Port.{Port}
-use Rattle.node_moves.specs.node_connections.Connections.{is_first, is_open_named}
+use Rattle.node_moves.specs.node_connections.Connections.{awaits_first_packet, is_open_named}
 use Rattle.node_moves.specs.node_connections.ConnectionChanges.{max_pending}
 use Rattle.node_moves.specs.node_core.Core.{CoreState}
 use Rattle.node_moves.specs.node_core.Handing.{listed_at}
@@ -58,7 +58,7 @@ AnswerAloneIsPutOut =
     (others : List Output) (more : List (Effect Command Output)) → has_room core ≡ true →
     open_at port core ≡ Some connection → listed_at port core ≡ Some connection →
     find (is_open_named connection.name) core.connections ≡ Some connection →
-    is_first connection.stage ≡ true → connection.unread ≡ [] → connection.pending ≡ [] →
+    awaits_first_packet connection.stage ≡ true → connection.unread ≡ [] → connection.pending ≡ [] →
     verdict piece ≡ Ok (packets.Connect connect, []) →
     (proposal_at core (commands.Connect connection.name connect.client connect.clean)).effects
     ≡ map (Out place) (Send connection.name packet ∷ others) ++ more →

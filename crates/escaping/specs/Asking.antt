@@ -14,7 +14,7 @@ use Rattle.node_moves.specs.node_core.declared.Connection.{Connection}
 use Rattle.node_moves.specs.node_core.declared.ConnectionStage.TheVariants.{Proposed}
 use Rattle.node_moves.specs.node_core.declared.item.Item.TheVariants.{Bytes}
 use Rattle.node_moves.specs.node_core.declared.Port.{Port}
-use Rattle.node_moves.specs.node_connections.Connections.{is_first, is_listed, is_open_at}
+use Rattle.node_moves.specs.node_connections.Connections.{awaits_first_packet, is_listed, is_open_at}
 use Rattle.node_moves.specs.node_connections.ConnectionChanges.{changed_where}
 use Rattle.node_moves.specs.node_core.Core.{CoreState, rules}
 use Rattle.node_moves.specs.node_core.Reading.{open_at}
@@ -46,7 +46,7 @@ abbrev pub ConnectIsProposed : Type 0
 ConnectIsProposed =
     (core : CoreState) (port : Port) (now : ℕ) (piece : List ℕ) (connection : Connection)
     (connect : Connect) → has_room core ≡ true → ReportsItsLosses core →
-    open_at port core ≡ Some connection → is_first connection.stage ≡ true →
+    open_at port core ≡ Some connection → awaits_first_packet connection.stage ≡ true →
     connection.unread ≡ [] → verdict piece ≡ Ok (packets.Connect connect, []) →
     outputs
     (proposal_at core (commands.Connect connection.name connect.client connect.clean)).effects

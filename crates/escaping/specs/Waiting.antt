@@ -11,7 +11,7 @@ use Rattle.packet_world.specs.snapshots.World.{outputs}
 use Rattle.node_moves.specs.node_core.declared.Connection.{Connection}
 use Rattle.node_moves.specs.node_core.declared.item.Item.TheVariants.{Peer}
 use Rattle.node_moves.specs.node_core.declared.Port.{Port}
-use Rattle.node_moves.specs.node_connections.Connections.{is_at, is_first, is_open_named}
+use Rattle.node_moves.specs.node_connections.Connections.{is_at, awaits_first_packet, is_open_named}
 use Rattle.node_moves.specs.node_core.Core.{CoreState}
 use Rattle.node_moves.specs.node_core.Handing.{hands_over, listed_at}
 use Rattle.node_moves.specs.node_core.Reading.{open_at}
@@ -50,7 +50,7 @@ pub record AwaitsConnect (port : Port) (called : ConnectionName) (core : CoreSta
   pub waits : AwaitsAnswer port called core
   pub name : waits.connection.name ≡ called
   pub opened : open_at port core ≡ Some waits.connection
-  pub first : is_first waits.connection.stage ≡ true
+  pub first : awaits_first_packet waits.connection.stage ≡ true
   pub unread : waits.connection.unread ≡ []
 
 -- The first connection of a ballot awaits its CONNECT, at a port for which the node lists none, if

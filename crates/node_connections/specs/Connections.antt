@@ -15,11 +15,11 @@ is_closed Closed = true
 is_closed Failed = true
 
 -- whether a connection's first packet is still to come
-abbrev pub is_first : ConnectionStage → Bool
-is_first Awaits = true
-is_first Proposed = false
-is_first Closed = false
-is_first Failed = false
+abbrev pub awaits_first_packet : ConnectionStage → Bool
+awaits_first_packet Awaits = true
+awaits_first_packet Proposed = false
+awaits_first_packet Closed = false
+awaits_first_packet Failed = false
 
 -- whether a connection's CONNECT was proposed, and it is open
 abbrev pub is_proposed : ConnectionStage → Bool

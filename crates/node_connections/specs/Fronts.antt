@@ -9,7 +9,7 @@ use Rattle.broker_spec.specs.Sized.{IsSized}
 use Rattle.node_connections.specs.declared.connection.Connection.{Connection}
 use Rattle.node_connections.specs.declared.front.Front.{Front}
 use Rattle.node_connections.specs.declared.front.Front.TheVariants as fronts
-use Rattle.node_connections.specs.Connections.{is_first}
+use Rattle.node_connections.specs.Connections.{awaits_first_packet}
 use Rattle.node_connections.specs.ConnectionChanges.{left_with, closed_connection}
 use Rattle.node_connections.specs.Refusing.{connect_refused}
 
@@ -27,14 +27,14 @@ FrontIsRefused connection =
 abbrev pub HasNoPacket : Connection → Type 0
 HasNoPacket connection =
     IsFaultOfBytes (verdict connection.unread)
-    ⊎ ((is_first connection.stage ≡ false) × FrontIsRefused connection)
+    ⊎ ((awaits_first_packet connection.stage ≡ false) × FrontIsRefused connection)
 
 -- memory may run out for what is at the front: for reading it, or for the answer to a first CONNECT
 -- that is refused with a code
 abbrev pub FrontNeedsMemory : Connection → Type 0
 FrontNeedsMemory connection =
     MayNeedMemory connection.unread
-    ⊎ ((is_first connection.stage ≡ true) × FrontIsRefused connection)
+    ⊎ ((awaits_first_packet connection.stage ≡ true) × FrontIsRefused connection)
 
 -- what is at the front of the bytes of a connection, and what is left of them
 abbrev pub ReadsFront : List ℕ → Front → List ℕ → Type 0
@@ -52,7 +52,8 @@ TakesFront now old (fronts.Packet packet) new =
     × (new ≡ left_with now rest old)
 TakesFront now old (fronts.Refused code) new =
     (verdict old.unread ≡ Err (stops.Refused code))
-    × (new ≡ (if is_first old.stage then connect_refused code old else closed_connection old))
+    × (new ≡ (if awaits_first_packet old.stage then connect_refused code old
+    else closed_connection old))
 TakesFront now old fronts.Fault new =
     IsFaultOfBytes (verdict old.unread) × (new ≡ closed_connection old)
 TakesFront now old fronts.OutOfMemory new = FrontNeedsMemory old × (new ≡ closed_connection old)

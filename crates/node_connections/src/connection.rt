@@ -1,7 +1,7 @@
 // One connection of a node.
 
 ghost use Rattle.std.specs.Prelude.{◌≡◌, ◌++◌, [], false, true, IsOk, OnOk, OnErr};
-ghost use Rattle.node_connections.specs.Connections.{fresh, has_failed, is_at, is_first, is_listed, is_open_at, is_open_named, is_closed, is_proposed, is_silent};
+ghost use Rattle.node_connections.specs.Connections.{fresh, has_failed, is_at, awaits_first_packet, is_listed, is_open_at, is_open_named, is_closed, is_proposed, is_silent};
 ghost use Rattle.node_connections.specs.ConnectionChanges.{noted_proposed, closed_connection, failing, with_queued, nothing_pending, with_unread, putting};
 ghost use Rattle.node_connections.specs.Pending.{handed_after, is_idle};
 ghost use Rattle.node_connections.specs.Fronts.{TakesFront};
@@ -39,8 +39,8 @@ pub enum ConnectionStage {
 
 impl ConnectionStage {
     /// Says whether the first packet of the connection is awaited.
-    pub fn is_first(self) -> bool
-        ensures { result ≡ is_first self }
+    pub fn awaits_first_packet(self) -> bool
+        ensures { result ≡ awaits_first_packet self }
     {
         self == ConnectionStage::Awaits
     }
@@ -128,10 +128,10 @@ impl Connection {
     }
 
     /// Says whether its first packet is awaited.
-    pub fn is_first(&self) -> bool
-        ensures { result ≡ is_first self.now.stage }
+    pub fn awaits_first_packet(&self) -> bool
+        ensures { result ≡ awaits_first_packet self.now.stage }
     {
-        self.stage.is_first()
+        self.stage.awaits_first_packet()
     }
 
     /// Says whether it is open, and its CONNECT was proposed or is about to be.
@@ -205,7 +205,7 @@ impl Connection {
             Front::More => {}
             Front::Packet(_) => self.last_packet = now,
             Front::Refused(code) => {
-                if !self.is_first() {
+                if !self.awaits_first_packet() {
                     self.close();
                 } else if !self.refuse(code) {
                     return Front::OutOfMemory;

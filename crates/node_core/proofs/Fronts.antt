@@ -19,7 +19,7 @@ use Rattle.node_connections.specs.declared.front.Front.TheVariants as fronts
 use Rattle.node_connections.specs.declared.connection.ConnectionStage.{ConnectionStage}
 use Rattle.node_connections.specs.declared.connection.ConnectionStage.TheVariants.{Awaits, Proposed, Closed, Failed}
 use Rattle.node_connections.specs.declared.connection.Connection.{Connection}
-use Rattle.node_connections.specs.Connections.{is_first, is_proposed, is_open_at}
+use Rattle.node_connections.specs.Connections.{awaits_first_packet, is_proposed, is_open_at}
 use Rattle.node_connections.specs.ConnectionChanges.{changed_where, closed_connection, left_with}
 use Rattle.node_core.specs.Core.{CoreState, StepOutcome}
 use Rattle.node_connections.specs.Fronts.{IsFaultOfBytes}
@@ -114,13 +114,13 @@ more_there now port c new a b out found did is =
 pub packet_there : (now : ℕ) (port : Port) (c new : Connection) (packet : Packet) (a b r : RunningStep) (x y : List (Effect Command Output)) →
     open_at port a.core ≡ Some c → TakesFront now c (fronts.Packet packet) new →
     b ≡ record a { core = changes port (λ _. new) a.core } →
-    DoesOutcome b r x y (if is_first c.stage then takes_first_packet port c.name packet b.core else proposes_packet port c.name packet b.core) →
+    DoesOutcome b r x y (if awaits_first_packet c.stage then takes_first_packet port c.name packet b.core else proposes_packet port c.name packet b.core) →
     DoesOutcome a r x y (reads_next now port a.core)
 packet_there now port c new packet a b r x y found did is turns =
     let rest = did.0 in
     subst (λ (t : StepOutcome). DoesOutcome a r x y t) (reads_by now port a.core c (Ok (packet, rest)) found did.1)
     (turns_after a b r x y (changes port (left_with now rest) a.core)
-    (λ core. if is_first c.stage then takes_first_packet port c.name packet core else proposes_packet port c.name packet core)
+    (λ core. if awaits_first_packet c.stage then takes_first_packet port c.name packet core else proposes_packet port c.name packet core)
     (is ∙ ap (λ (k : CoreState). record a { core = k }) (becomes_same port a.core c new (left_with now rest) found did.3)) turns)
 
 -- a first packet that is no CONNECT
@@ -174,8 +174,8 @@ refused_there now port c new code a b r x y found did is turns =
         turns_after a b r x y (changes port change a.core) (Told c)
         (is ∙ ap (λ (k : CoreState). record a { core = k }) (becomes_same port a.core c new change found e)) turns
 
-    by : (stage : ConnectionStage) → c.stage ≡ stage → new ≡ (if is_first c.stage then connect_refused code c else closed_connection c) →
-        DoesOutcome a r x y (if is_first c.stage then without_messages (changes port (connect_refused code) a.core) else loses port c a.core)
+    by : (stage : ConnectionStage) → c.stage ≡ stage → new ≡ (if awaits_first_packet c.stage then connect_refused code c else closed_connection c) →
+        DoesOutcome a r x y (if awaits_first_packet c.stage then without_messages (changes port (connect_refused code) a.core) else loses port c a.core)
     by Awaits e is_new =
         rw (e) (rw (e) at (after (connect_refused code) (rw (e) at is_new)))
     by Proposed e is_new = rw (e) (rw (e) at (after closed_connection (rw (e) at is_new)))

@@ -15,7 +15,7 @@ use Rattle.node_connections.specs.declared.front.Front.TheVariants as fronts
 use Rattle.node_connections.specs.declared.connection.ConnectionStage.{ConnectionStage}
 use Rattle.node_connections.specs.declared.connection.ConnectionStage.TheVariants.{Awaits, Proposed, Closed, Failed}
 use Rattle.node_connections.specs.declared.connection.Connection.{Connection}
-use Rattle.node_connections.specs.Connections.{is_first, is_proposed}
+use Rattle.node_connections.specs.Connections.{awaits_first_packet, is_proposed}
 use Rattle.node_connections.specs.ConnectionChanges.{noted_proposed, closed_connection, left_with}
 use Rattle.node_core.specs.Core.{CoreState}
 use Rattle.node_connections.specs.Fronts.{FrontNeedsMemory, HasNoPacket}
@@ -52,13 +52,13 @@ ran_waits now port c new a b x found did is =
 -- a packet
 pub ran_packet : (now : ℕ) (port : Port) (c new : Connection) (packet : Packet) (a b r : CoreState) (x y : List (Effect Command Output)) →
     open_at port a ≡ Some c → TakesFront now c (fronts.Packet packet) new → b ≡ changes port (λ _. new) a →
-    StepPartOrLost (TakesPacket (is_first c.stage) port c.name packet) b r x y → StepPartOrLost (ReadsNext now port) a r x y
-ran_packet now port c new packet a b r x y found did is ran = by (is_first c.stage) refl ran
+    StepPartOrLost (TakesPacket (awaits_first_packet c.stage) port c.name packet) b r x y → StepPartOrLost (ReadsNext now port) a r x y
+ran_packet now port c new packet a b r x y found did is ran = by (awaits_first_packet c.stage) refl ran
   where
     left : b ≡ changes port (left_with now did.0) a
     left = is ∙ becomes_same port a c new (left_with now did.0) found did.3
 
-    by : (f : Bool) → is_first c.stage ≡ f → StepPartOrLost (TakesPacket f port c.name packet) b r x y →
+    by : (f : Bool) → awaits_first_packet c.stage ≡ f → StepPartOrLost (TakesPacket f port c.name packet) b r x y →
         StepPartOrLost (ReadsNext now port) a r x y
     by true e begun =
         ran_as (TakesPacket true port c.name packet) (ReadsNext now port) a b r x y
@@ -104,7 +104,7 @@ closed_there : (now : ℕ) (port : Port) (c new : Connection) (a b r : CoreState
 closed_there now port c new a b r x y found may shut is ran =
     ends_there now port a r x y (subst (λ (o : Option Connection). MayEnd o) (sym found) may) (ran_lost port c a b r x y found (is ∙ becomes_same port a c new closed_connection found shut) ran)
 
-first_not_proposed : (stage : ConnectionStage) → is_first stage ≡ true → is_proposed stage ≡ false
+first_not_proposed : (stage : ConnectionStage) → awaits_first_packet stage ≡ true → is_proposed stage ≡ false
 first_not_proposed Awaits e = refl
 first_not_proposed Proposed e = absurd cc
 first_not_proposed Closed e = absurd cc
@@ -113,9 +113,9 @@ first_not_proposed Failed e = absurd cc
 refused_there : (now : ℕ) (port : Port) (c new : Connection) (code : RefusalCode) (a b r : CoreState) (x y : List (Effect Command Output)) →
     open_at port a ≡ Some c → TakesFront now c (fronts.Refused code) new → b ≡ changes port (λ _. new) a →
     StepPartOrLost (ReportsLost (is_proposed c.stage) c.name) b r x y → StepPartOrLost (ReadsNext now port) a r x y
-refused_there now port c new code a b r x y found did is ran = by (is_first c.stage) refl did.1
+refused_there now port c new code a b r x y found did is ran = by (awaits_first_packet c.stage) refl did.1
   where
-    by : (f : Bool) → is_first c.stage ≡ f → new ≡ (if f then connect_refused code c else closed_connection c) → StepPartOrLost (ReadsNext now port) a r x y
+    by : (f : Bool) → awaits_first_packet c.stage ≡ f → new ≡ (if f then connect_refused code c else closed_connection c) → StepPartOrLost (ReadsNext now port) a r x y
     by true e answered =
         ran_as (ReportsLost false c.name) (ReadsNext now port) a b r x y
         (λ done runs. refuses c code found e did.0 (runs ∙ ap without_effects (is ∙ becomes_same port a c new (connect_refused code) found answered)))

@@ -11,7 +11,7 @@ use Rattle.broker_spec.specs.declared.command.Command.{Command}
 use Rattle.broker_spec.specs.declared.command.Command.TheVariants as commands
 use Rattle.node_connections.specs.declared.port.Port.{Port}
 use Rattle.node_connections.specs.declared.connection.Connection.{Connection}
-use Rattle.node_connections.specs.Connections.{is_first}
+use Rattle.node_connections.specs.Connections.{awaits_first_packet}
 use Rattle.node_connections.specs.ConnectionChanges.{noted_proposed, closed_connection, failing, left_with}
 use Rattle.node_connections.specs.Fronts.{FrontNeedsMemory, HasNoPacket}
 use Rattle.node_core.specs.Core.{CoreState}
@@ -67,20 +67,21 @@ pub data ReadsNext (now : ℕ) (port : Port) (core : CoreState) (account : Accou
       ReadsNext now port core account
   -- the first packet of the connection is there
   first : (connection : Connection) (packet : Packet) (rest : List ℕ) →
-      open_at port core ≡ Some connection → is_first connection.stage ≡ true →
+      open_at port core ≡ Some connection → awaits_first_packet connection.stage ≡ true →
       verdict connection.unread ≡ Ok (packet, rest) →
       TakesFirstPacket port connection.name packet
       (changes port (left_with now rest) core) account →
       ReadsNext now port core account
   -- a later packet is there
   later : (connection : Connection) (packet : Packet) (rest : List ℕ) →
-      open_at port core ≡ Some connection → is_first connection.stage ≡ false →
+      open_at port core ≡ Some connection → awaits_first_packet connection.stage ≡ false →
       verdict connection.unread ≡ Ok (packet, rest) →
       ProposesPacket port connection.name packet (changes port (left_with now rest) core) account →
       ReadsNext now port core account
   -- its CONNECT is refused with a code
   refuses : (connection : Connection) (code : RefusalCode) → open_at port core ≡ Some connection →
-      is_first connection.stage ≡ true → verdict connection.unread ≡ Err (stops.Refused code) →
+      awaits_first_packet connection.stage ≡ true →
+      verdict connection.unread ≡ Err (stops.Refused code) →
       account ≡ without_effects (changes port (connect_refused code) core) →
       ReadsNext now port core account
   -- the connection ends, if one is open

@@ -11,7 +11,7 @@ use Rattle.broker_spec.specs.Connection.{ConnectionName}
 use Rattle.broker_spec.specs.declared.command.Command.TheVariants as commands
 use Rattle.node_connections.specs.declared.port.Port.{Port}
 use Rattle.node_connections.specs.declared.connection.Connection.{Connection}
-use Rattle.node_connections.specs.Connections.{is_open_at, is_first, is_proposed}
+use Rattle.node_connections.specs.Connections.{is_open_at, awaits_first_packet, is_proposed}
 use Rattle.node_connections.specs.ConnectionChanges.{noted_proposed, left_with, closed_connection, changed_where}
 use Rattle.node_core.specs.Core.{CoreState, StepOutcome}
 use Rattle.node_core.specs.Effects.{without_messages, repeated, proposes, has_room}
@@ -68,10 +68,11 @@ abbrev pub reads : ℕ → Port → Connection → CoreState → Result (Packet 
 reads now port connection core (Err stops.More) = without_messages core
 reads now port connection core (Err (stops.Malformed kind)) = loses port connection core
 reads now port connection core (Err (stops.Refused code)) =
-    if is_first connection.stage then without_messages (changes port (connect_refused code) core)
+    if awaits_first_packet connection.stage
+    then without_messages (changes port (connect_refused code) core)
     else loses port connection core
 reads now port connection core (Ok (packet, rest)) =
-    if is_first connection.stage
+    if awaits_first_packet connection.stage
     then takes_first_packet port connection.name packet (changes port (left_with now rest) core)
     else proposes_packet port connection.name packet (changes port (left_with now rest) core)
 

@@ -4,7 +4,7 @@ ghost use Rattle.std.specs.Prelude.{◌≡◌, false, if◌then◌else◌, None}
 ghost use Rattle.std.specs.List.{find};
 ghost use Rattle.broker_spec.specs.declared.command.Command.TheVariants as commands;
 ghost use Rattle.broker_spec.specs.Sized.{IsSized};
-ghost use Rattle.node_connections.specs.Connections.{has_failed, is_first, is_proposed};
+ghost use Rattle.node_connections.specs.Connections.{has_failed, awaits_first_packet, is_proposed};
 ghost use Rattle.node_connections.specs.ConnectionChanges.{closed_connection, with_unread};
 ghost use Rattle.node_core.specs.Inside.{TakesPacket, DoesOutcome, StepPartOrLost, ReportsLost, WithoutFailure};
 ghost use Rattle.node_core.specs.declared.item.Item.TheVariants as items;
@@ -193,13 +193,13 @@ impl SteppingNode {
     )
         requires sized { IsSized packet }
         ensures exact { DoesOutcome self.old self.new effects.old.items effects.new.items
-            (if is_first stage
+            (if awaits_first_packet stage
             then takes_first_packet port name packet self.old.core
             else proposes_packet port name packet self.old.core) }
-        ensures lossy { StepPartOrLost (TakesPacket (is_first stage) port name packet)
+        ensures lossy { StepPartOrLost (TakesPacket (awaits_first_packet stage) port name packet)
             self.old.core self.new.core effects.old.items effects.new.items }
     {
-        if !stage.is_first() {
+        if !stage.awaits_first_packet() {
             return self.propose_packet(port, name, packet, effects);
         }
         match packet {

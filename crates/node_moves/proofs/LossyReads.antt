@@ -16,7 +16,7 @@ use Rattle.exactly_once.proofs.of_broker_spec.ConnectionNames.{same_name}
 use Rattle.exactly_once.specs.StoryCommands.{is_packet_of}
 use Rattle.node_core.specs.declared.Port.{Port}
 use Rattle.node_core.specs.declared.Connection.{Connection}
-use Rattle.node_core.specs.node_connections.Connections.{is_at, is_first, is_open_at}
+use Rattle.node_core.specs.node_connections.Connections.{is_at, awaits_first_packet, is_open_at}
 use Rattle.node_core.specs.node_connections.ConnectionChanges.{noted_proposed, closed_connection, failing, left_with}
 use Rattle.node_core.specs.Core.{CoreState, StepOutcome, rules}
 use Rattle.node_core.specs.Lossy.{Account, Drives, TakesCommand}
@@ -90,18 +90,18 @@ stays_reads {core = core} {outcome = outcome} m s no_bytes none = (
 
 -- ---- a packet is read and taken
 
-abbrev first_move : (now : ℕ) (core : CoreState) (port : Port) (c : Connection) (connect : Connect) (rest : List ℕ) (account : Account) → open_at port core ≡ Some c → is_first c.stage ≡ true
+abbrev first_move : (now : ℕ) (core : CoreState) (port : Port) (c : Connection) (connect : Connect) (rest : List ℕ) (account : Account) → open_at port core ≡ Some c → awaits_first_packet c.stage ≡ true
     → verdict c.unread ≡ Ok (packets.Connect connect, rest)
     → TakesCommand (commands.Connect c.name connect.client connect.clean) (changes port (noted_proposed connect.keep_alive) (changes port (left_with now rest) core)) account
     → NodeMoveOrLost core (record { core = account.core; messages = account.messages })
 first_move now core port c connect rest account at first reads taken = first_losing now port c connect rest account at first reads taken
 
-abbrev later_move : (now : ℕ) (core : CoreState) (port : Port) (c : Connection) (packet : Packet) (rest : List ℕ) (account : Account) → open_at port core ≡ Some c → is_first c.stage ≡ false
+abbrev later_move : (now : ℕ) (core : CoreState) (port : Port) (c : Connection) (packet : Packet) (rest : List ℕ) (account : Account) → open_at port core ≡ Some c → awaits_first_packet c.stage ≡ false
     → verdict c.unread ≡ Ok (packet, rest) → TakesCommand (commands.Packet c.name packet) (changes port (left_with now rest) core) account
     → NodeMoveOrLost core (record { core = account.core; messages = account.messages })
 later_move now core port c packet rest account at later reads taken = later_losing now port c packet rest account at later reads taken
 
-first_reads : (now : ℕ) (core : CoreState) (port : Port) (c : Connection) (connect : Connect) (rest : List ℕ) (account : Account) (at : open_at port core ≡ Some c) (first : is_first c.stage ≡ true)
+first_reads : (now : ℕ) (core : CoreState) (port : Port) (c : Connection) (connect : Connect) (rest : List ℕ) (account : Account) (at : open_at port core ≡ Some c) (first : awaits_first_packet c.stage ≡ true)
     (reads : verdict c.unread ≡ Ok (packets.Connect connect, rest))
     (taken : TakesCommand (commands.Connect c.name connect.client connect.clean) (changes port (noted_proposed connect.keep_alive) (changes port (left_with now rest) core)) account) → IsOrderly core
     → ReadsAll (first_move now core port c connect rest account at first reads taken)
@@ -121,7 +121,7 @@ first_reads now core port c connect rest account at first reads taken o =
     s = stays_takes command between account taken (changed_orderly core between (is_open_at port) (λ d. noted_proposed connect.keep_alive (left_with now rest d)) o h.are h.same h.up h.name)
 
     with_name : (x : ConnectionName) (read : List Packet) (b : Bool) → named x c ≡ b → (more : List Packet) → more ≡ (if b then packets.Connect connect ∷ [] else [])
-        → (b ≡ true → is_first c.stage ≡ is_nothing read) → filter (λ z. is_packet_of z x) (command ∷ []) ≡ packet_commands_from x (length read) more
+        → (b ≡ true → awaits_first_packet c.stage ≡ is_nothing read) → filter (λ z. is_packet_of z x) (command ∷ []) ≡ packet_commands_from x (length read) more
     with_name x read true e more is nothing = rw (e, is) (first_command x c connect read e (sym first ∙ nothing refl))
     with_name x read false e more is nothing = rw (e, is) refl
 
@@ -131,7 +131,7 @@ first_reads now core port c connect rest account at first reads taken o =
         let z = read_then x core between account.core port c (λ d. noted_proposed connect.keep_alive (left_with now rest d)) written read rest_of rest (packets.Connect connect) o h refl refl reads s end b e in
         record { more = z.0; end = z.1; proposed = with_name x read b e z.0 z.2 z.3 }
 
-later_reads : (now : ℕ) (core : CoreState) (port : Port) (c : Connection) (packet : Packet) (rest : List ℕ) (account : Account) (at : open_at port core ≡ Some c) (later : is_first c.stage ≡ false)
+later_reads : (now : ℕ) (core : CoreState) (port : Port) (c : Connection) (packet : Packet) (rest : List ℕ) (account : Account) (at : open_at port core ≡ Some c) (later : awaits_first_packet c.stage ≡ false)
     (reads : verdict c.unread ≡ Ok (packet, rest)) (taken : TakesCommand (commands.Packet c.name packet) (changes port (left_with now rest) core) account) → IsOrderly core
     → ReadsAll (later_move now core port c packet rest account at later reads taken)
 later_reads now core port c packet rest account at later reads taken o =
@@ -150,7 +150,7 @@ later_reads now core port c packet rest account at later reads taken o =
     s = stays_takes command between account taken (changed_orderly core between (is_open_at port) (left_with now rest) o h.are h.same h.up h.name)
 
     with_name : (x : ConnectionName) (read : List Packet) (b : Bool) → named x c ≡ b → (more : List Packet) → more ≡ (if b then packet ∷ [] else [])
-        → (b ≡ true → is_first c.stage ≡ is_nothing read) → filter (λ z. is_packet_of z x) (command ∷ []) ≡ packet_commands_from x (length read) more
+        → (b ≡ true → awaits_first_packet c.stage ≡ is_nothing read) → filter (λ z. is_packet_of z x) (command ∷ []) ≡ packet_commands_from x (length read) more
     with_name x read true e more is nothing = rw (e, is) (later_command x c packet read e (sym later ∙ nothing refl))
     with_name x read false e more is nothing = rw (e, is) refl
 

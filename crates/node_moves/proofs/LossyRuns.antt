@@ -13,7 +13,7 @@ use Rattle.exactly_once.specs.broker_spec.Connection.{ConnectionName}
 use Rattle.exactly_once.specs.broker_spec.declared.command.Output.{Output}
 use Rattle.node_core.specs.declared.Port.{Port}
 use Rattle.node_core.specs.declared.Connection.{Connection}
-use Rattle.node_core.specs.node_connections.Connections.{is_at, is_first, is_open_at, is_closed}
+use Rattle.node_core.specs.node_connections.Connections.{is_at, awaits_first_packet, is_open_at, is_closed}
 use Rattle.node_core.specs.node_connections.ConnectionChanges.{noted_proposed, closed_connection, failing, left_with}
 use Rattle.node_core.specs.Core.{CoreState, StepOutcome}
 use Rattle.node_core.specs.Failing.{closes_failed}
@@ -182,7 +182,7 @@ declined port f core between account same change t =
 
 -- ---- the next packet
 
-still_connects : (now : ℕ) (port : Port) (c : Connection) (core : CoreState) (connect : Connect) (rest : List ℕ) (account : Account) → open_at port core ≡ Some c → is_first c.stage ≡ true
+still_connects : (now : ℕ) (port : Port) (c : Connection) (core : CoreState) (connect : Connect) (rest : List ℕ) (account : Account) → open_at port core ≡ Some c → awaits_first_packet c.stage ≡ true
     → verdict c.unread ≡ Ok (packets.Connect connect, rest)
     → TakesOr (commands.Connect c.name connect.client connect.clean) (ClosesConnection port) (changes port (noted_proposed connect.keep_alive) (changes port (left_with now rest) core)) account → Still core account
 still_connects now port c core connect rest account at awaits is (inl taken) =
@@ -191,7 +191,7 @@ still_connects now port c core connect rest account at awaits is (inr other) =
     declined port closed_connection core (changes port (noted_proposed connect.keep_alive) (changes port (left_with now rest) core)) account
     (closed_asked connect.keep_alive port (changes port (left_with now rest) core) ∙ closed_left now port rest core) (closing port core) other
 
-still_begins : (now : ℕ) (port : Port) (c : Connection) (core : CoreState) (packet : Packet) (rest : List ℕ) (account : Account) → open_at port core ≡ Some c → is_first c.stage ≡ true
+still_begins : (now : ℕ) (port : Port) (c : Connection) (core : CoreState) (packet : Packet) (rest : List ℕ) (account : Account) → open_at port core ≡ Some c → awaits_first_packet c.stage ≡ true
     → verdict c.unread ≡ Ok (packet, rest) → TakesFirstPacket port c.name packet (changes port (left_with now rest) core) account → Still core account
 still_begins now port c core (packets.Connect connect) rest account at awaits is runs = still_connects now port c core connect rest account at awaits is runs
 still_begins now port c core _ rest account at awaits is runs =
@@ -201,7 +201,7 @@ still_begins now port c core _ rest account at awaits is runs =
 failing_at : (port : Port) (core : CoreState) → Calm core (without_messages (changes port failing core))
 failing_at port core = calm_move (fails port) (refl, refl, refl, λ x. refl)
 
-still_says : (now : ℕ) (port : Port) (c : Connection) (core : CoreState) (packet : Packet) (rest : List ℕ) (account : Account) → open_at port core ≡ Some c → is_first c.stage ≡ false
+still_says : (now : ℕ) (port : Port) (c : Connection) (core : CoreState) (packet : Packet) (rest : List ℕ) (account : Account) → open_at port core ≡ Some c → awaits_first_packet c.stage ≡ false
     → verdict c.unread ≡ Ok (packet, rest) → TakesOr (commands.Packet c.name packet) (Shuts port) (changes port (left_with now rest) core) account → Still core account
 still_says now port c core packet rest account at after_first is (inl taken) =
     calm_move (later_losing now port c packet rest account at after_first is taken) (refl, refl, refl, λ x. refl)

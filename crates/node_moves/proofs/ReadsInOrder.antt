@@ -14,7 +14,7 @@ use Rattle.node_moves.specs.Pipe.{Joins, IsPiped}
 use Rattle.exactly_once.specs.StoryCommands.{is_packet_of}
 use Rattle.node_core.specs.declared.Port.{Port}
 use Rattle.node_core.specs.declared.Connection.{Connection}
-use Rattle.node_core.specs.node_connections.Connections.{is_first, is_at, is_open_at}
+use Rattle.node_core.specs.node_connections.Connections.{awaits_first_packet, is_at, is_open_at}
 use Rattle.node_core.specs.node_connections.ConnectionChanges.{noted_proposed, with_unread, left_with, closed_connection, changed_where}
 use Rattle.node_core.specs.Core.{CoreState, StepOutcome}
 use Rattle.node_core.specs.Reading.{changes, open_at, connect_refused}
@@ -49,7 +49,7 @@ end_kept x core later written read in_transit (is_open c given is first piped) k
     by None (Some later_d) z e f = elim z [ ]
     by (Some d) (Some later_d) (still s u) e f =
         let one = same_some d c e in
-        is_open later_d within f (ap is_first s ∙ ap (λ (z : Connection). is_first z.stage) one ∙ first)
+        is_open later_d within f (ap awaits_first_packet s ∙ ap (λ (z : Connection). awaits_first_packet z.stage) one ∙ first)
         (subst (λ (l : List ℕ). IsPiped written read (stream_of l) in_transit) (sym (u ∙ ap (λ (z : Connection). z.unread) one)) piped)
     by (Some d) None ended e f = is_over within f (record { rest = piped.rest; is = piped.is })
 end_kept x core later written read in_transit (is_over given is front) kept same = by (open_named x core) (open_named x later) kept is refl
@@ -118,7 +118,7 @@ change_there x core later port c f o h is =
 -- of the open connection: what is known about it, for it is given and not closed
 record WasOpen (x : ConnectionName) (core : CoreState) (c : Connection) (written read : List Packet) (in_transit : List ℕ) : Type 0 where
   given : IsGiven core.last_name x
-  first : is_first c.stage ≡ is_nothing read
+  first : awaits_first_packet c.stage ≡ is_nothing read
   piped : IsPiped written read (stream_of c.unread) in_transit
 
 was_open : (x : ConnectionName) (core : CoreState) (port : Port) (c : Connection) (written read : List Packet) (in_transit : List ℕ) → IsOrderly core
@@ -129,7 +129,7 @@ was_open x core port c written read in_transit o at is (is_open d given there fi
     let one = same_some d c (sym there ∙ found_open x core port c o at is) in
     record {
       given = given;
-      first = ap (λ (z : Connection). is_first z.stage) (sym one) ∙ first;
+      first = ap (λ (z : Connection). awaits_first_packet z.stage) (sym one) ∙ first;
       piped = subst (λ (z : Connection). IsPiped written read (stream_of z.unread) in_transit) one piped;
     }
 was_open x core port c written read in_transit o at is (is_over given none front) = absurd (some_none c (sym (found_open x core port c o at is) ∙ none))
@@ -140,7 +140,7 @@ not_nothing (q ∷ read) p = refl
 
 -- a packet is read off it
 one_read : (x : ConnectionName) (core later : CoreState) (port : Port) (c : Connection) (f : Connection → Connection) (written read : List Packet) (in_transit rest : List ℕ)
-    (packet : Packet) → IsOrderly core → IsChange core later port c f → named x c ≡ true → (f c).unread ≡ rest → is_first (f c).stage ≡ false
+    (packet : Packet) → IsOrderly core → IsChange core later port c f → named x c ≡ true → (f c).unread ≡ rest → awaits_first_packet (f c).stage ≡ false
     → verdict c.unread ≡ Ok (packet, rest) → WasOpen x core c written read in_transit → IsEnd x later written (read ++ packet ∷ []) in_transit
 one_read x core later port c f written read in_transit rest packet o h is left second reads was =
     is_open (f c) (subst (λ (y : ConnectionName). IsGiven y x) (sym h.same) was.given) (change_there x core later port c f o h is) (second ∙ not_nothing read packet)
@@ -163,10 +163,10 @@ one_held x core later port c written read piece in_transit o h is was =
 
 -- the connection is changed, and then the command is put to the replica
 pub read_then : (x : ConnectionName) (core between later : CoreState) (port : Port) (c : Connection) (f : Connection → Connection) (written read : List Packet)
-    (in_transit rest : List ℕ) (packet : Packet) → IsOrderly core → IsChange core between port c f → (f c).unread ≡ rest → is_first (f c).stage ≡ false
+    (in_transit rest : List ℕ) (packet : Packet) → IsOrderly core → IsChange core between port c f → (f c).unread ≡ rest → awaits_first_packet (f c).stage ≡ false
     → verdict c.unread ≡ Ok (packet, rest) → Stays between later → IsEnd x core written read in_transit → (b : Bool) → named x c ≡ b
     → (more : List Packet) × IsEnd x later written (read ++ more) in_transit
-    × (more ≡ (if b then packet ∷ [] else [])) × (b ≡ true → is_first c.stage ≡ is_nothing read)
+    × (more ≡ (if b then packet ∷ [] else [])) × (b ≡ true → awaits_first_packet c.stage ≡ is_nothing read)
 read_then x core between later port c f written read in_transit rest packet o h left second reads s end true is =
     let was = was_open x core port c written read in_transit o h.at is end in (
       packet ∷ [],
@@ -210,16 +210,16 @@ left_change now core port c rest at =
       lives = left_true (live c) (is_at port c) (found_passes (is_open_at port) core.connections c at);
     }
 
-abbrev first_move : (now : ℕ) (core : CoreState) (port : Port) (c : Connection) (connect : Connect) (rest : List ℕ) → open_at port core ≡ Some c → is_first c.stage ≡ true
+abbrev first_move : (now : ℕ) (core : CoreState) (port : Port) (c : Connection) (connect : Connect) (rest : List ℕ) → open_at port core ≡ Some c → awaits_first_packet c.stage ≡ true
     → verdict c.unread ≡ Ok (packets.Connect connect, rest) → has_room core ≡ true
     → NodeMove core (proposes (commands.Connect c.name connect.client connect.clean) (changes port (noted_proposed connect.keep_alive) (changes port (left_with now rest) core)))
 first_move now core port c connect rest at first reads room = reads_first now port c connect rest at first reads room
 
-abbrev later_move : (now : ℕ) (core : CoreState) (port : Port) (c : Connection) (packet : Packet) (rest : List ℕ) → open_at port core ≡ Some c → is_first c.stage ≡ false
+abbrev later_move : (now : ℕ) (core : CoreState) (port : Port) (c : Connection) (packet : Packet) (rest : List ℕ) → open_at port core ≡ Some c → awaits_first_packet c.stage ≡ false
     → verdict c.unread ≡ Ok (packet, rest) → has_room core ≡ true → NodeMove core (proposes (commands.Packet c.name packet) (changes port (left_with now rest) core))
 later_move now core port c packet rest at later reads room = reads_later now port c packet rest at later reads room
 
-first_reads : (now : ℕ) (core : CoreState) (port : Port) (c : Connection) (connect : Connect) (rest : List ℕ) (at : open_at port core ≡ Some c) (first : is_first c.stage ≡ true)
+first_reads : (now : ℕ) (core : CoreState) (port : Port) (c : Connection) (connect : Connect) (rest : List ℕ) (at : open_at port core ≡ Some c) (first : awaits_first_packet c.stage ≡ true)
     (reads : verdict c.unread ≡ Ok (packets.Connect connect, rest)) (room : has_room core ≡ true) → IsOrderly core → ReadsAll (first_move now core port c connect rest at first reads room)
 first_reads now core port c connect rest at first reads room o =
     (s.orderly, λ x written read in_transit rest_of end same. by x written read rest_of (subst (IsEnd x core written read) same end) (named x c) refl)
@@ -237,7 +237,7 @@ first_reads now core port c connect rest at first reads room o =
     s = stays_proposed command between (changed_orderly core between (is_open_at port) (λ d. noted_proposed connect.keep_alive (left_with now rest d)) o h.are h.same h.up h.name)
 
     with_name : (x : ConnectionName) (read : List Packet) (b : Bool) → named x c ≡ b → (more : List Packet) → more ≡ (if b then packets.Connect connect ∷ [] else [])
-        → (b ≡ true → is_first c.stage ≡ is_nothing read) → filter (λ z. is_packet_of z x) (command ∷ []) ≡ packet_commands_from x (length read) more
+        → (b ≡ true → awaits_first_packet c.stage ≡ is_nothing read) → filter (λ z. is_packet_of z x) (command ∷ []) ≡ packet_commands_from x (length read) more
     with_name x read true e more is nothing = rw (e, is) (first_command x c connect read e (sym first ∙ nothing refl))
     with_name x read false e more is nothing = rw (e, is) refl
 
@@ -247,7 +247,7 @@ first_reads now core port c connect rest at first reads room o =
         let z = read_then x core between (proposes command between).core port c (λ d. noted_proposed connect.keep_alive (left_with now rest d)) written read rest_of rest (packets.Connect connect) o h refl refl reads s end b e in
         record { more = z.0; end = z.1; proposed = with_name x read b e z.0 z.2 z.3 }
 
-later_reads : (now : ℕ) (core : CoreState) (port : Port) (c : Connection) (packet : Packet) (rest : List ℕ) (at : open_at port core ≡ Some c) (later : is_first c.stage ≡ false)
+later_reads : (now : ℕ) (core : CoreState) (port : Port) (c : Connection) (packet : Packet) (rest : List ℕ) (at : open_at port core ≡ Some c) (later : awaits_first_packet c.stage ≡ false)
     (reads : verdict c.unread ≡ Ok (packet, rest)) (room : has_room core ≡ true) → IsOrderly core → ReadsAll (later_move now core port c packet rest at later reads room)
 later_reads now core port c packet rest at later reads room o =
     (s.orderly, λ x written read in_transit rest_of end same. by x written read rest_of (subst (IsEnd x core written read) same end) (named x c) refl)
@@ -265,7 +265,7 @@ later_reads now core port c packet rest at later reads room o =
     s = stays_proposed command between (changed_orderly core between (is_open_at port) (left_with now rest) o h.are h.same h.up h.name)
 
     with_name : (x : ConnectionName) (read : List Packet) (b : Bool) → named x c ≡ b → (more : List Packet) → more ≡ (if b then packet ∷ [] else [])
-        → (b ≡ true → is_first c.stage ≡ is_nothing read) → filter (λ z. is_packet_of z x) (command ∷ []) ≡ packet_commands_from x (length read) more
+        → (b ≡ true → awaits_first_packet c.stage ≡ is_nothing read) → filter (λ z. is_packet_of z x) (command ∷ []) ≡ packet_commands_from x (length read) more
     with_name x read true e more is nothing = rw (e, is) (later_command x c packet read e (sym later ∙ nothing refl))
     with_name x read false e more is nothing = rw (e, is) refl
 

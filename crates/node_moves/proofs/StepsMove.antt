@@ -18,7 +18,7 @@ use Rattle.node_core.specs.declared.Port.{Port}
 use Rattle.node_core.specs.declared.item.Item.{Item}
 use Rattle.node_core.specs.declared.item.Item.TheVariants.{Peer, Tick, Opened, Bytes, Ended, Expel, Cut, Crash}
 use Rattle.node_core.specs.declared.Connection.{Connection}
-use Rattle.node_core.specs.node_connections.Connections.{is_closed, is_first, is_proposed, has_failed, is_at, is_open_at}
+use Rattle.node_core.specs.node_connections.Connections.{is_closed, awaits_first_packet, is_proposed, has_failed, is_at, is_open_at}
 use Rattle.node_core.specs.node_connections.ConnectionChanges.{noted_proposed, with_unread, left_with, closed_connection, changed_where}
 use Rattle.node_core.specs.Core.{CoreState, StepOutcome}
 use Rattle.node_core.specs.Reading.{changes, open_at, loses, loses_open, port_closed, connect_proposed, proposes_packet, takes_first_packet, reads, reads_of, reads_next, connect_refused, unread_of}
@@ -144,7 +144,7 @@ ends_run port core = ended_runs port core (open_at port core) refl
 closes_with : (port : Port) (core later : CoreState) → later ≡ changes port closed_connection core → Calm core (without_messages later)
 closes_with port core later same = subst (λ (z : CoreState). Calm core (without_messages z)) (sym same) (calm_move (closes port) (refl, refl))
 
-first_runs : (now : ℕ) (port : Port) (c : Connection) (core : CoreState) (connect : Connect) (rest : List ℕ) → open_at port core ≡ Some c → is_first c.stage ≡ true
+first_runs : (now : ℕ) (port : Port) (c : Connection) (core : CoreState) (connect : Connect) (rest : List ℕ) → open_at port core ≡ Some c → awaits_first_packet c.stage ≡ true
     → verdict c.unread ≡ Ok (packets.Connect connect, rest)
     → Calm core (connect_proposed port c.name connect (changes port (noted_proposed connect.keep_alive) (changes port (left_with now rest) core)))
 first_runs now port c core connect rest at first is = by (has_room core) refl
@@ -156,12 +156,12 @@ first_runs now port c core connect rest at first is = by (has_room core) refl
     by true room = rw (same ∙ room) (calm_move (reads_first now port c connect rest at first is room) (refl, refl))
     by false none = rw (same ∙ none) (closes_with port core _ (closed_asked connect.keep_alive now port rest core))
 
-begins_runs : (now : ℕ) (port : Port) (c : Connection) (core : CoreState) (packet : Packet) (rest : List ℕ) → open_at port core ≡ Some c → is_first c.stage ≡ true
+begins_runs : (now : ℕ) (port : Port) (c : Connection) (core : CoreState) (packet : Packet) (rest : List ℕ) → open_at port core ≡ Some c → awaits_first_packet c.stage ≡ true
     → verdict c.unread ≡ Ok (packet, rest) → Calm core (takes_first_packet port c.name packet (changes port (left_with now rest) core))
 begins_runs now port c core (packets.Connect connect) rest at first is = first_runs now port c core connect rest at first is
 begins_runs now port c core _ rest at first is = closes_with port core _ (closed_left now port rest core)
 
-says_runs : (now : ℕ) (port : Port) (c : Connection) (core : CoreState) (packet : Packet) (rest : List ℕ) → open_at port core ≡ Some c → is_first c.stage ≡ false
+says_runs : (now : ℕ) (port : Port) (c : Connection) (core : CoreState) (packet : Packet) (rest : List ℕ) → open_at port core ≡ Some c → awaits_first_packet c.stage ≡ false
     → verdict c.unread ≡ Ok (packet, rest) → Calm core (proposes_packet port c.name packet (changes port (left_with now rest) core))
 says_runs now port c core packet rest at later is = by (has_room core) refl
   where
@@ -171,18 +171,18 @@ says_runs now port c core packet rest at later is = by (has_room core) refl
 
 packet_runs : (now : ℕ) (port : Port) (c : Connection) (core : CoreState) (packet : Packet) (rest : List ℕ) → open_at port core ≡ Some c
     → verdict c.unread ≡ Ok (packet, rest) → Calm core (reads now port c core (Ok (packet, rest)))
-packet_runs now port c core packet rest at is = by (is_first c.stage) refl
+packet_runs now port c core packet rest at is = by (awaits_first_packet c.stage) refl
   where
-    by : (b : Bool) → is_first c.stage ≡ b
+    by : (b : Bool) → awaits_first_packet c.stage ≡ b
         → Calm core (if b then takes_first_packet port c.name packet (changes port (left_with now rest) core) else proposes_packet port c.name packet (changes port (left_with now rest) core))
     by true first = begins_runs now port c core packet rest at first is
     by false later = says_runs now port c core packet rest at later is
 
 refused_runs : (now : ℕ) (port : Port) (c : Connection) (core : CoreState) (code : RefusalCode) → open_at port core ≡ Some c
     → verdict c.unread ≡ Err (stops.Refused code) → Calm core (reads now port c core (Err (stops.Refused code)))
-refused_runs now port c core code at is = by (is_first c.stage) refl
+refused_runs now port c core code at is = by (awaits_first_packet c.stage) refl
   where
-    by : (b : Bool) → is_first c.stage ≡ b → Calm core (if b then without_messages (changes port (connect_refused code) core) else loses port c core)
+    by : (b : Bool) → awaits_first_packet c.stage ≡ b → Calm core (if b then without_messages (changes port (connect_refused code) core) else loses port c core)
     by true first = calm_move (refuses port c code at first is) (refl, refl)
     by false later = lost_runs port c core at
 

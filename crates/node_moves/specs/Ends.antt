@@ -10,7 +10,7 @@ use Rattle.node_core.specs.cutter.Stream.{Stream}
 use Rattle.node_moves.specs.Pipe.{IsPiped}
 use Rattle.exactly_once.specs.StoryCommands.{command_of}
 use Rattle.node_core.specs.declared.Connection.{Connection}
-use Rattle.node_core.specs.node_connections.Connections.{is_first, is_open_named}
+use Rattle.node_core.specs.node_connections.Connections.{awaits_first_packet, is_open_named}
 use Rattle.node_core.specs.Core.{CoreState, StepOutcome}
 use Rattle.node_core.specs.Reading.{open_at}
 use Rattle.node_moves.specs.Moves.NodeMove.{hears, opens_one, holds, reads_first, reads_later, closes, refuses, loses_one, loses_next, expels_one, cuts_log, crashes, settles, hands}
@@ -98,7 +98,8 @@ pub data IsEnd (name : ConnectionName) (core : CoreState) (written read : List P
       IsPiped written [] (stream_of []) in_transit → IsEnd name core written read in_transit
   -- it has the connection open, and holds the bytes that were not read
   is_open : (connection : Connection) → IsGiven core.last_name name →
-      open_named name core ≡ Some connection → is_first connection.stage ≡ is_nothing read →
+      open_named name core ≡ Some connection →
+      awaits_first_packet connection.stage ≡ is_nothing read →
       IsPiped written read (stream_of connection.unread) in_transit →
       IsEnd name core written read in_transit
   -- it has the connection no longer open: no more is read

@@ -12,7 +12,7 @@ use Rattle.exactly_once.specs.broker_spec.declared.command.Command.TheVariants a
 use Rattle.exactly_once.specs.broker_spec.Connection.{ConnectionName}
 use Rattle.node_core.specs.declared.Port.{Port}
 use Rattle.node_core.specs.declared.Connection.{Connection}
-use Rattle.node_core.specs.node_connections.Connections.{is_first}
+use Rattle.node_core.specs.node_connections.Connections.{awaits_first_packet}
 use Rattle.node_core.specs.node_connections.ConnectionChanges.{noted_proposed, closed_connection, failing, left_with}
 use Rattle.node_core.specs.Core.{CoreState, StepOutcome, rules}
 use Rattle.node_core.specs.Failing.{closes_failed}
@@ -53,7 +53,7 @@ pub data NodeMoveOrLost (core : CoreState) : StepOutcome → Type 0 where
   -- a CONNECT, the first packet of an open connection, is read and taken, perhaps with losses
   first_losing : (now : ℕ) (port : Port) (connection : Connection) (connect : Connect)
       (rest : List ℕ) (account : Account) → open_at port core ≡ Some connection →
-      is_first connection.stage ≡ true →
+      awaits_first_packet connection.stage ≡ true →
       verdict connection.unread ≡ Ok (packets.Connect connect, rest) →
       TakesCommand (commands.Connect connection.name connect.client connect.clean)
       (changes port (noted_proposed connect.keep_alive) (changes port (left_with now rest) core))
@@ -62,7 +62,7 @@ pub data NodeMoveOrLost (core : CoreState) : StepOutcome → Type 0 where
   -- a later packet is read and taken, perhaps with losses
   later_losing : (now : ℕ) (port : Port) (connection : Connection) (packet : Packet) (rest : List ℕ)
       (account : Account) → open_at port core ≡ Some connection →
-      is_first connection.stage ≡ false → verdict connection.unread ≡ Ok (packet, rest) →
+      awaits_first_packet connection.stage ≡ false → verdict connection.unread ≡ Ok (packet, rest) →
       TakesCommand (commands.Packet connection.name packet)
       (changes port (left_with now rest) core) account →
       NodeMoveOrLost core (outcome_in account)

@@ -15,7 +15,7 @@ use Rattle.exactly_once.specs.broker_spec.declared.command.Command.TheVariants a
 use Rattle.node_core.specs.declared.Port.{Port}
 use Rattle.node_core.specs.declared.item.Item.{Item}
 use Rattle.node_core.specs.declared.Connection.{Connection}
-use Rattle.node_core.specs.node_connections.Connections.{has_failed, is_first, is_proposed}
+use Rattle.node_core.specs.node_connections.Connections.{has_failed, awaits_first_packet, is_proposed}
 use Rattle.node_core.specs.node_connections.ConnectionChanges.{noted_proposed, with_unread, left_with, closed_connection}
 use Rattle.node_core.specs.Core.{CoreState, StepOutcome}
 use Rattle.node_core.specs.Failing.{closes_failed}
@@ -42,13 +42,15 @@ pub data NodeMove (core : CoreState) : StepOutcome → Type 0 where
   -- the first packet of an open connection, a CONNECT, is read and proposed, whole at this time;
   -- the log has room for it
   reads_first : (now : ℕ) (port : Port) (connection : Connection) (connect : Connect)
-      (rest : List ℕ) → open_at port core ≡ Some connection → is_first connection.stage ≡ true →
+      (rest : List ℕ) → open_at port core ≡ Some connection →
+      awaits_first_packet connection.stage ≡ true →
       verdict connection.unread ≡ Ok (packets.Connect connect, rest) → has_room core ≡ true →
       NodeMove core (proposes (commands.Connect connection.name connect.client connect.clean)
       (changes port (noted_proposed connect.keep_alive) (changes port (left_with now rest) core)))
   -- each later packet of an open connection is read and proposed, if the log has room for it
   reads_later : (now : ℕ) (port : Port) (connection : Connection) (packet : Packet)
-      (rest : List ℕ) → open_at port core ≡ Some connection → is_first connection.stage ≡ false →
+      (rest : List ℕ) → open_at port core ≡ Some connection →
+      awaits_first_packet connection.stage ≡ false →
       verdict connection.unread ≡ Ok (packet, rest) → has_room core ≡ true →
       NodeMove core (proposes (commands.Packet connection.name packet)
       (changes port (left_with now rest) core))
@@ -56,7 +58,7 @@ pub data NodeMove (core : CoreState) : StepOutcome → Type 0 where
   closes : (port : Port) → NodeMove core (without_messages (changes port closed_connection core))
   -- a connection is closed with an answer: its first packet is a CONNECT that is refused
   refuses : (port : Port) (connection : Connection) (code : RefusalCode) →
-      open_at port core ≡ Some connection → is_first connection.stage ≡ true →
+      open_at port core ≡ Some connection → awaits_first_packet connection.stage ≡ true →
       verdict connection.unread ≡ Err (stops.Refused code) →
       NodeMove core (without_messages (changes port (connect_refused code) core))
   -- a connection is closed, and its loss is proposed, since its Connect was

@@ -4,21 +4,21 @@ use Rattle.node_core.proofs.Fronts.{turns_other}
 use Rattle.node_core.proofs.FrontsRun.{ran_connects, ran_later, ran_other}
 use Rattle.node_core.proofs.stepping_node.SteppingNode.on_packet.Goals as goal
 
-pub returns-then-not-is_first-clause-lossy : goal.returns-then-not-is_first-clause-lossy
-returns-then-not-is_first-clause-lossy c =
-    ran_later _ c.args.port c.args.name c.args.packet _ _ _ _ (sym c.is_first.ensures ∙ c.if-not-is_first.true) c.propose_packet.ensures.lossy
+pub returns-then-not-awaits_first_packet-clause-lossy : goal.returns-then-not-awaits_first_packet-clause-lossy
+returns-then-not-awaits_first_packet-clause-lossy c =
+    ran_later _ c.args.port c.args.name c.args.packet _ _ _ _ (sym c.awaits_first_packet.ensures ∙ c.if-not-awaits_first_packet.true) c.propose_packet.ensures.lossy
 
 pub returns-in-Connect-clause-lossy : goal.returns-in-Connect-clause-lossy
 returns-in-Connect-clause-lossy c =
     ran_connects _ c.args.port c.args.name c.in-Connect.connect c.args.packet _ c.note_proposed_at.new.self.core _ _ _
-    (sym c.is_first.ensures ∙ c.if-not-is_first.false) c.in-Connect.is (core_of _ _ c.note_proposed_at.ensures) c.connect.ensures.lossy
+    (sym c.awaits_first_packet.ensures ∙ c.if-not-awaits_first_packet.false) c.in-Connect.is (core_of _ _ c.note_proposed_at.ensures) c.connect.ensures.lossy
 
 pub returns-clause-exact : goal.returns-clause-exact
 returns-clause-exact c =
-    turns_other _ c.args.port c.args.name c.args.packet _ _ _ (sym c.is_first.ensures ∙ c.if-not-is_first.false)
+    turns_other _ c.args.port c.args.name c.args.packet _ _ _ (sym c.awaits_first_packet.ensures ∙ c.if-not-awaits_first_packet.false)
     (λ connect is. c.in_default.not-Connect connect is) c.close.ensures
 
 pub returns-clause-lossy : goal.returns-clause-lossy
 returns-clause-lossy c =
-    ran_other _ c.args.port c.args.name c.args.packet _ c.close.new.self.core _ (sym c.is_first.ensures ∙ c.if-not-is_first.false)
+    ran_other _ c.args.port c.args.name c.args.packet _ c.close.new.self.core _ (sym c.awaits_first_packet.ensures ∙ c.if-not-awaits_first_packet.false)
     (λ connect is. c.in_default.not-Connect connect is) (core_of _ _ c.close.ensures)
