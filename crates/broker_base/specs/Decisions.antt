@@ -67,7 +67,7 @@ owned_mark limits state owner _ = Mark.Handled owner.0
 -- a packet counts only on a current connection
 abbrev pub packet_mark_in : Limits → State → Packet → Option (Client × ClientSession) → Mark
 packet_mark_in limits state packet (Some owner) = owned_mark limits state owner packet
-packet_mark_in limits state packet None = Mark.NoPart
+packet_mark_in limits state packet None = Mark.Unmarked
 
 -- a Connect on a current connection is a violation; any other is accepted if its client has a
 -- session or one may begin
@@ -83,9 +83,9 @@ mark_in limits state (commands.Packet connection packet) =
     packet_mark_in limits state packet (owner_in connection state.sessions)
 mark_in limits state (commands.Connect connection client clean) =
     connect_mark_in limits state client (owner_in connection state.sessions)
-mark_in limits state (commands.Lost connection) = Mark.NoPart
-mark_in limits state (commands.Start ballot) = Mark.NoPart
-mark_in limits state (commands.Expel client) = Mark.NoPart
+mark_in limits state (commands.Lost connection) = Mark.Unmarked
+mark_in limits state (commands.Start ballot) = Mark.Unmarked
+mark_in limits state (commands.Expel client) = Mark.Unmarked
 
 -- the command with its mark
 abbrev pub place_in : Limits → State → Command → Place

@@ -80,7 +80,7 @@ owned w limits state x owner packets.Disconnect m k h room = (tt, tt)
 owned w limits state x owner packet m k h room =
     handled_in_spelled w limits x owner.0 (session_in owner.0 state.sessions) packet m (k.1, k.2.0, k.2.1) (found_in_range limits owner.0 state.sessions h.sessions)
 
-nobodys : (w : ℕ) (state : State) (x : ConnectionName) (packet : Packet) → Answered w state x packet Mark.NoPart
+nobodys : (w : ℕ) (state : State) (x : ConnectionName) (packet : Packet) → Answered w state x packet Mark.Unmarked
 nobodys w state x (packets.Publish p) = tt
 nobodys w state x (packets.Subscribe s) = tt
 nobodys w state x packet = tt

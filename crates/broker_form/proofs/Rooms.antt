@@ -180,7 +180,7 @@ rooms limits state (commands.Packet x packet) sorted h =
       | None ↦ λ e. nothing_made limits _ state.retained state.sessions (idle packet) h
     ] refl
   where
-    idle : (packet : Packet) → MakesNothing (record { command = commands.Packet x packet; mark = Mark.NoPart })
+    idle : (packet : Packet) → MakesNothing (record { command = commands.Packet x packet; mark = Mark.Unmarked })
     idle (packets.Publish p) content c held = (refl, omega arith)
     idle (packets.Subscribe s) content c held = (refl, omega arith)
     idle (packets.Unsubscribe u) content c held = (refl, omega arith)

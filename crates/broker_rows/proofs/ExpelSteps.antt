@@ -23,10 +23,10 @@ use Rattle.broker_rows.proofs.OneRow.{left_untouched, left_one}
 
 -- the place
 abbrev pub at_expel : Client → Place
-at_expel c = record { command = commands.Expel c; mark = Mark.NoPart }
+at_expel c = record { command = commands.Expel c; mark = Mark.Unmarked }
 
 -- it ends no connection by its name
-never_ends : (c : Client) (o : Option ConnectionName) → any_connection (ends (commands.Expel c) Mark.NoPart) o ≡ false
+never_ends : (c : Client) (o : Option ConnectionName) → any_connection (ends (commands.Expel c) Mark.Unmarked) o ≡ false
 never_ends c None = refl
 never_ends c (Some x) = refl
 
@@ -60,7 +60,7 @@ none_there c (row ∷ rows) none = by (same_client c row.0) refl none (none_ther
 -- nothing is left of the client's session
 goes : (w : ℕ) (content : RetainedTopics) (c : Client) (kept : ClientSession) → session_after w (at_expel c) content c kept ≡ None
 goes w content c kept =
-    ap (λ b. if (b || any_connection (ends (commands.Expel c) Mark.NoPart) kept.connection) || false
+    ap (λ b. if (b || any_connection (ends (commands.Expel c) Mark.Unmarked) kept.connection) || false
     then only_if (not (b || (kept.clean && ends_any (at_expel c) c kept.connection)))
     (Some (kept_on w (at_expel c) content c (only_if (not (ends_any (at_expel c) c kept.connection)) kept.connection) kept))
     else Some kept) (same_self c)

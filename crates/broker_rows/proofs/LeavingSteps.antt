@@ -65,6 +65,6 @@ further_connect_step limits later state x c kept served named clean =
 -- its loss
 pub lost_step : LostStep
 lost_step limits later state x c kept served =
-    let place : Place = record { command = commands.Lost x; mark = Mark.NoPart } in
-    served_step limits later state (commands.Lost x) x c kept Mark.NoPart (left_off kept) [] served refl refl refl refl
+    let place : Place = record { command = commands.Lost x; mark = Mark.Unmarked } in
+    served_step limits later state (commands.Lost x) x c kept Mark.Unmarked (left_off kept) [] served refl refl refl refl
     (parted_is state.window place state.retained c kept tt refl (ap (ends_any place c) (served_on state x c kept served) ∙ same_own x)) refl

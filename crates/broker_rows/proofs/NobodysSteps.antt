@@ -22,10 +22,10 @@ nobodys_packet_step limits later state x packet none =
     (retained_same (commands.Packet x packet) (mark_in limits state (commands.Packet x packet)) state.retained (ap is_taken marked)))
     (ap (λ m. answers_by_state state.window (record { command = commands.Packet x packet; mark = m }) state (commands.Packet x packet) m) marked ∙ unanswered packet)
   where
-    marked : mark_in limits state (commands.Packet x packet) ≡ Mark.NoPart
+    marked : mark_in limits state (commands.Packet x packet) ≡ Mark.Unmarked
     marked = ap (packet_mark_in limits state packet) none
 
-    unanswered : (packet : Packet) → answers_by_state state.window (record { command = commands.Packet x packet; mark = Mark.NoPart }) state (commands.Packet x packet) Mark.NoPart ≡ []
+    unanswered : (packet : Packet) → answers_by_state state.window (record { command = commands.Packet x packet; mark = Mark.Unmarked }) state (commands.Packet x packet) Mark.Unmarked ≡ []
     unanswered (packets.Publish p) = refl
     unanswered _ = refl
 

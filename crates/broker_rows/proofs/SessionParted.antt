@@ -18,7 +18,7 @@ use Rattle.broker_rows.specs.Served.{left_off}
 
 -- the mark is that of a command that may end a connection, and does nothing else
 abbrev pub IsParting : Mark → Type 0
-IsParting Mark.NoPart = Unit {0}
+IsParting Mark.Unmarked = Unit {0}
 IsParting (Mark.Leaves c) = Unit {0}
 IsParting (Mark.Refused c) = Unit {0}
 IsParting _ = ⊥

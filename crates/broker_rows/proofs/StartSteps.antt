@@ -17,7 +17,7 @@ use Rattle.broker_rows.proofs.SessionParted.{parted_is}
 
 -- the place of a Start
 abbrev pub start : ℕ → Place
-start ballot = record { command = commands.Start ballot; mark = Mark.NoPart }
+start ballot = record { command = commands.Start ballot; mark = Mark.Unmarked }
 
 -- a session without a connection that is not clean is left off already
 off_already : (kept : ClientSession) → kept.connection ≡ None → (clean : Bool) → kept.clean ≡ clean → (clean ≡ true → is_some kept.connection ≡ true) →

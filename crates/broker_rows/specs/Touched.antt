@@ -56,7 +56,7 @@ is_accepted _ = false
 
 -- the mark is that of a command that touches this client's row at most
 abbrev pub IsMarkOf : Client → Mark → Type 0
-IsMarkOf client Mark.NoPart = Unit {0}
+IsMarkOf client Mark.Unmarked = Unit {0}
 IsMarkOf client Mark.Full = Unit {0}
 IsMarkOf client Mark.Accepted = ⊥
 IsMarkOf client (Mark.Taken sender) = ⊥
@@ -68,6 +68,6 @@ IsMarkOf client (Mark.Handled sender) = sender ≡ client
 
 -- the mark is that of a command that touches no row
 abbrev pub TouchesNoRow : Mark → Type 0
-TouchesNoRow Mark.NoPart = Unit {0}
+TouchesNoRow Mark.Unmarked = Unit {0}
 TouchesNoRow Mark.Full = Unit {0}
 TouchesNoRow _ = ⊥

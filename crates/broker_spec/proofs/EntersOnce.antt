@@ -129,7 +129,7 @@ subscribe-by false content filters = omega arith
 fresh-by : (k : Command) (m : Mark) (past : Past) (c : Client) → fresh (copies_by k m past c) ≤ 1
 fresh-by (commands.Packet x (packets.Connect q)) m past c = omega arith
 fresh-by (commands.Packet x (packets.Connack q)) m past c = omega arith
-fresh-by (commands.Packet x (packets.Publish p)) Mark.NoPart past c = omega arith
+fresh-by (commands.Packet x (packets.Publish p)) Mark.Unmarked past c = omega arith
 fresh-by (commands.Packet x (packets.Publish p)) Mark.Accepted past c = omega arith
 fresh-by (commands.Packet x (packets.Publish p)) Mark.Full past c = omega arith
 fresh-by (commands.Packet x (packets.Publish p)) (Mark.Leaves d) past c = omega arith
@@ -142,7 +142,7 @@ fresh-by (commands.Packet x (packets.Puback i)) m past c = omega arith
 fresh-by (commands.Packet x (packets.Pubrec i)) m past c = omega arith
 fresh-by (commands.Packet x (packets.Pubrel i)) m past c = omega arith
 fresh-by (commands.Packet x (packets.Pubcomp i)) m past c = omega arith
-fresh-by (commands.Packet x (packets.Subscribe s)) Mark.NoPart past c = omega arith
+fresh-by (commands.Packet x (packets.Subscribe s)) Mark.Unmarked past c = omega arith
 fresh-by (commands.Packet x (packets.Subscribe s)) Mark.Accepted past c = omega arith
 fresh-by (commands.Packet x (packets.Subscribe s)) Mark.Full past c = omega arith
 fresh-by (commands.Packet x (packets.Subscribe s)) (Mark.Leaves d) past c = omega arith

@@ -19,7 +19,7 @@ use Rattle.broker_spec.proofs.EntersOnce.{times, times-more, times-started, time
 fresh_untaken : (k : Command) (m : Mark) (past : Past) (c : Client) → takes_publication k m ≡ false → fresh (copies_by k m past c) ≡ 0
 fresh_untaken (commands.Packet x (packets.Connect q)) m past c e = refl
 fresh_untaken (commands.Packet x (packets.Connack q)) m past c e = refl
-fresh_untaken (commands.Packet x (packets.Publish p)) Mark.NoPart past c e = refl
+fresh_untaken (commands.Packet x (packets.Publish p)) Mark.Unmarked past c e = refl
 fresh_untaken (commands.Packet x (packets.Publish p)) Mark.Accepted past c e = refl
 fresh_untaken (commands.Packet x (packets.Publish p)) Mark.Full past c e = refl
 fresh_untaken (commands.Packet x (packets.Publish p)) (Mark.Leaves d) past c e = refl
@@ -32,7 +32,7 @@ fresh_untaken (commands.Packet x (packets.Puback i)) m past c e = refl
 fresh_untaken (commands.Packet x (packets.Pubrec i)) m past c e = refl
 fresh_untaken (commands.Packet x (packets.Pubrel i)) m past c e = refl
 fresh_untaken (commands.Packet x (packets.Pubcomp i)) m past c e = refl
-fresh_untaken (commands.Packet x (packets.Subscribe s)) Mark.NoPart past c e = refl
+fresh_untaken (commands.Packet x (packets.Subscribe s)) Mark.Unmarked past c e = refl
 fresh_untaken (commands.Packet x (packets.Subscribe s)) Mark.Accepted past c e = refl
 fresh_untaken (commands.Packet x (packets.Subscribe s)) Mark.Full past c e = refl
 fresh_untaken (commands.Packet x (packets.Subscribe s)) (Mark.Leaves d) past c e = refl

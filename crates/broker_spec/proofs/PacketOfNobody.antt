@@ -21,9 +21,9 @@ use Rattle.broker_spec.proofs.NothingWaits.{IsFull, full-at}
 
 -- the place of such a packet
 abbrev pub nobodys : ConnectionName → Packet → Place
-nobodys x packet = record { command = commands.Packet x packet; mark = Mark.NoPart }
+nobodys x packet = record { command = commands.Packet x packet; mark = Mark.Unmarked }
 
-no-subscription : (packet : Packet) (x : ConnectionName) (c : Client) (held : List GrantedFilter) → filters_after (commands.Packet x packet) Mark.NoPart c held ≡ held
+no-subscription : (packet : Packet) (x : ConnectionName) (c : Client) (held : List GrantedFilter) → filters_after (commands.Packet x packet) Mark.Unmarked c held ≡ held
 no-subscription (packets.Connect q) x c held = refl
 no-subscription (packets.Connack q) x c held = refl
 no-subscription (packets.Publish p) x c held = refl
@@ -39,7 +39,7 @@ no-subscription packets.Pingreq x c held = refl
 no-subscription packets.Pingresp x c held = refl
 no-subscription packets.Disconnect x c held = refl
 
-no-identifier : (packet : Packet) (x : ConnectionName) (c : Client) (ids : List ℕ) → received_by (commands.Packet x packet) Mark.NoPart c ids ≡ ids
+no-identifier : (packet : Packet) (x : ConnectionName) (c : Client) (ids : List ℕ) → received_by (commands.Packet x packet) Mark.Unmarked c ids ≡ ids
 no-identifier (packets.Connect q) x c ids = refl
 no-identifier (packets.Connack q) x c ids = refl
 no-identifier (packets.Publish p) x c ids = refl
@@ -55,7 +55,7 @@ no-identifier packets.Pingreq x c ids = refl
 no-identifier packets.Pingresp x c ids = refl
 no-identifier packets.Disconnect x c ids = refl
 
-no-retained : (packet : Packet) (x : ConnectionName) (content : RetainedTopics) → retained_by (commands.Packet x packet) Mark.NoPart content ≡ content
+no-retained : (packet : Packet) (x : ConnectionName) (content : RetainedTopics) → retained_by (commands.Packet x packet) Mark.Unmarked content ≡ content
 no-retained (packets.Connect q) x content = refl
 no-retained (packets.Connack q) x content = refl
 no-retained (packets.Publish p) x content = refl
@@ -71,7 +71,7 @@ no-retained packets.Pingreq x content = refl
 no-retained packets.Pingresp x content = refl
 no-retained packets.Disconnect x content = refl
 
-no-reply : (packet : Packet) (x : ConnectionName) (n : ℕ) (c : Client) (es : List Entry) → answered_by (commands.Packet x packet) Mark.NoPart n c es ≡ es
+no-reply : (packet : Packet) (x : ConnectionName) (n : ℕ) (c : Client) (es : List Entry) → answered_by (commands.Packet x packet) Mark.Unmarked n c es ≡ es
 no-reply (packets.Connect q) x n c es = refl
 no-reply (packets.Connack q) x n c es = refl
 no-reply (packets.Publish p) x n c es = refl
@@ -87,7 +87,7 @@ no-reply packets.Pingreq x n c es = refl
 no-reply packets.Pingresp x n c es = refl
 no-reply packets.Disconnect x n c es = refl
 
-no-copy : (packet : Packet) (x : ConnectionName) (past : Past) (c : Client) → copies_by (commands.Packet x packet) Mark.NoPart past c ≡ []
+no-copy : (packet : Packet) (x : ConnectionName) (past : Past) (c : Client) → copies_by (commands.Packet x packet) Mark.Unmarked past c ≡ []
 no-copy (packets.Connect q) x past c = refl
 no-copy (packets.Connack q) x past c = refl
 no-copy (packets.Publish p) x past c = refl
@@ -103,7 +103,7 @@ no-copy packets.Pingreq x past c = refl
 no-copy packets.Pingresp x past c = refl
 no-copy packets.Disconnect x past c = refl
 
-pub no-answer : (packet : Packet) (limits : Limits) (place : Place) (past : Past) (x : ConnectionName) → packet_answers limits place past x packet Mark.NoPart ≡ []
+pub no-answer : (packet : Packet) (limits : Limits) (place : Place) (past : Past) (x : ConnectionName) → packet_answers limits place past x packet Mark.Unmarked ≡ []
 no-answer (packets.Connect q) limits place past x = refl
 no-answer (packets.Connack q) limits place past x = refl
 no-answer (packets.Publish p) limits place past x = refl

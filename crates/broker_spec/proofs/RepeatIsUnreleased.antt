@@ -36,7 +36,7 @@ pubrel-by false i id ids = refl
 word-by : (k : Command) (m : Mark) (c : Client) (id : ℕ) (ids : List ℕ) → has_id id (received_by k m c ids) ≡ newer_of_two (says_of k m c id) (has_id id ids)
 word-by (commands.Packet x (packets.Connect q)) m c id ids = refl
 word-by (commands.Packet x (packets.Connack q)) m c id ids = refl
-word-by (commands.Packet x (packets.Publish p)) Mark.NoPart c id ids = refl
+word-by (commands.Packet x (packets.Publish p)) Mark.Unmarked c id ids = refl
 word-by (commands.Packet x (packets.Publish p)) Mark.Accepted c id ids = refl
 word-by (commands.Packet x (packets.Publish p)) Mark.Full c id ids = refl
 word-by (commands.Packet x (packets.Publish p)) (Mark.Leaves d) c id ids = refl
@@ -47,7 +47,7 @@ word-by (commands.Packet x (packets.Publish p)) (Mark.Granted d which) c id ids 
 word-by (commands.Packet x (packets.Publish p)) (Mark.Handled d) c id ids = refl
 word-by (commands.Packet x (packets.Puback i)) m c id ids = refl
 word-by (commands.Packet x (packets.Pubrec i)) m c id ids = refl
-word-by (commands.Packet x (packets.Pubrel i)) Mark.NoPart c id ids = refl
+word-by (commands.Packet x (packets.Pubrel i)) Mark.Unmarked c id ids = refl
 word-by (commands.Packet x (packets.Pubrel i)) Mark.Accepted c id ids = refl
 word-by (commands.Packet x (packets.Pubrel i)) Mark.Full c id ids = refl
 word-by (commands.Packet x (packets.Pubrel i)) (Mark.Leaves d) c id ids = refl

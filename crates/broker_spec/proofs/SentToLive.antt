@@ -57,7 +57,7 @@ connect_sends limits place past x c Mark.Accepted =
     (closed_sends x (current_connection past c))
     (refl, to_sent x (resent_outputs x (length past) (entries_of limits (place ∷ past) c)) (resent-to x (length past) (entries_of limits (place ∷ past) c)))
 connect_sends limits place past x c Mark.Full = (refl, (tt, tt))
-connect_sends limits place past x c Mark.NoPart = (tt, tt)
+connect_sends limits place past x c Mark.Unmarked = (tt, tt)
 connect_sends limits place past x c (Mark.Leaves d) = (tt, tt)
 connect_sends limits place past x c (Mark.Refused d) = (tt, tt)
 connect_sends limits place past x c (Mark.Repeat d) = (tt, tt)
@@ -68,7 +68,7 @@ connect_sends limits place past x c (Mark.Handled d) = (tt, tt)
 -- ---- a packet that leaves sends nothing
 
 leaving_by : (packet : Packet) (mark : Mark) (limits : Limits) (place : Place) (past : Past) (x : ConnectionName) → is_leaving mark ≡ true → packet_answers limits place past x packet mark ≡ Close x ∷ []
-leaving_by packet Mark.NoPart limits place past x e = absurd (both_ways false refl e)
+leaving_by packet Mark.Unmarked limits place past x e = absurd (both_ways false refl e)
 leaving_by packet Mark.Accepted limits place past x e = absurd (both_ways false refl e)
 leaving_by packet Mark.Full limits place past x e = absurd (both_ways false refl e)
 leaving_by packet (Mark.Repeat d) limits place past x e = absurd (both_ways false refl e)
@@ -143,7 +143,7 @@ packet_sent limits below x packet y q i =
     owned : (o : Option Client) → owner_of below x ≡ o → (d : Client) × (owner_of below x ≡ Some d)
     owned (Some d) e = (d, e)
     owned None e =
-        let none : mark ≡ Mark.NoPart = ap (packet_mark_of limits below packet) e in
+        let none : mark ≡ Mark.Unmarked = ap (packet_mark_of limits below packet) e in
         let place = place_of limits below (commands.Packet x packet) in
         let nothing : packet_answers limits place below x packet mark ≡ [] = ap (packet_answers limits place below x packet) none ∙ no-answer packet limits place below x in
         absurd (elim (subst (In (Send y q)) nothing i) [ ])

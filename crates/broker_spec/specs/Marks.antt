@@ -89,7 +89,7 @@ packet_mark limits past client packets.Pingreq = Mark.Handled client
 -- a packet counts only on a current connection
 abbrev pub packet_mark_of : Limits → Past → Packet → Option Client → Mark
 packet_mark_of limits past packet (Some owner) = packet_mark limits past owner packet
-packet_mark_of limits past packet None = Mark.NoPart
+packet_mark_of limits past packet None = Mark.Unmarked
 
 -- A Connect on a current connection is a violation. Any other is accepted if its client has a
 -- session or one more may begin.
@@ -105,6 +105,6 @@ mark_of limits past (commands.Packet connection packet) =
     packet_mark_of limits past packet (owner_of past connection)
 mark_of limits past (commands.Connect connection client clean) =
     connect_mark limits past client (owner_of past connection)
-mark_of limits past (commands.Lost connection) = Mark.NoPart
-mark_of limits past (commands.Start ballot) = Mark.NoPart
-mark_of limits past (commands.Expel client) = Mark.NoPart
+mark_of limits past (commands.Lost connection) = Mark.Unmarked
+mark_of limits past (commands.Start ballot) = Mark.Unmarked
+mark_of limits past (commands.Expel client) = Mark.Unmarked

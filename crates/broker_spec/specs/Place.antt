@@ -20,7 +20,7 @@ same_client client other = is_eq (by_bytes client other)
 -- what a command did, decided by the places below it; the client is the one that the connection
 -- serves
 pub data Mark : Type 0 where
-  NoPart : Mark  -- a packet on no current connection; every Lost, Start and Expel
+  Unmarked : Mark  -- a packet on no current connection; every Lost, Start and Expel
   Accepted : Mark  -- a Connect that made its connection current
   Full : Mark  -- a Connect that would have begun one session too many
   Leaves : (client : Client) → Mark  -- a DISCONNECT or a violation, which ends the connection

@@ -34,7 +34,7 @@ pub none_current : (limits : Limits) (past : Past) (ballot : ℕ) (c : Client) �
 unfolding current_connection
 none_current limits past ballot c = by (current_connection past c)
   where
-    by : (o : Option ConnectionName) → newest_connection None (any_connection (ends (commands.Start ballot) Mark.NoPart) o) o ≡ None
+    by : (o : Option ConnectionName) → newest_connection None (any_connection (ends (commands.Start ballot) Mark.Unmarked) o) o ≡ None
     by None = refl
     by (Some x) = refl
 

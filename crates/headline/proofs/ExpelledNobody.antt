@@ -17,10 +17,10 @@ use Rattle.byte_world.specs.broker_form.InRange.{IsBrokerState, IsSession}
 use Rattle.byte_world.proofs.of_broker_form.States.{stays_in_range}
 
 abbrev expel_place : Client → Place
-expel_place d = record { command = commands.Expel d; mark = Mark.NoPart }
+expel_place d = record { command = commands.Expel d; mark = Mark.Unmarked }
 
 -- it names no connection
-none_ends : (d : Client) (o : Option ConnectionName) → any_connection (ends (commands.Expel d) Mark.NoPart) o ≡ false
+none_ends : (d : Client) (o : Option ConnectionName) → any_connection (ends (commands.Expel d) Mark.Unmarked) o ≡ false
 none_ends d (Some x) = refl
 none_ends d None = refl
 
@@ -37,7 +37,7 @@ all_stay : (d : Client) (state : State) (rows : Sessions) → is_client d ≡ fa
 all_stay d state [] none named = refl
 all_stay d state (row ∷ rows) none named =
     ap₂ (λ (o : Option ClientSession) (l : Sessions). keyed row.0 o l)
-    (stays (same_client d row.0) (any_connection (ends (commands.Expel d) Mark.NoPart) row.1.connection)
+    (stays (same_client d row.0) (any_connection (ends (commands.Expel d) Mark.Unmarked) row.1.connection)
     (no_session d row.0 none named.0.client) (none_ends d row.1.connection)) (all_stay d state rows none named.1)
   where
     stays : (a b : Bool) → a ≡ false → b ≡ false

@@ -16,7 +16,7 @@ use Rattle.byte_world.specs.broker_form.InRange.{IsBrokerState, IsNamed, IsSessi
 use Rattle.byte_world.proofs.of_broker_form.States.{stays_in_range}
 
 abbrev lost_place : ConnectionName → Place
-lost_place x = record { command = commands.Lost x; mark = Mark.NoPart }
+lost_place x = record { command = commands.Lost x; mark = Mark.Unmarked }
 
 -- no session has it
 no_session : (x : ConnectionName) (o : Option ConnectionName) → is_connection_name x ≡ false → IsNamed o → any_connection (same_connection x) o ≡ false

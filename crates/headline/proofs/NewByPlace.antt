@@ -63,7 +63,7 @@ module _ (limits : Limits) (c : Client) (ps : List Publication) (connections : L
       (λ k e. subst (λ (z : Client). same_client z c ≡ true) (sym (says.own k e d refl)) (same_self c))
       (λ same. own x p refl (owner_taken limits below p (owner_of below x) d (sym marked) ∙ ap (λ (z : Client). Some z) (same_is d c same)))
       (λ k e. says.of k x p e refl)
-  one_new (commands.Packet x (packets.Publish p)) Mark.NoPart below says own marked = none (carries connections (commands.Packet x (packets.Publish p)) below)
+  one_new (commands.Packet x (packets.Publish p)) Mark.Unmarked below says own marked = none (carries connections (commands.Packet x (packets.Publish p)) below)
   one_new (commands.Packet x (packets.Publish p)) Mark.Accepted below says own marked = none (carries connections (commands.Packet x (packets.Publish p)) below)
   one_new (commands.Packet x (packets.Publish p)) Mark.Full below says own marked = none (carries connections (commands.Packet x (packets.Publish p)) below)
   one_new (commands.Packet x (packets.Publish p)) (Mark.Leaves d) below says own marked = none (carries connections (commands.Packet x (packets.Publish p)) below)

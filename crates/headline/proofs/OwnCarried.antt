@@ -81,7 +81,7 @@ taken_carries i limits c s κ w life stands next numbered n x p is own = by n w.
     this = each_there (IsCounted s.past) i s.connections κ stands life.connections.counted
 
     carried : written_number_at (packet_count κ.name s.past) (connection_named κ.name (with_one_counted i s.connections)) ≡ w.number
-    carried = carries_it s.past i s.connections κ w Mark.NoPart life.connections.names stands next this.counted
+    carried = carries_it s.past i s.connections κ w Mark.Unmarked life.connections.names stands next this.counted
 
     found : (q : Publish) → w.packet ≡ packets.Publish q → (k : ℕ) × (carries (with_one_counted i s.connections) (commands.Packet κ.name (packets.Publish q)) s.past ≡ Some k)
     found q e =

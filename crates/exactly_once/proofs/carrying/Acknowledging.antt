@@ -92,7 +92,7 @@ acknowledges limits below y p (Mark.Taken d) x q asked i = (inr (d, refl), by (i
         absurd (both_ways (is_unasked (Send x q)) asked (all_in copies (Send x q) (copies_are_unasked limits (at_packet y (packets.Publish p) (Mark.Taken d)) below (clients below)) copy))
 acknowledges limits below y p (Mark.Leaves d) x q asked i = absurd (no_packet x y q i)
 acknowledges limits below y p (Mark.Refused d) x q asked i = absurd (no_packet x y q i)
-acknowledges limits below y p Mark.NoPart x q asked i = elim i [ ]
+acknowledges limits below y p Mark.Unmarked x q asked i = elim i [ ]
 acknowledges limits below y p Mark.Accepted x q asked i = elim i [ ]
 acknowledges limits below y p Mark.Full x q asked i = elim i [ ]
 acknowledges limits below y p (Mark.Granted d which) x q asked i = elim i [ ]

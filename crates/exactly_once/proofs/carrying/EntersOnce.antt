@@ -77,7 +77,7 @@ two_delivered (deliveries.ExactlyOnce dup id) e = refl
 new_or_none : (x : ConnectionName) (p : Publish) (mark : Mark) → is_exactly_once p.delivery ≡ true
     → (is_new (commands.Packet x (packets.Publish p)) mark ≡ true) ⊎ (takes_publication (commands.Packet x (packets.Publish p)) mark ≡ false)
 new_or_none x p (Mark.Taken d) two = inl two
-new_or_none x p Mark.NoPart two = inr refl
+new_or_none x p Mark.Unmarked two = inr refl
 new_or_none x p Mark.Accepted two = inr refl
 new_or_none x p Mark.Full two = inr refl
 new_or_none x p (Mark.Leaves d) two = inr refl

@@ -94,7 +94,7 @@ publish_says : (limits : Limits) (past : Past) (keeper : Keeper) (connections : 
 publish_says limits past keeper connections ps i n κ p None shape good stands next some of =
     let this = each_there (ConnectionInShape limits past keeper.client) i connections κ stands shape.connections in
     says_nothing keeper.client ps (with_one_counted i connections) (place_of limits past (commands.Packet κ.name (packets.Publish p))) past
-    (carries_it past i connections κ (record { packet = packets.Publish p; number = None }) Mark.NoPart shape.names_apart stands next this.counted)
+    (carries_it past i connections κ (record { packet = packets.Publish p; number = None }) Mark.Unmarked shape.names_apart stands next this.counted)
 publish_says limits past keeper connections ps i n κ p (Some j) shape good stands next some of =
     record {
       known = λ k e again. subst (λ (m : ℕ). In m (new_numbers (with_one_counted i connections) past)) (number_is k e)
@@ -118,24 +118,24 @@ publish_says limits past keeper connections ps i n κ p (Some j) shape good stan
     publish_is q x e = cc
 
     carried : written_number_at (packet_count κ.name past) (connection_named κ.name (with_one_counted i connections)) ≡ Some j
-    carried = carries_it past i connections κ w Mark.NoPart shape.names_apart stands next (each_there (ConnectionInShape limits past keeper.client) i connections κ stands shape.connections).counted
+    carried = carries_it past i connections κ w Mark.Unmarked shape.names_apart stands next (each_there (ConnectionInShape limits past keeper.client) i connections κ stands shape.connections).counted
 
     number_is : (k : ℕ) → written_number_at (packet_count κ.name past) (connection_named κ.name (with_one_counted i connections)) ≡ Some k → j ≡ k
     number_is k e = let found : Some j ≡ Some k = sym carried ∙ e in cc
 
     -- the connection is the current one, or it has no client
-    marked : (mark ≡ packet_mark limits past c (packets.Publish p)) × (current_connection past c ≡ Some κ.name) ⊎ (mark ≡ Mark.NoPart)
+    marked : (mark ≡ packet_mark limits past c (packets.Publish p)) × (current_connection past c ≡ Some κ.name) ⊎ (mark ≡ Mark.Unmarked)
     marked = by (current_or_not (current_connection past c) κ.name)
       where
         by : (current_connection past c ≡ Some κ.name) ⊎ (current_connection past c ≡ Some κ.name → ⊥)
-            → (mark ≡ packet_mark limits past c (packets.Publish p)) × (current_connection past c ≡ Some κ.name) ⊎ (mark ≡ Mark.NoPart)
+            → (mark ≡ packet_mark limits past c (packets.Publish p)) × (current_connection past c ≡ Some κ.name) ⊎ (mark ≡ Mark.Unmarked)
         by (inl current) = inl (ap (packet_mark_of limits past (packets.Publish p)) (own_owner past c connections κ.name shape.nobody_else (is_named i connections κ stands) current), current)
         by (inr not) = inr (ap (packet_mark_of limits past (packets.Publish p)) (none_owns past c connections κ.name shape.nobody_else (is_named i connections κ stands) not))
 
     known : is_again mark ≡ true → In j (new_numbers connections past)
     known again = by marked
       where
-        by : (mark ≡ packet_mark limits past c (packets.Publish p)) × (current_connection past c ≡ Some κ.name) ⊎ (mark ≡ Mark.NoPart) → In j (new_numbers connections past)
+        by : (mark ≡ packet_mark limits past c (packets.Publish p)) × (current_connection past c ≡ Some κ.name) ⊎ (mark ≡ Mark.Unmarked) → In j (new_numbers connections past)
         by (inl (m, current)) =
             again_known limits past keeper connections i κ p j p.delivery refl good (on_current limits past keeper connections i κ n w shape stands next some current)
             (only_again (is_repeat past c p.delivery) (is_refused limits past (publication_of p)) c (sym (ap is_again m) ∙ again))
@@ -144,9 +144,9 @@ publish_says limits past keeper connections ps i n κ p (Some j) shape good stan
     own : (d : Client) → mark ≡ Mark.Taken d → d ≡ c
     own d taken = by marked
       where
-        by : (mark ≡ packet_mark limits past c (packets.Publish p)) × (current_connection past c ≡ Some κ.name) ⊎ (mark ≡ Mark.NoPart) → d ≡ c
+        by : (mark ≡ packet_mark limits past c (packets.Publish p)) × (current_connection past c ≡ Some κ.name) ⊎ (mark ≡ Mark.Unmarked) → d ≡ c
         by (inl (m, current)) = only_own (is_repeat past c p.delivery) (is_refused limits past (publication_of p)) c d (sym m ∙ taken)
-        by (inr none) = let found : Mark.NoPart ≡ Mark.Taken d = sym none ∙ taken in cc
+        by (inr none) = let found : Mark.Unmarked ≡ Mark.Taken d = sym none ∙ taken in cc
 
 -- a CONNECT is no PUBLISH
 no_connect : (q : Connect) (p : Publish) → packets.Connect q ≡ packets.Publish p → ⊥

@@ -71,7 +71,7 @@ own_mark limits past c connections x packet nobody named current =
 
 -- and of one that is not current
 pub nobodys_mark : (limits : Limits) (past : Past) (c : Client) (connections : List ClientConnection) (x : ConnectionName) (packet : Packet) → NobodyElse past c connections
-    → any_named (same_connection x) connections ≡ true → (current_connection past c ≡ Some x → ⊥) → place_of limits past (commands.Packet x packet) ≡ at_packet x packet Mark.NoPart
+    → any_named (same_connection x) connections ≡ true → (current_connection past c ≡ Some x → ⊥) → place_of limits past (commands.Packet x packet) ≡ at_packet x packet Mark.Unmarked
 nobodys_mark limits past c connections x packet nobody named not =
     ap (λ o. at_packet x packet (packet_mark_of limits past packet o)) (none_owns past c connections x nobody named not)
 
@@ -117,16 +117,16 @@ after_pubrel past c x id current live =
 -- ---- the connection is lost, and a new ballot
 
 pub after_lost : (past : Past) (c : Client) (x : ConnectionName) → IsKeptSession (clean_session_of past c) → any_connection (same_connection x) (current_connection past c) ≡ true
-    → IsOver (record { command = commands.Lost x; mark = Mark.NoPart }) past c
-after_lost past c x kept over = is_over (record { command = commands.Lost x; mark = Mark.NoPart }) past c refl refl kept refl over
+    → IsOver (record { command = commands.Lost x; mark = Mark.Unmarked }) past c
+after_lost past c x kept over = is_over (record { command = commands.Lost x; mark = Mark.Unmarked }) past c refl refl kept refl over
 
-pub after_start : (past : Past) (c : Client) (ballot : ℕ) → IsKeptSession (clean_session_of past c) → IsOver (record { command = commands.Start ballot; mark = Mark.NoPart }) past c
+pub after_start : (past : Past) (c : Client) (ballot : ℕ) → IsKeptSession (clean_session_of past c) → IsOver (record { command = commands.Start ballot; mark = Mark.Unmarked }) past c
 after_start past c ballot kept = by (current_connection past c) refl
   where
     place : Place
-    place = record { command = commands.Start ballot; mark = Mark.NoPart }
+    place = record { command = commands.Start ballot; mark = Mark.Unmarked }
 
-    by : (o : Option ConnectionName) → current_connection past c ≡ o → IsOver (record { command = commands.Start ballot; mark = Mark.NoPart }) past c
+    by : (o : Option ConnectionName) → current_connection past c ≡ o → IsOver (record { command = commands.Start ballot; mark = Mark.Unmarked }) past c
     by (Some y) e = is_over place past c refl refl kept refl (ap (ends_any place c) e)
     by None e =
         record {

@@ -58,17 +58,17 @@ not_current (Some y) x not = by (cases_Bool (same_connection y x))
 
 -- ---- a packet on a connection without a client
 
-new_nobodys : (x : ConnectionName) (packet : Packet) → is_new (commands.Packet x packet) Mark.NoPart ≡ false
+new_nobodys : (x : ConnectionName) (packet : Packet) → is_new (commands.Packet x packet) Mark.Unmarked ≡ false
 new_nobodys x (packets.Publish p) = refl
 new_nobodys x _ = refl
 
-received_nobodys : (x : ConnectionName) (packet : Packet) (c : Client) (ids : List ℕ) → received_by (commands.Packet x packet) Mark.NoPart c ids ≡ ids
+received_nobodys : (x : ConnectionName) (packet : Packet) (c : Client) (ids : List ℕ) → received_by (commands.Packet x packet) Mark.Unmarked c ids ≡ ids
 received_nobodys x (packets.Publish p) c ids = refl
 received_nobodys x (packets.Pubrel id) c ids = refl
 received_nobodys x _ c ids = refl
 
 answers_nobodys : (y : ConnectionName) (limits : Limits) (past : Past) (x : ConnectionName) (packet : Packet)
-    → NoneSent y (packet_answers limits (at_packet x packet Mark.NoPart) past x packet Mark.NoPart)
+    → NoneSent y (packet_answers limits (at_packet x packet Mark.Unmarked) past x packet Mark.Unmarked)
 answers_nobodys y limits past x (packets.Publish p) = refl
 answers_nobodys y limits past x (packets.Subscribe s) = refl
 answers_nobodys y limits past x _ = refl
@@ -88,7 +88,7 @@ pub takes_nobodys : (limits : Limits) (past : Past) (keeper : Keeper) (connectio
 takes_nobodys limits past keeper connections i κ packet shape stands not =
     let h = as_publisher limits (story_by past connections keeper) in
     let c = keeper.client in
-    let place = at_packet κ.name packet Mark.NoPart in
+    let place = at_packet κ.name packet Mark.Unmarked in
     let current : current_connection (place ∷ past) c ≡ current_connection past c = current_stays place past c refl (never_ended κ.name packet (current_connection past c)) in
     let goes =
     goes_counted limits place past keeper connections i κ shape stands (new_nobodys κ.name packet)

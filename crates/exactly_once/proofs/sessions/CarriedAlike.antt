@@ -52,11 +52,11 @@ both_carry past c i j connections kept κ w command (inr k) apart apart' stands 
     ap (λ d. carries (with_one_counted i connections) d past) k.1 ∙ by w.packet ∙ sym (ap (λ d. carries (with_one_counted j kept) d past) k.1)
   where
     by : (packet : Packet) → carries (with_one_counted i connections) (commands.Packet κ.name packet) past ≡ carries (with_one_counted j kept) (commands.Packet κ.name packet) past
-    by (packets.Publish p) = carries_it past i connections κ w Mark.NoPart apart stands next counted ∙ sym (carries_it past j kept κ w Mark.NoPart apart' stands' next counted)
+    by (packets.Publish p) = carries_it past i connections κ w Mark.Unmarked apart stands next counted ∙ sym (carries_it past j kept κ w Mark.Unmarked apart' stands' next counted)
     by _ = refl
 
 -- of a connection without a client
-pub nobody_new : (x : ConnectionName) (packet : Packet) → is_new (commands.Packet x packet) Mark.NoPart ≡ false
+pub nobody_new : (x : ConnectionName) (packet : Packet) → is_new (commands.Packet x packet) Mark.Unmarked ≡ false
 nobody_new x (packets.Publish p) = refl
 nobody_new x _ = refl
 
@@ -66,11 +66,11 @@ none_more false = refl
 
 -- says nothing but what it is
 says_by : (c : Client) (ps : List Publication) (past : Past) (connections : List ClientConnection) (x : ConnectionName) (packet : Packet) (number : Option ℕ)
-    → written_number_at (packet_count x past) (connection_named x connections) ≡ number → IsOf ps packet number → Says c ps connections (at_packet x packet Mark.NoPart) past
+    → written_number_at (packet_count x past) (connection_named x connections) ≡ number → IsOf ps packet number → Says c ps connections (at_packet x packet Mark.Unmarked) past
 says_by c ps past connections x (packets.Publish q) number carried of =
     record {
       known = λ k e again. absurd (both_ways false refl again);
-      own = λ k e d taken. absurd (let f : Mark.NoPart ≡ Mark.Taken d = taken in cc);
+      own = λ k e d taken. absurd (let f : Mark.Unmarked ≡ Mark.Taken d = taken in cc);
       of = λ k y p e is.
           let same : q ≡ p = publish_is p y is in
           let found : number ≡ Some k = sym carried ∙ e in
@@ -79,14 +79,14 @@ says_by c ps past connections x (packets.Publish q) number carried of =
   where
     publish_is : (p : Publish) (y : ConnectionName) → commands.Packet x (packets.Publish q) ≡ commands.Packet y (packets.Publish p) → q ≡ p
     publish_is p y e = cc
-says_by c ps past connections x packet number carried of = says_nothing c ps connections (at_packet x packet Mark.NoPart) past refl
+says_by c ps past connections x packet number carried of = says_nothing c ps connections (at_packet x packet Mark.Unmarked) past refl
 
 pub nobodys_says : (limits : Limits) (past : Past) (c : Client) (ps : List Publication) (i : ℕ) (connections : List ClientConnection) (κ : ClientConnection) (w : Written) → NamesApart connections → NobodyElse past c connections
     → slice_get connections i ≡ Some κ → slice_get κ.written κ.taken ≡ Some w → packet_count κ.name past ≡ κ.taken → (current_connection past c ≡ Some κ.name → ⊥) → IsOf ps w.packet w.number
     → Says c ps (with_one_counted i connections) (place_of limits past (commands.Packet κ.name w.packet)) past
 nobodys_says limits past c ps i connections κ w apart nobody stands next counted not of =
     subst (λ (p : Place). Says c ps (with_one_counted i connections) p past) (sym (nobodys_mark limits past c connections κ.name w.packet nobody (is_named i connections κ stands) not))
-    (says_by c ps past (with_one_counted i connections) κ.name w.packet w.number (carries_it past i connections κ w Mark.NoPart apart stands next counted) of)
+    (says_by c ps past (with_one_counted i connections) κ.name w.packet w.number (carries_it past i connections κ w Mark.Unmarked apart stands next counted) of)
 
 pub nobodys_new : (limits : Limits) (past : Past) (c : Client) (i : ℕ) (connections : List ClientConnection) (κ : ClientConnection) (packet : Packet) → NobodyElse past c connections → slice_get connections i ≡ Some κ
     → (current_connection past c ≡ Some κ.name → ⊥) → is_new (commands.Packet κ.name packet) (mark_of limits past (commands.Packet κ.name packet)) ≡ false

@@ -47,7 +47,7 @@ nobody_there past c x connections none nobody named d current =
     let mine : current_connection past c ≡ Some x = subst (λ (k : Client). current_connection past k ≡ Some x) same current in
     both_ways (is_some (clean_session_of past c)) (ap is_some none) (current_has_session past c x mine)
 
-nothing_answered : (limits : Limits) (past : Past) (x y : ConnectionName) (packet : Packet) → sends_to y (answers_at limits (at_packet x packet Mark.NoPart) past) ≡ []
+nothing_answered : (limits : Limits) (past : Past) (x y : ConnectionName) (packet : Packet) → sends_to y (answers_at limits (at_packet x packet Mark.Unmarked) past) ≡ []
 nothing_answered limits past x y (packets.Publish p) = refl
 nothing_answered limits past x y (packets.Subscribe q) = refl
 nothing_answered limits past x y _ = refl

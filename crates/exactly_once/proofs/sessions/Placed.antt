@@ -95,7 +95,7 @@ shut_connect limits past c κ n mark u e = by mark e
         let there = session_began (place ∷ past) c (ap is_some (session_opens place past c (κ.name, false) (opened κ.name c))) in
         absurd (both_ways (is_some (session_start (place ∷ past) c)) (ap is_some (sym here ∙ f)) there)
     by Mark.Full f = shut Mark.Full full
-    by Mark.NoPart f = shut Mark.NoPart tt
+    by Mark.Unmarked f = shut Mark.Unmarked tt
     by (Mark.Leaves d) f = shut (Mark.Leaves d) tt
     by (Mark.Refused d) f = shut (Mark.Refused d) tt
     by (Mark.Repeat d) f = shut (Mark.Repeat d) tt

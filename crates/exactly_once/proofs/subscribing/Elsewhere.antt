@@ -42,7 +42,7 @@ no_reply x (packets.Pubcomp i) d c limits past n es e = reply_if (same_client d 
 no_reply x _ d c limits past n es e = refl
 
 -- a packet on a connection without a client answers none
-pub nobodys_reply : (x : ConnectionName) (packet : Packet) (c : Client) (n : ℕ) (es : List Entry) → answered_by (commands.Packet x packet) Mark.NoPart n c es ≡ es
+pub nobodys_reply : (x : ConnectionName) (packet : Packet) (c : Client) (n : ℕ) (es : List Entry) → answered_by (commands.Packet x packet) Mark.Unmarked n c es ≡ es
 nobodys_reply x (packets.Puback i) c n es = refl
 nobodys_reply x (packets.Pubrec i) c n es = refl
 nobodys_reply x (packets.Pubcomp i) c n es = refl
@@ -50,10 +50,10 @@ nobodys_reply x _ c n es = refl
 
 -- and gives nothing
 pub nobodys_sends : (limits : Limits) (past : Past) (y x : ConnectionName) (packet : Packet) (c : Client)
-    → forward_of (sends_to x (answers_at limits (at_packet y packet Mark.NoPart) past)) ≡ forward_of (sends_to x (deliveries_to limits (at_packet y packet Mark.NoPart) past c))
-nobodys_sends limits past y x (packets.Publish p) c = sym (ap (λ l. forward_of (sends_to x l)) (none_handed limits (at_packet y (packets.Publish p) Mark.NoPart) past c refl))
-nobodys_sends limits past y x (packets.Subscribe p) c = sym (ap (λ l. forward_of (sends_to x l)) (none_handed limits (at_packet y (packets.Subscribe p) Mark.NoPart) past c refl))
-nobodys_sends limits past y x packet c = sym (ap (λ l. forward_of (sends_to x l)) (none_handed limits (at_packet y packet Mark.NoPart) past c refl))
+    → forward_of (sends_to x (answers_at limits (at_packet y packet Mark.Unmarked) past)) ≡ forward_of (sends_to x (deliveries_to limits (at_packet y packet Mark.Unmarked) past c))
+nobodys_sends limits past y x (packets.Publish p) c = sym (ap (λ l. forward_of (sends_to x l)) (none_handed limits (at_packet y (packets.Publish p) Mark.Unmarked) past c refl))
+nobodys_sends limits past y x (packets.Subscribe p) c = sym (ap (λ l. forward_of (sends_to x l)) (none_handed limits (at_packet y (packets.Subscribe p) Mark.Unmarked) past c refl))
+nobodys_sends limits past y x packet c = sym (ap (λ l. forward_of (sends_to x l)) (none_handed limits (at_packet y packet Mark.Unmarked) past c refl))
 
 -- it ends no other connection
 pub ends_not : (y : ConnectionName) (packet : Packet) (mark : Mark) (current : Option ConnectionName) → ((x : ConnectionName) → current ≡ Some x → same_connection y x ≡ false) → ends_any (at_packet y packet mark) [] current ≡ false

@@ -94,7 +94,7 @@ received_other limits past x (packets.Publish p) c d ids e = by (is_repeat past 
 received_other limits past x (packets.Pubrel id) c d ids e = ap (λ b. if b then without_id id ids else ids) e
 received_other limits past x _ c d ids e = refl
 
-received_none : (x : ConnectionName) (packet : Packet) (c : Client) (ids : List ℕ) → received_by (commands.Packet x packet) Mark.NoPart c ids ≡ ids
+received_none : (x : ConnectionName) (packet : Packet) (c : Client) (ids : List ℕ) → received_by (commands.Packet x packet) Mark.Unmarked c ids ≡ ids
 received_none x (packets.Publish p) c ids = refl
 received_none x (packets.Pubrel id) c ids = refl
 received_none x _ c ids = refl

@@ -55,9 +55,9 @@ pub other_packet : (limits : Limits) (s : Story) → HasShape limits s → IsSte
 other_packet limits s shape steady y packet fresh None e =
     record {
       opens = refl;
-      goes = ends_not y packet Mark.NoPart (current_connection s.past s.keeper.client) (not_ended limits s shape y fresh);
+      goes = ends_not y packet Mark.Unmarked (current_connection s.past s.keeper.client) (not_ended limits s shape y fresh);
       answers = nobodys_reply y packet s.keeper.client (length s.past) (entries_of limits s.past s.keeper.client);
-      window = steady (at_packet y packet Mark.NoPart) s.past refl;
+      window = steady (at_packet y packet Mark.Unmarked) s.past refl;
       sends = λ x h. nobodys_sends limits s.past y x packet s.keeper.client;
     }
 other_packet limits s shape steady y packet fresh (Some d) e =

@@ -31,11 +31,11 @@ use Rattle.broker_spec.specs.Answers.{close_outputs}
 
 -- a connection's loss
 abbrev pub at_lost : ConnectionName → Place
-at_lost y = record { command = commands.Lost y; mark = Mark.NoPart }
+at_lost y = record { command = commands.Lost y; mark = Mark.Unmarked }
 
 -- a new ballot
 abbrev pub at_start : ℕ → Place
-at_start b = record { command = commands.Start b; mark = Mark.NoPart }
+at_start b = record { command = commands.Start b; mark = Mark.Unmarked }
 
 -- a plain place on none of the client's connections
 stays_plain : (limits : Limits) (s : Story) (place : Place) → HasShape limits s → IsPlain limits s place → GoesTo (as_subscriber limits s) (as_subscriber limits (placed s place s.connections))
@@ -76,7 +76,7 @@ goes_start limits s shape b =
 
 -- another client is expelled, or one without a session
 abbrev pub at_expel : Client → Place
-at_expel d = record { command = commands.Expel d; mark = Mark.NoPart }
+at_expel d = record { command = commands.Expel d; mark = Mark.Unmarked }
 
 pub closes_only : (x : ConnectionName) (o : Option ConnectionName) → sends_to x (close_outputs o) ≡ []
 closes_only x None = refl

@@ -79,14 +79,14 @@ not_nobodys past c x e n =
 
 -- one of a connection that is not current
 nobodys_packet : (limits : Limits) (s : Story) (i n : ℕ) (κ : ClientConnection) (packet : Packet) → HasShape limits s → IsSteady limits → slice_get s.connections i ≡ Some κ → κ.taken ≡ suc n → owner_of s.past κ.name ≡ None
-    → GoesTo (as_subscriber limits s) (as_subscriber limits (placed s (at_packet κ.name packet Mark.NoPart) (with_one_counted i s.connections)))
+    → GoesTo (as_subscriber limits s) (as_subscriber limits (placed s (at_packet κ.name packet Mark.Unmarked) (with_one_counted i s.connections)))
 nobodys_packet limits s i n κ packet shape steady at taken none =
     let current = current_connection s.past s.keeper.client in
-    let place = at_packet κ.name packet Mark.NoPart in
+    let place = at_packet κ.name packet Mark.Unmarked in
     plain_goes limits s place (with_one_counted i s.connections) shape
     (record {
       opens = refl;
-      goes = stays_on κ.name packet Mark.NoPart current refl;
+      goes = stays_on κ.name packet Mark.Unmarked current refl;
       answers = nobodys_reply κ.name packet s.keeper.client (length s.past) (entries_of limits s.past s.keeper.client);
       window = steady place s.past refl;
       sends = λ x h. nobodys_sends limits s.past κ.name x packet s.keeper.client;
