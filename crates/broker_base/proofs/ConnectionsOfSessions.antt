@@ -8,7 +8,7 @@ use Rattle.broker_spec.specs.Connection.{ConnectionName, same_connection}
 use Rattle.broker_spec.specs.Place.{Client, by_bytes, Place, only_if}
 use Rattle.broker_spec.specs.Past.{accepts, any_connection, expels, ends_any}
 use Rattle.broker_base.specs.ClientSession.{ClientSession}
-use Rattle.broker_base.specs.SessionStep.{kept_anew, kept_resumed, kept_connected, kept_by, kept_after}
+use Rattle.broker_base.specs.SessionStep.{session_anew, session_resumed, session_connected, session_by, session_touched}
 use Rattle.broker_base.specs.State.{Sessions, keyed, put_session}
 use Rattle.broker_base.specs.Step.{touches, session_after, sessions_left}
 use Rattle.broker_base.specs.StateLaws.{IsNobodys, ConnectionsAreApart}
@@ -36,14 +36,14 @@ not_left y true connection h = h
 not_left y false connection h = refl
 
 not_connected : (y : ConnectionName) (w : ℕ) (opened : ConnectionName × Bool) (old : Option ClientSession) →
-    same_connection y opened.0 ≡ false → NotOn y (Some (kept_connected w opened old))
+    same_connection y opened.0 ≡ false → NotOn y (Some (session_connected w opened old))
 not_connected y w opened None h = h
 not_connected y w opened (Some old) h =
-    elim (opened.1 || old.clean) as (λ (b : Bool). NotOn y (Some (if b then kept_anew opened else kept_resumed w opened old))) [ true ↦ h | false ↦ h ]
+    elim (opened.1 || old.clean) as (λ (b : Bool). NotOn y (Some (if b then session_anew opened else session_resumed w opened old))) [ true ↦ h | false ↦ h ]
 
 not_by : (y : ConnectionName) (w : ℕ) (place : Place) (content : RetainedTopics) (c : Client) (opened : Option (ConnectionName × Bool)) (old : ClientSession) →
     ((a : ConnectionName × Bool) → opened ≡ Some a → same_connection y a.0 ≡ false) → any_connection (same_connection y) old.connection ≡ false →
-    NotOn y (kept_by w place content c opened (Some old))
+    NotOn y (session_by w place content c opened (Some old))
 not_by y w place content c (Some a) old other h = not_connected y w a (Some old) (other a refl)
 not_by y w place content c None old other h =
     not_only y (not (expels place.command c || (old.clean && ends_any place c old.connection))) _ (not_left y (not (ends_any place c old.connection)) old.connection h)
@@ -52,7 +52,7 @@ pub not_after : (y : ConnectionName) (w : ℕ) (place : Place) (content : Retain
     ((a : ConnectionName × Bool) → accepts place.command place.mark c ≡ Some a → same_connection y a.0 ≡ false) → any_connection (same_connection y) old.connection ≡ false →
     NotOn y (session_after w place content c old)
 not_after y w place content c old other h =
-    elim (touches place c old) as (λ (b : Bool). NotOn y (if b then kept_after w place content c (Some old) else Some old)) [
+    elim (touches place c old) as (λ (b : Bool). NotOn y (if b then session_touched w place content c (Some old) else Some old)) [
       | true ↦ not_by y w place content c (accepts place.command place.mark c) old other h
       | false ↦ h
     ]
@@ -94,14 +94,14 @@ old_left true connection = inr refl
 old_left false connection = inl refl
 
 old_by : (w : ℕ) (place : Place) (content : RetainedTopics) (c : Client) (opened : Option (ConnectionName × Bool)) (old : ClientSession) → opened ≡ None →
-    OnOld old.connection (kept_by w place content c opened (Some old))
+    OnOld old.connection (session_by w place content c opened (Some old))
 old_by w place content c (Some a) old e = absurd (cc)
 old_by w place content c None old e =
     old_only old.connection (not (expels place.command c || (old.clean && ends_any place c old.connection))) _ (old_left (not (ends_any place c old.connection)) old.connection)
 
 pub old_after : (w : ℕ) (place : Place) (content : RetainedTopics) (c : Client) (old : ClientSession) → accepts place.command place.mark c ≡ None → OnOld old.connection (session_after w place content c old)
 old_after w place content c old e =
-    elim (touches place c old) as (λ (b : Bool). OnOld old.connection (if b then kept_after w place content c (Some old) else Some old)) [
+    elim (touches place c old) as (λ (b : Bool). OnOld old.connection (if b then session_touched w place content c (Some old) else Some old)) [
       | true ↦ old_by w place content c (accepts place.command place.mark c) old e
       | false ↦ inr refl
     ]

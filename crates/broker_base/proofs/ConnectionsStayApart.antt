@@ -8,7 +8,7 @@ use Rattle.broker_spec.specs.Connection.{ConnectionName, same_connection}
 use Rattle.broker_spec.specs.Place.{Client, by_bytes, same_client, Mark, Place, Limits, only_if}
 use Rattle.broker_spec.specs.Past.{accepts, any_connection}
 use Rattle.broker_base.specs.ClientSession.{ClientSession}
-use Rattle.broker_base.specs.SessionStep.{kept_anew, kept_resumed, kept_connected}
+use Rattle.broker_base.specs.SessionStep.{session_anew, session_resumed, session_connected}
 use Rattle.broker_base.specs.State.{Sessions, State, keyed, session_in, put_session, owner_in}
 use Rattle.broker_base.specs.Decisions.{connect_mark_in, mark_in}
 use Rattle.broker_base.specs.Step.{session_after, sessions_left, sessions_with}
@@ -98,10 +98,10 @@ accepted_none : (limits : Limits) (state : State) (c : Client) (owner : Option (
 accepted_none limits state c None e = refl
 accepted_none limits state c (Some row) e = absurd (cc)
 
-on_opened : (w : ℕ) (opened : ConnectionName × Bool) (old : Option ClientSession) → (kept_connected w opened old).connection ≡ Some opened.0
+on_opened : (w : ℕ) (opened : ConnectionName × Bool) (old : Option ClientSession) → (session_connected w opened old).connection ≡ Some opened.0
 on_opened w opened None = refl
 on_opened w opened (Some old) =
-    elim (opened.1 || old.clean) as (λ (b : Bool). (if b then kept_anew opened else kept_resumed w opened old).connection ≡ Some opened.0) [ true ↦ refl | false ↦ refl ]
+    elim (opened.1 || old.clean) as (λ (b : Bool). (if b then session_anew opened else session_resumed w opened old).connection ≡ Some opened.0) [ true ↦ refl | false ↦ refl ]
 
 all_none : (place : Place) (rows : Sessions) → ((c : Client) → accepts place.command place.mark c ≡ None) → NoneOpens place rows
 all_none place [] none = tt
@@ -110,7 +110,7 @@ all_none place (row ∷ rows) none = (none row.0, all_none place rows none)
 pub stays_apart : (limits : Limits) (state : State) (w : ℕ) (command : Command) (mark : Mark) → mark ≡ mark_in limits state command → AreByClient state.sessions → ConnectionsAreApart state.sessions →
     ConnectionsAreApart (sessions_with w (record { command = command; mark = mark }) state.retained state.sessions command mark)
 stays_apart limits state w (commands.Connect x c clean) Mark.Accepted e by_client apart =
-    apart_put x c clean (kept_connected w (x, clean) (session_in c state.sessions)) w
+    apart_put x c clean (session_connected w (x, clean) (session_in c state.sessions)) w
     (record { command = commands.Connect x c clean; mark = Mark.Accepted }) state.retained state.sessions (λ d. refl)
     (on_opened w (x, clean) (session_in c state.sessions))
     by_client apart (owner_none x state.sessions (accepted_none limits state c (owner_in x state.sessions) e))

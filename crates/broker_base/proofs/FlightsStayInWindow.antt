@@ -15,7 +15,7 @@ use Rattle.broker_spec.specs.Place.{Client, same_client, Mark, Place, Limits, on
 use Rattle.broker_spec.specs.Past.{accepts, ends_any, expels}
 use Rattle.broker_spec.specs.Commands.{is_start}
 use Rattle.broker_base.specs.ClientSession.{ClientSession}
-use Rattle.broker_base.specs.SessionStep.{copies_with, filled_on, answered_queue, copied_queue, kept_on, kept_anew, kept_resumed, kept_connected, kept_by, kept_after}
+use Rattle.broker_base.specs.SessionStep.{copies_with, filled_on, answered_queue, copied_queue, session_on, session_anew, session_resumed, session_connected, session_by, session_touched}
 use Rattle.broker_base.specs.State.{Sessions, State}
 use Rattle.broker_base.specs.Decisions.{place_in}
 use Rattle.broker_base.specs.Step.{touches, session_after, window_after, step}
@@ -78,7 +78,7 @@ copied_fit w None copies q h = h
 -- ---- a session
 
 fits_kept : (w : ℕ) (place : Place) (content : RetainedTopics) (c : Client) (connection : Option ConnectionName) (old : ClientSession) → IsSoundSession old → FitsWindow w old →
-    FitsWindow w (kept_on w place content c connection old)
+    FitsWindow w (session_on w place content c connection old)
 fits_kept w place content c connection old s h =
     copied_fit w connection (copies_with place.command place.mark content c old.state.subscriptions)
     (answered_queue w place.command place.mark c connection old.state.queue)
@@ -88,10 +88,10 @@ fits_kept w place content c connection old s h =
 abbrev pub Both : ℕ → ClientSession → Type 0
 Both w kept = IsSoundSession kept × FitsWindow w kept
 
-fits_connected : (w : ℕ) (opened : ConnectionName × Bool) (old : Option ClientSession) → If (Both w) old → FitsWindow w (kept_connected w opened old)
+fits_connected : (w : ℕ) (opened : ConnectionName × Bool) (old : Option ClientSession) → If (Both w) old → FitsWindow w (session_connected w opened old)
 fits_connected w opened None h = omega arith
 fits_connected w opened (Some old) h =
-    elim (opened.1 || old.clean) as (λ (b : Bool). FitsWindow w (if b then kept_anew opened else kept_resumed w opened old)) [
+    elim (opened.1 || old.clean) as (λ (b : Bool). FitsWindow w (if b then session_anew opened else session_resumed w opened old)) [
       | true ↦ omega arith
       | false ↦ fill_within w old.state.queue.in_flight old.state.queue.waiting h.1
     ]
@@ -101,7 +101,7 @@ fits_only w true kept h = h
 fits_only w false kept h = tt
 
 fits_by : (w : ℕ) (place : Place) (content : RetainedTopics) (c : Client) (opened : Option (ConnectionName × Bool)) (old : ClientSession) → Both w old →
-    If (FitsWindow w) (kept_by w place content c opened (Some old))
+    If (FitsWindow w) (session_by w place content c opened (Some old))
 fits_by w place content c (Some opened) old h = fits_connected w opened (Some old) h
 fits_by w place content c None old h =
     fits_only w (not (expels place.command c || (old.clean && ends_any place c old.connection))) _
@@ -109,7 +109,7 @@ fits_by w place content c None old h =
 
 fits_row : (w : ℕ) (place : Place) (content : RetainedTopics) (c : Client) (kept : ClientSession) → Both w kept → If (FitsWindow w) (session_after w place content c kept)
 fits_row w place content c kept h =
-    elim (touches place c kept) as (λ (b : Bool). If (FitsWindow w) (if b then kept_after w place content c (Some kept) else Some kept)) [
+    elim (touches place c kept) as (λ (b : Bool). If (FitsWindow w) (if b then session_touched w place content c (Some kept) else Some kept)) [
       | true ↦ fits_by w place content c (accepts place.command place.mark c) kept h
       | false ↦ h.1
     ]

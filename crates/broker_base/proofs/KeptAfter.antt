@@ -14,7 +14,7 @@ use Rattle.broker_spec.specs.Entries.{Entry, queued}
 use Rattle.broker_spec.specs.Readings.{released_below}
 use Rattle.broker_spec.specs.Times.{answered_by, started, window_at, entries_of}
 use Rattle.broker_base.specs.ClientSession.{ClientSession, released_flight, queue_of, client_session}
-use Rattle.broker_base.specs.SessionStep.{copies_with, kept_anew}
+use Rattle.broker_base.specs.SessionStep.{copies_with, session_anew}
 use Rattle.broker_base.proofs.flights.FillingAlways.{filled_kept, filled_by, filled_after}
 use Rattle.broker_spec.proofs.SoundEntries.{Sound}
 use Rattle.broker_base.proofs.flights.IdentifiersInFlight.{append_none}
@@ -44,7 +44,7 @@ none_in_flight : (n : ℕ) → released_below n [] ≡ []
 none_in_flight zero = refl
 none_in_flight (suc n) = append_none (released_below n []) ∙ none_in_flight n
 
-anew : (n : ℕ) (opened : ConnectionName × Bool) → kept_with n (Some opened.1) (Some opened.0) [] [] [] ≡ Some (kept_anew opened)
+anew : (n : ℕ) (opened : ConnectionName × Bool) → kept_with n (Some opened.1) (Some opened.0) [] [] [] ≡ Some (session_anew opened)
 anew n opened = ap (λ ids. Some (record { clean = opened.1; connection = Some opened.0; state = record { subscriptions = []; received = []; queue = record { in_flight = map released_flight ids ++ []; waiting = [] } } })) (none_in_flight n)
 
 -- the place's values, from those below
@@ -83,7 +83,7 @@ next_is w place content n c (Some opened) (Some clean) connection held ids es s 
         (in_session (Some opened.1) b [] (received_by place.command place.mark c ids))
         (in_session (Some opened.1) b []
         (started w n (Some opened.0) (answered_by place.command place.mark n c es ++ map (Entry.Waits n) (queued (copies_with place.command place.mark content c held)))))
-        ≡ Some (if b then kept_anew opened else filled_kept w place content c opened.1 (Some opened.0)
+        ≡ Some (if b then session_anew opened else filled_kept w place content c opened.1 (Some opened.0)
         (record { clean = clean; connection = connection; state = record { subscriptions = held; received = ids; queue = queue_of n es } }))
     by true = anew (suc n) opened
     by false = ap (λ q. Some (record { clean = opened.1; connection = Some opened.0; state = record { subscriptions = filters_after place.command place.mark c held; received = received_by place.command place.mark c ids; queue = q } }))

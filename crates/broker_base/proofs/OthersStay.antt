@@ -9,7 +9,7 @@ use Rattle.broker_spec.specs.Received.{received_of}
 use Rattle.broker_spec.specs.Retained.{retained_publications}
 use Rattle.broker_spec.specs.Times.{window_at, entries_of}
 use Rattle.broker_base.specs.ClientSession.{ClientSession, queue_of, client_session}
-use Rattle.broker_base.specs.SessionStep.{kept_by, kept_after}
+use Rattle.broker_base.specs.SessionStep.{session_by, session_touched}
 use Rattle.broker_base.specs.Step.{is_about, touches, session_after, IsWindow}
 use Rattle.broker_base.proofs.KeptAfter.{kept_with, kept_now}
 use Rattle.broker_base.proofs.UntouchedStays.{kept_stays}
@@ -19,7 +19,7 @@ use Rattle.broker_base.proofs.UntouchedStays.{kept_stays}
 -- what is kept after a place that does not touch it, of plain values
 pub stays_with : (limits : Limits) (later : ℕ) → IsWindow limits later → (place : Place) (past : Past) (c : Client) (clean : Bool) →
     touches place c (kept_now limits past c clean) ≡ false →
-    kept_after (window_at limits (place ∷ past)) place (retained_publications past) c
+    session_touched (window_at limits (place ∷ past)) place (retained_publications past) c
     (kept_with (length past) (Some clean) (current_connection past c) (subscriptions_of past c) (received_of past c) (entries_of limits past c))
     ≡ kept_with (length past) (Some clean) (current_connection past c) (subscriptions_of past c) (received_of past c) (entries_of limits past c)
 stays_with limits later follows place past c clean untouched =
@@ -35,14 +35,14 @@ left_with w place content c (Some kept) = session_after w place content c kept
 
 pub left_is : (limits : Limits) (later : ℕ) → IsWindow limits later → (place : Place) (past : Past) (c : Client) → accepts place.command place.mark c ≡ None →
     left_with (window_at limits (place ∷ past)) place (retained_publications past) c (client_session limits past c)
-    ≡ kept_after (window_at limits (place ∷ past)) place (retained_publications past) c (client_session limits past c)
+    ≡ session_touched (window_at limits (place ∷ past)) place (retained_publications past) c (client_session limits past c)
 left_is limits later follows place past c not_accepted = by (clean_session_of past c)
   where
     touched : (b : Bool) (clean : Bool) → touches place c (kept_now limits past c clean) ≡ b →
-        (if b then kept_after (window_at limits (place ∷ past)) place (retained_publications past) c
+        (if b then session_touched (window_at limits (place ∷ past)) place (retained_publications past) c
         (kept_with (length past) (Some clean) (current_connection past c) (subscriptions_of past c) (received_of past c) (entries_of limits past c))
         else kept_with (length past) (Some clean) (current_connection past c) (subscriptions_of past c) (received_of past c) (entries_of limits past c))
-        ≡ kept_after (window_at limits (place ∷ past)) place (retained_publications past) c
+        ≡ session_touched (window_at limits (place ∷ past)) place (retained_publications past) c
         (kept_with (length past) (Some clean) (current_connection past c) (subscriptions_of past c) (received_of past c) (entries_of limits past c))
     touched true clean e = refl
     touched false clean e = sym (stays_with limits later follows place past c clean e)
@@ -50,7 +50,7 @@ left_is limits later follows place past c not_accepted = by (clean_session_of pa
     by : (session : Option Bool) →
         left_with (window_at limits (place ∷ past)) place (retained_publications past) c
         (kept_with (length past) session (current_connection past c) (subscriptions_of past c) (received_of past c) (entries_of limits past c))
-        ≡ kept_after (window_at limits (place ∷ past)) place (retained_publications past) c
+        ≡ session_touched (window_at limits (place ∷ past)) place (retained_publications past) c
         (kept_with (length past) session (current_connection past c) (subscriptions_of past c) (received_of past c) (entries_of limits past c))
-    by None = sym (ap (λ opened. kept_by (window_at limits (place ∷ past)) place (retained_publications past) c opened None) not_accepted)
+    by None = sym (ap (λ opened. session_by (window_at limits (place ∷ past)) place (retained_publications past) c opened None) not_accepted)
     by (Some clean) = touched (touches place c (kept_now limits past c clean)) clean refl

@@ -16,7 +16,7 @@ use Rattle.broker_spec.specs.Entries.{Entry}
 use Rattle.broker_spec.specs.Readings.{waiting_of}
 use Rattle.broker_spec.specs.Times.{window_at, entries_of}
 use Rattle.broker_base.specs.ClientSession.{flights_below, client_session}
-use Rattle.broker_base.specs.SessionStep.{kept_after}
+use Rattle.broker_base.specs.SessionStep.{session_touched}
 use Rattle.broker_base.specs.Step.{IsWindow}
 use Rattle.broker_spec.proofs.SoundEntries.{Sound}
 use Rattle.broker_base.proofs.flights.IdentifiersInFlight.{same_ids}
@@ -51,7 +51,7 @@ at_rest limits later follows place past c = by (clean_session_of past c)
         )
 
 pub kept_step : (limits : Limits) (later : ℕ) → IsWindow limits later → (place : Place) (past : Past) (c : Client) →
-    client_session limits (place ∷ past) c ≡ kept_after (window_at limits (place ∷ past)) place (retained_publications past) c (client_session limits past c)
+    client_session limits (place ∷ past) c ≡ session_touched (window_at limits (place ∷ past)) place (retained_publications past) c (client_session limits past c)
 kept_step limits later follows place past c =
     filled_step limits place past c
     ∙ after_same (window_at limits (place ∷ past)) place (retained_publications past) c (client_session limits past c) (at_rest limits later follows place past c)

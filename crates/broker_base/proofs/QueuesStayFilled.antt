@@ -17,7 +17,7 @@ use Rattle.broker_spec.specs.Place.{Client, same_client, Mark, Place, Limits, on
 use Rattle.broker_spec.specs.Past.{accepts, any_connection, ends, expels, ends_any}
 use Rattle.broker_spec.specs.Commands.{is_start}
 use Rattle.broker_base.specs.ClientSession.{ClientSession}
-use Rattle.broker_base.specs.SessionStep.{copies_with, answered_queue, kept_on, kept_anew, kept_resumed, kept_connected, kept_by, kept_after}
+use Rattle.broker_base.specs.SessionStep.{copies_with, answered_queue, session_on, session_anew, session_resumed, session_connected, session_by, session_touched}
 use Rattle.broker_base.specs.State.{Sessions, State}
 use Rattle.broker_base.specs.Decisions.{place_in}
 use Rattle.broker_base.specs.Step.{is_about, touches, session_after, window_after, step}
@@ -59,16 +59,16 @@ answer_quiet w command mark c x q a h = h
 -- ---- a session
 
 quiet_on : (w : ℕ) (place : Place) (content : RetainedTopics) (c : Client) (connection : Option ConnectionName) (old : ClientSession) → IsDistinct (ids_of old.state.queue.in_flight) →
-    ((x : ConnectionName) → connection ≡ Some x → QuietNow w old.state.queue) → HasFilledQueue w (kept_on w place content c connection old)
+    ((x : ConnectionName) → connection ≡ Some x → QuietNow w old.state.queue) → HasFilledQueue w (session_on w place content c connection old)
 quiet_on w place content c None old a h = inl refl
 quiet_on w place content c (Some x) old a h =
     inr (copies_quiet w (copies_with place.command place.mark content c old.state.subscriptions) (answered_queue w place.command place.mark c (Some x) old.state.queue)
     (answer_quiet w place.command place.mark c x old.state.queue a (h x refl)))
 
-quiet_connected : (w : ℕ) (opened : ConnectionName × Bool) (old : Option ClientSession) → HasFilledQueue w (kept_connected w opened old)
+quiet_connected : (w : ℕ) (opened : ConnectionName × Bool) (old : Option ClientSession) → HasFilledQueue w (session_connected w opened old)
 quiet_connected w opened None = inr (inl refl)
 quiet_connected w opened (Some old) =
-    elim (opened.1 || old.clean) as (λ (b : Bool). HasFilledQueue w (if b then kept_anew opened else kept_resumed w opened old)) [
+    elim (opened.1 || old.clean) as (λ (b : Bool). HasFilledQueue w (if b then session_anew opened else session_resumed w opened old)) [
       | true ↦ inr (inl refl)
       | false ↦ inr (fill_done w old.state.queue.in_flight old.state.queue.waiting)
     ]
@@ -94,7 +94,7 @@ abbrev pub Both : ℕ → ClientSession → Type 0
 Both w kept = IsSoundSession kept × HasFilledQueue w kept
 
 quiet_by : (v w : ℕ) (place : Place) (content : RetainedTopics) (c : Client) (opened : Option (ConnectionName × Bool)) (old : ClientSession) → (is_start place.command ≡ false → w ≡ v) → Both v old →
-    If (HasFilledQueue w) (kept_by w place content c opened (Some old))
+    If (HasFilledQueue w) (session_by w place content c opened (Some old))
 quiet_by v w place content c (Some opened) old window h = quiet_connected w opened (Some old)
 quiet_by v w place content c None old window h =
     quiet_only w (not (expels place.command c || (old.clean && ends_any place c old.connection))) _
@@ -110,7 +110,7 @@ untouched_quiet v w place c kept window not_ended quiet = by kept.connection ref
 quiet_row : (v w : ℕ) (place : Place) (content : RetainedTopics) (c : Client) (kept : ClientSession) → (is_start place.command ≡ false → w ≡ v) → Both v kept →
     If (HasFilledQueue w) (session_after w place content c kept)
 quiet_row v w place content c kept window h =
-    elim (touches place c kept) as (λ (b : Bool). touches place c kept ≡ b → If (HasFilledQueue w) (if b then kept_after w place content c (Some kept) else Some kept)) [
+    elim (touches place c kept) as (λ (b : Bool). touches place c kept ≡ b → If (HasFilledQueue w) (if b then session_touched w place content c (Some kept) else Some kept)) [
       | true ↦ λ e. quiet_by v w place content c (accepts place.command place.mark c) kept window h
       | false ↦ λ e. untouched_quiet v w place c kept window (or_parts (ends_any place c kept.connection) (is_about place.command place.mark c kept.state.subscriptions) e).0 h.1
     ] refl

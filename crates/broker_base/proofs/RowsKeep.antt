@@ -8,7 +8,7 @@ use Rattle.broker_spec.specs.retained.Retained.{RetainedTopics}
 use Rattle.broker_spec.specs.Connection.{ConnectionName}
 use Rattle.broker_spec.specs.Place.{Client, by_bytes, Mark, Place}
 use Rattle.broker_base.specs.ClientSession.{ClientSession}
-use Rattle.broker_base.specs.SessionStep.{kept_connected}
+use Rattle.broker_base.specs.SessionStep.{session_connected}
 use Rattle.broker_base.specs.State.{Sessions, keyed, session_in, put_session}
 use Rattle.broker_base.specs.Step.{session_after, sessions_left, sessions_with}
 use Rattle.broker_spec.specs.declared.command.Command.{Command}
@@ -54,9 +54,9 @@ all_found P c (row ∷ rows) h = by (by_bytes c row.0) (all_found P c rows h.1)
     by Greater k = k
 
 pub all_with : (P Q : ClientSession → Type 0) (w : ℕ) (place : Place) (content : RetainedTopics) (rows : Sessions) (command : Command) (mark : Mark) →
-    ((opened : ConnectionName × Bool) (old : Option ClientSession) → If P old → Q (kept_connected w opened old)) →
+    ((opened : ConnectionName × Bool) (old : Option ClientSession) → If P old → Q (session_connected w opened old)) →
     AllRows P rows → AllRows Q (sessions_left w place content rows) → AllRows Q (sessions_with w place content rows command mark)
 all_with P Q w place content rows (commands.Connect x c clean) Mark.Accepted connected k h =
-    all_put Q c (kept_connected w (x, clean) (session_in c rows)) (sessions_left w place content rows)
+    all_put Q c (session_connected w (x, clean) (session_in c rows)) (sessions_left w place content rows)
     (connected (x, clean) (session_in c rows) (all_found P c rows k)) h
 all_with P Q w place content rows command mark connected k h = h

@@ -10,7 +10,7 @@ use Rattle.broker_spec.specs.Owner.{insert_client, named_by, named}
 use Rattle.broker_spec.specs.Retained.{retained_publications}
 use Rattle.broker_spec.specs.Times.{window_at, entries_of}
 use Rattle.broker_base.specs.ClientSession.{ClientSession, client_session}
-use Rattle.broker_base.specs.SessionStep.{kept_connected, kept_by, kept_after}
+use Rattle.broker_base.specs.SessionStep.{session_connected, session_by, session_touched}
 use Rattle.broker_base.specs.State.{Sessions, keyed, table, session_in, put_session}
 use Rattle.broker_base.specs.Step.{sessions_left, sessions_with, IsWindow}
 use Rattle.broker_spec.specs.declared.command.Command.{Command}
@@ -56,23 +56,23 @@ at command mark = record { command = command; mark = mark }
 
 sessions_opened : (limits : Limits) (later : ℕ) → IsWindow limits later → (past : Past) (x : ConnectionName) (c : Client) (clean : Bool) (place : Place) (w : ℕ) →
     place ≡ at (commands.Connect x c clean) Mark.Accepted → w ≡ window_at limits (place ∷ past) →
-    put_session c (kept_connected w (x, clean) (session_in c (table (client_session limits past) (named past))))
+    put_session c (session_connected w (x, clean) (session_in c (table (client_session limits past) (named past))))
     (sessions_left w place (retained_publications past) (table (client_session limits past) (named past)))
     ≡ table (client_session limits (place ∷ past)) (insert_client c (named past))
 sessions_opened limits later follows past x c clean place w is window =
-    ap₂ (λ old rows. put_session c (kept_connected w (x, clean) old) rows)
+    ap₂ (λ old rows. put_session c (session_connected w (x, clean) old) rows)
     (session_is limits past c) (table_left w place (retained_publications past) (client_session limits past) (named past))
     ∙ sym (put_is (client_session limits (place ∷ past)) (λ d. left_with w place (retained_publications past) d (client_session limits past d)) c
-    (kept_connected w (x, clean) (client_session limits past c)) (named past)
-    (step c ∙ ap (λ opened. kept_by w place (retained_publications past) c opened (client_session limits past c))
+    (session_connected w (x, clean) (client_session limits past c)) (named past)
+    (step c ∙ ap (λ opened. session_by w place (retained_publications past) c opened (client_session limits past c))
     (ap (λ (p : Place). accepts p.command p.mark c) is ∙ ap (λ b. only_if b (Some (x, clean))) (same_self c)))
     (λ d other. step d ∙ sym (ap (λ v. left_with v place (retained_publications past) d (client_session limits past d)) window
     ∙ left_is limits later follows place past d (ap (λ (p : Place). accepts p.command p.mark d) is ∙ ap (λ b. only_if b (Some (x, clean))) other)
-    ∙ ap (λ v. kept_after v place (retained_publications past) d (client_session limits past d)) (sym window)))
+    ∙ ap (λ v. session_touched v place (retained_publications past) d (client_session limits past d)) (sym window)))
     (rising_named past))
   where
-    step : (d : Client) → client_session limits (place ∷ past) d ≡ kept_after w place (retained_publications past) d (client_session limits past d)
-    step d = kept_step limits later follows place past d ∙ ap (λ v. kept_after v place (retained_publications past) d (client_session limits past d)) (sym window)
+    step : (d : Client) → client_session limits (place ∷ past) d ≡ session_touched w place (retained_publications past) d (client_session limits past d)
+    step d = kept_step limits later follows place past d ∙ ap (λ v. session_touched v place (retained_publications past) d (client_session limits past d)) (sym window)
 
 sessions_by : (limits : Limits) (later : ℕ) → IsWindow limits later → (past : Past) (command : Command) (mark : Mark) →
     sessions_with (window_at limits (at command mark ∷ past)) (at command mark) (retained_publications past) (table (client_session limits past) (named past)) command mark

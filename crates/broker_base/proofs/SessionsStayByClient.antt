@@ -10,7 +10,7 @@ use Rattle.std.proofs.lemmas.Cmp.{nat_list_cmp_total}
 use Rattle.broker_spec.specs.retained.Retained.{RetainedTopics}
 use Rattle.broker_spec.specs.Place.{Client, by_bytes, Mark, Place}
 use Rattle.broker_base.specs.ClientSession.{ClientSession}
-use Rattle.broker_base.specs.SessionStep.{kept_connected}
+use Rattle.broker_base.specs.SessionStep.{session_connected}
 use Rattle.broker_base.specs.State.{Sessions, keyed, session_in, put_session}
 use Rattle.broker_base.specs.Step.{session_after, sessions_left, sessions_with}
 use Rattle.broker_base.specs.StateLaws.{AreByClient}
@@ -71,7 +71,7 @@ pub stays_by_client : (w : ℕ) (place : Place) (content : RetainedTopics) (rows
     AreByClient (sessions_with w place content rows command mark)
 unfolding IsStrictlySortedBy
 stays_by_client w place content rows (commands.Connect x c clean) Mark.Accepted h =
-    put_by_client c (kept_connected w (x, clean) (session_in c rows)) (sessions_left w place content rows) (left_by_client w place content rows h)
+    put_by_client c (session_connected w (x, clean) (session_in c rows)) (sessions_left w place content rows) (left_by_client w place content rows h)
 stays_by_client w place content rows command mark h = left_by_client w place content rows h
 
 -- a client before all others comes first

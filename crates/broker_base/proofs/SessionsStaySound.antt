@@ -28,7 +28,7 @@ use Rattle.broker_spec.specs.Connection.{ConnectionName}
 use Rattle.broker_spec.specs.Place.{Client, same_client, Mark, Place, Limits, only_if}
 use Rattle.broker_spec.specs.Past.{accepts, expels, ends_any}
 use Rattle.broker_base.specs.ClientSession.{ClientSession}
-use Rattle.broker_base.specs.SessionStep.{copies_with, filled_on, answered_queue, copied_queue, kept_on, kept_anew, kept_resumed, kept_connected, kept_by, kept_after}
+use Rattle.broker_base.specs.SessionStep.{copies_with, filled_on, answered_queue, copied_queue, session_on, session_anew, session_resumed, session_connected, session_by, session_touched}
 use Rattle.broker_base.specs.State.{State}
 use Rattle.broker_base.specs.Decisions.{place_in}
 use Rattle.broker_base.specs.Step.{touches, session_after, window_after, step}
@@ -120,9 +120,9 @@ received_rises _ _ c ids h = h
 -- ---- a session
 
 sound_on : (w : ℕ) (place : Place) (content : RetainedTopics) (c : Client) (connection : Option ConnectionName) (old : ClientSession) → (old.clean ≡ true → is_some connection ≡ true) → IsSoundSession old →
-    IsSoundSession (kept_on w place content c connection old)
+    IsSoundSession (session_on w place content c connection old)
 sound_on w place content c connection old served h =
-    let k : Flies (kept_on w place content c connection old).state.queue.in_flight
+    let k : Flies (session_on w place content c connection old).state.queue.in_flight
     = copied_fly w connection (copies_with place.command place.mark content c old.state.subscriptions) (answered_queue w place.command place.mark c connection old.state.queue)
     (answer_flies w place.command place.mark c connection old.state.queue (h.identifiers, h.released_first)) in
     record {
@@ -133,14 +133,14 @@ sound_on w place content c connection old served h =
       served = served;
     }
 
-sound_anew : (opened : ConnectionName × Bool) → IsSoundSession (kept_anew opened)
+sound_anew : (opened : ConnectionName × Bool) → IsSoundSession (session_anew opened)
 unfolding IsStrictlySortedBy
 sound_anew opened = record { filters = tt; received = tt; identifiers = tt; released_first = tt; served = λ clean. refl }
 
-sound_connected : (w : ℕ) (opened : ConnectionName × Bool) (old : Option ClientSession) → If IsSoundSession old → IsSoundSession (kept_connected w opened old)
+sound_connected : (w : ℕ) (opened : ConnectionName × Bool) (old : Option ClientSession) → If IsSoundSession old → IsSoundSession (session_connected w opened old)
 sound_connected w opened None h = sound_anew opened
 sound_connected w opened (Some old) h =
-    elim (opened.1 || old.clean) as (λ (b : Bool). IsSoundSession (if b then kept_anew opened else kept_resumed w opened old)) [
+    elim (opened.1 || old.clean) as (λ (b : Bool). IsSoundSession (if b then session_anew opened else session_resumed w opened old)) [
       | true ↦ sound_anew opened
       | false ↦
           let k = filled_flies w old.state.queue.in_flight old.state.queue.waiting (h.identifiers, h.released_first) in
@@ -160,16 +160,16 @@ still_served false true false connection kept h e = h e
 still_served false false over connection kept h e = absurd (cc)
 
 sound_by : (w : ℕ) (place : Place) (content : RetainedTopics) (c : Client) (opened : Option (ConnectionName × Bool)) (old : ClientSession) → IsSoundSession old →
-    If IsSoundSession (kept_by w place content c opened (Some old))
+    If IsSoundSession (session_by w place content c opened (Some old))
 sound_by w place content c (Some opened) old h = sound_connected w opened (Some old) h
 sound_by w place content c None old h =
-    sound_only (not (expels place.command c || (old.clean && ends_any place c old.connection))) (kept_on w place content c (only_if (not (ends_any place c old.connection)) old.connection) old)
+    sound_only (not (expels place.command c || (old.clean && ends_any place c old.connection))) (session_on w place content c (only_if (not (ends_any place c old.connection)) old.connection) old)
     (λ kept. sound_on w place content c (only_if (not (ends_any place c old.connection)) old.connection) old
     (still_served (expels place.command c) old.clean (ends_any place c old.connection) old.connection kept h.served) h)
 
 sound_row : (w : ℕ) (place : Place) (content : RetainedTopics) (c : Client) (kept : ClientSession) → IsSoundSession kept → If IsSoundSession (session_after w place content c kept)
 sound_row w place content c kept h =
-    elim (touches place c kept) as (λ (b : Bool). If IsSoundSession (if b then kept_after w place content c (Some kept) else Some kept)) [
+    elim (touches place c kept) as (λ (b : Bool). If IsSoundSession (if b then session_touched w place content c (Some kept) else Some kept)) [
       | true ↦ sound_by w place content c (accepts place.command place.mark c) kept h
       | false ↦ h
     ]

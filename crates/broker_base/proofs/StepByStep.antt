@@ -10,7 +10,7 @@ use Rattle.broker_spec.specs.Times.{window_at, entries_of}
 use Rattle.broker_spec.specs.Commands.{place_of, past_from, is_start, limits_from, usual_limits}
 use Rattle.broker_spec.specs.AnswersInOrder.{answers_at, answers_of, answers_from}
 use Rattle.broker_base.specs.ClientSession.{ClientSession, client_session}
-use Rattle.broker_base.specs.SessionStep.{kept_after}
+use Rattle.broker_base.specs.SessionStep.{session_touched}
 use Rattle.broker_base.specs.State.{State, empty_state, state_of}
 use Rattle.broker_base.specs.Step.{touches, step, step_at, state_from, steps_from, IsWindow}
 use Rattle.broker_base.specs.StepLaws.{OthersStay, NoneBegins, StepStandsFor, ListStandsFor, UsualListStandsFor, GrowingListStandsFor}
@@ -37,7 +37,7 @@ others limits later follows place past c kept is untouched = by (clean_session_o
         = ap (λ o. kept_with (length past) o (current_connection past c) (subscriptions_of past c) (received_of past c) (entries_of limits past c)) e in
         let same : kept_now limits past c clean ≡ kept = value_same (kept_now limits past c clean) kept (sym now ∙ is) in
         kept_step limits later follows place past c
-        ∙ ap (kept_after (window_at limits (place ∷ past)) place (retained_publications past) c) now
+        ∙ ap (session_touched (window_at limits (place ∷ past)) place (retained_publications past) c) now
         ∙ stays_with limits later follows place past c clean (ap (touches place c) same ∙ untouched)
         ∙ sym now ∙ is
       where

@@ -18,7 +18,7 @@ use Rattle.broker_spec.specs.Entries.{copy_of}
 use Rattle.broker_spec.specs.Times.{window_at}
 use Rattle.broker_spec.specs.Commands.{is_start}
 use Rattle.broker_base.specs.ClientSession.{ClientSession}
-use Rattle.broker_base.specs.SessionStep.{copies_with, answered_queue, copied_queue, kept_by, kept_after}
+use Rattle.broker_base.specs.SessionStep.{copies_with, answered_queue, copied_queue, session_by, session_touched}
 use Rattle.broker_base.specs.Step.{is_about, IsWindow}
 use Rattle.broker_spec.specs.declared.command.Command.{Command}
 use Rattle.broker_spec.specs.declared.command.Command.TheVariants as commands
@@ -94,9 +94,9 @@ still_there true kept = refl
 still_there false kept = refl
 
 pub kept_stays : (w : ℕ) (place : Place) (content : RetainedTopics) (c : Client) (kept : ClientSession) → ends_any place c kept.connection ≡ false → is_about place.command place.mark c kept.state.subscriptions ≡ false →
-    kept_after w place content c (Some kept) ≡ Some kept
+    session_touched w place content c (Some kept) ≡ Some kept
 kept_stays w place content c kept not_ended not_about =
-    ap (λ opened. kept_by w place content c opened (Some kept)) (not_opened place.command place.mark c kept.state.subscriptions not_about)
+    ap (λ opened. session_by w place content c opened (Some kept)) (not_opened place.command place.mark c kept.state.subscriptions not_about)
     ∙ ap₂ (λ expelled over. parts kept expelled over (filters_after place.command place.mark c kept.state.subscriptions) (received_by place.command place.mark c kept.state.received)
     (copied_queue w (only_if (not over) kept.connection) (copies_with place.command place.mark content c kept.state.subscriptions)
     (answered_queue w place.command place.mark c (only_if (not over) kept.connection) kept.state.queue)))

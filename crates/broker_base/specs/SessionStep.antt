@@ -1,6 +1,5 @@
 -- How one command changes a client's session (MQTT 3.1.2.4, 3.1.4, 3.3.5, 3.8.4, 4.3, 4.4, 4.6).
-use Rattle.std.specs.Prelude.{ℕ, Bool, not, ◌&&◌, ◌||◌, if◌then◌else◌, List, [], Option, Some}
-use Rattle.std.specs.Prelude.{None, option_map}
+use Rattle.std.specs.Prelude.{ℕ, Bool, not, ◌&&◌, ◌||◌, if◌then◌else◌, List, [], Option, Some, None, option_map}
 use Rattle.session_base.specs.packet.declared.packet.Packet.TheVariants as packets
 use Rattle.broker_spec.specs.retained.Retained.{RetainedTopics}
 use Rattle.session_base.specs.declared.publication.Publication.{Publication}
@@ -60,9 +59,9 @@ copied_queue window (Some connection) copies queue = copies_left window copies q
 copied_queue window None copies queue = copies_waiting copies queue
 
 -- the session after any command but an accepted Connect of its client, on this connection or none
-abbrev pub kept_on : ℕ → Place → RetainedTopics → Client → Option ConnectionName → ClientSession →
-    ClientSession
-kept_on window place content client connection old =
+abbrev pub session_on : ℕ → Place → RetainedTopics → Client → Option ConnectionName →
+    ClientSession → ClientSession
+session_on window place content client connection old =
     record {
       clean = old.clean;
       connection = connection;
@@ -76,12 +75,12 @@ kept_on window place content client connection old =
     }
 
 -- a session that begins on a connection, empty
-abbrev pub kept_anew : ConnectionName × Bool → ClientSession
-kept_anew opened = record { clean = opened.1; connection = Some opened.0; state = empty_session }
+abbrev pub session_anew : ConnectionName × Bool → ClientSession
+session_anew opened = record { clean = opened.1; connection = Some opened.0; state = empty_session }
 
 -- a session that continues on a new connection; what may start starts
-abbrev pub kept_resumed : ℕ → ConnectionName × Bool → ClientSession → ClientSession
-kept_resumed window opened old =
+abbrev pub session_resumed : ℕ → ConnectionName × Bool → ClientSession → ClientSession
+session_resumed window opened old =
     record {
       clean = opened.1;
       connection = Some opened.0;
@@ -93,28 +92,29 @@ kept_resumed window opened old =
     }
 
 -- the session after the client's accepted Connect, which continues an old one if neither is clean
-abbrev pub kept_connected : ℕ → ConnectionName × Bool → Option ClientSession → ClientSession
-kept_connected window opened None = kept_anew opened
-kept_connected window opened (Some old) =
-    if opened.1 || old.clean then kept_anew opened else kept_resumed window opened old
+abbrev pub session_connected : ℕ → ConnectionName × Bool → Option ClientSession → ClientSession
+session_connected window opened None = session_anew opened
+session_connected window opened (Some old) =
+    if opened.1 || old.clean then session_anew opened else session_resumed window opened old
 
 -- the session after any other command: it ends at an Expel, and if clean, with its connection
-abbrev pub kept_later : ℕ → Place → RetainedTopics → Client → Option ClientSession →
+abbrev pub session_later : ℕ → Place → RetainedTopics → Client → Option ClientSession →
     Option ClientSession
-kept_later window place content client None = None
-kept_later window place content client (Some old) =
+session_later window place content client None = None
+session_later window place content client (Some old) =
     only_if (not (expels place.command client || (old.clean
-    && ends_any place client old.connection))) (Some (kept_on window place content client
+    && ends_any place client old.connection))) (Some (session_on window place content client
     (only_if (not (ends_any place client old.connection)) old.connection) old))
 
 -- the session after a command, by the connection that the command opens for the client, if any
-abbrev pub kept_by : ℕ → Place → RetainedTopics → Client → Option (ConnectionName × Bool) →
+abbrev pub session_by : ℕ → Place → RetainedTopics → Client → Option (ConnectionName × Bool) →
     Option ClientSession → Option ClientSession
-kept_by window place content client (Some opened) old = Some (kept_connected window opened old)
-kept_by window place content client None old = kept_later window place content client old
+session_by window place content client (Some opened) old =
+    Some (session_connected window opened old)
+session_by window place content client None old = session_later window place content client old
 
 -- the client's session after a place, with the window from then on, and what was retained before
-abbrev pub kept_after : ℕ → Place → RetainedTopics → Client → Option ClientSession →
+abbrev pub session_touched : ℕ → Place → RetainedTopics → Client → Option ClientSession →
     Option ClientSession
-kept_after window place content client old =
-    kept_by window place content client (accepts place.command place.mark client) old
+session_touched window place content client old =
+    session_by window place content client (accepts place.command place.mark client) old

@@ -10,7 +10,7 @@ use Rattle.session_base.specs.Subscriptions.{GrantedFilter, granted_qos}
 use Rattle.broker_spec.specs.Retained.{retained_by}
 use Rattle.broker_spec.specs.Commands.{is_start}
 use Rattle.broker_base.specs.ClientSession.{ClientSession}
-use Rattle.broker_base.specs.SessionStep.{kept_after, kept_connected}
+use Rattle.broker_base.specs.SessionStep.{session_touched, session_connected}
 use Rattle.broker_base.specs.State.{Sessions, State, keyed, session_in, put_session}
 use Rattle.broker_base.specs.Decisions.{place_in}
 use Rattle.broker_base.specs.StepAnswers.{answers_by_state}
@@ -40,7 +40,7 @@ touches place client kept =
 abbrev pub session_after : ℕ → Place → RetainedTopics → Client → ClientSession →
     Option ClientSession
 session_after window place content client kept =
-    if touches place client kept then kept_after window place content client (Some kept)
+    if touches place client kept then session_touched window place content client (Some kept)
     else Some kept
 
 -- the sessions from before a place that still exist after it
@@ -53,7 +53,7 @@ sessions_left window place content [] = []
 -- the sessions that still exist after a place, with that of the client of an accepted Connect
 abbrev pub sessions_with : ℕ → Place → RetainedTopics → Sessions → Command → Mark → Sessions
 sessions_with window place content rows (commands.Connect connection client clean) Mark.Accepted =
-    put_session client (kept_connected window (connection, clean) (session_in client rows))
+    put_session client (session_connected window (connection, clean) (session_in client rows))
     (sessions_left window place content rows)
 sessions_with window place content rows command mark = sessions_left window place content rows
 

@@ -10,7 +10,7 @@ use Rattle.broker_spec.specs.Commands.{place_of, past_of, limits_from, usual_lim
 use Rattle.broker_spec.specs.Window.{wide_window}
 use Rattle.broker_spec.specs.AnswersInOrder.{answers_of, answers_from}
 use Rattle.broker_base.specs.ClientSession.{ClientSession, client_session}
-use Rattle.broker_base.specs.SessionStep.{kept_after}
+use Rattle.broker_base.specs.SessionStep.{session_touched}
 use Rattle.broker_base.specs.State.{empty_state, state_of, session_in}
 use Rattle.broker_base.specs.Decisions.{mark_in}
 use Rattle.broker_base.specs.Step.{touches, step, state_from, steps_from, IsWindow}
@@ -22,7 +22,7 @@ StepsEachSession =
     (limits : Limits) → (later : ℕ) → IsWindow limits later → (place : Place) → (past : Past) →
     (client : Client) →
     client_session limits (place ∷ past) client
-    ≡ kept_after (window_at limits (place ∷ past)) place (retained_publications past) client
+    ≡ session_touched (window_at limits (place ∷ past)) place (retained_publications past) client
     (client_session limits past client)
 
 -- a session that a place does not touch stays as it is

@@ -16,7 +16,7 @@ use Rattle.broker_spec.proofs.ClientsInOrder.{equal_is}
 use Rattle.broker_spec.specs.declared.command.Command.{Command}
 use Rattle.broker_spec.specs.declared.command.Command.TheVariants as commands
 use Rattle.broker_base.specs.ClientSession.{ClientSession}
-use Rattle.broker_base.specs.SessionStep.{kept_connected, kept_by}
+use Rattle.broker_base.specs.SessionStep.{session_connected, session_by}
 use Rattle.broker_base.specs.State.{Sessions, State, keyed, session_in, owner_in, put_session}
 use Rattle.broker_base.specs.StateLaws.{AreByClient}
 use Rattle.broker_base.specs.Decisions.{is_one_topic_over, has_no_room_for, refuses, repeats_taken, packet_mark_in, connect_mark_in, place_in}
@@ -46,13 +46,13 @@ opening x c clean = record { command = commands.Connect x c clean; mark = Mark.A
 
 -- its client's session stays where it was
 own_stays : (w : ℕ) (x : ConnectionName) (c : Client) (clean : Bool) (content : RetainedTopics) (row : Client × ClientSession) → same_client c row.0 ≡ true →
-    session_after w (opening x c clean) content row.0 row.1 ≡ Some (kept_connected w (x, clean) (Some row.1))
+    session_after w (opening x c clean) content row.0 row.1 ≡ Some (session_connected w (x, clean) (Some row.1))
 own_stays w x c clean content row e =
     elim (ends_any (opening x c clean) row.0 row.1.connection) as (λ (ends : Bool). (if ends || same_client c row.0 then
-    kept_by w (opening x c clean) content row.0 (only_if (same_client c row.0) (Some (x, clean))) (Some row.1) else Some row.1)
-    ≡ Some (kept_connected w (x, clean) (Some row.1))) [
-      | true ↦ ap (λ b. kept_by w (opening x c clean) content row.0 (only_if b (Some (x, clean))) (Some row.1)) e
-      | false ↦ ap (λ b. if b then kept_by w (opening x c clean) content row.0 (only_if b (Some (x, clean))) (Some row.1) else Some row.1) e
+    session_by w (opening x c clean) content row.0 (only_if (same_client c row.0) (Some (x, clean))) (Some row.1) else Some row.1)
+    ≡ Some (session_connected w (x, clean) (Some row.1))) [
+      | true ↦ ap (λ b. session_by w (opening x c clean) content row.0 (only_if b (Some (x, clean))) (Some row.1)) e
+      | false ↦ ap (λ b. if b then session_by w (opening x c clean) content row.0 (only_if b (Some (x, clean))) (Some row.1) else Some row.1) e
     ]
 
 abbrev Known : Client → Sessions → Type 0
@@ -80,7 +80,7 @@ left_known w x c clean content (row ∷ rows) h =
     here : same_client c row.0 ≡ true → Known c (keyed row.0 (session_after w (opening x c clean) content row.0 row.1) (sessions_left w (opening x c clean) content rows))
     here e =
         subst (λ (o : Option ClientSession). Known c (keyed row.0 o (sessions_left w (opening x c clean) content rows))) (sym (own_stays w x c clean content row e))
-        (ap (λ b. is_some (if b then Some (kept_connected w (x, clean) (Some row.1)) else session_in c (sessions_left w (opening x c clean) content rows))) e)
+        (ap (λ b. is_some (if b then Some (session_connected w (x, clean) (Some row.1)) else session_in c (sessions_left w (opening x c clean) content rows))) e)
 
 connected_few : (w : ℕ) (limits : Limits) (x : ConnectionName) (c : Client) (clean : Bool) (content : RetainedTopics) (rows : Sessions) → AreByClient rows →
     length rows ≤ limits.sessions → (is_some (session_in c rows) || nat_lt (length rows) limits.sessions) ≡ true →
@@ -117,7 +117,7 @@ few_sessions limits later state (commands.Connect x c clean) sorted few =
       | None ↦
           elim (is_some (session_in c state.sessions) || nat_lt (length state.sessions) limits.sessions) as (λ (b : Bool).
           (is_some (session_in c state.sessions) || nat_lt (length state.sessions) limits.sessions) ≡ b → Few (if b then Mark.Accepted else Mark.Full)) [
-            | true ↦ λ e. connected_few state.window limits x c clean state.retained state.sessions sorted few e (kept_connected state.window (x, clean) (session_in c state.sessions))
+            | true ↦ λ e. connected_few state.window limits x c clean state.retained state.sessions sorted few e (session_connected state.window (x, clean) (session_in c state.sessions))
             | false ↦ λ e. left_few state.window limits (record { command = commands.Connect x c clean; mark = Mark.Full }) state.retained state.sessions few
           ] refl
     ]

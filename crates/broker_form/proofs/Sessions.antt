@@ -17,7 +17,7 @@ use Rattle.broker_spec.specs.Logged.{IsBrokerCommand}
 use Rattle.broker_spec.specs.declared.command.Command.{Command}
 use Rattle.broker_spec.specs.declared.command.Command.TheVariants as commands
 use Rattle.broker_base.specs.ClientSession.{ClientSession}
-use Rattle.broker_base.specs.SessionStep.{copies_with, filled_on, answered_queue, copied_queue, kept_on, kept_anew, kept_resumed, kept_connected, kept_by, kept_after}
+use Rattle.broker_base.specs.SessionStep.{copies_with, filled_on, answered_queue, copied_queue, session_on, session_anew, session_resumed, session_connected, session_by, session_touched}
 use Rattle.broker_base.specs.Step.{touches, session_after}
 use Rattle.broker_base.specs.StateLaws.{IsSoundSession}
 use Rattle.session_base.specs.InRange.{CanBeSent, IsQueue}
@@ -72,7 +72,7 @@ exact limit q h = record { in_flight = h.in_flight; waiting = h.waiting; few = o
 goes_on : (w : ℕ) (limits : Limits) (place : Place) (content : RetainedTopics) (c : Client) (connection : Option ConnectionName) (old : ClientSession) →
     limits.entries < 2 ^ 16 → IsBrokerCommand place.command → AllByRecursion IsRetained content → IsNamed connection →
     IsSoundSession old → HasRoom limits place content c old → IsSession limits c old →
-    IsSession limits c (kept_on w place content c connection old)
+    IsSession limits c (session_on w place content c connection old)
 goes_on w limits place content c connection old m k r named sound room h =
     let few = room.entries in
     let copies = copies_with place.command place.mark content c old.state.subscriptions in
@@ -91,7 +91,7 @@ goes_on w limits place content c connection old m k r named sound room h =
 
 -- ---- a session of an accepted Connect
 
-anew : (limits : Limits) (c : Client) (opened : ConnectionName × Bool) → IsConnectionName opened.0 → IsTrue (is_client c) → IsSession limits c (kept_anew opened)
+anew : (limits : Limits) (c : Client) (opened : ConnectionName × Bool) → IsConnectionName opened.0 → IsTrue (is_client c) → IsSession limits c (session_anew opened)
 anew limits c opened named client = record {
   client = client;
   connection = named;
@@ -102,10 +102,10 @@ anew limits c opened named client = record {
 }
 
 pub connected : (w : ℕ) (limits : Limits) (c : Client) (opened : ConnectionName × Bool) (old : Option ClientSession) → limits.entries < 2 ^ 16 →
-    IsConnectionName opened.0 → IsTrue (is_client c) → IfSession limits c old → IsSession limits c (kept_connected w opened old)
+    IsConnectionName opened.0 → IsTrue (is_client c) → IfSession limits c old → IsSession limits c (session_connected w opened old)
 connected w limits c opened None m named client h = anew limits c opened named client
 connected w limits c opened (Some old) m named client h =
-    elim (opened.1 || old.clean) as (λ (b : Bool). IsSession limits c (if b then kept_anew opened else kept_resumed w opened old)) [
+    elim (opened.1 || old.clean) as (λ (b : Bool). IsSession limits c (if b then session_anew opened else session_resumed w opened old)) [
       | true ↦ anew limits c opened named client
       | false ↦ record {
         client = client;
@@ -144,7 +144,7 @@ after_by : (w : ℕ) (limits : Limits) (place : Place) (content : RetainedTopics
     ((a : ConnectionName × Bool) → opened ≡ Some a → IsConnectionName a.0) →
     limits.entries < 2 ^ 16 → IsBrokerCommand place.command → AllByRecursion IsRetained content →
     IsSoundSession old → HasRoom limits place content c old → IsSession limits c old →
-    IfSession limits c (kept_by w place content c opened (Some old))
+    IfSession limits c (session_by w place content c opened (Some old))
 after_by w limits place content c (Some opened) old named m k r sound room h =
     connected w limits c opened (Some old) m (named opened refl) h.client h
 after_by w limits place content c None old named m k r sound room h =
@@ -157,7 +157,7 @@ pub session_in_range : (w : ℕ) (limits : Limits) (place : Place) (content : Re
     IsSoundSession old → HasRoom limits place content c old → IsSession limits c old →
     IfSession limits c (session_after w place content c old)
 session_in_range w limits place content c old m k r sound room h =
-    elim (touches place c old) as (λ (b : Bool). IfSession limits c (if b then kept_after w place content c (Some old) else Some old)) [
+    elim (touches place c old) as (λ (b : Bool). IfSession limits c (if b then session_touched w place content c (Some old) else Some old)) [
       | true ↦
           after_by w limits place content c (accepts place.command place.mark c) old
           (λ a e. accepted_named place.command place.mark c a k e) m k r sound room h

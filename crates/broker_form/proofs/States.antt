@@ -15,7 +15,7 @@ use Rattle.broker_spec.proofs.ClientsInOrder.{equal_is}
 use Rattle.broker_spec.specs.declared.command.Command.{Command}
 use Rattle.broker_spec.specs.declared.command.Command.TheVariants as commands
 use Rattle.broker_base.specs.ClientSession.{ClientSession}
-use Rattle.broker_base.specs.SessionStep.{kept_connected}
+use Rattle.broker_base.specs.SessionStep.{session_connected}
 use Rattle.broker_base.specs.State.{Sessions, keyed, session_in}
 use Rattle.broker_base.specs.StateLaws.{AllSound}
 use Rattle.broker_base.specs.Decisions.{place_in, mark_in}
@@ -57,10 +57,10 @@ with_in_range : (w : ℕ) (limits : Limits) (place : Place) (content : RetainedT
     IsBrokerCommand command → AllInRange limits rows → AllInRange limits (sessions_left w place content rows) →
     AllInRange limits (sessions_with w place content rows command mark)
 with_in_range w limits place content rows (commands.Connect x c clean) Mark.Accepted m k h left =
-    all_put (λ row. IsSession limits row.0 row.1) c (kept_connected w (x, clean) (session_in c rows)) (sessions_left w place content rows) one
-    (λ b e. subst (λ (d : Client). IsSession limits d (kept_connected w (x, clean) (session_in c rows))) (equal_is c b e) one) left
+    all_put (λ row. IsSession limits row.0 row.1) c (session_connected w (x, clean) (session_in c rows)) (sessions_left w place content rows) one
+    (λ b e. subst (λ (d : Client). IsSession limits d (session_connected w (x, clean) (session_in c rows))) (equal_is c b e) one) left
   where
-    one : IsSession limits c (kept_connected w (x, clean) (session_in c rows))
+    one : IsSession limits c (session_connected w (x, clean) (session_in c rows))
     one = connected w limits c (x, clean) (session_in c rows) m k.0 k.1 (found_in_range limits c rows h)
 with_in_range w limits place content rows command mark m k h left = left
 

@@ -12,7 +12,7 @@ use Rattle.broker_spec.specs.Place.{Client, by_bytes, Mark, Limits}
 use Rattle.broker_spec.specs.Past.{begins_session}
 use Rattle.broker_spec.specs.Answers.{close_outputs, welcome}
 use Rattle.broker_base.specs.ClientSession.{ClientSession}
-use Rattle.broker_base.specs.SessionStep.{kept_anew, kept_resumed, kept_connected}
+use Rattle.broker_base.specs.SessionStep.{session_anew, session_resumed, session_connected}
 use Rattle.broker_base.specs.State.{Sessions, State, session_in, owner_in}
 use Rattle.broker_base.specs.StepAnswers.{connection_of, connect_answers_in, answers_by_state}
 use Rattle.broker_base.specs.Decisions.{connect_mark_in, mark_in}
@@ -59,25 +59,25 @@ accepted_mark limits state x c clean none admitted =
 
 -- with what it puts in the client's place, and what it answers
 accepted_step : (limits : Limits) (later : ℕ) (state : State) (x : ConnectionName) (c : Client) (clean : Bool) (kept : ClientSession) (answers : List Output) → IsSound state →
-    owner_in x state.sessions ≡ None → may_have_session limits state c ≡ true → kept_connected state.window (x, clean) (session_in c state.sessions) ≡ kept →
+    owner_in x state.sessions ≡ None → may_have_session limits state c ≡ true → session_connected state.window (x, clean) (session_in c state.sessions) ≡ kept →
     connect_answers_in state.window x clean (session_in c state.sessions) Mark.Accepted ≡ answers →
     step limits later state (commands.Connect x c clean)
     ≡ (record { window = state.window; sessions = insert_entry by_bytes state.sessions c kept; retained = state.retained }, answers)
 accepted_step limits later state x c clean kept answers sound none admitted is answered =
     ap (λ mark. step_at state.window (record { command = commands.Connect x c clean; mark = mark }) state) (accepted_mark limits state x c clean none admitted)
     ∙ ap₂ (λ sessions a. (record { window = state.window; sessions = sessions; retained = state.retained }, a))
-    (put_left state.window x c clean state.retained (kept_connected state.window (x, clean) (session_in c state.sessions)) state.sessions sound.by_client
+    (put_left state.window x c clean state.retained (session_connected state.window (x, clean) (session_in c state.sessions)) state.sessions sound.by_client
     (nobody_owns x state.sessions none)
     ∙ ap (λ k. insert_entry by_bytes state.sessions c k) is)
     answered
 
 -- a session that begins
 anew : (w : ℕ) (x : ConnectionName) (clean : Bool) (old : Option ClientSession) → begins_session clean (option_map (λ (k : ClientSession). k.clean) old) ≡ true →
-    (kept_connected w (x, clean) old ≡ kept_anew (x, clean))
+    (session_connected w (x, clean) old ≡ session_anew (x, clean))
     × (connect_answers_in w x clean old Mark.Accepted ≡ close_outputs (connection_of old) ++ welcome x false ∷ [])
 anew w x clean None e = (refl, refl)
 anew w x clean (Some old) e = (
-  ap (λ b. if b then kept_anew (x, clean) else kept_resumed w (x, clean) old) e,
+  ap (λ b. if b then session_anew (x, clean) else session_resumed w (x, clean) old) e,
   ap (λ b. close_outputs old.connection ++ welcome x (not b)
       ∷ map (Send x) (if b then [] else resend old.state.queue.in_flight ++ fill_sends w old.state.queue.in_flight old.state.queue.waiting)) e,
 )
@@ -85,17 +85,17 @@ anew w x clean (Some old) e = (
 pub beginning_step : BeginningStep
 beginning_step limits later state x c clean sound none admitted begins =
     let h = anew state.window x clean (session_in c state.sessions) begins in
-    accepted_step limits later state x c clean (kept_anew (x, clean)) (close_outputs (connection_of (session_in c state.sessions)) ++ welcome x false ∷ [])
+    accepted_step limits later state x c clean (session_anew (x, clean)) (close_outputs (connection_of (session_in c state.sessions)) ++ welcome x false ∷ [])
     sound none admitted h.0 h.1
 
 -- a session that continues
 pub resuming_step : ResumingStep
 resuming_step limits later state x c kept sound none found lasting =
-    accepted_step limits later state x c false (kept_resumed state.window (x, false) kept)
+    accepted_step limits later state x c false (session_resumed state.window (x, false) kept)
     (close_outputs kept.connection ++ welcome x true
     ∷ map (Send x) (resend kept.state.queue.in_flight ++ fill_sends state.window kept.state.queue.in_flight kept.state.queue.waiting))
     sound none (ap (λ o. is_some o || nat_lt (length state.sessions) limits.sessions) found)
-    (ap (kept_connected state.window (x, false)) found ∙ ap (λ b. if b then kept_anew (x, false) else kept_resumed state.window (x, false) kept) lasting)
+    (ap (session_connected state.window (x, false)) found ∙ ap (λ b. if b then session_anew (x, false) else session_resumed state.window (x, false) kept) lasting)
     (ap (λ o. connect_answers_in state.window x false o Mark.Accepted) found
     ∙ ap (λ b. close_outputs kept.connection ++ welcome x (not b)
     ∷ map (Send x) (if b then [] else resend kept.state.queue.in_flight ++ fill_sends state.window kept.state.queue.in_flight kept.state.queue.waiting)) lasting)
@@ -104,7 +104,7 @@ resuming_step limits later state x c kept sound none found lasting =
       close_outputs kept.connection ++ welcome x true
           ∷ map (Send x) (resend kept.state.queue.in_flight ++ fill_sends state.window kept.state.queue.in_flight kept.state.queue.waiting),
     ))
-    (insertion_writes c kept (kept_resumed state.window (x, false) kept) state.sessions sound.by_client found)
+    (insertion_writes c kept (session_resumed state.window (x, false) kept) state.sessions sound.by_client found)
 
 -- ---- a session too many
 

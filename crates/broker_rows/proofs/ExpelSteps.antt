@@ -8,7 +8,7 @@ use Rattle.broker_spec.specs.Place.{Client, same_client, Mark, Place, only_if}
 use Rattle.broker_spec.specs.Past.{any_connection, ends, expels, ends_any}
 use Rattle.broker_spec.specs.Answers.{close_outputs}
 use Rattle.broker_base.specs.ClientSession.{ClientSession}
-use Rattle.broker_base.specs.SessionStep.{kept_on}
+use Rattle.broker_base.specs.SessionStep.{session_on}
 use Rattle.broker_base.specs.State.{Sessions, State, session_in}
 use Rattle.broker_base.specs.StateLaws.{AreByClient}
 use Rattle.broker_base.specs.StepAnswers.{connection_of}
@@ -62,7 +62,7 @@ goes : (w : ℕ) (content : RetainedTopics) (c : Client) (kept : ClientSession) 
 goes w content c kept =
     ap (λ b. if (b || any_connection (ends (commands.Expel c) Mark.Unmarked) kept.connection) || false
     then only_if (not (b || (kept.clean && ends_any (at_expel c) c kept.connection)))
-    (Some (kept_on w (at_expel c) content c (only_if (not (ends_any (at_expel c) c kept.connection)) kept.connection) kept))
+    (Some (session_on w (at_expel c) content c (only_if (not (ends_any (at_expel c) c kept.connection)) kept.connection) kept))
     else Some kept) (same_self c)
 
 pub expel_step : ExpelStep

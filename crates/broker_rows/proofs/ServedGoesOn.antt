@@ -17,7 +17,7 @@ use Rattle.broker_spec.specs.Past.{ends_any, is_leaving}
 use Rattle.broker_spec.specs.Subscriptions.{as_granted, granted_of}
 use Rattle.broker_spec.specs.Entries.{copies_for_all}
 use Rattle.broker_base.specs.ClientSession.{ClientSession}
-use Rattle.broker_base.specs.SessionStep.{kept_on, kept_after}
+use Rattle.broker_base.specs.SessionStep.{session_on, session_touched}
 use Rattle.broker_base.specs.Step.{is_about, session_after}
 use Rattle.broker_spec.specs.declared.command.Command.TheVariants as commands
 use Rattle.broker_spec.proofs.ClientsInOrder.{same_self}
@@ -45,15 +45,15 @@ stays_there false kept = refl
 module _ (w : ℕ) (x : ConnectionName) (content : RetainedTopics) (c : Client) (kept : ClientSession) (on : kept.connection ≡ Some x) where
   -- a packet that is about its sender's session, and leaves it its connection
   goes_on : (packet : Packet) (mark : Mark) → is_leaving mark ≡ false → is_about (commands.Packet x packet) mark c kept.state.subscriptions ≡ true →
-      session_after w (packet_at x packet mark) content c kept ≡ Some (kept_on w (packet_at x packet mark) content c (Some x) kept)
+      session_after w (packet_at x packet mark) content c kept ≡ Some (session_on w (packet_at x packet mark) content c (Some x) kept)
   goes_on packet mark stays about =
-      ap (λ b. if b || is_about (commands.Packet x packet) mark c kept.state.subscriptions then kept_after w (packet_at x packet mark) content c (Some kept) else Some kept)
+      ap (λ b. if b || is_about (commands.Packet x packet) mark c kept.state.subscriptions then session_touched w (packet_at x packet mark) content c (Some kept) else Some kept)
       (stays_on x packet mark kept.connection stays)
-      ∙ ap (λ b. if b then kept_after w (packet_at x packet mark) content c (Some kept) else Some kept) about
-      ∙ ap (λ b. only_if (not (kept.clean && b)) (Some (kept_on w (packet_at x packet mark) content c (only_if (not b) kept.connection) kept)))
+      ∙ ap (λ b. if b then session_touched w (packet_at x packet mark) content c (Some kept) else Some kept) about
+      ∙ ap (λ b. only_if (not (kept.clean && b)) (Some (session_on w (packet_at x packet mark) content c (only_if (not b) kept.connection) kept)))
       (stays_on x packet mark kept.connection stays)
-      ∙ stays_there kept.clean (kept_on w (packet_at x packet mark) content c kept.connection kept)
-      ∙ ap (λ connection. Some (kept_on w (packet_at x packet mark) content c connection kept)) on
+      ∙ stays_there kept.clean (session_on w (packet_at x packet mark) content c kept.connection kept)
+      ∙ ap (λ connection. Some (session_on w (packet_at x packet mark) content c connection kept)) on
 
   -- the session with these, on its connection
   back_on : (filters : List GrantedFilter) (ids : List ℕ) (queue : Queue) →
@@ -71,7 +71,7 @@ module _ (w : ℕ) (x : ConnectionName) (content : RetainedTopics) (c : Client) 
   pub handled_is : (packet : Packet) → session_after w (packet_at x packet (Mark.Handled c)) content c kept ≡ Some (with_content (handled_state w packet kept.state) kept)
   handled_is packet = goes_on packet (Mark.Handled c) refl (about_sender packet) ∙ by packet
     where
-      by : (packet : Packet) → Some (kept_on w (packet_at x packet (Mark.Handled c)) content c (Some x) kept) ≡ Some (with_content (handled_state w packet kept.state) kept)
+      by : (packet : Packet) → Some (session_on w (packet_at x packet (Mark.Handled c)) content c (Some x) kept) ≡ Some (with_content (handled_state w packet kept.state) kept)
       by (packets.Puback id) =
           ap (λ b. Some (record { clean = kept.clean; connection = Some x; state = with_queue (if b then fill w (on_puback id kept.state.queue.in_flight) kept.state.queue.waiting else kept.state.queue) kept.state })) (same_self c)
           ∙ back_on kept.state.subscriptions kept.state.received (fill w (on_puback id kept.state.queue.in_flight) kept.state.queue.waiting)
@@ -110,5 +110,5 @@ module _ (w : ℕ) (x : ConnectionName) (content : RetainedTopics) (c : Client) 
   -- a PUBLISH that was taken before leaves it
   pub repeat_is : (p : Publish) → session_after w (packet_at x (packets.Publish p) (Mark.Repeat c)) content c kept ≡ Some kept
   repeat_is p =
-      ap (λ b. if b || false then kept_after w (packet_at x (packets.Publish p) (Mark.Repeat c)) content c (Some kept) else Some kept)
+      ap (λ b. if b || false then session_touched w (packet_at x (packets.Publish p) (Mark.Repeat c)) content c (Some kept) else Some kept)
       (stays_on x (packets.Publish p) (Mark.Repeat c) kept.connection refl)

@@ -9,7 +9,7 @@ use Rattle.broker_spec.specs.Past.{accepts, ends_any, expels}
 use Rattle.broker_spec.specs.Subscriptions.{filters_after}
 use Rattle.broker_spec.specs.Received.{received_by}
 use Rattle.broker_base.specs.ClientSession.{ClientSession}
-use Rattle.broker_base.specs.SessionStep.{copies_with, answered_queue, copied_queue, kept_on, kept_by, kept_after}
+use Rattle.broker_base.specs.SessionStep.{copies_with, answered_queue, copied_queue, session_on, session_by, session_touched}
 use Rattle.broker_base.specs.Step.{is_about, session_after}
 use Rattle.broker_spec.specs.declared.command.Command.{Command}
 use Rattle.broker_spec.specs.declared.command.Command.TheVariants as commands
@@ -64,7 +64,7 @@ off kept held ids queue = record { clean = kept.clean; connection = None; state 
 
 -- a session continues without its connection as it was
 kept_off : (w : ℕ) (place : Place) (content : RetainedTopics) (c : Client) (kept : ClientSession) → IsParting place.mark →
-    kept_on w place content c None kept ≡ record { clean = kept.clean; connection = None; state = kept.state }
+    session_on w place content c None kept ≡ record { clean = kept.clean; connection = None; state = kept.state }
 kept_off w place content c kept parting =
     ap₂ (λ held ids. off kept held ids (copied_queue w None (copies_with place.command place.mark content c kept.state.subscriptions) (answered_queue w place.command place.mark c None kept.state.queue)))
     (filters_same place.command place.mark c kept.state.subscriptions parting) (received_same place.command place.mark c kept.state.received parting)
@@ -76,8 +76,8 @@ kept_off w place content c kept parting =
 pub parted_is : (w : ℕ) (place : Place) (content : RetainedTopics) (c : Client) (kept : ClientSession) → IsParting place.mark → expels place.command c ≡ false → ends_any place c kept.connection ≡ true →
     session_after w place content c kept ≡ left_off kept
 parted_is w place content c kept parting spared over =
-    ap (λ b. if b || is_about place.command place.mark c kept.state.subscriptions then kept_after w place content c (Some kept) else Some kept) over
-    ∙ ap (λ opened. kept_by w place content c opened (Some kept)) (opens_none place.command place.mark c parting)
-    ∙ ap₂ (λ a b. only_if (not (a || (kept.clean && b))) (Some (kept_on w place content c (only_if (not b) kept.connection) kept))) spared over
-    ∙ by_clean kept.clean (kept_on w place content c None kept)
+    ap (λ b. if b || is_about place.command place.mark c kept.state.subscriptions then session_touched w place content c (Some kept) else Some kept) over
+    ∙ ap (λ opened. session_by w place content c opened (Some kept)) (opens_none place.command place.mark c parting)
+    ∙ ap₂ (λ a b. only_if (not (a || (kept.clean && b))) (Some (session_on w place content c (only_if (not b) kept.connection) kept))) spared over
+    ∙ by_clean kept.clean (session_on w place content c None kept)
     ∙ ap (λ later. if kept.clean then None else Some later) (kept_off w place content c kept parting)

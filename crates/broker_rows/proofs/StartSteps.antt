@@ -6,7 +6,7 @@ use Rattle.broker_spec.specs.Connection.{ConnectionName}
 use Rattle.broker_spec.specs.Place.{Client, Mark, Place}
 use Rattle.broker_spec.specs.Past.{ends_any}
 use Rattle.broker_base.specs.ClientSession.{ClientSession}
-use Rattle.broker_base.specs.SessionStep.{kept_after}
+use Rattle.broker_base.specs.SessionStep.{session_touched}
 use Rattle.broker_base.specs.State.{Sessions, keyed}
 use Rattle.broker_base.specs.StateLaws.{AllSound}
 use Rattle.broker_base.specs.Step.{session_after, sessions_left}
@@ -33,7 +33,7 @@ row_left w ballot content c kept served = by kept.connection refl
     by : (connection : Option ConnectionName) → kept.connection ≡ connection → session_after w (start ballot) content c kept ≡ left_off kept
     by (Some x) e = parted_is w (start ballot) content c kept tt refl (ap (ends_any (start ballot) c) e)
     by None e =
-        ap (λ connection. if ends_any (start ballot) c connection || false then kept_after w (start ballot) content c (Some kept) else Some kept) e
+        ap (λ connection. if ends_any (start ballot) c connection || false then session_touched w (start ballot) content c (Some kept) else Some kept) e
         ∙ off_already kept e kept.clean refl served
 
 -- all sessions

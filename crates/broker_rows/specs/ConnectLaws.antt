@@ -10,7 +10,7 @@ use Rattle.broker_spec.specs.Place.{Client, by_bytes, Limits}
 use Rattle.broker_spec.specs.Past.{begins_session}
 use Rattle.broker_spec.specs.Answers.{close_outputs, welcome, turned_away}
 use Rattle.broker_base.specs.ClientSession.{ClientSession}
-use Rattle.broker_base.specs.SessionStep.{kept_anew, kept_resumed}
+use Rattle.broker_base.specs.SessionStep.{session_anew, session_resumed}
 use Rattle.broker_base.specs.State.{Sessions, State, keyed, session_in, owner_in}
 use Rattle.broker_base.specs.StateLaws.{IsSound, AreByClient}
 use Rattle.broker_base.specs.StepAnswers.{connection_of}
@@ -43,7 +43,7 @@ BeginningStep =
     ≡ (
       record {
         window = state.window;
-        sessions = insert_entry by_bytes state.sessions client (kept_anew (connection, clean));
+        sessions = insert_entry by_bytes state.sessions client (session_anew (connection, clean));
         retained = state.retained;
       },
       close_outputs (connection_of (session_in client state.sessions))
@@ -60,7 +60,7 @@ ResumingStep =
     kept.clean ≡ false →
     step limits later state (commands.Connect connection client false)
     ≡ (
-      with_session client (Some (kept_resumed state.window (connection, false) kept)) state,
+      with_session client (Some (session_resumed state.window (connection, false) kept)) state,
       close_outputs kept.connection
           ++ welcome connection true
           ∷ map (Send connection)

@@ -11,7 +11,7 @@ use Rattle.subs_base.specs.Granted.{Row}
 use Rattle.broker_spec.specs.Connection.{ConnectionName}
 use Rattle.broker_spec.specs.Place.{Client, by_bytes}
 use Rattle.broker_base.specs.ClientSession.{ClientSession}
-use Rattle.broker_base.specs.SessionStep.{kept_anew}
+use Rattle.broker_base.specs.SessionStep.{session_anew}
 use Rattle.broker_base.specs.State.{Sessions, session_in}
 use Rattle.broker_base.specs.StateLaws.{AllSound, AreByClient}
 use Rattle.broker_rows.specs.Touched.{written}
@@ -59,7 +59,7 @@ LeavingDropsTheClean =
 abbrev pub BeginningDrops : Type 0
 BeginningDrops =
     (client : Client) → (opened : ConnectionName × Bool) → (rows : Sessions) → AreByClient rows →
-    content_in (insert_entry by_bytes rows client (kept_anew opened))
+    content_in (insert_entry by_bytes rows client (session_anew opened))
     ≡ without_client (content_in rows) client
 
 -- a Start drops the clients of the clean sessions

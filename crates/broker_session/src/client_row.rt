@@ -1,7 +1,7 @@
 // What is kept of one client.
 
 ghost use Rattle.std.specs.Prelude.{◌≡◌, ◌++◌, false, Some, OnOk};
-ghost use Rattle.broker_rows.specs.broker_base.SessionStep.{kept_anew, kept_resumed};
+ghost use Rattle.broker_rows.specs.broker_base.SessionStep.{session_anew, session_resumed};
 ghost use Rattle.broker_session.specs.OneSession.{sent_to_resumed};
 
 use broker_spec::{ConnectionName, Window};
@@ -44,7 +44,7 @@ impl Model for ClientRow {
 impl ClientRow {
     /// Returns a session that begins on a connection, with nothing in it.
     pub fn new(alloc: Global, connection: ConnectionName, clean: bool) -> ClientRow
-        ensures { result ≡ kept_anew (connection, clean) }
+        ensures { result ≡ session_anew (connection, clean) }
     {
         ClientRow {
             clean,
@@ -61,7 +61,8 @@ impl ClientRow {
         window: Window,
         sent: &mut Vec<Packet>,
     ) -> Result<(), Halted>
-        ensures state { OnOk result (self.new ≡ kept_resumed window (connection, false) self.old) }
+        ensures state { OnOk result
+            (self.new ≡ session_resumed window (connection, false) self.old) }
         ensures sends { OnOk result
             (sent.new.items ≡ sent.old.items ++ sent_to_resumed window (Some self.old)) }
     {

@@ -12,7 +12,7 @@ use Rattle.broker_spec.specs.declared.command.Command.TheVariants as commands
 use Rattle.broker_spec.specs.declared.command.Output.TheVariants as outputs
 use Rattle.broker_spec.specs.Past.{begins_session}
 use Rattle.broker_session.specs.broker_base.ClientSession.{ClientSession}
-use Rattle.broker_session.specs.broker_base.SessionStep.{kept_anew, kept_resumed}
+use Rattle.broker_session.specs.broker_base.SessionStep.{session_anew, session_resumed}
 use Rattle.broker_session.specs.broker_base.State.{State, session_in, owner_in}
 use Rattle.broker_session.specs.broker_base.StepAnswers.{connection_of}
 use Rattle.broker_session.specs.broker_rows.Served.{ServesClient}
@@ -59,7 +59,7 @@ module _ (tables : Tables) (x : ConnectionName) (c : Client) (clean : Bool) (ste
       ≡ (
         record {
           window = tables.window;
-          sessions = insert_entry by_bytes tables.sessions.entries c (kept_anew (x, clean));
+          sessions = insert_entry by_bytes tables.sessions.entries c (session_anew (x, clean));
           retained = tables.retained;
         },
         close_outputs (connection_of (session_in c tables.sessions.entries)) ++ welcome x false ∷ [],
@@ -67,13 +67,13 @@ module _ (tables : Tables) (x : ConnectionName) (c : Client) (clean : Bool) (ste
   unfolding stepped
   beginning_of admitted begins = beginning_step usual_limits 64 (state_in tables) x c clean step.sound (is_nobodys tables x none) admitted begins
 
-  pub ties_of_beginning : (after : Tables) → after.sessions.entries ≡ insert_entry by_bytes tables.sessions.entries c (kept_anew (x, clean)) →
+  pub ties_of_beginning : (after : Tables) → after.sessions.entries ≡ insert_entry by_bytes tables.sessions.entries c (session_anew (x, clean)) →
       TakesOver tables x c after → content_of after.index ≡ without_client (content_of tables.index) c → IsTied after
   ties_of_beginning after is owners index =
-      tied_to after (insert_entry by_bytes tables.sessions.entries c (kept_anew (x, clean))) is
+      tied_to after (insert_entry by_bytes tables.sessions.entries c (session_anew (x, clean))) is
       (λ q.
       owners q ∙ takes_over tables x c (connection_of (session_in c tables.sessions.entries)) q step.tied
-      ∙ sym (connecting_sets_the_owner (state_in tables) x c (kept_anew (x, clean)) step.sound (is_nobodys tables x none) refl q))
+      ∙ sym (connecting_sets_the_owner (state_in tables) x c (session_anew (x, clean)) step.sound (is_nobodys tables x none) refl q))
       (index ∙ ap (λ content. without_client content c) step.tied.index
       ∙ sym (beginning_drops c (x, clean) tables.sessions.entries step.sound.by_client))
 
@@ -89,7 +89,7 @@ module _ (tables : Tables) (x : ConnectionName) (c : Client) (clean : Bool) (ste
       ≡ (
         record {
           window = tables.window;
-          sessions = session_changed c (kept_resumed tables.window (x, false)) tables.sessions.entries;
+          sessions = session_changed c (session_resumed tables.window (x, false)) tables.sessions.entries;
           retained = tables.retained;
         },
         close_outputs (connection_of (session_in c tables.sessions.entries)) ++ welcome x true
@@ -104,7 +104,7 @@ module _ (tables : Tables) (x : ConnectionName) (c : Client) (clean : Bool) (ste
           ≡ (
             record {
               window = tables.window;
-              sessions = session_changed c (kept_resumed tables.window (x, false)) tables.sessions.entries;
+              sessions = session_changed c (session_resumed tables.window (x, false)) tables.sessions.entries;
               retained = tables.retained;
             },
             close_outputs (connection_of (session_in c tables.sessions.entries)) ++ welcome x true
@@ -118,7 +118,7 @@ module _ (tables : Tables) (x : ConnectionName) (c : Client) (clean : Bool) (ste
           ∙ (λ i. (
             record {
               window = tables.window;
-              sessions = written c (option_map (kept_resumed tables.window (x, false)) (sym held i)) tables.sessions.entries;
+              sessions = written c (option_map (session_resumed tables.window (x, false)) (sym held i)) tables.sessions.entries;
               retained = tables.retained;
             },
             close_outputs (connection_of (sym held i)) ++ welcome x true ∷ map (outputs.Send x) (sent_to_resumed tables.window (sym held i)),
@@ -129,7 +129,7 @@ module _ (tables : Tables) (x : ConnectionName) (c : Client) (clean : Bool) (ste
       ≡ (
         record {
           window = tables.window;
-          sessions = session_changed c (kept_resumed tables.window (x, false)) tables.sessions.entries;
+          sessions = session_changed c (session_resumed tables.window (x, false)) tables.sessions.entries;
           retained = tables.retained;
         },
         close_outputs (connection_of (session_in c tables.sessions.entries)) ++ welcome x true
@@ -138,21 +138,21 @@ module _ (tables : Tables) (x : ConnectionName) (c : Client) (clean : Bool) (ste
   resuming_of on = resuming_by (session_in c tables.sessions.entries) refl on
 
   pub ties_of_resuming : (after : Tables) → begins_in (state_in tables) c clean ≡ false →
-      after.sessions.entries ≡ session_changed c (kept_resumed tables.window (x, false)) tables.sessions.entries →
+      after.sessions.entries ≡ session_changed c (session_resumed tables.window (x, false)) tables.sessions.entries →
       TakesOver tables x c after → content_of after.index ≡ content_of tables.index → IsTied after
   ties_of_resuming after on is owners index = by (session_in c tables.sessions.entries) refl on
     where
       by : (session : Option ClientSession) → session_in c tables.sessions.entries ≡ session → begins_session clean (option_map (λ (kept : ClientSession). kept.clean) session) ≡ false → IsTied after
       by None held e = absurd (cc)
       by (Some kept) held e =
-          tied_to after (written c (Some (kept_resumed tables.window (x, false) kept)) tables.sessions.entries)
-          (is ∙ ap (λ session. written c (option_map (kept_resumed tables.window (x, false)) session) tables.sessions.entries) held)
+          tied_to after (written c (Some (session_resumed tables.window (x, false) kept)) tables.sessions.entries)
+          (is ∙ ap (λ session. written c (option_map (session_resumed tables.window (x, false)) session) tables.sessions.entries) held)
           (λ q.
           owners q ∙ takes_over tables x c (connection_of (session_in c tables.sessions.entries)) q step.tied
           ∙ ap (λ session. with_owner x c (without_owner (connection_of session) (owners_in tables.sessions.entries)) q) held
-          ∙ sym (resuming_sets_the_owner (state_in tables) x c kept (kept_resumed tables.window (x, false) kept) step.sound (is_nobodys tables x none) held refl q))
+          ∙ sym (resuming_sets_the_owner (state_in tables) x c kept (session_resumed tables.window (x, false) kept) step.sound (is_nobodys tables x none) held refl q))
           (index ∙ step.tied.index
-          ∙ sym (writing_keeps_content c kept (kept_resumed tables.window (x, false) kept) tables.sessions.entries step.sound.by_client held refl))
+          ∙ sym (writing_keeps_content c kept (session_resumed tables.window (x, false) kept) tables.sessions.entries step.sound.by_client held refl))
 
 -- ---- by what a Connect does
 

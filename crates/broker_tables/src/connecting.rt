@@ -6,7 +6,7 @@ ghost use Rattle.broker_spec.specs.Connection.{ConnectionName as SpecName};
 ghost use Rattle.broker_spec.specs.Commands.{usual_limits};
 ghost use Rattle.broker_spec.specs.declared.command.Command.TheVariants as commands;
 ghost use Rattle.broker_spec.specs.declared.command.Output.TheVariants as outputs;
-ghost use Rattle.broker_session.specs.broker_base.SessionStep.{kept_resumed};
+ghost use Rattle.broker_session.specs.broker_base.SessionStep.{session_resumed};
 ghost use Rattle.broker_session.specs.broker_base.State.{session_in};
 ghost use Rattle.broker_session.specs.broker_base.StepAnswers.{connection_of};
 ghost use Rattle.broker_session.specs.broker_rows.Owners.{owners_in, with_owner, without_owner};
@@ -179,7 +179,7 @@ impl Tables {
         requires { IsSome (session_in client.now self.old.sessions.entries) }
         ensures sessions { OnOk result
             (self.new.sessions.entries ≡ session_changed client.now
-            (kept_resumed self.old.window (connection, false)) self.old.sessions.entries) }
+            (session_resumed self.old.window (connection, false)) self.old.sessions.entries) }
         ensures sends { OnOk result
             (out.new.items ≡ out.old.items ++ map (outputs.Send connection)
             (sent_to_resumed self.old.window (session_in client.now self.old.sessions.entries))) }

@@ -8,7 +8,7 @@ use Rattle.broker_spec.specs.Commands.{usual_limits}
 use Rattle.broker_spec.specs.Connection.{ConnectionName}
 use Rattle.broker_spec.specs.Place.{Client, Mark, Place, same_client}
 use Rattle.byte_world.specs.broker_base.ClientSession.{ClientSession}
-use Rattle.byte_world.specs.broker_base.SessionStep.{kept_after}
+use Rattle.byte_world.specs.broker_base.SessionStep.{session_touched}
 use Rattle.byte_world.specs.broker_base.State.{Sessions, State, keyed}
 use Rattle.byte_world.specs.broker_base.Step.{sessions_left, step}
 use Rattle.broker_spec.proofs.ClientsInOrder.{same_is}
@@ -41,7 +41,7 @@ all_stay d state (row ∷ rows) none named =
     (no_session d row.0 none named.0.client) (none_ends d row.1.connection)) (all_stay d state rows none named.1)
   where
     stays : (a b : Bool) → a ≡ false → b ≡ false
-        → (if (a || b) || false then kept_after state.window (expel_place d) state.retained row.0 (Some row.1) else Some row.1) ≡ Some row.1
+        → (if (a || b) || false then session_touched state.window (expel_place d) state.retained row.0 (Some row.1) else Some row.1) ≡ Some row.1
     stays false false e f = refl
     stays false true e f = absurd cc
     stays true b e f = absurd cc

@@ -7,7 +7,7 @@ use Rattle.broker_spec.specs.Commands.{usual_limits}
 use Rattle.broker_spec.specs.Connection.{ConnectionName, is_connection_name, same_connection}
 use Rattle.broker_spec.specs.Place.{Mark, Place}
 use Rattle.byte_world.specs.broker_base.ClientSession.{ClientSession}
-use Rattle.byte_world.specs.broker_base.SessionStep.{kept_after}
+use Rattle.byte_world.specs.broker_base.SessionStep.{session_touched}
 use Rattle.byte_world.specs.broker_base.State.{Sessions, State, keyed}
 use Rattle.byte_world.specs.broker_base.Step.{sessions_left, step}
 use Rattle.broker_spec.proofs.ConnectionNames.{same_name}
@@ -34,7 +34,7 @@ all_stay x state (row ∷ rows) none named =
     ap₂ (λ (o : Option ClientSession) (l : Sessions). keyed row.0 o l)
     (stays (any_connection (same_connection x) row.1.connection) (no_session x row.1.connection none named.0.connection)) (all_stay x state rows none named.1)
   where
-    stays : (b : Bool) → b ≡ false → (if b || false then kept_after state.window (lost_place x) state.retained row.0 (Some row.1) else Some row.1) ≡ Some row.1
+    stays : (b : Bool) → b ≡ false → (if b || false then session_touched state.window (lost_place x) state.retained row.0 (Some row.1) else Some row.1) ≡ Some row.1
     stays false e = refl
     stays true e = absurd cc
 

@@ -11,7 +11,7 @@ use Rattle.broker_spec.specs.Subscriptions.{filters_after}
 use Rattle.broker_spec.specs.Received.{received_by}
 use Rattle.broker_spec.specs.Entries.{queued}
 use Rattle.broker_base.specs.ClientSession.{ClientSession}
-use Rattle.broker_base.specs.SessionStep.{copies_with, filled_on, kept_anew}
+use Rattle.broker_base.specs.SessionStep.{copies_with, filled_on, session_anew}
 use Rattle.broker_spec.specs.declared.command.Command.{Command}
 use Rattle.broker_spec.specs.declared.command.Command.TheVariants as commands
 
@@ -41,9 +41,9 @@ filled_kept window place content c clean connection old =
     }
 
 abbrev pub filled_connected : ℕ → Place → RetainedTopics → Client → ConnectionName × Bool → Option ClientSession → ClientSession
-filled_connected window place content c opened None = kept_anew opened
+filled_connected window place content c opened None = session_anew opened
 filled_connected window place content c opened (Some old) =
-    if opened.1 || old.clean then kept_anew opened
+    if opened.1 || old.clean then session_anew opened
     else filled_kept window place content c opened.1 (Some opened.0) old
 
 abbrev pub filled_later : ℕ → Place → RetainedTopics → Client → Option ClientSession → Option ClientSession

@@ -15,7 +15,7 @@ use Rattle.broker_spec.specs.Subscriptions.{filters_after}
 use Rattle.broker_spec.specs.Received.{received_by}
 use Rattle.broker_spec.specs.Entries.{queued}
 use Rattle.broker_base.specs.ClientSession.{ClientSession}
-use Rattle.broker_base.specs.SessionStep.{copies_with, filled_on, answered_queue, copied_queue, kept_anew, kept_resumed, kept_by, kept_later, kept_after}
+use Rattle.broker_base.specs.SessionStep.{copies_with, filled_on, answered_queue, copied_queue, session_anew, session_resumed, session_by, session_later, session_touched}
 use Rattle.broker_spec.specs.declared.command.Command.{Command}
 use Rattle.broker_spec.specs.declared.command.Command.TheVariants as commands
 use Rattle.broker_base.proofs.flights.IdentifiersInFlight.{append_none}
@@ -76,7 +76,7 @@ RestsAt w place c (Some old) =
 RestsAt w place c None = Unit {0}
 
 later_same : (w : ℕ) (place : Place) (content : RetainedTopics) (c : Client) (old : Option ClientSession) → RestsAt w place c old →
-    filled_later w place content c old ≡ kept_later w place content c old
+    filled_later w place content c old ≡ session_later w place content c old
 later_same w place content c None h = refl
 later_same w place content c (Some old) h =
     ap (λ q. only_if (not (expels place.command c || (old.clean && ends_any place c old.connection))) (Some (record {
@@ -92,11 +92,11 @@ later_same w place content c (Some old) h =
 
 connected_same : (w : ℕ) (content : RetainedTopics) (c d : Client) (x : ConnectionName) (clean : Bool) (old : Option ClientSession) →
     filled_by w (record { command = commands.Connect x d clean; mark = Mark.Accepted }) content c (Some (x, clean)) old
-    ≡ kept_by w (record { command = commands.Connect x d clean; mark = Mark.Accepted }) content c (Some (x, clean)) old
+    ≡ session_by w (record { command = commands.Connect x d clean; mark = Mark.Accepted }) content c (Some (x, clean)) old
 connected_same w content c d x clean None = refl
 connected_same w content c d x clean (Some old) =
-    elim (clean || old.clean) as (λ (b : Bool). Some (if b then kept_anew (x, clean) else filled_kept w (record { command = commands.Connect x d clean; mark = Mark.Accepted }) content c clean (Some x) old)
-    ≡ Some (if b then kept_anew (x, clean) else kept_resumed w (x, clean) old)) [
+    elim (clean || old.clean) as (λ (b : Bool). Some (if b then session_anew (x, clean) else filled_kept w (record { command = commands.Connect x d clean; mark = Mark.Accepted }) content c clean (Some x) old)
+    ≡ Some (if b then session_anew (x, clean) else session_resumed w (x, clean) old)) [
       | true ↦ refl
       | false ↦ ap (λ ms. Some (record {
         clean = clean;
@@ -106,16 +106,16 @@ connected_same w content c d x clean (Some old) =
     ]
 
 after_by : (w : ℕ) (command : Command) (mark : Mark) (content : RetainedTopics) (c : Client) (old : Option ClientSession) → RestsAt w (record { command = command; mark = mark }) c old →
-    filled_after w (record { command = command; mark = mark }) content c old ≡ kept_after w (record { command = command; mark = mark }) content c old
+    filled_after w (record { command = command; mark = mark }) content c old ≡ session_touched w (record { command = command; mark = mark }) content c old
 after_by w (commands.Connect x d clean) Mark.Accepted content c old h =
     elim (same_client d c) as (λ (b : Bool).
     filled_by w (record { command = commands.Connect x d clean; mark = Mark.Accepted }) content c (only_if b (Some (x, clean))) old
-    ≡ kept_by w (record { command = commands.Connect x d clean; mark = Mark.Accepted }) content c (only_if b (Some (x, clean))) old) [
+    ≡ session_by w (record { command = commands.Connect x d clean; mark = Mark.Accepted }) content c (only_if b (Some (x, clean))) old) [
       | true ↦ connected_same w content c d x clean old
       | false ↦ later_same w (record { command = commands.Connect x d clean; mark = Mark.Accepted }) content c old h
     ]
 after_by w command mark content c old h = later_same w (record { command = command; mark = mark }) content c old h
 
 pub after_same : (w : ℕ) (place : Place) (content : RetainedTopics) (c : Client) (old : Option ClientSession) → RestsAt w place c old →
-    filled_after w place content c old ≡ kept_after w place content c old
+    filled_after w place content c old ≡ session_touched w place content c old
 after_same w place content c old h = after_by w place.command place.mark content c old h

@@ -1,6 +1,6 @@
 -- How an index changes if one client's session is written, ends, or begins.
 use Rattle.std.proofs.Common.{◌≡◌, Bool, true, false, if◌then◌else◌, Some, None, refl}
-use Rattle.broker_base.specs.SessionStep.{kept_anew}
+use Rattle.broker_base.specs.SessionStep.{session_anew}
 use Rattle.broker_base.specs.State.{put_session}
 use Rattle.subs_base.specs.Content.{without_client}
 use Rattle.broker_rows.specs.Touched.{written}
@@ -38,4 +38,4 @@ leaving_drops_the_clean c kept rows by_client found =
 -- a session that begins
 pub beginning_drops : BeginningDrops
 beginning_drops c opened rows by_client =
-    content_dropped c (Some (kept_anew opened)) rows (put_session c (kept_anew opened) rows) (λ d. session_put c (kept_anew opened) rows d by_client) (λ f. refl)
+    content_dropped c (Some (session_anew opened)) rows (put_session c (session_anew opened) rows) (λ d. session_put c (session_anew opened) rows d by_client) (λ f. refl)

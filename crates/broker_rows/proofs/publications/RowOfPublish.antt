@@ -17,7 +17,7 @@ use Rattle.broker_spec.specs.EntryLaws.{place_of_taken}
 use Rattle.broker_spec.specs.Received.{receives}
 use Rattle.broker_spec.specs.Entries.{copy_of}
 use Rattle.broker_base.specs.ClientSession.{ClientSession}
-use Rattle.broker_base.specs.SessionStep.{copied_queue, kept_on, kept_after}
+use Rattle.broker_base.specs.SessionStep.{copied_queue, session_on, session_touched}
 use Rattle.broker_base.specs.Step.{session_after}
 use Rattle.broker_base.proofs.flights.IdentifiersInFlight.{append_none}
 use Rattle.broker_rows.specs.Published.{received_on, delivered_on}
@@ -51,9 +51,9 @@ published w p mine granted kept = record {
 
 -- it does so
 kept_published : (w : ℕ) (x : ConnectionName) (p : Publish) (d : Client) (content : RetainedTopics) (c : Client) (kept : ClientSession) →
-    kept_after w (place_of_taken x p d) content c (Some kept) ≡ Some (published w p (same_client d c) (granted_qos p.topic kept.state.subscriptions) kept)
+    session_touched w (place_of_taken x p d) content c (Some kept) ≡ Some (published w p (same_client d c) (granted_qos p.topic kept.state.subscriptions) kept)
 kept_published w x p d content c kept =
-    ap (λ b. only_if (not (kept.clean && b)) (Some (kept_on w (place_of_taken x p d) content c (only_if (not b) kept.connection) kept)))
+    ap (λ b. only_if (not (kept.clean && b)) (Some (session_on w (place_of_taken x p d) content c (only_if (not b) kept.connection) kept)))
     (stays_on x (packets.Publish p) (Mark.Taken d) kept.connection refl)
     ∙ stays_there kept.clean (published w p (same_client d c) (granted_qos p.topic kept.state.subscriptions) kept)
 
@@ -76,7 +76,7 @@ pub published_is : (w : ℕ) (x : ConnectionName) (p : Publish) (d : Client) (co
     session_after w (place_of_taken x p d) content c kept
     ≡ Some (delivered_if w (publication_of p) (granted_qos p.topic kept.state.subscriptions) (received_if (same_client d c) p.delivery kept))
 published_is w x p d content c kept =
-    ap (λ over. if over || (same_client d c || is_some (granted_qos p.topic kept.state.subscriptions)) then kept_after w (place_of_taken x p d) content c (Some kept) else Some kept)
+    ap (λ over. if over || (same_client d c || is_some (granted_qos p.topic kept.state.subscriptions)) then session_touched w (place_of_taken x p d) content c (Some kept) else Some kept)
     (stays_on x (packets.Publish p) (Mark.Taken d) kept.connection refl)
     ∙ ap (λ o. if same_client d c || is_some (granted_qos p.topic kept.state.subscriptions) then o else Some kept) (kept_published w x p d content c kept)
     ∙ by_parts w p kept (same_client d c) (granted_qos p.topic kept.state.subscriptions)

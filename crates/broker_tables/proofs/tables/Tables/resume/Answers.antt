@@ -6,7 +6,7 @@ use Rattle.broker_spec.specs.Answers.{close_outputs, welcome}
 use Rattle.broker_spec.specs.declared.command.Output.TheVariants as outputs
 use Rattle.broker_session.specs.broker_base.State.{session_in}
 use Rattle.broker_session.specs.broker_base.StepAnswers.{connection_of}
-use Rattle.broker_session.specs.broker_base.SessionStep.{kept_resumed}
+use Rattle.broker_session.specs.broker_base.SessionStep.{session_resumed}
 use Rattle.broker_session.specs.broker_rows.Published.{session_changed}
 use Rattle.broker_session.specs.OneSession.{sent_to_resumed}
 use Rattle.broker_tables.specs.Tables.{owners_at}
@@ -19,7 +19,7 @@ returns-clause-step c =
       state = (λ i. record {
         window = (c.in_ok-resume_row.ensures.others.window ∙ c.in_ok-take_client_over.ensures.others.window) i;
         sessions = (c.in_ok-resume_row.ensures.sessions
-            ∙ (λ j. session_changed c.args.client.now (kept_resumed (c.in_ok-take_client_over.ensures.others.window j) (c.args.connection, false)) (c.in_ok-take_client_over.ensures.others.sessions j))) i;
+            ∙ (λ j. session_changed c.args.client.now (session_resumed (c.in_ok-take_client_over.ensures.others.window j) (c.args.connection, false)) (c.in_ok-take_client_over.ensures.others.sessions j))) i;
         retained = (c.in_ok-resume_row.ensures.others.retained ∙ c.in_ok-take_client_over.ensures.others.retained) i;
       })
           ∙ sym (ap (λ p. p.0)
@@ -41,6 +41,6 @@ pub returns-clause-tied : goal.returns-clause-tied
 returns-clause-tied c =
     ties_of_resuming c.args.self.now c.args.connection c.args.client.now c.args.clean c.requires.consistent c.requires.nobodys _ c.requires.resumes
     (c.in_ok-resume_row.ensures.sessions
-    ∙ (λ j. session_changed c.args.client.now (kept_resumed (c.in_ok-take_client_over.ensures.others.window j) (c.args.connection, false)) (c.in_ok-take_client_over.ensures.others.sessions j)))
+    ∙ (λ j. session_changed c.args.client.now (session_resumed (c.in_ok-take_client_over.ensures.others.window j) (c.args.connection, false)) (c.in_ok-take_client_over.ensures.others.sessions j)))
     (λ q. ap (λ entries. owners_at entries q) c.in_ok-resume_row.ensures.others.owners ∙ c.in_ok-take_client_over.ensures.owners q)
     (c.in_ok-resume_row.ensures.others.index ∙ c.in_ok-take_client_over.ensures.others.index)
