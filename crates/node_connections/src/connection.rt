@@ -164,8 +164,8 @@ impl Connection {
         !self.is_closed() && self.pending.is_empty()
     }
 
-    /// Says whether more may be queued for it.
-    pub fn answer(&self) -> Handed
+    /// Returns whether more may be queued for it, as a node does with its bytes.
+    pub fn handed(&self) -> Handed
         ensures { result ≡ handed_after (Some self.now) }
     {
         if self.is_closed() {

@@ -29,10 +29,10 @@ impl SteppingNode {
             return Ok(Handed::Closed);
         };
         let connection = &mut self.connections[index];
-        let answer = connection.answer();
+        let handed = connection.handed();
         connection.outgoing(out)?;
         keep_listed(&mut self.connections);
-        Ok(answer)
+        Ok(handed)
     }
 
     /// Appends the ports of the connections that are open and have nothing to hand over. If memory

@@ -40,7 +40,7 @@ returns-clause-bytes c =
 pub returns-clause-answer : goal.returns-clause-answer
 returns-clause-answer c =
     let at = rw (← c.self.view_is) at c.index_listed.ensures in
-    c.answer-answer.ensures
+    c.handed-handed.ensures
     ∙ rw (← c.self.view_is) (ap handed_after (sym
     (found_there (is_at c.args.port) _ c.index_listed.result c.in-Some.index _ at c.in-Some.is
     c.index_mut-connection.ensures.value)))
