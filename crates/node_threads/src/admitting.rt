@@ -18,7 +18,7 @@ impl<'a, J: NodeNaming, S: Stated<J>, G: Gate> Shared<'a, J, S, G> {
     /// listener is closed.
     pub(crate) fn admit<R: Wait + Clock>(&self, rt: &R, port: Port, bytes: u64) -> Option<Entering>
         requires { bytes ≤ PIECE_BYTES }
-        ensures all { IfSome result (λ entering. entering ≡ bytes) }
+        ensures all { IfSome result (λ admitted. admitted ≡ bytes) }
         ensures none { bytes ≡ 0 → result ≡ None }
         ensures alone { length self.now.context.cluster.now ≤ 1 → result ≡ None }
     {
@@ -26,8 +26,8 @@ impl<'a, J: NodeNaming, S: Stated<J>, G: Gate> Shared<'a, J, S, G> {
             return None;
         }
         for _ in rt.forever() {
-            if let Some(entering) = self.context.peer.admit(rt, bytes) {
-                return Some(entering);
+            if let Some(admitted) = self.context.peer.admit(rt, bytes) {
+                return Some(admitted);
             }
             if self.needs_nothing_more(rt, port) {
                 return None;

@@ -44,9 +44,9 @@ impl<'e, 'a, J: NodeNaming, S: Stated<J>, G: Gate> Hearer for LaneReporter<'e, '
         let all = self.all;
         let shared = &served.shared;
         let index = self.link.index;
-        let entering = shared.admit(rt, self.link.port, client_bytes_of(&item));
+        let admitted = shared.admit(rt, self.link.port, client_bytes_of(&item));
         shared.send_and_take(rt, &mut self.lane, item);
-        shared.context.peer.count_taken(rt, entering);
+        shared.context.peer.count_taken(rt, admitted);
         served.help(rt, all);
         shared.writer().write_busy(rt, index, true);
     }

@@ -37,7 +37,7 @@ impl Model for Entering {
 
     ghost Value = { ℕ };
 
-    ghost view = { λ entering. entering.bytes };
+    ghost view = { λ admitted. admitted.bytes };
 }
 
 /// A node, and what waits for it. Its own thread takes what waits, and sleeps until something
@@ -274,7 +274,7 @@ impl Peer {
     /// is bounded. No clause says when it takes more.
     pub fn admit<R: Wait>(&self, rt: &R, bytes: u64) -> Option<Entering>
         requires { bytes ≤ PIECE_BYTES }
-        ensures { IfSome result (λ entering. entering ≡ bytes) }
+        ensures { IfSome result (λ admitted. admitted ≡ bytes) }
     {
         if self.intake.lock(rt).admit(bytes) {
             Some(Entering { bytes })
@@ -284,8 +284,8 @@ impl Peer {
     }
 
     /// Counts bytes that were in transit, if there are some, as taken.
-    pub fn count_taken<R: Wait>(&self, rt: &R, entering: Option<Entering>) {
-        match entering {
+    pub fn count_taken<R: Wait>(&self, rt: &R, admitted: Option<Entering>) {
+        match admitted {
             Some(Entering { bytes }) => self.intake.lock(rt).count_taken(bytes),
             None => {}
         }
