@@ -4,7 +4,7 @@ ghost use Rattle.std.specs.Prelude.{◌≡◌, ◌≤◌, IfSome, None, length};
 
 use crate::shared::Shared;
 use node::{Gate, NodeNaming, PIECE_BYTES, Port, Standing, Stated};
-use post::Entering;
+use post::AdmittedBytes;
 use std::sync::Wait;
 use std::thread;
 use std::time::{Clock, Duration};
@@ -16,7 +16,12 @@ impl<'a, J: NodeNaming, S: Stated<J>, G: Gate> Shared<'a, J, S, G> {
     /// Waits until the node takes this many more bytes from its clients, and counts them as in
     /// transit. None count if there is only one node, the node has closed the connection, or the
     /// listener is closed.
-    pub(crate) fn admit<R: Wait + Clock>(&self, rt: &R, port: Port, bytes: u64) -> Option<Entering>
+    pub(crate) fn admit<R: Wait + Clock>(
+        &self,
+        rt: &R,
+        port: Port,
+        bytes: u64,
+    ) -> Option<AdmittedBytes>
         requires { bytes ≤ PIECE_BYTES }
         ensures all { IfSome result (λ admitted. admitted ≡ bytes) }
         ensures none { bytes ≡ 0 → result ≡ None }

@@ -21,6 +21,6 @@ mod working;
 
 pub use laws::ports_differ;
 pub use node_context::NodeContexts;
-pub use opened::Opened;
+pub use opened::OpenedNode;
 pub use served_node::{NodeReport, ServedNode, start_all};
 pub use working::THREADS;

@@ -5,7 +5,7 @@ use node::{Item, NodeCore};
 
 /// A node that is about to serve, with its inbox, by which it receives everything.
 #[derive(Drop)]
-pub struct Opened {
+pub struct OpenedNode {
     /// The node's number.
     pub number: u8,
     /// Its inbox, which has no lanes yet.

@@ -6,7 +6,7 @@ ghost use Rattle.post.specs.outbox.Queued.{EachOpensAs};
 ghost use Rattle.node_threads.specs.Named.{AreNamed};
 
 use crate::node_context::{NodeContext, NodeContexts};
-use crate::opened::Opened;
+use crate::opened::OpenedNode;
 use crate::own_lane::OwnLane;
 use crate::shared::Shared;
 use crate::working::{LANES, LaneSlot, LaneSlots, THREADS, run};
@@ -56,7 +56,7 @@ impl<'a, J: NodeNaming, G: Gate> ServedNode<'a, J, NodeState<J>, G> {
         alloc: Global,
         context: NodeContext<'a>,
         config: &'a Config,
-        opened: Opened,
+        opened: OpenedNode,
         gate: Option<&'a G>,
     ) -> Result<ServedNode<'a, J, NodeState<J>, G>, Memory>
         requires context { context.listener.now.number ≡ opened.number }
@@ -65,7 +65,7 @@ impl<'a, J: NodeNaming, G: Gate> ServedNode<'a, J, NodeState<J>, G> {
         requires opens { EachOpensAs config.now J.first_of }
         ensures { IfOk result (λ node. node.number ≡ opened.number) }
     {
-        let Opened {
+        let OpenedNode {
             number,
             inbox,
             core,
@@ -150,7 +150,7 @@ pub fn start_all<'a, J: NodeNaming, R: Wait, G: Gate>(
     alloc: Global,
     contexts: NodeContexts<'a>,
     config: &'a Config,
-    opened: Vec<Opened>,
+    opened: Vec<OpenedNode>,
     gate: Option<&'a G>,
 ) -> Result<Vec<ServedNode<'a, J, NodeState<J>, G>>, Memory>
     requires named { AreNamed J.inbox_of J.first_of opened.items }

@@ -13,5 +13,5 @@ pub use addressed_message::AddressedMessage;
 pub use cluster::Cluster;
 pub use master::Idle;
 pub use outbox::{OrderError, later_commits_suffice, later_counts_suffice};
-pub use peer::{Entering, Peer};
+pub use peer::{AdmittedBytes, Peer};
 pub use queuing::{Given, Receivers, queue_all};

@@ -27,12 +27,12 @@ struct Urgency {
 
 /// Bytes of a client that count as in transit to a node. It cannot be dropped: it ends when they
 /// are counted as taken. So no code forgets to count them.
-pub struct Entering {
+pub struct AdmittedBytes {
     // How many they are; 0 if there is nothing to count.
     bytes: u64,
 }
 
-impl Model for Entering {
+impl Model for AdmittedBytes {
     ghost use Rattle.std.specs.Prelude.{ℕ};
 
     ghost Value = { ℕ };
@@ -272,21 +272,21 @@ impl Peer {
     /// Counts this many bytes of a client as in transit to the node, if it takes more. It takes
     /// none while too much of what it took is not agreed, so that what waits for a member that lags
     /// is bounded. No clause says when it takes more.
-    pub fn admit<R: Wait>(&self, rt: &R, bytes: u64) -> Option<Entering>
+    pub fn admit<R: Wait>(&self, rt: &R, bytes: u64) -> Option<AdmittedBytes>
         requires { bytes ≤ PIECE_BYTES }
         ensures { IfSome result (λ admitted. admitted ≡ bytes) }
     {
         if self.intake.lock(rt).admit(bytes) {
-            Some(Entering { bytes })
+            Some(AdmittedBytes { bytes })
         } else {
             None
         }
     }
 
     /// Counts bytes that were in transit, if there are some, as taken.
-    pub fn count_taken<R: Wait>(&self, rt: &R, admitted: Option<Entering>) {
+    pub fn count_taken<R: Wait>(&self, rt: &R, admitted: Option<AdmittedBytes>) {
         match admitted {
-            Some(Entering { bytes }) => self.intake.lock(rt).count_taken(bytes),
+            Some(AdmittedBytes { bytes }) => self.intake.lock(rt).count_taken(bytes),
             None => {}
         }
     }

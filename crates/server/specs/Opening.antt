@@ -4,10 +4,10 @@ use Rattle.atomic_table.specs.Seated.{TableId}
 use Rattle.mailbox.specs.Naming.{no_inbox}
 use Rattle.node_threads.specs.post.node_core.Core.{CountedCore, opening_core}
 use Rattle.node.specs.declared.Config.{Config}
-use Rattle.node_threads.specs.declared.opened.Opened.{Opened}
+use Rattle.node_threads.specs.declared.opened.OpenedNode.{OpenedNode}
 
 -- the inbox of the node of a number, among nodes that are about to serve
-abbrev pub inbox_among : List Opened → ℕ → TableId
+abbrev pub inbox_among : List OpenedNode → ℕ → TableId
 inbox_among [] number = no_inbox
 inbox_among (opened ∷ others) number =
     if opened.number == number then opened.inbox else inbox_among others number

@@ -11,7 +11,7 @@ use crate::outcome::Outcome;
 use crate::serve_error::ServeError;
 use crate::starting::can_start;
 use node::{Config, Gate, NoGate, NodeNaming, NodeState, OpeningError, Stated};
-use node_threads::{NodeContexts, NodeReport, Opened, ServedNode, THREADS, start_all};
+use node_threads::{NodeContexts, NodeReport, OpenedNode, ServedNode, THREADS, start_all};
 use post::Cluster;
 use std::alloc::Global;
 use std::marker::Brand;
@@ -135,7 +135,7 @@ fn serve_named<J, R, G, T, F>(
     alloc: Global,
     contexts: NodeContexts<'_>,
     config: &Config,
-    opened: Vec<Opened>,
+    opened: Vec<OpenedNode>,
     gate: Option<&G>,
     attend: F,
 ) -> Result<(T, Vec<NodeReport>), ServeError>

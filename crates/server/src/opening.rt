@@ -6,7 +6,7 @@ ghost use Rattle.server.specs.Opening.{first_in, inbox_among};
 
 use mailbox::Inbox;
 use node::{Config, MAX_NODE, NodeCore, OpeningError};
-use node_threads::{NodeContexts, Opened};
+use node_threads::{NodeContexts, OpenedNode};
 use std::alloc::Global;
 
 /// One more than the greatest number of a node.
@@ -19,7 +19,7 @@ pub(crate) fn open_all(
     alloc: Global,
     contexts: NodeContexts<'_>,
     config: &Config,
-) -> Result<Vec<Opened>, OpeningError>
+) -> Result<Vec<OpenedNode>, OpeningError>
     ensures named { IfOk result (λ opened.
         AreNamed (inbox_among opened.items) (first_in config.now) opened.items) }
     ensures all { IfOk result (λ opened.
@@ -38,14 +38,14 @@ pub(crate) fn open_all(
 }
 
 // Opens the node of a number.
-fn open(alloc: Global, number: u8, config: &Config) -> Result<Opened, OpeningError>
+fn open(alloc: Global, number: u8, config: &Config) -> Result<OpenedNode, OpeningError>
     requires low { 1 ≤ number }
     requires high { number ≤ MAX_NODE }
     ensures number { IfOk result (λ opened. opened.number ≡ number) }
     ensures core { IfOk result (λ opened. opened.core ≡ first_in config.now number) }
 {
     let core = NodeCore::new(alloc, number, config)?;
-    Ok(Opened {
+    Ok(OpenedNode {
         number,
         inbox: Inbox::new(alloc)?,
         core,

@@ -3,7 +3,7 @@
 ghost use Rattle.std.specs.Prelude.{◌≡◌};
 ghost use Rattle.std.specs.Arc.{arc_value};
 
-use crate::patient::Patient;
+use crate::patient::PatientReader;
 use crate::port_tap::PortTap;
 use crate::socket::Socket;
 use crate::write_slot::WriteSlot;
@@ -36,7 +36,7 @@ pub struct Link {
 
 /// A connection whose socket was full, and its token, kept as its stream.
 #[derive(Drop)]
-pub struct Blocked {
+pub struct BlockedLink {
     // The connection.
     link: Arc<Link, Global>,
     // The stream of its token, which is of the same port.
@@ -44,14 +44,14 @@ pub struct Blocked {
     ghost its: { stream.tap.port.0 ≡ (arc_value link).port.0 },
 }
 
-impl Blocked {
+impl BlockedLink {
     ghost use Rattle.streams.specs.WriteTokens.{IsTokenOf};
 
     /// Returns a connection and its token.
-    pub fn new(link: Arc<Link, Global>, token: WriteToken) -> Blocked
+    pub fn new(link: Arc<Link, Global>, token: WriteToken) -> BlockedLink
         requires { IsTokenOf (arc_value link).port token }
     {
-        Blocked {
+        BlockedLink {
             link,
             stream: token.into_stream(),
         }
@@ -61,7 +61,7 @@ impl Blocked {
     pub fn into_parts(self) -> (Arc<Link, Global>, WriteToken)
         ensures { IsTokenOf (arc_value result.0).port result.1 }
     {
-        let Blocked { link, stream } = self;
+        let BlockedLink { link, stream } = self;
         (link, WriteToken::new(stream))
     }
 }
@@ -112,10 +112,10 @@ impl Link {
     }
 
     /// Returns its stream, to be read.
-    pub fn source(&self) -> Patient<'_>
+    pub fn source(&self) -> PatientReader<'_>
         ensures { result.stream.now ≡ arc_value self.now.stream }
     {
-        Patient::new(&self.stream)
+        PatientReader::new(&self.stream)
     }
 
     /// Takes the token, with which the caller writes. There is none if another thread has it, which

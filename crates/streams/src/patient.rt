@@ -9,21 +9,21 @@ use std::{hint, io};
 /// A stream that is read until something comes. While a thread writes on it that must not wait, a
 /// read does not wait either, and is repeated.
 #[derive(Drop)]
-pub struct Patient<'a> {
+pub struct PatientReader<'a> {
     // What is read. A thread that writes may set it not to wait.
     stream: &'a TcpStream,
 }
 
-impl<'a> Patient<'a> {
+impl<'a> PatientReader<'a> {
     /// Returns a reader of this stream.
-    pub fn new(stream: &'a TcpStream) -> Patient<'a>
+    pub fn new(stream: &'a TcpStream) -> PatientReader<'a>
         ensures { result.stream.now ≡ stream.now }
     {
-        Patient { stream }
+        PatientReader { stream }
     }
 }
 
-impl<'a> Read for Patient<'a> {
+impl<'a> Read for PatientReader<'a> {
     fn read(&mut self, buf: &mut [u8]) -> io::Result<usize> {
         let mut source = self.stream;
         for _ in 0..u64::MAX {

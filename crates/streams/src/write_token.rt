@@ -16,7 +16,7 @@ pub(crate) type Stream = Outflow<PortTap, Socket>;
 
 /// The right to write on a connection's stream. A connection has one, made with it, so one thread
 /// at a time writes, and its stream is whole wherever the token is kept. It cannot be dropped: the
-/// thread that has it puts it back, makes a `Blocked` of it, or ends the stream.
+/// thread that has it puts it back, makes a `BlockedLink` of it, or ends the stream.
 pub struct WriteToken {
     // The stream that is written on, whole so far.
     stream: Stream,

@@ -3,14 +3,14 @@
 use std::alloc::{AllocError, Global};
 use std::sync::Mutex;
 use std::thread::Parker;
-use streams::{Blocked, MAX_CONNECTIONS};
+use streams::{BlockedLink, MAX_CONNECTIONS};
 
 /// The connections of a node whose sockets were full, each with its token. They are under a lock:
 /// no clause of a call says which there are.
 #[derive(Drop)]
 pub struct BlockedLinks {
     /// Those connections. There is capacity for all that a node serves.
-    pub(crate) links: Mutex<Vec<Blocked>>,
+    pub(crate) links: Mutex<Vec<BlockedLink>>,
     /// The thread that continues with them sleeps on this.
     pub(crate) waker: Parker,
 }
@@ -28,6 +28,6 @@ impl BlockedLinks {
 
 /// Returns an empty list with capacity for all connections that a node serves. The error is that
 /// memory ran out.
-pub(crate) fn empty_list(alloc: Global) -> Result<Vec<Blocked>, AllocError> {
+pub(crate) fn empty_list(alloc: Global) -> Result<Vec<BlockedLink>, AllocError> {
     Vec::with_capacity(alloc, usize::from(MAX_CONNECTIONS))
 }

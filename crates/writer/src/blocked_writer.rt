@@ -11,7 +11,7 @@ use std::alloc::Global;
 use std::mem;
 use std::sync::{Arc, Wait};
 use std::time::Duration;
-use streams::{Blocked, Closed, Link, WriteToken};
+use streams::{BlockedLink, Closed, Link, WriteToken};
 
 /// How long the thread sleeps at most before it looks whether the listener is closed, in
 /// milliseconds.
@@ -65,7 +65,7 @@ impl<'e, 'a, J: NodeNaming, S: Stated<J>, G: Gate> Writer<'e, 'a, J, S, G> {
                     .blocked
                     .links
                     .lock(rt)
-                    .push(Blocked::new(own, token))
+                    .push(BlockedLink::new(own, token))
                     .is_ok();
                 if !kept {
                     link.shut();
@@ -100,7 +100,7 @@ impl<'e, 'a, J: NodeNaming, S: Stated<J>, G: Gate> Writer<'e, 'a, J, S, G> {
 
     // Takes the connections whose sockets were full, and leaves a list with capacity for all that
     // the node serves. If there is no memory for that it takes none, so that they are tried later.
-    fn take_blocked<R: Wait>(&self, rt: &R) -> Vec<Blocked> {
+    fn take_blocked<R: Wait>(&self, rt: &R) -> Vec<BlockedLink> {
         match empty_list(self.alloc) {
             Ok(empty) => mem::replace(&mut *self.blocked.links.lock(rt), empty),
             Err(_) => Vec::new(self.alloc),

@@ -1,11 +1,11 @@
 use Rattle.std.proofs.Common.{◌≡◌, map}
 use Rattle.std.specs.Vec.Iter.{into_iter_items}
 use Rattle.node_threads.specs.Named.{AreNamed}
-use Rattle.node_threads.specs.declared.opened.Opened.{Opened}
+use Rattle.node_threads.specs.declared.opened.OpenedNode.{OpenedNode}
 use Rattle.node_threads.proofs.served_node.start_all.Given as goal
 
 abbrev pub invariant-loop-one : goal.invariant-loop-one
 invariant-loop-one g l = record {
   named : AreNamed g.J.Naming.inbox_of g.J.NodeNaming.first_of (into_iter_items l.one-iterator);
-  started : map (λ node. node.number) l.nodes.items ≡ map (λ (one : Opened). one.number) l.yielded;
+  started : map (λ node. node.number) l.nodes.items ≡ map (λ (one : OpenedNode). one.number) l.yielded;
 }

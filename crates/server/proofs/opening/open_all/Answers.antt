@@ -1,5 +1,5 @@
 use Rattle.std.proofs.Common.{Vec, Global, ◌∙◌, ap}
-use Rattle.node_threads.specs.declared.opened.Opened.{Opened}
+use Rattle.node_threads.specs.declared.opened.OpenedNode.{OpenedNode}
 use Rattle.server.proofs.Namesakes.{below_more, below_same, named_more, named_same}
 use Rattle.server.proofs.opening.open_all.Goals as goal
 use Rattle.server.proofs.opening.open_all.Goals.{then-is_some+in_ok-open+in_ok-push, else-is_some}
@@ -10,19 +10,19 @@ loop-number-preserved c =
       | then-is_some+in_ok-open+in_ok-push w ↦ record {
         named =
             named_more c.args.config.now c.loop-number.number c.loop-number.opened.items c.if-is_some.opened.items w.in_ok-open.field-0
-            (ap (λ (opened : Vec Opened Global). opened.items) w.opened-is ∙ w.in_ok-push.ensures.items) w.in_ok-open.ensures.number w.in_ok-open.ensures.core
+            (ap (λ (opened : Vec OpenedNode Global). opened.items) w.opened-is ∙ w.in_ok-push.ensures.items) w.in_ok-open.ensures.number w.in_ok-open.ensures.core
             c.loop-number.invariant.below c.loop-number.invariant.named;
         below =
             below_more c.loop-number.number c.loop-number.opened.items c.if-is_some.opened.items w.in_ok-open.field-0
-            (ap (λ (opened : Vec Opened Global). opened.items) w.opened-is ∙ w.in_ok-push.ensures.items) w.in_ok-open.ensures.number
+            (ap (λ (opened : Vec OpenedNode Global). opened.items) w.opened-is ∙ w.in_ok-push.ensures.items) w.in_ok-open.ensures.number
             c.loop-number.invariant.below;
       }
       | else-is_some w ↦ record {
         named =
             named_same c.args.config.now c.loop-number.opened.items c.if-is_some.opened.items
-            (ap (λ (opened : Vec Opened Global). opened.items) w.opened-is) c.loop-number.invariant.named;
+            (ap (λ (opened : Vec OpenedNode Global). opened.items) w.opened-is) c.loop-number.invariant.named;
         below =
             below_same c.loop-number.number c.loop-number.opened.items c.if-is_some.opened.items
-            (ap (λ (opened : Vec Opened Global). opened.items) w.opened-is) c.loop-number.invariant.below;
+            (ap (λ (opened : Vec OpenedNode Global). opened.items) w.opened-is) c.loop-number.invariant.below;
       }
     ]
