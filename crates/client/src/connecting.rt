@@ -3,7 +3,7 @@
 ghost use Rattle.std.specs.Prelude.{◌≡◌, [], false, true, if◌then◌else◌, IfOk, OnOk};
 ghost use Rattle.std.specs.Prelude.{OnErr, IsErrOf};
 ghost use Rattle.client_base.specs.State.{resent, is_online};
-ghost use Rattle.client_base.specs.Calls.{opened, confirmed, discarded, numbered};
+ghost use Rattle.client_base.specs.Calls.{opened, on_connack, discarded, numbered};
 ghost use Rattle.client_base.specs.Steps.{Call, keeper_step};
 ghost use Rattle.client.specs.Core.{OpensConnection, LeavesServer, AppendsAll};
 ghost use Rattle.client.specs.Inside.Handling.{Tries, with_state, all_sent};
@@ -47,8 +47,8 @@ impl ClientCore {
     /// Handles CONNACK 0: sends again what is kept. If the server has no session any more, drops it
     /// with [`ClientError::SessionLost`]. [`ClientError::Memory`] comes if memory runs out, and
     /// then nothing changes.
-    pub(crate) fn on_accepted(&mut self, present: bool) -> Result<(), ClientError>
-        ensures { Tries (confirmed present self.old.state) self.old result self.new }
+    pub(crate) fn on_connack(&mut self, present: bool) -> Result<(), ClientError>
+        ensures { Tries (on_connack present self.old.state) self.old result self.new }
     {
         if !present && self.session > 0 {
             self.discard();

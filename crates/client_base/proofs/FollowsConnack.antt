@@ -8,7 +8,7 @@ use Rattle.client_base.specs.declared.error.ClientError.TheVariants as errors
 use Rattle.client_base.specs.declared.stage.Stage.TheVariants as stages
 use Rattle.client_base.specs.State.{ClientState, publish_kept, resent}
 use Rattle.client_base.specs.Answered.{ClientOutcome}
-use Rattle.client_base.specs.Calls.{confirmed, discarded, numbered}
+use Rattle.client_base.specs.Calls.{on_connack, discarded, numbered}
 use Rattle.client_base.specs.Keeper.{Written, Keeper, Side}
 use Rattle.client_base.specs.Written.{plain, sent_all, written_again, written_first}
 use Rattle.client_base.specs.Written as history
@@ -125,7 +125,7 @@ second true c e = absurd (both_ways false refl e)
 second false c e = e
 
 pub confirmed_follows : (present : Bool) (side : Side ℕ) (state : ClientState) → KeeperStandsFor side.keeper state → side.keeper.is_open ≡ true
-    → Same side (handling.confirmed present side) (confirmed present state)
+    → Same side (handling.confirmed present side) (on_connack present state)
 confirmed_follows present side state s up =
     by (not present && nat_lt 0 state.session) (not present && side.keeper.was_served) (ap (λ b. not present && b) s.was_served)
     (second present (nat_lt 0 state.session))

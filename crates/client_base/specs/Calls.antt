@@ -46,8 +46,8 @@ abbrev pub numbered : ClientState → ClientState
 numbered state = record state { session = if state.session == 0 then 1 else state.session }
 
 -- CONNACK 0: what is in flight is sent again, then what was not sent yet (MQTT 3.2.2, 4.4)
-abbrev pub confirmed : Bool → ClientState → ClientOutcome
-confirmed present state =
+abbrev pub on_connack : Bool → ClientState → ClientOutcome
+on_connack present state =
     let lacking = loses_session present state in
     let kept = if lacking then discarded state else numbered state in
     record {
@@ -65,7 +65,7 @@ confirmed present state =
 
 -- the first one on a connection has to be CONNACK (MQTT 3.2)
 abbrev pub on_first : Packet → ClientState → ClientOutcome
-on_first (packets.Connack (connacks.Accepted present)) state = confirmed present state
+on_first (packets.Connack (connacks.Accepted present)) state = on_connack present state
 on_first (packets.Connack (connacks.Refused code)) state = ending errors.NotActive state
 on_first _ state = ending errors.Protocol state
 

@@ -20,7 +20,7 @@ use Rattle.client.specs.client_base.declared.stage.Stage.{Stage}
 use Rattle.client.specs.client_base.declared.stage.Stage.TheVariants as stages
 use Rattle.client.specs.client_base.State.{ClientState, is_online, is_open}
 use Rattle.client.specs.client_base.Answered.{ClientOutcome, accepted_of, accepting, awaits_pubrec, on_publish, on_pubrec}
-use Rattle.client.specs.client_base.Calls.{confirmed, discarded, loses_session, numbered, on_first, on_later, client_receives}
+use Rattle.client.specs.client_base.Calls.{on_connack, discarded, loses_session, numbered, on_first, on_later, client_receives}
 use Rattle.client.specs.client_base.Publishing.{publish_refusal, published}
 use Rattle.client.specs.client_base.Handled.{packet_handled, handled_first, handled_online}
 use Rattle.client.specs.client_base.Handshakes.{is_sent_with, pubrec_answered, takes_in}

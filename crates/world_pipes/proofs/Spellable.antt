@@ -18,7 +18,7 @@ use Rattle.client.specs.client_base.declared.stage.Stage.{Stage}
 use Rattle.client.specs.client_base.declared.stage.Stage.TheVariants as stages
 use Rattle.client.specs.client_base.State.{ClientState, lost, publish_kept, resent}
 use Rattle.client.specs.client_base.Answered.{ClientOutcome, awaits_pubrec, on_publish, on_pubrec}
-use Rattle.client.specs.client_base.Calls.{confirmed, discarded, numbered, loses_session, on_first, on_later, client_receives}
+use Rattle.client.specs.client_base.Calls.{on_connack, discarded, numbered, loses_session, on_first, on_later, client_receives}
 use Rattle.world_pipes.specs.StandsFor.{CanGoOut}
 
 -- what a step writes, and what it leaves
@@ -75,7 +75,7 @@ confirmed_where false present state fits = (
   record { keep_alive = fits.keep_alive; client = fits.client; released = fits.released; sent = each_append _ state.sent state.unsent fits.sent fits.unsent; unsent = tt },
 )
 
-confirmed_fits : (present : Bool) (state : ClientState) → CanGoOut state → AllSpelled (confirmed present state)
+confirmed_fits : (present : Bool) (state : ClientState) → CanGoOut state → AllSpelled (on_connack present state)
 confirmed_fits present state fits =
     let both = confirmed_where (loses_session present state) present state fits in
     record { writes = both.0; left = both.1 }
