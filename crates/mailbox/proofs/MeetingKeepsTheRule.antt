@@ -16,8 +16,8 @@ use Rattle.mailbox.proofs.PassNumbers.{repassed, repassed-same, repassed-other, 
 
 module _ {T : Type 0} where
   pub parts : (port : ℕ) (v : View T)
-      → v.sends ≡ true
-      → v.gets ≡ true
+      → v.is_of_lane ≡ true
+      → v.is_of_receiver ≡ true
       → Forks FitsRule port v (receiver_part v) (lane_part v)
   parts port v sends gets items views h at =
       let lane = (h.fits port v at).0 sends in
@@ -63,9 +63,9 @@ module _ {T : Type 0} where
       }
 
   pub meets : (port : ℕ) (v : View T) (other : ℕ) (w : View T)
-      → v.gets ≡ true
-      → v.sends ≡ false
-      → w.sends ≡ true
+      → v.is_of_receiver ≡ true
+      → v.is_of_lane ≡ false
+      → w.is_of_lane ≡ true
       → Merges FitsRule port v other w (joined v w) nobody
   meets port v other w gets silent sends items views h at apart there =
       let both : View T = joined v w in
@@ -107,8 +107,8 @@ module _ {T : Type 0} where
       }
 
   pub learns : (port : ℕ) (v : View T)
-      → v.sends ≡ true
-      → v.gets ≡ true
+      → v.is_of_lane ≡ true
+      → v.is_of_receiver ≡ true
       → Learns FitsRule port v (λ _. Learned v)
   learns port v sends gets items views h at =
       let lane = (h.fits port v at).0 sends in

@@ -36,7 +36,7 @@ module _ {T : Type 0} where
   }
 
   pub deals : (port : ℕ) (v : View T)
-      → v.gets ≡ true
+      → v.is_of_receiver ≡ true
       → 2 ^ 55 ≤ v.may_send
       → Forks FitsRule port v (dealing v) (dealt v)
   deals port v gets has items views h at =
@@ -85,7 +85,7 @@ module _ {T : Type 0} where
             );
       }
 
-  pub lends : (port : ℕ) (v : View T) → v.sends ≡ true → v.gets ≡ false → Forks FitsRule port v nobody v
+  pub lends : (port : ℕ) (v : View T) → v.is_of_lane ≡ true → v.is_of_receiver ≡ false → Forks FitsRule port v nobody v
   lends port v sends gets items views h at =
       let known = (h.fits port v at).0 sends in
       let vs : List (View T) = slice_set views port nobody in

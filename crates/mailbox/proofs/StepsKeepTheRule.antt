@@ -58,7 +58,7 @@ module _ {T : Type 0} where
       (so.0, omega (arith, so.1, length-append taken (x ∷ [])), so.2, so.3)
 
   pub sends : (n port : ℕ) (v : View T) (x : ℕ × T)
-      → v.sends ≡ true
+      → v.is_of_lane ≡ true
       → x.0 ≡ v.lane
       → length v.sent < 2 ^ 55
       → 0 < v.may_send
@@ -138,7 +138,7 @@ module _ {T : Type 0} where
       let size = ap length (items_of-append lane taken (x ∷ [])) in
       omega (arith, length-append (items_of_lane lane taken) (items_of_lane lane (x ∷ [])), size)
 
-  pub takes : (port : ℕ) (v : View T) → v.gets ≡ true → Pops FitsRule port v (Took v)
+  pub takes : (port : ℕ) (v : View T) → v.is_of_receiver ≡ true → Pops FitsRule port v (Took v)
   takes port v gets x items views h at =
       let known = (h.fits port v at).1 gets in
       let w : View T = record v { taken = v.taken ++ x ∷ [] } in

@@ -46,19 +46,19 @@ module _ {T : Type 0} where
             ((λ p. absurd (not_false p)), (λ p. absurd (not_false p)), so items views h at);
       }
 
-  pub lane_knows_so : (port : ℕ) (v : View T) → v.sends ≡ true → Forks FitsRule port v v (lane_knows v)
+  pub lane_knows_so : (port : ℕ) (v : View T) → v.is_of_lane ≡ true → Forks FitsRule port v v (lane_knows v)
   lane_knows_so port v sends =
       tells port v (lane_knows v).bounds (λ items views h at.
       let same = ap length ((h.fits port v at).0 sends).1 in (omega (arith, same), omega arith, h.finite, h.finite))
 
-  pub receiver_knows_so : (port : ℕ) (v : View T) → v.gets ≡ true → Forks FitsRule port v v (receiver_knows v)
+  pub receiver_knows_so : (port : ℕ) (v : View T) → v.is_of_receiver ≡ true → Forks FitsRule port v v (receiver_knows v)
   receiver_knows_so port v gets =
       tells port v (receiver_knows v).bounds (λ items views h at.
       let same = ap length ((h.fits port v at).1 gets).1 in
       (omega arith, omega (arith, same), (h.fits port v at).2.3, h.finite))
 
   -- a lane that sends no more gives its rights up
-  pub ends : (port : ℕ) (v : View T) → v.sends ≡ true → Forks FitsRule port v nobody (ended v)
+  pub ends : (port : ℕ) (v : View T) → v.is_of_lane ≡ true → Forks FitsRule port v nobody (ended v)
   ends port v sends items views h at =
       let mine = (h.fits port v at).2 in
       let same = ap length ((h.fits port v at).0 sends).1 in
@@ -121,7 +121,7 @@ module _ {T : Type 0} where
       }
 
   -- if the inbox holds nothing, all is taken that the receiver knows to be sent
-  arrived : (v : View T) → v.gets ≡ true → Held 0 (Knew v) → v.bounds.sent ≤ length (items_of_lane v.bounds.lane v.taken)
+  arrived : (v : View T) → v.is_of_receiver ≡ true → Held 0 (Knew v) → v.bounds.sent ≤ length (items_of_lane v.bounds.lane v.taken)
   arrived v gets (items, size, moment) =
       let h = moment.holds in
       let known = (h.fits moment.port v moment.knows).1 gets in
@@ -136,14 +136,14 @@ module _ {T : Type 0} where
   pub has_arrived :
       {A : Type 0} (result : Option A) (v w heard' : View T) (receiver : ReceiverView T) (receipt : ReceiptView)
       → heard' ≡ heard v w
-      → v.gets ≡ true
+      → v.is_of_receiver ≡ true
       → v.taken ≡ receiver.taken
       → w.bounds ≡ receipt.bounds
       → Held 0 (Knew heard')
       → IfNone result (HasArrived receipt receiver.taken)
   has_arrived (Some x) v w heard' receiver receipt is gets taken bounds empty = tt
   has_arrived None v w heard' receiver receipt is gets taken bounds empty =
-      let here = arrived heard' (ap (λ (u : View T). u.gets) is ∙ gets) empty in
+      let here = arrived heard' (ap (λ (u : View T). u.is_of_receiver) is ∙ gets) empty in
       subst (λ (y : Bounds × List (ℕ × T)). y.0.sent ≤ length (items_of_lane y.0.lane y.1))
       (λ i. (bounds i, taken i))
       (subst (λ (u : View T). u.bounds.sent ≤ length (items_of_lane u.bounds.lane u.taken)) is here)

@@ -21,11 +21,11 @@ no_bounds = record { lane = 0; sent = 0; taken = 0; most = 2 ^ 64 }
 -- more it may send, and what receipts say
 abbrev pub lane_view : {T : Type 0} → ℕ → List T → ℕ → ℕ → Bounds → View T
 lane_view lane sent met may_send bounds = record {
-  sends = true;
+  is_of_lane = true;
   lane = lane;
   sent = sent;
   met = met;
-  gets = false;
+  is_of_receiver = false;
   lanes = 0;
   taken = [];
   may_send = may_send;
@@ -37,11 +37,11 @@ lane_view lane sent met may_send bounds = record {
 -- has not made yet may send, how many all lanes may send, and what receipts say
 abbrev pub receiver_view : {T : Type 0} → ℕ → List (ℕ × T) → ℕ → ℕ → Bounds → View T
 receiver_view lanes taken may_send all bounds = record {
-  sends = false;
+  is_of_lane = false;
   lane = 0;
   sent = [];
   met = 0;
-  gets = true;
+  is_of_receiver = true;
   lanes = lanes;
   taken = taken;
   may_send = may_send;
@@ -62,7 +62,7 @@ module _ {T : Type 0} where
   -- what a lane's pass knows is true, and no other pass is this lane's
   abbrev pub FitsLane : (ℕ → ℕ) → (ℕ → List T) → List (ℕ × T) → ℕ → ℕ → View T → Type 0
   FitsLane pass_of sent taken made port view =
-      view.sends ≡ true
+      view.is_of_lane ≡ true
       → (port ≡ pass_of view.lane)
       × (view.sent ≡ sent view.lane)
       × (view.met ≤ length (items_of_lane view.lane taken))
@@ -71,7 +71,7 @@ module _ {T : Type 0} where
   -- what the receiver's pass knows is true, and no other pass is the receiver's
   abbrev pub FitsReceiver : ℕ → List (ℕ × T) → ℕ → ℕ → View T → Type 0
   FitsReceiver reader taken made port view =
-      view.gets ≡ true → (port ≡ reader) × (view.taken ≡ taken) × (view.lanes ≡ made)
+      view.is_of_receiver ≡ true → (port ≡ reader) × (view.taken ≡ taken) × (view.lanes ≡ made)
 
   -- what receipts say to a pass is true, and the greatest number of items that it knows is right
   abbrev pub FitsBounds : (ℕ → List T) → List (ℕ × T) → ℕ → View T → Type 0

@@ -8,11 +8,11 @@ module _ {T : Type 0} where
   -- a pass that knows nothing
   abbrev pub nobody : View T
   nobody = record {
-    sends = false;
+    is_of_lane = false;
     lane = 0;
     sent = [];
     met = 0;
-    gets = false;
+    is_of_receiver = false;
     lanes = 0;
     taken = [];
     may_send = 0;
@@ -73,7 +73,7 @@ module _ {T : Type 0} where
   -- the receiver's view with a lane's added
   abbrev pub joined : View T → View T → View T
   joined receiver sender = record receiver {
-    sends = sender.sends;
+    is_of_lane = sender.is_of_lane;
     lane = sender.lane;
     sent = sender.sent;
     met = sender.met;

@@ -19,7 +19,7 @@ pub struct Bounds {
 /// only in proofs: no value of it is made.
 pub struct View<T> {
     /// Whether a lane knows this.
-    pub sends: bool,
+    pub is_of_lane: bool,
     /// Which lane.
     pub lane: u8,
     /// What the lane sent, oldest first.
@@ -27,7 +27,7 @@ pub struct View<T> {
     /// How many of these the lane knows to be taken.
     pub met: u64,
     /// Whether the receiver knows this.
-    pub gets: bool,
+    pub is_of_receiver: bool,
     /// How many lanes were made.
     pub lanes: u8,
     /// What the receiver took, oldest first, each item with its lane.

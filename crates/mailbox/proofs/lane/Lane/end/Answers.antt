@@ -7,4 +7,4 @@ absorb-requires-clause-rule g c = hears _ _ _ _
 
 pub another-requires-clause-rule : goal.another-requires-clause-rule
 another-requires-clause-rule g c =
-    ends _ _ (ap (λ v. v.sends) c.absorb.ensures.rule ∙ ap (λ v. v.sends) c.self.invariant.role)
+    ends _ _ (ap (λ v. v.is_of_lane) c.absorb.ensures.rule ∙ ap (λ v. v.is_of_lane) c.self.invariant.role)

@@ -16,7 +16,7 @@ push_as-requires-clause-rule g c =
     let may_send = ap (λ v. v.may_send) heard in
     let role = ap (λ v. v.may_send) kept.role in (
       sends _ _ _ _
-          (ap (λ v. v.sends) heard ∙ ap (λ v. v.sends) kept.role)
+          (ap (λ v. v.is_of_lane) heard ∙ ap (λ v. v.is_of_lane) kept.role)
           (sym (ap (λ v. v.lane) heard ∙ ap (λ v. v.lane) kept.role))
           (omega (arith, sent))
           (omega (arith, may_send, role)),

@@ -11,13 +11,13 @@ absorb-requires-clause-rule g c = hears _ _ _ _
 
 pub pop_as-requires-clause-rule : goal.pop_as-requires-clause-rule
 pop_as-requires-clause-rule g c =
-    (takes _ _ (ap (λ v. v.gets) c.absorb.ensures.rule ∙ ap (λ v. v.gets) c.self.invariant.role), moments _ _)
+    (takes _ _ (ap (λ v. v.is_of_receiver) c.absorb.ensures.rule ∙ ap (λ v. v.is_of_receiver) c.self.invariant.role), moments _ _)
 
 pub returns-in_err-lane-clause-arrived : goal.returns-in_err-lane-clause-arrived
 returns-in_err-lane-clause-arrived g c =
     has_arrived c.from_residual.result (view c.self.inside.pass) (view c.receipt.inside.pass) _ c.args.self.now c.args.receipt
     c.absorb.ensures.rule
-    (ap (λ v. v.gets) c.self.invariant.role)
+    (ap (λ v. v.is_of_receiver) c.self.invariant.role)
     (ap (λ r. r.taken) c.self.view_is)
     (ap (λ r. r.bounds) c.receipt.view_is)
     c.in_err-lane.ensures.rule.1
