@@ -220,7 +220,7 @@ impl ListReading {
     // that one above QoS 0 is taken, and retains one with RETAIN.
     fn publish(&mut self, at: usize, publish: &Publish) -> Option<()> {
         if let Delivery::ExactlyOnce(_, id) = publish.delivery {
-            if self.sessions.get_mut(at)?.is_repeat(id)? {
+            if self.sessions.get_mut(at)?.note_identifier(id)? {
                 return Some(());
             }
             for session in self.sessions.iter_mut() {

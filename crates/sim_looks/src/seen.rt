@@ -111,7 +111,7 @@ impl Seen {
             return Some(Err(Broken::Accepted));
         }
         let is_checked = !one.retain && !is_stray(one, strays);
-        if is_checked && !self.is_newer(one)? {
+        if is_checked && !self.note_number(one)? {
             return Some(Err(Broken::Order));
         }
         Some(Ok(()))
@@ -152,8 +152,9 @@ impl Seen {
                 .all(|(one, entry)| is_entry(one, entry))
     }
 
-    // Says whether it is newer than the last one of its publisher, and keeps its number.
-    fn is_newer(&mut self, one: &Accepted) -> Option<bool> {
+    // Keeps the number of one that was accepted. Returns whether it is newer than the last one of
+    // its publisher.
+    fn note_number(&mut self, one: &Accepted) -> Option<bool> {
         let (index, serial) = made_by(&one.payload)?;
         for _ in self.last.len()..=index as usize {
             self.last.push(0).ok()?;

@@ -62,8 +62,8 @@ impl Session {
         }
     }
 
-    /// Says whether a PUBLISH with this identifier is a repeat, and keeps the identifier.
-    pub fn is_repeat(&mut self, id: PacketId) -> Option<bool> {
+    /// Keeps the identifier of a PUBLISH. Returns whether it is a repeat.
+    pub fn note_identifier(&mut self, id: PacketId) -> Option<bool> {
         if self.received.iter().any(|it| *it == id) {
             return Some(true);
         }
