@@ -34,7 +34,7 @@ impl<'a, J: NodeNaming, S: Stated<J>, G: Gate> ServedNode<'a, J, S, G> {
     fn help_each<R: Wait + Clock>(&self, rt: &R, all: &[ServedNode<'a, J, S, G>]) -> bool {
         let mut had_one = false;
         for node in all {
-            if node.shared.context.peer.wants_help(rt) && node.try_turn(rt) {
+            if node.shared.context.peer.ask_for_help(rt) && node.try_turn(rt) {
                 had_one = true;
                 self.write_for(rt, node);
             }

@@ -219,9 +219,10 @@ impl Peer {
         !self.outbox.lock(rt).is_empty()
     }
 
-    /// Says whether a thread that queued something for the node should do its turn: few items wait,
-    /// one of them is urgent, and the node's own thread sleeps. If more wait, wakes that thread.
-    pub fn wants_help<R: Wait>(&self, rt: &R) -> bool {
+    /// Asks a thread that queued something for the node to do its turn. Returns whether it should:
+    /// few items wait, one of them is urgent, and the node's own thread sleeps. If more wait, wakes
+    /// that thread.
+    pub fn ask_for_help<R: Wait>(&self, rt: &R) -> bool {
         let waiting = self.urgency(rt);
         if waiting.is_urgent && waiting.is_long {
             self.waker.wake(rt);

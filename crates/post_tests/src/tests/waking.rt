@@ -121,7 +121,7 @@ fn ask<R: Wait>(rt: &R, cluster: &Cluster, node: u8) -> Option<Shown> {
     let peer = cluster.node(node)?;
     Some(Shown {
         is_wanted: peer.is_wanted(rt),
-        needs_help: peer.wants_help(rt),
+        needs_help: peer.ask_for_help(rt),
     })
 }
 
@@ -175,7 +175,7 @@ fn queue_and_doze<R: Wait + Clock>(
         }
     }
     peer.doze(rt);
-    let helps = peer.wants_help(rt);
+    let helps = peer.ask_for_help(rt);
     Some((helps, is_woken(rt, peer)?))
 }
 
