@@ -43,7 +43,7 @@ at_work (Ok x) Can Refuses can = tt
 at_work (Err fault) Can Refuses can = λ cannot. absurd (cannot can)
 
 -- the text is no table
-no_table : (cause : TableFault) (fault : JobError) → fault ≡ table_fault_of cause → (fault ≡ faults.Config) ⊎ (fault ≡ faults.Memory)
+no_table : (cause : TableFault) (fault : JobError) → fault ≡ table_fault_of cause → (fault ≡ faults.Table) ⊎ (fault ≡ faults.Memory)
 no_table tables.Shape fault is = inl is
 no_table tables.Memory fault is = inr is
 
@@ -128,7 +128,7 @@ not_0 (faults.Files count) is = absurd (omega (arith, is))
 not_0 (faults.File file kind) is = absurd (omega (arith, is))
 not_0 (faults.Address address kind) is = absurd (omega (arith, is))
 not_0 faults.Words is = absurd (omega (arith, is))
-not_0 faults.Config is = absurd (omega (arith, is))
+not_0 faults.Table is = absurd (omega (arith, is))
 not_0 (faults.Script number) is = absurd (omega (arith, is))
 not_0 faults.Losses is = absurd (omega (arith, is))
 not_0 faults.Idle is = absurd (omega (arith, is))

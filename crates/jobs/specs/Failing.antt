@@ -21,7 +21,7 @@ IsTable text = (table : NodeTable) × IsTableText text table
 
 -- if the text is no table, the fault says so, or memory ran out
 abbrev pub FailsToServe : List ℕ → JobError → Type 0
-FailsToServe text fault = (IsTable text → ⊥) → (fault ≡ faults.Config) ⊎ (fault ≡ faults.Memory)
+FailsToServe text fault = (IsTable text → ⊥) → (fault ≡ faults.Table) ⊎ (fault ≡ faults.Memory)
 
 -- the publication that the words of `pub` ask for
 abbrev pub asked_publication : Publish → Publication

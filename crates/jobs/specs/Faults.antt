@@ -29,7 +29,7 @@ exit_status (faults.Files count) = 1
 exit_status (faults.File file kind) = 1
 exit_status (faults.Address address kind) = 1
 exit_status faults.Words = 2
-exit_status faults.Config = 3
+exit_status faults.Table = 3
 exit_status (faults.Script number) = 3
 exit_status faults.Losses = 1
 exit_status faults.Idle = 3
@@ -59,14 +59,14 @@ played_fault_of plays.Idle = faults.Idle
 
 -- for nodes that were not served
 abbrev pub served_fault_of : ServeError → JobError
-served_fault_of serves.BadMembers = faults.Config
+served_fault_of serves.BadMembers = faults.Table
 served_fault_of serves.Memory = faults.Memory
 served_fault_of serves.Clock = faults.Clock
 served_fault_of serves.Threads = faults.Threads
 
 -- for a table of nodes that could not be read
 abbrev pub table_fault_of : TableFault → JobError
-table_fault_of tables.Shape = faults.Config
+table_fault_of tables.Shape = faults.Table
 table_fault_of tables.Memory = faults.Memory
 
 -- for a client that did not do its job

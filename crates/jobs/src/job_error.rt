@@ -43,7 +43,7 @@ pub enum JobError {
     Words,
     /// The file is no table of nodes.
     #[error("config")]
-    Config,
+    Table,
     /// A text is no script, by this line of it, counted from 1.
     #[error("{cause}", cause = PlayError::Line(*.0))]
     Script(u64),
@@ -86,7 +86,7 @@ impl JobError {
             | JobError::SessionPresent
             | JobError::Lost => 1,
             JobError::Words => 2,
-            JobError::Config | JobError::Script(_) | JobError::Idle | JobError::Refused(_) => 3,
+            JobError::Table | JobError::Script(_) | JobError::Idle | JobError::Refused(_) => 3,
         }
     }
 }
@@ -116,7 +116,7 @@ impl From<ServeError> for JobError {
 
     fn from(error: ServeError) -> JobError {
         match error {
-            ServeError::BadMembers => JobError::Config,
+            ServeError::BadMembers => JobError::Table,
             ServeError::Memory => JobError::Memory,
             ServeError::Clock => JobError::Clock,
             ServeError::Threads => JobError::Threads,
@@ -131,7 +131,7 @@ impl From<TableFault> for JobError {
 
     fn from(fault: TableFault) -> JobError {
         match fault {
-            TableFault::Shape => JobError::Config,
+            TableFault::Shape => JobError::Table,
             TableFault::Memory => JobError::Memory,
         }
     }

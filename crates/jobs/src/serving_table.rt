@@ -43,7 +43,7 @@ where
     let bytes = bytes_of(rt, job.config)?;
     let text = str::from_utf8(bytes.as_slice())
         .ok()
-        .ok_or(JobError::Config)?;
+        .ok_or(JobError::Table)?;
     let table = table(rt.alloc(), text)?;
     find_files(rt, table.nodes.len().saturating_mul(FILES))?;
     serve_nodes(rt, &table, input, output, faults)
