@@ -10,7 +10,7 @@ use Rattle.user_client.specs.Listening.{SubscriberView, PrintsAccepted, listenin
 use Rattle.user_client.specs.declared.user_client_error.UserClientError.{UserClientError}
 use Rattle.jobs.specs.Done.{PrintsAll, SaysBye}
 use Rattle.jobs.specs.Failing.{FailsAt, FailsToServe}
-use Rattle.jobs.specs.Faults.{client_fault_of, exit_status, table_fault_of}
+use Rattle.jobs.specs.Faults.{error_of_client, exit_status, error_of_table}
 use Rattle.jobs.specs.Orders.{AreNumbers}
 use Rattle.jobs.specs.Transcripts.{IsScriptText, PlaysScript, PrintsPlayed, PrintsWay, PrintsWayOf}
 use Rattle.jobs.specs.declared.job_error.JobError.{JobError}
@@ -31,8 +31,8 @@ both (Err e) P Q one two = tt
 
 -- the words were refused
 pub by_words : {T : Type 0} (r : Result T JobError) (Can : Type 0) (Refuses : UserClientError → Type 0) (cause : UserClientError)
-    → IsErrAnd r (λ (fault : JobError). fault ≡ client_fault_of cause) → Refuses cause
-    → IfErr r (λ (fault : JobError). (Can → ⊥) → (it : UserClientError) × Refuses it × (fault ≡ client_fault_of it))
+    → IsErrAnd r (λ (fault : JobError). fault ≡ error_of_client cause) → Refuses cause
+    → IfErr r (λ (fault : JobError). (Can → ⊥) → (it : UserClientError) × Refuses it × (fault ≡ error_of_client it))
 by_words (Ok x) Can Refuses cause is refused = tt
 by_words (Err fault) Can Refuses cause is refused = λ cannot. (cause, refused, is)
 
@@ -43,12 +43,12 @@ at_work (Ok x) Can Refuses can = tt
 at_work (Err fault) Can Refuses can = λ cannot. absurd (cannot can)
 
 -- the text is no table
-no_table : (cause : TableFault) (fault : JobError) → fault ≡ table_fault_of cause → (fault ≡ faults.Table) ⊎ (fault ≡ faults.Memory)
+no_table : (cause : TableFault) (fault : JobError) → fault ≡ error_of_table cause → (fault ≡ faults.Table) ⊎ (fault ≡ faults.Memory)
 no_table tables.Shape fault is = inl is
 no_table tables.Memory fault is = inr is
 
 pub by_table : {T : Type 0} (r : Result T JobError) (text : List ℕ) (cause : TableFault)
-    → IsErrAnd r (λ (fault : JobError). fault ≡ table_fault_of cause) → IfErr r (FailsToServe text)
+    → IsErrAnd r (λ (fault : JobError). fault ≡ error_of_table cause) → IfErr r (FailsToServe text)
 by_table (Ok x) text cause is = tt
 by_table (Err fault) text cause is = λ cannot. no_table cause fault is
 

@@ -11,7 +11,7 @@ use Rattle.script.specs.session_base.declared.publication.Publication.{Publicati
 use Rattle.topics.specs.Text.{filter_fault}
 use Rattle.user_client.specs.Refusals.{IsPublishable, RefusesListener, RefusesPublisher}
 use Rattle.user_client.specs.declared.user_client_error.UserClientError.{UserClientError}
-use Rattle.jobs.specs.Faults.{client_fault_of, exit_status}
+use Rattle.jobs.specs.Faults.{error_of_client, exit_status}
 use Rattle.jobs.specs.declared.job_error.JobError.{JobError}
 use Rattle.jobs.specs.declared.job_error.JobError.TheVariants as faults
 
@@ -39,7 +39,7 @@ CanPublish job = IsPublishable job.id.now (asked_publication job)
 -- the fault is that of the first that is wrong, or memory ran out
 abbrev pub RefusesToPublish : Publish → JobError → Type 0
 RefusesToPublish job fault = (cause : UserClientError)
-    × RefusesPublisher job.id.now (asked_publication job) cause × (fault ≡ client_fault_of cause)
+    × RefusesPublisher job.id.now (asked_publication job) cause × (fault ≡ error_of_client cause)
 
 -- `pub` may fail with this fault: if its words are refused, it is theirs
 abbrev pub FailsToPublish : Publish → JobError → Type 0
@@ -52,7 +52,7 @@ CanSubscribe job = (client_fault job.id.now ≡ None) × (filter_fault job.filte
 -- the fault is that of the first that is wrong, or memory ran out
 abbrev pub RefusesToSubscribe : Subscribe → JobError → Type 0
 RefusesToSubscribe job fault = (cause : UserClientError)
-    × RefusesListener job.id.now job.filter.now cause × (fault ≡ client_fault_of cause)
+    × RefusesListener job.id.now job.filter.now cause × (fault ≡ error_of_client cause)
 
 -- `sub` may fail with this fault: if its words are refused, it is theirs
 abbrev pub FailsToSubscribe : Subscribe → JobError → Type 0

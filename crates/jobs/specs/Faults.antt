@@ -51,28 +51,28 @@ line_status lines.Incomplete = exit_status faults.Words
 line_status lines.Memory = exit_status faults.Memory
 
 -- for a script that was not played as it should be
-abbrev pub played_fault_of : PlayError → JobError
-played_fault_of (plays.Line number) = faults.Script number
-played_fault_of plays.Memory = faults.Memory
-played_fault_of plays.Losses = faults.Losses
-played_fault_of plays.Idle = faults.Idle
+abbrev pub error_of_play : PlayError → JobError
+error_of_play (plays.Line number) = faults.Script number
+error_of_play plays.Memory = faults.Memory
+error_of_play plays.Losses = faults.Losses
+error_of_play plays.Idle = faults.Idle
 
 -- for nodes that were not served
-abbrev pub served_fault_of : ServeError → JobError
-served_fault_of serves.BadMembers = faults.Table
-served_fault_of serves.Memory = faults.Memory
-served_fault_of serves.Clock = faults.Clock
-served_fault_of serves.Threads = faults.Threads
+abbrev pub error_of_serving : ServeError → JobError
+error_of_serving serves.BadMembers = faults.Table
+error_of_serving serves.Memory = faults.Memory
+error_of_serving serves.Clock = faults.Clock
+error_of_serving serves.Threads = faults.Threads
 
 -- for a table of nodes that could not be read
-abbrev pub table_fault_of : TableFault → JobError
-table_fault_of tables.Shape = faults.Table
-table_fault_of tables.Memory = faults.Memory
+abbrev pub error_of_table : TableFault → JobError
+error_of_table tables.Shape = faults.Table
+error_of_table tables.Memory = faults.Memory
 
 -- for a client that did not do its job
-abbrev pub client_fault_of : UserClientError → JobError
-client_fault_of (clients.Refused number) = faults.Refused number
-client_fault_of clients.SessionPresent = faults.SessionPresent
-client_fault_of clients.Lost = faults.Lost
-client_fault_of clients.Memory = faults.Memory
-client_fault_of clients.Output = faults.Output
+abbrev pub error_of_client : UserClientError → JobError
+error_of_client (clients.Refused number) = faults.Refused number
+error_of_client clients.SessionPresent = faults.SessionPresent
+error_of_client clients.Lost = faults.Lost
+error_of_client clients.Memory = faults.Memory
+error_of_client clients.Output = faults.Output

@@ -110,9 +110,9 @@ impl From<Memory> for JobError {
 }
 
 impl From<ServeError> for JobError {
-    ghost use Rattle.jobs.specs.Faults.{served_fault_of};
+    ghost use Rattle.jobs.specs.Faults.{error_of_serving};
 
-    ghost from_gives = { λ error fault. fault ≡ served_fault_of error };
+    ghost from_gives = { λ error fault. fault ≡ error_of_serving error };
 
     fn from(error: ServeError) -> JobError {
         match error {
@@ -125,9 +125,9 @@ impl From<ServeError> for JobError {
 }
 
 impl From<TableFault> for JobError {
-    ghost use Rattle.jobs.specs.Faults.{table_fault_of};
+    ghost use Rattle.jobs.specs.Faults.{error_of_table};
 
-    ghost from_gives = { λ error fault. fault ≡ table_fault_of error };
+    ghost from_gives = { λ error fault. fault ≡ error_of_table error };
 
     fn from(fault: TableFault) -> JobError {
         match fault {
@@ -138,9 +138,9 @@ impl From<TableFault> for JobError {
 }
 
 impl From<UserClientError> for JobError {
-    ghost use Rattle.jobs.specs.Faults.{client_fault_of};
+    ghost use Rattle.jobs.specs.Faults.{error_of_client};
 
-    ghost from_gives = { λ error fault. fault ≡ client_fault_of error };
+    ghost from_gives = { λ error fault. fault ≡ error_of_client error };
 
     fn from(fault: UserClientError) -> JobError {
         match fault {
@@ -154,9 +154,9 @@ impl From<UserClientError> for JobError {
 }
 
 impl From<PlayError> for JobError {
-    ghost use Rattle.jobs.specs.Faults.{played_fault_of};
+    ghost use Rattle.jobs.specs.Faults.{error_of_play};
 
-    ghost from_gives = { λ error fault. fault ≡ played_fault_of error };
+    ghost from_gives = { λ error fault. fault ≡ error_of_play error };
 
     fn from(error: PlayError) -> JobError {
         match error {
