@@ -17,7 +17,7 @@ pub record Prints (text : List ℕ) (old new : Option (List ℕ)) (losses : ℕ)
 pub record PrintsWay (text members : List ℕ) (client : List ℕ) (old new : Option (List ℕ))
     : Type 0 where
   pub way : List ℕ
-  pub told : TellsWay text members client [] way
+  pub printed : TellsWay text members client [] way
   pub written : Appends old new way
 
 -- the way out was written for the members and the client that the words name
