@@ -3,7 +3,7 @@ use Rattle.std.specs.Prelude.{◌≡◌, ℕ, true, List, max}
 use Rattle.master.specs.ballot_base.declared.status.Progress.{Progress}
 use Rattle.master.specs.ballot_base.Serving.{raised}
 use Rattle.node.specs.declared.Body.TheVariants.{Held, Commit}
-use Rattle.outbox.specs.Superseding.{covers}
+use Rattle.outbox.specs.Replacing.{covers}
 
 -- A Held that replaces an earlier one is of the same ballot, and a primary that receives only this
 -- one knows as much as one that receives both.

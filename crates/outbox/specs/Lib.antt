@@ -3,7 +3,7 @@ pub mod Laws
 pub mod Mastering
 pub mod Queued
 pub mod Refusals
-pub mod Superseding
+pub mod Replacing
 pub mod Waiting
 pub mod Waking
 pub use Rattle.node.specs.broker_spec as broker_spec

@@ -6,7 +6,7 @@ mod laws;
 mod messaging_master;
 mod order_error;
 mod outbox;
-mod superseding;
+mod replacing;
 mod waker;
 mod waking;
 

@@ -10,13 +10,13 @@ ghost use Rattle.node.specs.declared.Item.TheVariants.{Peer};
 ghost use Rattle.master.specs.snapshots.Masters.{assigned};
 ghost use Rattle.outbox.specs.Queued.{IsPosted, IsQueued};
 ghost use Rattle.outbox.specs.Mastering.{MayGet, message_of};
-ghost use Rattle.outbox.specs.Superseding.{newest_item, still_waiting, supersedes_one};
+ghost use Rattle.outbox.specs.Replacing.{newest_item, still_waiting, replaces_one};
 ghost use Rattle.outbox.specs.Waiting.{AreUnchanged, may_be_queued, is_of_node};
 ghost use Rattle.outbox.specs.Waking.{is_long, wakes};
 
 use crate::messaging_master::{Answer, MessagingMaster};
 use crate::order_error::OrderError;
-use crate::superseding::supersedes;
+use crate::replacing::replaces;
 use crate::waking::is_any_urgent;
 use ballot::MASTER;
 use master::AssignError;
@@ -80,7 +80,7 @@ impl Outbox {
     }
 
     /// Says whether an item waits that wakes the node. Few of the other items come in a row, since
-    /// each supersedes the one before it.
+    /// each replaces the one before it.
     pub fn is_urgent(&self) -> bool
         ensures { result ≡ list_any wakes self.now.items }
     {
@@ -95,9 +95,9 @@ impl Outbox {
         self.items.len() > MAX_HELPED
     }
 
-    /// Queues an item after all that waits, or replaces the newest if it supersedes that one.
+    /// Queues an item after all that waits, or in place of the newest if it replaces that one.
     /// Returns whether there was room and memory for it. If not, it is lost, and so is the one that
-    /// it supersedes.
+    /// it replaces.
     pub fn queue(&mut self, item: Item) -> bool
         requires { IsPosted self.old.number item }
         ensures queued { result ≡ true →
@@ -162,8 +162,8 @@ impl Outbox {
         Ok(ballot)
     }
 
-    // Queues an item after all that waits, or replaces the newest if it supersedes that one.
-    // Returns whether there was room and memory for it. The one that it supersedes is dropped
+    // Queues an item after all that waits, or in place of the newest if it replaces that one.
+    // Returns whether there was room and memory for it. The one that it replaces is dropped
     // before that is known.
     fn push(&mut self, item: Item) -> bool
         requires { IsQueued self.old.number item }
@@ -174,7 +174,7 @@ impl Outbox {
         ensures full { may_be_queued item (still_waiting item self.old.items) ≡ false →
             result ≡ false }
     {
-        self.drop_superseded(&item);
+        self.drop_replaced(&item);
         if !self.may_be_queued(&item) {
             return false;
         }
@@ -188,22 +188,22 @@ impl Outbox {
         !is_of_node(item) || self.items.len() < MAX_WAITING
     }
 
-    // Drops the newest of the items that wait, if this one supersedes it.
-    fn drop_superseded(&mut self, item: &Item)
+    // Drops the newest of the items that wait, if this one replaces it.
+    fn drop_replaced(&mut self, item: &Item)
         ensures { self.new ≡ record self.old { items = still_waiting item.now self.old.items } }
     {
-        if self.is_newest_superseded(item) {
+        if self.is_newest_replaced(item) {
             let kept = self.items.len().saturating_sub(1);
             self.items.truncate(kept);
         }
     }
 
-    // Says whether this item supersedes the newest that waits.
-    fn is_newest_superseded(&self, item: &Item) -> bool
-        ensures { result ≡ supersedes_one item.now (newest_item self.now.items) }
+    // Says whether this item replaces the newest that waits.
+    fn is_newest_replaced(&self, item: &Item) -> bool
+        ensures { result ≡ replaces_one item.now (newest_item self.now.items) }
     {
         match self.items.last() {
-            Some(newest) => supersedes(item, newest),
+            Some(newest) => replaces(item, newest),
             None => false,
         }
     }

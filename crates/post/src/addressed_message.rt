@@ -7,7 +7,7 @@ ghost use Rattle.node.specs.declared.Item.TheVariants.{Peer};
 ghost use Rattle.outbox.specs.Given.{IsMasterNumber};
 ghost use Rattle.outbox.specs.Queued.{WasGiven};
 ghost use Rattle.outbox.specs.Mastering.{answer_to, master_after_outcome, message_if};
-ghost use Rattle.outbox.specs.Superseding.{still_waiting};
+ghost use Rattle.outbox.specs.Replacing.{still_waiting};
 
 use crate::cluster::Cluster;
 use node::{Command, Item, Message};

@@ -7,8 +7,8 @@ use Rattle.outbox.proofs.outbox.Outbox.push.Goals as goal
 
 pub invariant_of-self : goal.invariant_of-self
 invariant_of-self c =
-    queued_more c.drop_superseded.new.self c.self.inside.number c.args.item (is_ok c.push.result) c.self.inside.items.items _
+    queued_more c.drop_replaced.new.self c.self.inside.number c.args.item (is_ok c.push.result) c.self.inside.items.items _
     c.self.view_is
-    (subst (λ (outbox : OutboxView). IsQueued outbox.number c.args.item) (sym c.drop_superseded.ensures) c.requires)
+    (subst (λ (outbox : OutboxView). IsQueued outbox.number c.args.item) (sym c.drop_replaced.ensures) c.requires)
     (search rules)
     c.self.invariant c.push.ensures.items

@@ -1,7 +1,7 @@
 use Rattle.std.proofs.Common.{sym, subst}
 use Rattle.outbox.specs.Waiting.{Waits}
 use Rattle.outbox.proofs.OutboxKept.{waits_taken}
-use Rattle.outbox.proofs.outbox.Outbox.drop_superseded.Goals as goal
+use Rattle.outbox.proofs.outbox.Outbox.drop_replaced.Goals as goal
 
 pub invariant_of-self : goal.invariant_of-self
 invariant_of-self c =

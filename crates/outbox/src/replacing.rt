@@ -1,14 +1,14 @@
 // Which message that waits for a node says nothing more, once another comes after it.
 
 ghost use Rattle.std.specs.Prelude.{◌≡◌};
-ghost use Rattle.outbox.specs.Superseding.{covers, is_commit_within, is_held_within, supersedes};
+ghost use Rattle.outbox.specs.Replacing.{covers, is_commit_within, is_held_within, replaces};
 
 use node::{Body, Command, Item};
 
 /// Says whether an item says all that an older one said. Then each is from the same node, and
 /// counts the places that it, or every member, holds in the same ballot.
-pub(crate) fn supersedes(item: &Item, older: &Item) -> bool
-    ensures { result ≡ supersedes item.now older.now }
+pub(crate) fn replaces(item: &Item, older: &Item) -> bool
+    ensures { result ≡ replaces item.now older.now }
 {
     match (item, older) {
         (Item::Peer(newer), Item::Peer(older)) => {

@@ -23,20 +23,20 @@ covers (Commit ballot held) older = is_commit_within ballot held older
 covers _ older = false
 
 -- whether an item says all that one before it said, which came from the same node
-abbrev pub supersedes : Item → Item → Bool
-supersedes (Peer newer) (Peer older) = newer.from == older.from && covers newer.body older.body
-supersedes _ _ = false
+abbrev pub replaces : Item → Item → Bool
+replaces (Peer newer) (Peer older) = newer.from == older.from && covers newer.body older.body
+replaces _ _ = false
 
 -- the newest of the items that wait
 abbrev pub newest_item : List Item → Option Item
 newest_item items = slice_get items (length items - 1)
 
--- whether an item supersedes this one, if there is one
-abbrev pub supersedes_one : Item → Option Item → Bool
-supersedes_one item (Some older) = supersedes item older
-supersedes_one item None = false
+-- whether an item replaces this one, if there is one
+abbrev pub replaces_one : Item → Option Item → Bool
+replaces_one item (Some older) = replaces item older
+replaces_one item None = false
 
--- what still waits when an item is queued: everything, except the newest if the item supersedes it
+-- what still waits when an item is queued: everything, except the newest if the item replaces it
 abbrev pub still_waiting : Item → List Item → List Item
 still_waiting item items =
-    if supersedes_one item (newest_item items) then take (length items - 1) items else items
+    if replaces_one item (newest_item items) then take (length items - 1) items else items
