@@ -82,7 +82,7 @@ impl<'a, J: NodeNaming, S: Stated<J>, G: Gate> ServedNode<'a, J, S, G> {
         let port = link.port;
         let lane = self.report_link(rt, all, lane, &link);
         link.shut();
-        self.shared.forget(rt, port);
+        self.shared.forget_closed(rt, port);
         lane
     }
 
@@ -125,7 +125,7 @@ impl<'a, J: NodeNaming, S: Stated<J>, G: Gate> Shared<'a, J, S, G> {
     }
 
     // Takes what the node still holds for a connection that has ended, so that it holds no more.
-    fn forget<R: Wait>(&self, rt: &R, port: Port) {
+    fn forget_closed<R: Wait>(&self, rt: &R, port: Port) {
         forget(self.alloc, self.node.lock(rt).state(), port);
     }
 }
