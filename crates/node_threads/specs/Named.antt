@@ -3,7 +3,7 @@ use Rattle.std.specs.Prelude.{◌≡◌, ℕ, List}
 use Rattle.atomic_table.specs.Seated.{TableId}
 use Rattle.post.specs.node_core.Core.{CountedCore}
 use Rattle.post.specs.lists.Lists.{Each}
-use Rattle.node_threads.specs.declared.opened.OpenedNode.{OpenedNode}
+use Rattle.node_threads.specs.declared.opened_node.OpenedNode.{OpenedNode}
 
 -- each of these nodes has the inbox and the first state for which its number stands
 abbrev pub AreNamed : (ℕ → TableId) → (ℕ → CountedCore) → List OpenedNode → Type 0

@@ -10,7 +10,7 @@ mod helping;
 mod lane_reporter;
 mod laws;
 mod node_context;
-mod opened;
+mod opened_node;
 mod own_lane;
 mod own_thread;
 mod served_node;
@@ -21,6 +21,6 @@ mod working;
 
 pub use laws::ports_differ;
 pub use node_context::NodeContexts;
-pub use opened::OpenedNode;
+pub use opened_node::OpenedNode;
 pub use served_node::{NodeReport, ServedNode, start_all};
 pub use working::THREADS;

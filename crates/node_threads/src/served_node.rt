@@ -6,7 +6,7 @@ ghost use Rattle.post.specs.outbox.Queued.{EachOpensAs};
 ghost use Rattle.node_threads.specs.Named.{AreNamed};
 
 use crate::node_context::{NodeContext, NodeContexts};
-use crate::opened::OpenedNode;
+use crate::opened_node::OpenedNode;
 use crate::own_lane::OwnLane;
 use crate::shared::Shared;
 use crate::working::{LANES, LaneSlot, LaneSlots, THREADS, run};

@@ -7,7 +7,7 @@ use Rattle.node_threads.specs.post.lists.Lists.{Each}
 use Rattle.node_threads.proofs.of_post.of_lists.OfEach.{each_append, each_then}
 use Rattle.node_threads.specs.Named.{AreNamed}
 use Rattle.server.specs.Opening.{first_in, inbox_among}
-use Rattle.node_threads.specs.declared.opened.OpenedNode.{OpenedNode}
+use Rattle.node_threads.specs.declared.opened_node.OpenedNode.{OpenedNode}
 
 above : (number other : ℕ) → number < other → (other == number) ≡ false
 above number other less = grind (arith, less)

@@ -3,7 +3,7 @@
 ghost use Rattle.std.specs.Prelude.{◌≡◌};
 ghost use Rattle.std.specs.Arc.{arc_value};
 
-use crate::patient::PatientReader;
+use crate::patient_reader::PatientReader;
 use crate::port_tap::PortTap;
 use crate::socket::Socket;
 use crate::write_slot::WriteSlot;

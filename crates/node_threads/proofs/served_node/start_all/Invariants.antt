@@ -1,7 +1,7 @@
 use Rattle.std.proofs.Common.{◌≡◌, map}
 use Rattle.std.specs.Vec.Iter.{into_iter_items}
 use Rattle.node_threads.specs.Named.{AreNamed}
-use Rattle.node_threads.specs.declared.opened.OpenedNode.{OpenedNode}
+use Rattle.node_threads.specs.declared.opened_node.OpenedNode.{OpenedNode}
 use Rattle.node_threads.proofs.served_node.start_all.Given as goal
 
 abbrev pub invariant-loop-one : goal.invariant-loop-one
