@@ -10,11 +10,11 @@ use Rattle.user_client.specs.Listening.{SubscriberView, PrintsAccepted, listenin
 use Rattle.user_client.specs.declared.user_client_error.UserClientError.{UserClientError}
 use Rattle.jobs.specs.Done.{PrintsAll, SaysBye}
 use Rattle.jobs.specs.Failing.{FailsAt, FailsToServe}
-use Rattle.jobs.specs.Faults.{error_of_client, exit_status, error_of_table}
+use Rattle.jobs.specs.Errors.{error_of_client, exit_status, error_of_table}
 use Rattle.jobs.specs.Orders.{AreNumbers}
 use Rattle.jobs.specs.Transcripts.{IsScriptText, PlaysScript, PrintsPlayed, PrintsWay, PrintsWayOf}
 use Rattle.jobs.specs.declared.job_error.JobError.{JobError}
-use Rattle.jobs.specs.declared.job_error.JobError.TheVariants as faults
+use Rattle.jobs.specs.declared.job_error.JobError.TheVariants as errors
 
 -- ---- results
 
@@ -43,7 +43,7 @@ at_work (Ok x) Can Refuses can = tt
 at_work (Err fault) Can Refuses can = λ cannot. absurd (cannot can)
 
 -- the text is no table
-no_table : (cause : TableFault) (fault : JobError) → fault ≡ error_of_table cause → (fault ≡ faults.Table) ⊎ (fault ≡ faults.Memory)
+no_table : (cause : TableFault) (fault : JobError) → fault ≡ error_of_table cause → (fault ≡ errors.Table) ⊎ (fault ≡ errors.Memory)
 no_table tables.Shape fault is = inl is
 no_table tables.Memory fault is = inr is
 
@@ -119,19 +119,19 @@ fails_somehow (Err e) = tt
 
 -- no fault ends with status 0
 pub not_0 : (fault : JobError) → exit_status fault ≡ 0 → ⊥
-not_0 faults.Memory is = absurd (omega (arith, is))
-not_0 faults.Input is = absurd (omega (arith, is))
-not_0 faults.Output is = absurd (omega (arith, is))
-not_0 faults.Clock is = absurd (omega (arith, is))
-not_0 faults.Threads is = absurd (omega (arith, is))
-not_0 (faults.Files count) is = absurd (omega (arith, is))
-not_0 (faults.File file kind) is = absurd (omega (arith, is))
-not_0 (faults.Address address kind) is = absurd (omega (arith, is))
-not_0 faults.Words is = absurd (omega (arith, is))
-not_0 faults.Table is = absurd (omega (arith, is))
-not_0 (faults.Script number) is = absurd (omega (arith, is))
-not_0 faults.Losses is = absurd (omega (arith, is))
-not_0 faults.Idle is = absurd (omega (arith, is))
-not_0 (faults.Refused number) is = absurd (omega (arith, is))
-not_0 faults.SessionPresent is = absurd (omega (arith, is))
-not_0 faults.Lost is = absurd (omega (arith, is))
+not_0 errors.Memory is = absurd (omega (arith, is))
+not_0 errors.Input is = absurd (omega (arith, is))
+not_0 errors.Output is = absurd (omega (arith, is))
+not_0 errors.Clock is = absurd (omega (arith, is))
+not_0 errors.Threads is = absurd (omega (arith, is))
+not_0 (errors.Files count) is = absurd (omega (arith, is))
+not_0 (errors.File file kind) is = absurd (omega (arith, is))
+not_0 (errors.Address address kind) is = absurd (omega (arith, is))
+not_0 errors.Words is = absurd (omega (arith, is))
+not_0 errors.Table is = absurd (omega (arith, is))
+not_0 (errors.Script number) is = absurd (omega (arith, is))
+not_0 errors.Losses is = absurd (omega (arith, is))
+not_0 errors.Idle is = absurd (omega (arith, is))
+not_0 (errors.Refused number) is = absurd (omega (arith, is))
+not_0 errors.SessionPresent is = absurd (omega (arith, is))
+not_0 errors.Lost is = absurd (omega (arith, is))

@@ -11,9 +11,9 @@ use Rattle.script.specs.session_base.declared.publication.Publication.{Publicati
 use Rattle.topics.specs.Text.{filter_fault}
 use Rattle.user_client.specs.Refusals.{IsPublishable, RefusesListener, RefusesPublisher}
 use Rattle.user_client.specs.declared.user_client_error.UserClientError.{UserClientError}
-use Rattle.jobs.specs.Faults.{error_of_client, exit_status}
+use Rattle.jobs.specs.Errors.{error_of_client, exit_status}
 use Rattle.jobs.specs.declared.job_error.JobError.{JobError}
-use Rattle.jobs.specs.declared.job_error.JobError.TheVariants as faults
+use Rattle.jobs.specs.declared.job_error.JobError.TheVariants as errors
 
 -- the text is a TOML document of a lawful table of nodes
 abbrev pub IsTable : List ℕ → Type 0
@@ -21,7 +21,7 @@ IsTable text = (table : NodeTable) × IsTableText text table
 
 -- if the text is no table, the fault says so, or memory ran out
 abbrev pub FailsToServe : List ℕ → JobError → Type 0
-FailsToServe text fault = (IsTable text → ⊥) → (fault ≡ faults.Table) ⊎ (fault ≡ faults.Memory)
+FailsToServe text fault = (IsTable text → ⊥) → (fault ≡ errors.Table) ⊎ (fault ≡ errors.Memory)
 
 -- the publication that the words of `pub` ask for
 abbrev pub asked_publication : Publish → Publication

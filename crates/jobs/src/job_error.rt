@@ -1,7 +1,7 @@
 // Why the program ends with another status than 0.
 
 ghost use Rattle.std.specs.Prelude.{◌≡◌};
-ghost use Rattle.jobs.specs.Faults.{exit_status};
+ghost use Rattle.jobs.specs.Errors.{exit_status};
 
 use command_line::TableFault;
 use play::PlayError;
@@ -110,7 +110,7 @@ impl From<Memory> for JobError {
 }
 
 impl From<ServeError> for JobError {
-    ghost use Rattle.jobs.specs.Faults.{error_of_serving};
+    ghost use Rattle.jobs.specs.Errors.{error_of_serving};
 
     ghost from_gives = { λ error fault. fault ≡ error_of_serving error };
 
@@ -125,7 +125,7 @@ impl From<ServeError> for JobError {
 }
 
 impl From<TableFault> for JobError {
-    ghost use Rattle.jobs.specs.Faults.{error_of_table};
+    ghost use Rattle.jobs.specs.Errors.{error_of_table};
 
     ghost from_gives = { λ error fault. fault ≡ error_of_table error };
 
@@ -138,7 +138,7 @@ impl From<TableFault> for JobError {
 }
 
 impl From<UserClientError> for JobError {
-    ghost use Rattle.jobs.specs.Faults.{error_of_client};
+    ghost use Rattle.jobs.specs.Errors.{error_of_client};
 
     ghost from_gives = { λ error fault. fault ≡ error_of_client error };
 
@@ -154,7 +154,7 @@ impl From<UserClientError> for JobError {
 }
 
 impl From<PlayError> for JobError {
-    ghost use Rattle.jobs.specs.Faults.{error_of_play};
+    ghost use Rattle.jobs.specs.Errors.{error_of_play};
 
     ghost from_gives = { λ error fault. fault ≡ error_of_play error };
 

@@ -3,7 +3,7 @@
 ghost use Rattle.std.specs.Prelude.{◌≡◌, ◌≢◌, IfErr, OnOk};
 ghost use Rattle.jobs.specs.Done.{IsJobDone};
 ghost use Rattle.jobs.specs.Failing.{EndsByFault, FailsAt};
-ghost use Rattle.jobs.specs.Faults.{exit_status};
+ghost use Rattle.jobs.specs.Errors.{exit_status};
 
 use crate::job_error::JobError;
 use crate::{scripts, serving_table, talking};

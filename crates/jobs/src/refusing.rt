@@ -2,7 +2,7 @@
 
 ghost use Rattle.std.specs.Prelude.{◌≡◌};
 ghost use Rattle.clap.specs.Values.{kind_of};
-ghost use Rattle.jobs.specs.Faults.{line_status, words_status};
+ghost use Rattle.jobs.specs.Errors.{line_status, words_status};
 
 use crate::job_error::JobError;
 use crate::performing::print_fault;

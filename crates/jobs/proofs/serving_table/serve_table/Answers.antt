@@ -1,7 +1,7 @@
 use Rattle.std.proofs.Common.{◌≡◌, ◌⊎◌}
 use Rattle.jobs.specs.Failing.{IsTable}
 use Rattle.jobs.specs.declared.job_error.JobError.{JobError}
-use Rattle.jobs.specs.declared.job_error.JobError.TheVariants as faults
+use Rattle.jobs.specs.declared.job_error.JobError.TheVariants as errors
 use Rattle.jobs.proofs.JobsEnd.{at_work, by_table, on_ok}
 use Rattle.jobs.proofs.serving_table.serve_table.Goals as goal
 
@@ -10,7 +10,7 @@ returns-clause-ok g c = on_ok c.serve_nodes.result (c.in_ok-table.field-0, c.in_
 
 pub returns-clause-refused : goal.returns-clause-refused
 returns-clause-refused g c =
-    at_work c.serve_nodes.result (IsTable c.args.text.now) (λ (fault : JobError). (fault ≡ faults.Table) ⊎ (fault ≡ faults.Memory))
+    at_work c.serve_nodes.result (IsTable c.args.text.now) (λ (fault : JobError). (fault ≡ errors.Table) ⊎ (fault ≡ errors.Memory))
     (c.in_ok-table.field-0, c.in_ok-table.ensures.value)
 
 pub returns-clause-untouched : goal.returns-clause-untouched

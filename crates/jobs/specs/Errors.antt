@@ -15,27 +15,27 @@ use Rattle.command_line.specs.declared.fault.LineFault.TheVariants as lines
 use Rattle.user_client.specs.declared.user_client_error.UserClientError.{UserClientError}
 use Rattle.user_client.specs.declared.user_client_error.UserClientError.TheVariants as clients
 use Rattle.jobs.specs.declared.job_error.JobError.{JobError}
-use Rattle.jobs.specs.declared.job_error.JobError.TheVariants as faults
+use Rattle.jobs.specs.declared.job_error.JobError.TheVariants as errors
 
 -- 1 for file, network, memory, clock and threads, a session that was there and one that was lost; 2
 -- for the command line; 3 for a table, a script or another argument, and no way out
 abbrev pub exit_status : JobError → ℕ
-exit_status faults.Memory = 1
-exit_status faults.Input = 1
-exit_status faults.Output = 1
-exit_status faults.Clock = 1
-exit_status faults.Threads = 1
-exit_status (faults.Files count) = 1
-exit_status (faults.File file kind) = 1
-exit_status (faults.Address address kind) = 1
-exit_status faults.Words = 2
-exit_status faults.Table = 3
-exit_status (faults.Script number) = 3
-exit_status faults.Losses = 1
-exit_status faults.Idle = 3
-exit_status (faults.Refused number) = 3
-exit_status faults.SessionPresent = 1
-exit_status faults.Lost = 1
+exit_status errors.Memory = 1
+exit_status errors.Input = 1
+exit_status errors.Output = 1
+exit_status errors.Clock = 1
+exit_status errors.Threads = 1
+exit_status (errors.Files count) = 1
+exit_status (errors.File file kind) = 1
+exit_status (errors.Address address kind) = 1
+exit_status errors.Words = 2
+exit_status errors.Table = 3
+exit_status (errors.Script number) = 3
+exit_status errors.Losses = 1
+exit_status errors.Idle = 3
+exit_status (errors.Refused number) = 3
+exit_status errors.SessionPresent = 1
+exit_status errors.Lost = 1
 
 -- 0 if the version was asked for, 1 if memory ran out, 2 for help and for each refused word or
 -- number
@@ -47,32 +47,32 @@ words_status kind = 2
 -- for a command line that gives no job
 abbrev pub line_status : LineFault → ℕ
 line_status (lines.Words error) = words_status (kind_of error)
-line_status lines.Incomplete = exit_status faults.Words
-line_status lines.Memory = exit_status faults.Memory
+line_status lines.Incomplete = exit_status errors.Words
+line_status lines.Memory = exit_status errors.Memory
 
 -- for a script that was not played as it should be
 abbrev pub error_of_play : PlayError → JobError
-error_of_play (plays.Line number) = faults.Script number
-error_of_play plays.Memory = faults.Memory
-error_of_play plays.Losses = faults.Losses
-error_of_play plays.Idle = faults.Idle
+error_of_play (plays.Line number) = errors.Script number
+error_of_play plays.Memory = errors.Memory
+error_of_play plays.Losses = errors.Losses
+error_of_play plays.Idle = errors.Idle
 
 -- for nodes that were not served
 abbrev pub error_of_serving : ServeError → JobError
-error_of_serving serves.BadMembers = faults.Table
-error_of_serving serves.Memory = faults.Memory
-error_of_serving serves.Clock = faults.Clock
-error_of_serving serves.Threads = faults.Threads
+error_of_serving serves.BadMembers = errors.Table
+error_of_serving serves.Memory = errors.Memory
+error_of_serving serves.Clock = errors.Clock
+error_of_serving serves.Threads = errors.Threads
 
 -- for a table of nodes that could not be read
 abbrev pub error_of_table : TableFault → JobError
-error_of_table tables.Shape = faults.Table
-error_of_table tables.Memory = faults.Memory
+error_of_table tables.Shape = errors.Table
+error_of_table tables.Memory = errors.Memory
 
 -- for a client that did not do its job
 abbrev pub error_of_client : UserClientError → JobError
-error_of_client (clients.Refused number) = faults.Refused number
-error_of_client clients.SessionPresent = faults.SessionPresent
-error_of_client clients.Lost = faults.Lost
-error_of_client clients.Memory = faults.Memory
-error_of_client clients.Output = faults.Output
+error_of_client (clients.Refused number) = errors.Refused number
+error_of_client clients.SessionPresent = errors.SessionPresent
+error_of_client clients.Lost = errors.Lost
+error_of_client clients.Memory = errors.Memory
+error_of_client clients.Output = errors.Output
