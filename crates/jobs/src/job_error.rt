@@ -92,18 +92,30 @@ impl JobError {
 }
 
 impl From<AllocError> for JobError {
+    ghost use Rattle.jobs.specs.declared.job_error.JobError.TheVariants.{Memory};
+
+    ghost from_gives = { λ _ error. error ≡ Memory };
+
     fn from(_error: AllocError) -> JobError {
         JobError::Memory
     }
 }
 
 impl<T: Drop> From<AllocFailed<T>> for JobError {
+    ghost use Rattle.jobs.specs.declared.job_error.JobError.TheVariants.{Memory};
+
+    ghost from_gives = { λ _ error. error ≡ Memory };
+
     fn from(_error: AllocFailed<T>) -> JobError {
         JobError::Memory
     }
 }
 
 impl From<Memory> for JobError {
+    ghost use Rattle.jobs.specs.declared.job_error.JobError.TheVariants as errors;
+
+    ghost from_gives = { λ _ error. error ≡ errors.Memory };
+
     fn from(_error: Memory) -> JobError {
         JobError::Memory
     }
