@@ -16,6 +16,6 @@ mod writing;
 pub use job_error::JobError;
 pub use performing::{perform, print_fault};
 pub use refusing::refuse;
-pub use scripts::{escape_text, play_text};
+pub use scripts::play_text;
 pub use serving_table::serve_table;
 pub use talking::{publish, subscribe};

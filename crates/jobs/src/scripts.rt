@@ -80,8 +80,8 @@ fn print_way<O: Write>(
     escape_text(alloc, text, members.as_slice(), &client, output)
 }
 
-/// Plays a script, and writes a way out of the world in which it ends, as lines that may follow it.
-pub fn escape_text<O: Write>(
+// Plays a script, and writes a way out of the world in which it ends, as lines that may follow it.
+fn escape_text<O: Write>(
     alloc: Global,
     text: &[u8],
     members: &[u8],

@@ -13,4 +13,3 @@ mod writing;
 pub use error::PlayError;
 pub use leading_out::escape;
 pub use playing::play;
-pub use writing::{write_accepted, write_done, write_end, write_idle};

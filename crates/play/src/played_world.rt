@@ -11,7 +11,7 @@ ghost use Rattle.play.specs.AcceptedLines.{accepted_by_client, accepted_lines, l
 
 use crate::error::PlayError;
 use crate::events::event_of;
-use crate::{write_accepted, write_done, write_end, write_idle};
+use crate::writing::{write_accepted, write_done, write_end, write_idle};
 use packet::ClientId;
 use script::{Opening, ScriptLine};
 use std::alloc::Global;

@@ -9,7 +9,7 @@ use printing::{print_line, print_text};
 use std::alloc::{AllocError, Global};
 
 /// Appends the line of an event that could not happen: `7 idle`.
-pub fn write_idle(alloc: Global, index: u64, text: &mut Vec<u8>) -> Result<(), AllocError>
+pub(crate) fn write_idle(alloc: Global, index: u64, text: &mut Vec<u8>) -> Result<(), AllocError>
     ensures { OnOk result (text.new.items ≡ text.old.items ++ idle_line index) }
 {
     let line = format!(in alloc; "{index} idle\n")?;
@@ -18,7 +18,7 @@ pub fn write_idle(alloc: Global, index: u64, text: &mut Vec<u8>) -> Result<(), A
 
 /// Appends the line of an event that happened, with how many messages were sent so far and how long
 /// the agreed list is: `7 ok msgs=3 agreed=1`.
-pub fn write_done(
+pub(crate) fn write_done(
     alloc: Global,
     index: u64,
     messages: u64,
@@ -33,7 +33,7 @@ pub fn write_done(
 
 /// Appends the line of a publication that a client accepted: `accepted b 1 2 0 t/1 x`, with the
 /// client's name and the number of its session; the rest as a subscriber prints it.
-pub fn write_accepted(
+pub(crate) fn write_accepted(
     alloc: Global,
     client: &ClientId,
     accepted: &Accepted,
@@ -52,7 +52,7 @@ pub fn write_accepted(
 
 /// Appends the last line, with how long the agreed list is and which ballot is active:
 /// `end agreed=8 active=2`.
-pub fn write_end(
+pub(crate) fn write_end(
     alloc: Global,
     agreed: u64,
     active: u64,
