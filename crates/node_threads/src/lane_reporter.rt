@@ -1,12 +1,12 @@
 // A connection's lane, by which the connection is reported to the node.
 
-ghost use Rattle.std.specs.Prelude.{◌≡◌, ◌≤◌, ◌++◌, ◌∷◌, [], min};
+ghost use Rattle.std.specs.Prelude.{◌≡◌, ◌≤◌, min};
 ghost use Rattle.node_threads.specs.Serving.{client_bytes};
 
 use crate::served_node::ServedNode;
-use connection::{Hearer, PIECE_BYTES};
+use connection::Hearer;
 use mailbox::Lane;
-use node::{Gate, Item, NodeNaming, Standing, Stated};
+use node::{Gate, Item, NodeNaming, PIECE_BYTES, Standing, Stated};
 use std::alloc::Global;
 use std::sync::{Arc, Wait};
 use std::time::Clock;

@@ -1,12 +1,13 @@
 // The lines of the events of a way out.
 
-ghost use Rattle.std.specs.Prelude.{◌≡◌, ◌++◌, ◌∷◌, [], OnOk, codes};
+ghost use Rattle.std.specs.Prelude.{◌≡◌, ◌++◌, OnOk, codes};
 ghost use Rattle.std.specs.Fmt.{decimal};
 ghost use Rattle.play.specs.Ways.{event_line, members_text, more_members, one_field, two_fields};
 
+use ballot_base::Config;
 use packet::ClientId;
 use std::alloc::{AllocError, Global};
-use world::{Config, Event};
+use world::Event;
 
 /// Appends the line of an event, as a script writes it; nothing for an event that no way out has.
 pub(crate) fn write_event(

@@ -12,10 +12,11 @@ ghost use Rattle.play.specs.AcceptedLines.{accepted_by_client, accepted_lines, l
 use crate::error::PlayError;
 use crate::events::event_of;
 use crate::writing::{write_accepted, write_done, write_end, write_idle};
+use client::Accepted;
 use packet::ClientId;
 use script::{Opening, ScriptLine};
 use std::alloc::Global;
-use world::{Accepted, Idle, World};
+use world::{Idle, World};
 
 /// A client, and how many of the publications that it accepted are written.
 #[derive(Drop)]

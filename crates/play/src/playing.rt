@@ -1,6 +1,6 @@
 // Playing a script.
 
-ghost use Rattle.std.specs.Prelude.{◌≡◌, ◌<◌, ◌++◌, ℕ, List, OnOk, OnErr, IsErrOf};
+ghost use Rattle.std.specs.Prelude.{◌≡◌, ◌<◌, ℕ, OnOk, OnErr, IsErrOf};
 ghost use Rattle.script.specs.declared.error.ScriptFault.TheVariants.{Line};
 ghost use Rattle.script.specs.Scripts.{Refuses, lines_of};
 ghost use Rattle.play.specs.Transcripts.{Plays};

@@ -1,6 +1,6 @@
 // Reading a script.
 
-ghost use Rattle.std.specs.Prelude.{◌≡◌, ◌+◌, ◌∷◌, ℕ, Some, None, IfOk, IfErr, IsErrOf};
+ghost use Rattle.std.specs.Prelude.{◌≡◌, ◌+◌, ◌∷◌, ℕ, IfOk, IfErr, IsErrOf};
 ghost use Rattle.script.specs.declared.opening.Opening.{Opening};
 ghost use Rattle.script.specs.declared.script_line.ScriptLine.{ScriptLine};
 ghost use Rattle.script.specs.Fields.{texts};

@@ -1,6 +1,6 @@
 // Writing what the node queued for a connection to its stream.
 
-ghost use Rattle.std.specs.Prelude.{◌≡◌, IfSome};
+ghost use Rattle.std.specs.Prelude.{IfSome};
 ghost use Rattle.std.specs.Arc.{arc_value};
 ghost use Rattle.streams.specs.WriteTokens.{HasWholeStream, IsTokenOf};
 
