@@ -48,7 +48,7 @@ impl<'a, J: NodeNaming, S: Stated<J>, G: Gate> ServedNode<'a, J, S, G> {
         let Some(mut own) = self.own.try_lock() else {
             return false;
         };
-        // Always so: the lane is this node's (see `ServedNode::own`).
+        // The numbers are always equal: the lane is this node's (see `ServedNode::own`).
         if own.number() == self.shared.context.peer.number {
             self.shared.take_queued_by(rt, &mut own);
         }

@@ -63,7 +63,7 @@ impl<'a, J: NodeNaming, S: Stated<J>, G: Gate> ServedNode<'a, J, S, G> {
     // got the time last.
     fn do_own_turn<R: Wait + Clock>(&self, rt: &R, last: LastTick) -> LastTick {
         let mut own = self.own.lock(rt);
-        // Never so: the lane is this node's (see `ServedNode::own`).
+        // The numbers are always equal: the lane is this node's (see `ServedNode::own`).
         if own.number() != self.shared.context.peer.number {
             return last;
         }

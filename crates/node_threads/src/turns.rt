@@ -86,8 +86,8 @@ impl<'a, J: NodeNaming, S: Stated<J>, G: Gate> Shared<'a, J, S, G> {
     {
         let mut node = self.node.lock(rt);
         let state = node.state();
-        // Never so: the lane is one of this node's inbox, and the permit is for its next taking.
-        // But the state is under a lock, so no clause says that.
+        // The numbers are always equal: the lane is one of this node's inbox, and the permit is for
+        // its next taking. No clause says so, since the state is under a lock.
         if state.inbox_number() != lane.inbox_number() || !permit.is_for(state) {
             return true;
         }

@@ -93,7 +93,7 @@ impl Peer {
         requires { addressed.receiver ≡ self.now.number }
     {
         let mut outbox = self.outbox.lock(rt);
-        // Always so: the outbox is this node's (see `Peer::outbox`).
+        // The numbers are always equal: the outbox is this node's (see `Peer::outbox`).
         if outbox.number() == self.number {
             let _ = addressed.queue_in(&mut outbox);
         } else {
@@ -163,7 +163,7 @@ impl Peer {
     {
         let mut master = master.lock(rt);
         let mut outbox = self.outbox.lock(rt);
-        // The numbers are equal: see the field `outbox`. If not, the answer is `Memory` too.
+        // The numbers are always equal: the outbox is this node's (see `Peer::outbox`).
         if outbox.number() != self.number {
             return Err(OrderError::Memory);
         }
@@ -184,7 +184,7 @@ impl Peer {
         requires { answer.receiver ≡ self.now.number }
     {
         let mut outbox = self.outbox.lock(rt);
-        // Always so: the outbox is this node's (see `Peer::outbox`).
+        // The numbers are always equal: the outbox is this node's (see `Peer::outbox`).
         if outbox.number() == self.number {
             let _ = outbox.queue_answer(answer);
         } else {
@@ -197,7 +197,7 @@ impl Peer {
         requires { IsPosted self.now.number item }
     {
         let mut outbox = self.outbox.lock(rt);
-        // Always so: the outbox is this node's (see `Peer::outbox`).
+        // The numbers are always equal: the outbox is this node's (see `Peer::outbox`).
         outbox.number() == self.number && outbox.queue(item)
     }
 
@@ -207,7 +207,7 @@ impl Peer {
         ensures { Each (IsQueued self.now.number) result.items }
     {
         let mut outbox = self.outbox.lock(rt);
-        // Never so: the outbox is this node's (see `Peer::outbox`).
+        // The numbers are always equal: the outbox is this node's (see `Peer::outbox`).
         if outbox.number() != self.number {
             return Vec::new(alloc);
         }
