@@ -17,7 +17,8 @@ CutsComeApart =
     (node other ticks : ℕ) → node ≤ max_node → other ≤ max_node →
     cuts_after node ticks ≡ true → cuts_after other ticks ≡ true → node ≡ other
 
--- a cut of a node, fewer than 50 ticks after this many
+-- a cut of a node, fewer than 50 ticks after this many. The number is what the law promises, so it
+-- stands apart from the code's constants, which `cuts_after` uses.
 pub record CutFollows (node ticks : ℕ) : Type 0 where
   pub more : ℕ
   pub soon : more < 50

@@ -7,7 +7,8 @@ use std::time::Clock;
 use writer::FIRST_INDEX;
 
 /// How many rounds over all nodes a thread makes at most, before it leaves what still comes to the
-/// nodes' own threads.
+/// nodes' own threads. An Append, its Held and the Commit after it take three, and a fourth finds
+/// what came meanwhile.
 const ROUNDS: u32 = 4;
 
 impl<'a, J: NodeNaming, S: Stated<J>, G: Gate> ServedNode<'a, J, S, G> {

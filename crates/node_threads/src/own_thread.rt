@@ -24,7 +24,8 @@ const TICK_MILLIS: u64 = 200;
 /// looks this takes about as long as it takes to wake a thread.
 const LOOKS_BEFORE_SLEEP: u32 = 64;
 
-/// How many spins it waits between two looks.
+/// How many spins it waits between two looks: less than a microsecond, so that a look finds an item
+/// soon after it came.
 const SPINS: u32 = 8;
 
 // When the node got the time last, and how many times, at most 2^64 - 1.
