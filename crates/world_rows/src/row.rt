@@ -97,7 +97,8 @@ pub struct Session(pub u64);
 /// Append that it lacks, and a Commit. The master sends a NewBallot to the primary of a ballot, and
 /// this a Join to each member before, who answers State. It sends an Install to each other member
 /// of its own, who answers Installed, and then Activate to the master. The master answers
-/// Activated, and the command that starts the ballot follows; or Superseded, if a later one waits.
+/// Activated, and the command that starts the ballot follows; or Superseded, if the ballot neither
+/// waits nor is active.
 #[derive(Clone, Copy, Debug, PartialEq, Eq)]
 pub enum Row {
     /// This happens. Then these messages were sent, and these commands are agreed.
