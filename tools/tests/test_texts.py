@@ -6,7 +6,7 @@ OURS, THEIRS = "crates/low/specs/Twins.antt", "crates/high/specs/Twins.antt"
 OUR_CODE, THEIR_CODE = "crates/low/src/twins.rt", "crates/high/src/twins.rt"
 # Twins may differ in layout, bound names, comments and contracts.
 PAIR = "pub Pair : Type 0\nPair = ℕ × {}\n"
-DOUBLE = "pub {0} : ℕ → ℕ\n{0} {1} = {1} + {1}\n"
+DOUBLE = "pub {0} : ℕ → ℕ\n{0} {1} =\n    added {1} {1}\n"
 CODE = "const MOST: usize = 7;\nfn keep()\n    ensures {{ {} }}\n{{\n    rest();\n}}\n"
 SCRIPTS = "crates/example_scripts/src/scripts.rt"
 SCRIPT, TRANSCRIPT = "examples/greeting.script", "examples/greeting.transcript"
@@ -31,7 +31,7 @@ class Twins(ToolTest):
     def test_names_each_text_that_differs(self):
         self.shows_edits(
             (THEIRS, "× \n  ℕ", "×\n  Pair", f"{THEIRS}:3: Pair differs from {OURS}:1"),
-            (THEIRS, "n + n", "n + 2", f"{THEIRS}:6: twice differs from {OURS}:4"),
+            (THEIRS, "added n", "taken n", f"{THEIRS}:6: twice differs from {OURS}:4"),
             (THEIR_CODE, "= 7", "= 8", f"{THEIR_CODE}:2: MOST differs from {OUR_CODE}:1"),
             (THEIR_CODE, "rest()", "all()", f"{THEIR_CODE}:6: keep differs from {OUR_CODE}:4"),
         )
