@@ -13,6 +13,7 @@ SCRIPT, TRANSCRIPT = "examples/greeting.script", "examples/greeting.transcript"
 COPY = "crates/high/stdout"
 CONTRACTS, REFUSALS = "docs/CONTRACTS.md", "docs/REFUSALS.md"
 REFUSING, HELP = "crates/low/src/refusal.rt", "crates/command_line/src/commands.rt"
+OPTIONS = "crates/command_line/src/arguments.rt"
 
 
 class Twins(ToolTest):
@@ -102,12 +103,17 @@ class Named(ToolTest):
 
 class Numbers(ToolTest):
     words, count = ["numbers"], "2 refusals, 1 limits, {} differ"
-    tables = {"LIMITS": [("low", "MAX_LETTERS", 7, {MANUAL: "at most 7 letters"})]}
+    tables = {
+        "LIMITS": [("low", "MAX_LETTERS", 7, {MANUAL: "at most 7 letters"})],
+        "RANGES": {"tries": "`--tries` is {:,} to {:,}."},
+    }
     files = RIGHT | {
         REFUSALS: "| 1 | TooLong | a word |\n| 2 | TooDeep | a sentence |\n",
         REFUSING: "    pub fn number(&self) -> u8\n    {\n        match self {\n            "
             "Refusal::TooLong => 1,\n            Refusal::TooDeep(_) => 2,\n        }\n    }\n",
-        MANUAL: "A word has at most\n7 letters.\n\n| Exit status | Means |\n|---|---|\n"
+        OPTIONS: "\npub(crate) fn tries<'a>() {\n    signed(1, 1000).help(\"1 to 1000\")\n}\n",
+        MANUAL: "A word has at most\n7 letters. `--tries` is 1 to 1,000.\n\n"
+            "| Exit status | Means |\n|---|---|\n"
             "| 0 | done |\n| 1 | a fault of file or memory |\n\n",
         HELP: 'const HELP: &str = "Exit status: 0 done;\n1 a fault of file or memory.\n";\n',
     }
@@ -119,6 +125,8 @@ class Numbers(ToolTest):
             (LOW, "= 7", "= 1 << 3", f"low: MAX_LETTERS is 8, and 7 here and in {MANUAL}"),
             (MANUAL, "7 letters", "8 letters",
                 f"{MANUAL}: no words 'at most 7 letters', by which it tells low MAX_LETTERS"),
+            (OPTIONS, "1000).", "2000).", f"{OPTIONS}: the help of --tries does not say 1 to 2000",
+                f"{MANUAL}: no words '`--tries` is 1 to 2,000.' for --tries"),
             (HELP, "file", "clock",
                 f"{HELP}: 1 is ['memory', 'clock'], and ['file', 'memory'] in {MANUAL}"),
         )
