@@ -69,3 +69,12 @@ class Picture(ToolTest):
                 "with others, at the\nend of this series"):
             self.commit(f"world: go\n\nChecked: {said}", "--amend")
             self.shows(STALE.format(STATUS))
+
+    def test_names_a_commit_that_says_comments_alone_and_changes_more(self):
+        said = "world: go\n\nChecked: comments alone"
+        self.put({CODE: "// It runs.\npub fn run()\n{}\n"})
+        self.commit(said)
+        self.shows(STALE.format(STATUS))
+        self.put({CODE: "// It runs.\npub fn run()\n{ }\n"})
+        name = self.commit(said, "--amend")
+        self.shows(f"{name} world: go: changes more than comments", STALE.format(STATUS))
