@@ -27,12 +27,12 @@ use Rattle.node_group.specs.node_core.Lossy.{Account, HandlesAll, Drives, Repeat
 use Rattle.node_group.specs.node_core.LossyProposals.{Declines, ProposesCommand}
 use Rattle.node_group.specs.node_core.LossyProposals.Declines.{no_room, forgets, stops}
 use Rattle.node_group.specs.node_core.Lossy.HandlesAll.{nothing, does, sends, loses}
-use Rattle.node_group.specs.node_core.LossyStep.{ActsOn, HoldsBytes, LosesAllFailed, AcceptsConnection, ReadsPackets, RunsOn, DoesItem}
-use Rattle.node_group.specs.node_core.LossyEndings.{EndsConnection, EndsSilent, LosesFailed}
+use Rattle.node_group.specs.node_core.LossyStep.{ActsOn, HoldsBytes, ReportsAllFailed, AcceptsConnection, ReadsPackets, RunsOn, DoesItem}
+use Rattle.node_group.specs.node_core.LossyEndings.{EndsConnection, EndsSilent, ReportsFailed}
 use Rattle.node_group.specs.node_core.LossyReading.{TakesOr, TakesFirstPacket, ClosesConnection, ReadsNext, Shuts}
 use Rattle.node_group.specs.node_core.LossyEndings.EndsConnection.{none_open, unproposed, proposed}
 use Rattle.node_group.specs.node_core.LossyEndings.EndsSilent.{none_silent, ends_one}
-use Rattle.node_group.specs.node_core.LossyEndings.LosesFailed.{none_failed, tells_one}
+use Rattle.node_group.specs.node_core.LossyEndings.ReportsFailed.{none_failed, tells_one}
 use Rattle.node_group.specs.node_core.LossyReading.ReadsNext.{waits, first, later, refuses, ends}
 use Rattle.node_group.specs.node_core.Reading.{changes, open_at, connect_refused, unread_of}
 use Rattle.node_group.specs.node_core.Step.{with_next_connection}
@@ -104,7 +104,7 @@ module _ (P : Connection → Type 0) (follows : IsFollowed P) where
   silent_kept now core account (none_silent none is) all = becomes core account is all
   silent_kept now core account (ends_one port found runs) all = ends_kept port core account runs all
 
-  failed_kept : Keeps LosesFailed
+  failed_kept : Keeps ReportsFailed
   failed_kept core account (none_failed none is) all = becomes core account is all
   failed_kept core account (tells_one c found proposes) all =
       proposes_kept (commands.Lost c.name) (closes_failed core) account proposes (each_changed P follows has_failed closed_connection core.connections (λ d e. is_shut d) all)
@@ -178,8 +178,8 @@ module _ (P : Connection → Type 0) (follows : IsFollowed P) where
   taken_kept Cut core account new (forgets_cut can is) all = subst (λ (d : Account). All d.core) (sym is) all
   taken_kept Crash core account new is all = subst (λ (d : Account). All d.core) (sym is) all
 
-  all_failed : (core : CoreState) (account : Account) → LosesAllFailed core account → All core → All account.core
-  all_failed core account runs all = repeated_kept (length core.connections) LosesFailed failed_kept core account runs all
+  all_failed : (core : CoreState) (account : Account) → ReportsAllFailed core account → All core → All account.core
+  all_failed core account runs all = repeated_kept (length core.connections) ReportsFailed failed_kept core account runs all
 
   acts_kept : (item : Item) (core : CoreState) (account : Account) → OpensSo item core → ActsOn item core account → All core → All account.core
   acts_kept item core account new t all =

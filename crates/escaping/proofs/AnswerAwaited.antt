@@ -11,7 +11,7 @@ use Rattle.node_moves.specs.node_core.declared.Port.{Port}
 use Rattle.node_moves.specs.node_connections.Connections.{fresh, is_at, is_listed, is_open_at, is_open_named, is_closed}
 use Rattle.node_moves.specs.node_connections.ConnectionChanges.{changed_where, closed_connection, nothing_pending}
 use Rattle.node_moves.specs.node_core.Core.{CoreState, StepOutcome, serves}
-use Rattle.node_moves.specs.node_core.Failing.{loses_all_failed}
+use Rattle.node_moves.specs.node_core.Failing.{reports_all_failed}
 use Rattle.node_moves.specs.node_core.Handing.{hands_over, left_by, listed_at}
 use Rattle.node_moves.specs.node_core.Step.{node_step, settled}
 use Rattle.node_moves.proofs.Views.{found_passes}
@@ -95,7 +95,7 @@ messages_keep_it_waiting port x core message waits calm runs silent active going
     leads = both (is_active (heard_by core message).state.role) (not (heard_by core message).state.stopped) active (ap not going)
 
     ending : StepOutcome → StepOutcome
-    ending first = record { core = settled (loses_all_failed first.core).core; messages = first.messages ++ (loses_all_failed first.core).messages }
+    ending first = record { core = settled (reports_all_failed first.core).core; messages = first.messages ++ (reports_all_failed first.core).messages }
 
     step : (node_step (Peer message) core).core ≡ record after { connections = filter is_listed core.connections }
     step =

@@ -22,7 +22,7 @@ use Rattle.node_moves.specs.node_core.declared.Port.{Port}
 use Rattle.node_moves.specs.node_connections.Connections.{has_failed, is_at, is_listed, is_open_named, is_closed}
 use Rattle.node_moves.specs.node_connections.ConnectionChanges.{changed_where, closed_connection, failing, max_pending, with_queued, putting}
 use Rattle.node_moves.specs.node_core.Core.{CoreState, StepOutcome, rules, serves}
-use Rattle.node_moves.specs.node_core.Failing.{closes_failed, loses_all_failed, loses_failed, loses_if}
+use Rattle.node_moves.specs.node_core.Failing.{closes_failed, reports_all_failed, reports_failed, reports_if}
 use Rattle.node_moves.specs.node_core.Handing.{listed_at}
 use Rattle.node_moves.specs.node_core.Step.{node_step, settled}
 use Rattle.node_moves.specs.node_core.Effects.{changes_named, drives, after_replica_step, proposes, without_messages, repeated, with_effect, performed_by}
@@ -149,18 +149,18 @@ module _ (port : Port) (front : List ℕ) (some : 0 < length front) where
       by true = front_delivered (with_replica (proposed rules core.replica.state command).state core) (proposed rules core.replica.state command).effects z
       by false = z
 
-  front_failed : (core : CoreState) → FrontOf core.connections → FrontOf (loses_failed core).core.connections
-  unfolding loses_failed
+  front_failed : (core : CoreState) → FrontOf core.connections → FrontOf (reports_failed core).core.connections
+  unfolding reports_failed
   front_failed core z = by (find has_failed core.connections)
     where
-      by : (o : Option Connection) → FrontOf (loses_if o core).core.connections
+      by : (o : Option Connection) → FrontOf (reports_if o core).core.connections
       by None = z
       by (Some c) = front_proposed (commands.Lost c.name) (closes_failed core) (front_changed has_failed closed_connection core.connections closed_keeps z)
 
-  front_repeated : (n : ℕ) (core : CoreState) → FrontOf core.connections → FrontOf (repeated n loses_failed core).core.connections
+  front_repeated : (n : ℕ) (core : CoreState) → FrontOf core.connections → FrontOf (repeated n reports_failed core).core.connections
   unfolding repeated
   front_repeated zero core z = z
-  front_repeated (suc n) core z = front_repeated n (loses_failed core).core (front_failed core z)
+  front_repeated (suc n) core z = front_repeated n (reports_failed core).core (front_failed core z)
 
   front_settled : (core : CoreState) → FrontOf core.connections → FrontOf (settled core).connections
   unfolding settled
@@ -170,8 +170,8 @@ module _ (port : Port) (front : List ℕ) (some : 0 < length front) where
       by true = front_listed core.connections z
       by false = front_listed (map closed_connection core.connections) (front_mapped closed_connection core.connections closed_keeps z)
 
-  pub front_acted : (first : CoreState) → FrontOf first.connections → FrontOf (settled (loses_all_failed first).core).connections
-  front_acted first z = front_settled (loses_all_failed first).core (front_repeated (length first.connections) first z)
+  pub front_acted : (first : CoreState) → FrontOf first.connections → FrontOf (settled (reports_all_failed first).core).connections
+  front_acted first z = front_settled (reports_all_failed first).core (front_repeated (length first.connections) first z)
 
 -- ---- the first output
 

@@ -27,7 +27,7 @@ use Rattle.node_moves.specs.node_core.declared.Port.{Port}
 use Rattle.node_moves.specs.node_connections.Connections.{has_failed, is_at, awaits_first_packet, is_listed, is_open_at, is_closed}
 use Rattle.node_moves.specs.node_connections.ConnectionChanges.{noted_proposed, changed_where, closed_connection, with_unread, left_with}
 use Rattle.node_moves.specs.node_core.Core.{CoreState, StepOutcome, rules, serves}
-use Rattle.node_moves.specs.node_core.Failing.{loses_all_failed}
+use Rattle.node_moves.specs.node_core.Failing.{reports_all_failed}
 use Rattle.node_moves.specs.node_core.Reading.{changes, open_at, reads, reads_all, reads_next, reads_of, unread_of}
 use Rattle.node_moves.specs.node_core.Step.{node_step, settled}
 use Rattle.node_moves.specs.node_core.Effects.{has_room, proposes, without_messages, repeated, with_effect, then_also}
@@ -203,7 +203,7 @@ module _ (core : CoreState) (port : Port) (now : ℕ) (piece : List ℕ) (c : Co
   pub is_proposed : node_step (Bytes port piece now) core ≡ record { core = with_asked_connect now port connect command core; messages = (proposal_at core command).effects }
   unfolding changes
   is_proposed =
-      ap (λ (u : StepOutcome). let v : StepOutcome = record { core = settled (loses_all_failed u.core).core; messages = u.messages ++ (loses_all_failed u.core).messages } in v) all_read
+      ap (λ (u : StepOutcome). let v : StepOutcome = record { core = settled (reports_all_failed u.core).core; messages = u.messages ++ (reports_all_failed u.core).messages } in v) all_read
       ∙ ap (λ (u : StepOutcome). let v : StepOutcome = record { core = settled u.core; messages = (proposal_at core command).effects ++ u.messages } in v)
       (none_lost (length after.connections) after (calm_finds after.connections after_calm))
       ∙ ap (λ (k : CoreState). let v : StepOutcome = record { core = k; messages = (proposal_at core command).effects ++ [] } in v) settled_after

@@ -11,7 +11,7 @@ use Rattle.node_moves.specs.node_core.declared.Port.{Port}
 use Rattle.node_moves.specs.node_connections.Connections.{fresh, has_failed, is_at, is_listed}
 use Rattle.node_moves.specs.node_connections.ConnectionChanges.{closed_connection}
 use Rattle.node_moves.specs.node_core.Core.{CoreState, StepOutcome, serves}
-use Rattle.node_moves.specs.node_core.Failing.{loses_all_failed}
+use Rattle.node_moves.specs.node_core.Failing.{reports_all_failed}
 use Rattle.node_moves.specs.node_core.Step.{next_name, with_next_connection, settled}
 use Rattle.node_moves.specs.node_core.Effects.{without_messages}
 use Rattle.escaping.specs.Opening.{FirstIsOpened, first_name_of_node, with_first_connection}
@@ -65,4 +65,4 @@ first_is_opened core port now leads calm low most new =
     ∙ ap without_messages (settled_new core port leads)
   where
     ending : StepOutcome → StepOutcome
-    ending first = record { core = settled (loses_all_failed first.core).core; messages = first.messages ++ (loses_all_failed first.core).messages }
+    ending first = record { core = settled (reports_all_failed first.core).core; messages = first.messages ++ (reports_all_failed first.core).messages }

@@ -18,7 +18,7 @@ use Rattle.node_moves.specs.node_core.declared.Connection.{Connection}
 use Rattle.node_moves.specs.node_core.declared.item.Item.TheVariants.{Peer}
 use Rattle.node_moves.specs.node_connections.Connections.{has_failed}
 use Rattle.node_moves.specs.node_core.Core.{CoreState, StepOutcome, serves}
-use Rattle.node_moves.specs.node_core.Failing.{closes_failed, loses_all_failed, loses_failed, loses_if}
+use Rattle.node_moves.specs.node_core.Failing.{closes_failed, reports_all_failed, reports_failed, reports_if}
 use Rattle.node_moves.specs.node_core.Step.{node_step, settled}
 use Rattle.node_moves.specs.node_core.Effects.{drives, after_replica_step, proposes, without_messages, repeated, with_effect, then_also}
 use Rattle.node_moves.proofs.LossesReported.{each_loss_is_reported}
@@ -57,25 +57,25 @@ record KeepsReplica (core : CoreState) (outcome : StepOutcome) : Type 0 where
   messages : outcome.messages ≡ []
 
 -- nothing is proposed by a node that does not serve
-loses_quietly : (core : CoreState) → serves core ≡ false → KeepsReplica core (loses_failed core)
-unfolding loses_failed proposes
+loses_quietly : (core : CoreState) → serves core ≡ false → KeepsReplica core (reports_failed core)
+unfolding reports_failed proposes
 loses_quietly core idle = by (find has_failed core.connections)
   where
-    by : (o : Option Connection) → KeepsReplica core (loses_if o core)
+    by : (o : Option Connection) → KeepsReplica core (reports_if o core)
     by None = record { replica = refl; last_name = refl; messages = refl }
     by (Some c) =
         subst (λ (t : StepOutcome). KeepsReplica core t) (sym (rw idle refl)) (let k : KeepsReplica core (without_messages (closes_failed core)) = record { replica = refl; last_name = refl; messages = refl } in k)
 
-all_lost_quietly : (n : ℕ) (core : CoreState) → serves core ≡ false → KeepsReplica core (repeated n loses_failed core)
+all_lost_quietly : (n : ℕ) (core : CoreState) → serves core ≡ false → KeepsReplica core (repeated n reports_failed core)
 unfolding repeated
 all_lost_quietly zero core idle = record { replica = refl; last_name = refl; messages = refl }
 all_lost_quietly (suc n) core idle =
     let one = loses_quietly core idle in
-    let more = all_lost_quietly n (loses_failed core).core (ap (λ (r : CountedReplica State Command). is_active r.state.role && not r.state.stopped) one.replica ∙ idle) in
+    let more = all_lost_quietly n (reports_failed core).core (ap (λ (r : CountedReplica State Command). is_active r.state.role && not r.state.stopped) one.replica ∙ idle) in
     record {
       replica = more.replica ∙ one.replica;
       last_name = more.last_name ∙ one.last_name;
-      messages = ap (λ (l : List (Effect Command Output)). l ++ (repeated n loses_failed (loses_failed core).core).messages) one.messages ∙ more.messages;
+      messages = ap (λ (l : List (Effect Command Output)). l ++ (repeated n reports_failed (reports_failed core).core).messages) one.messages ∙ more.messages;
     }
 
 -- and nothing is lost where the node is calm
@@ -83,16 +83,16 @@ pub calm_finds : (cs : List Connection) → Each (λ (c : Connection). has_faile
 calm_finds [] calm = refl
 calm_finds (c ∷ cs) (first, calm) = ap (λ (b : Bool). if b then Some c else find has_failed cs) first ∙ calm_finds cs calm
 
-failed_next : (core : CoreState) → find has_failed core.connections ≡ None → loses_failed core ≡ without_messages core
-unfolding loses_failed
+failed_next : (core : CoreState) → find has_failed core.connections ≡ None → reports_failed core ≡ without_messages core
+unfolding reports_failed
 failed_next core none = rw none refl
 
-pub none_lost : (n : ℕ) (core : CoreState) → find has_failed core.connections ≡ None → repeated n loses_failed core ≡ without_messages core
+pub none_lost : (n : ℕ) (core : CoreState) → find has_failed core.connections ≡ None → repeated n reports_failed core ≡ without_messages core
 unfolding repeated
 none_lost zero core none = refl
-none_lost (suc n) core none = ap (λ (t : StepOutcome). then_also t (repeated n loses_failed)) (failed_next core none) ∙ none_lost n core none
+none_lost (suc n) core none = ap (λ (t : StepOutcome). then_also t (repeated n reports_failed)) (failed_next core none) ∙ none_lost n core none
 
-all_keep : (core : CoreState) → ReportsItsLosses core ⊎ (is_active core.replica.state.role ≡ false) → KeepsReplica core (loses_all_failed core)
+all_keep : (core : CoreState) → ReportsItsLosses core ⊎ (is_active core.replica.state.role ≡ false) → KeepsReplica core (reports_all_failed core)
 all_keep core (inl calm) =
     subst (λ (t : StepOutcome). KeepsReplica core t) (sym (none_lost (length core.connections) core (calm_finds core.connections calm)))
     (let k : KeepsReplica core (without_messages core) = record { replica = refl; last_name = refl; messages = refl } in k)
@@ -101,7 +101,7 @@ all_keep core (inr idle) = all_lost_quietly (length core.connections) core (ap (
 -- ---- the step
 
 abbrev end_of : CoreState → StepOutcome → StepOutcome
-end_of core first = record { core = settled (loses_all_failed first.core).core; messages = first.messages ++ (loses_all_failed first.core).messages }
+end_of core first = record { core = settled (reports_all_failed first.core).core; messages = first.messages ++ (reports_all_failed first.core).messages }
 
 settled_keeps : (core : CoreState) → ((settled core).replica ≡ core.replica) × ((settled core).last_name ≡ core.last_name)
 unfolding settled
@@ -125,7 +125,7 @@ a_step_is_a_delivery core message runs silent calm =
     does : Does core o (end_of core (record { core = after; messages = o.effects }))
     does =
         let k = all_keep after calm in
-        let s = settled_keeps (loses_all_failed after).core in
+        let s = settled_keeps (reports_all_failed after).core in
         record {
           replica = s.0 ∙ k.replica;
           last_name = s.1 ∙ k.last_name;

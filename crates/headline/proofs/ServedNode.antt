@@ -27,7 +27,7 @@ use Rattle.node_core.specs.declared.ConnectionStage.TheVariants.{Proposed}
 use Rattle.node_core.specs.declared.item.Item.TheVariants.{Opened, Bytes}
 use Rattle.byte_world.specs.node_connections.Connections.{fresh}
 use Rattle.node_core.specs.Core.{CoreState, opening_core, rules}
-use Rattle.node_core.specs.Failing.{loses_failed}
+use Rattle.node_core.specs.Failing.{reports_failed}
 use Rattle.node_core.specs.Handing.{hands_over}
 use Rattle.node_core.specs.Reading.{changes, reads_next}
 use Rattle.node_core.specs.Step.{with_next_connection, settled}
@@ -87,19 +87,19 @@ list_released = list_published ++ said (packets.Pubrel 1) ∷ said (packets.Pubr
 -- ---- its turns
 
 pub it_opens : (done (takes (Opened the_port 0)) core_at_first).core ≡ core_opened
-unfolding with_next_connection settled repeated loses_failed
+unfolding with_next_connection settled repeated reports_failed
 it_opens = refl
 
 pub it_connects : (done (takes (Bytes the_port (spelling connect) 0)) core_opened).core ≡ serving list_connected (spelling connack)
-unfolding settled repeated loses_failed changes changes_named reads_next proposes verdict connect_of spelling proposed added commit commit_at number_at text_at length_at is_utf8 chars encode
+unfolding settled repeated reports_failed changes changes_named reads_next proposes verdict connect_of spelling proposed added commit commit_at number_at text_at length_at is_utf8 chars encode
 it_connects = refl
 
 pub it_grants : (done (takes (Bytes the_port (spelling subscribe) 0)) (serving list_connected [])).core ≡ serving list_subscribed (spelling suback)
-unfolding settled repeated loses_failed changes changes_named reads_next proposes verdict subscribe_of subscription_at items_of id_at filter_at spelling proposed added commit commit_at number_at text_at length_at is_utf8 chars encode
+unfolding settled repeated reports_failed changes changes_named reads_next proposes verdict subscribe_of subscription_at items_of id_at filter_at spelling proposed added commit commit_at number_at text_at length_at is_utf8 chars encode
 it_grants = refl
 
 pub it_takes : (done (takes (Bytes the_port (spelling publish) 0)) (serving list_subscribed [])).core ≡ serving list_published (spelling (packets.Pubrec 1) ++ spelling publish)
-unfolding settled repeated loses_failed changes changes_named reads_next proposes verdict publish_read delivery_at id_at topic_at spelling proposed added commit commit_at number_at text_at length_at is_utf8 chars encode
+unfolding settled repeated reports_failed changes changes_named reads_next proposes verdict publish_read delivery_at id_at topic_at spelling proposed added commit commit_at number_at text_at length_at is_utf8 chars encode
 it_takes = refl
 
 pub it_hands : (log : List Command) (pending : List ℕ) → (done (gives the_port) (serving log pending)).core ≡ serving log []
@@ -111,9 +111,9 @@ abbrev pub both : List ℕ
 both = spelling (packets.Pubrel 1) ++ spelling (packets.Pubrec 1)
 
 pub it_releases : (done (takes (Bytes the_port both 0)) (serving list_published [])).core ≡ serving list_released (spelling (packets.Pubcomp 1) ++ spelling (packets.Pubrel 1))
-unfolding settled repeated loses_failed changes changes_named reads_next proposes verdict id_alone_of id_at spelling proposed added commit commit_at number_at length_at
+unfolding settled repeated reports_failed changes changes_named reads_next proposes verdict id_alone_of id_at spelling proposed added commit commit_at number_at length_at
 it_releases = refl
 
 pub it_completes : (done (takes (Bytes the_port (spelling (packets.Pubcomp 1)) 0)) (serving list_released [])).core ≡ serving list_done []
-unfolding settled repeated loses_failed changes changes_named reads_next proposes verdict id_alone_of id_at spelling proposed added commit commit_at number_at length_at
+unfolding settled repeated reports_failed changes changes_named reads_next proposes verdict id_alone_of id_at spelling proposed added commit commit_at number_at length_at
 it_completes = refl

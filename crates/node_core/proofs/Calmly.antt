@@ -14,7 +14,7 @@ use Rattle.node_connections.specs.ConnectionChanges.{changed_where, closed_conne
 use Rattle.node_core.specs.declared.item.Item.{Item}
 use Rattle.node_core.specs.declared.item.Item.TheVariants.{Peer, Tick, Opened, Bytes, Ended, Expel, Cut, Crash}
 use Rattle.node_core.specs.Core.{CoreState, StepOutcome, serves}
-use Rattle.node_core.specs.Failing.{loses_all_failed, loses_failed}
+use Rattle.node_core.specs.Failing.{reports_all_failed, reports_failed}
 use Rattle.node_core.specs.Handing.{pending_bytes, hands_over, left_by, listed_at}
 use Rattle.node_core.specs.Losses.{IsHeardQuietly, IsIgnored, ReadsNone, ItemTakesNoMemory, WaitsNothing, was_proposed}
 use Rattle.node_core.specs.Reading.{changes, port_closed, loses_open, open_at}
@@ -142,9 +142,9 @@ goes_calmly Crash core takes = record { next = crashed core; is = refl; fails_no
 
 acts_calmly : (item : Item) (core : CoreState) (g : GoesCalmly item core) → find has_failed core.connections ≡ None → acts_on item core ≡ without_messages g.next
 acts_calmly item core g none =
-    ap (λ (t : StepOutcome). then_also t loses_all_failed) g.is
+    ap (λ (t : StepOutcome). then_also t reports_all_failed) g.is
     ∙ ap (λ (t : StepOutcome). then_also (without_messages g.next) (λ _. t))
-    (repeated_without_messages loses_failed (length g.next.connections) g.next (failed_next g.next (g.fails_none none)))
+    (repeated_without_messages reports_failed (length g.next.connections) g.next (failed_next g.next (g.fails_none none)))
 
 pub says_nothing : (item : Item) (core : CoreState) → ItemTakesNoMemory item core → find has_failed core.connections ≡ None → (node_step item core).messages ≡ []
 says_nothing item core takes none = ap (λ (t : StepOutcome). t.messages) (acts_calmly item core (goes_calmly item core takes) none)

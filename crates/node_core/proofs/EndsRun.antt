@@ -17,11 +17,11 @@ use Rattle.node_core.specs.KeepAlive.{lowest_silent}
 use Rattle.node_core.specs.Lossy.{Account, Then, without_effects}
 use Rattle.node_core.specs.LossyProposals.{Declines, ProposesCommand}
 use Rattle.node_core.specs.LossyStep.{HoldsBytes}
-use Rattle.node_core.specs.LossyEndings.{EndsConnection, EndsSilent, LosesFailed}
+use Rattle.node_core.specs.LossyEndings.{EndsConnection, EndsSilent, ReportsFailed}
 use Rattle.node_core.specs.LossyReading.{TakesOr, Shuts}
 use Rattle.node_core.specs.LossyEndings.EndsConnection.{none_open, unproposed, proposed}
 use Rattle.node_core.specs.LossyEndings.EndsSilent.{none_silent, ends_one}
-use Rattle.node_core.specs.LossyEndings.LosesFailed.{none_failed, tells_one}
+use Rattle.node_core.specs.LossyEndings.ReportsFailed.{none_failed, tells_one}
 use Rattle.node_core.specs.Reading.{changes, open_at}
 use Rattle.node_core.proofs.Accounts.{ran_as, ran_without_effects, ran_then}
 use Rattle.node_core.proofs.Answering.{as_proposes}
@@ -82,10 +82,10 @@ pub ran_silent : (now : ℕ) (port : Port) (a b : CoreState) (x y : List (Effect
 ran_silent now port a b x y found ran = ran_as (EndsConnection port) (EndsSilent now) a a b x y (λ account runs. ends_one port found runs) ran
 
 pub ran_none_failed : (core : CoreState) (x : List (Effect Command Output)) → find has_failed core.connections ≡ None →
-    StepPartOrLost LosesFailed core core x x
-ran_none_failed core x e = ran_without_effects LosesFailed core core x (none_failed e refl)
+    StepPartOrLost ReportsFailed core core x x
+ran_none_failed core x e = ran_without_effects ReportsFailed core core x (none_failed e refl)
 
-pub idle_failed : (core : CoreState) → find has_failed core.connections ≡ None → LosesFailed core (without_effects core)
+pub idle_failed : (core : CoreState) → find has_failed core.connections ≡ None → ReportsFailed core (without_effects core)
 idle_failed core e = none_failed e refl
 
 pub idle_silent : (now : ℕ) (core : CoreState) → lowest_silent now core.connections ≡ None → EndsSilent now core (without_effects core)
@@ -93,9 +93,9 @@ idle_silent now core e = none_silent e refl
 
 pub ran_failed : (c : Connection) (a b r : CoreState) (taken : Bool) (x y : List (Effect Command Output)) →
     find has_failed a.connections ≡ Some c → b ≡ closes_failed a → StepPartOrLost (ProposedBy taken (commands.Lost c.name)) b r x y →
-    StepPartOrLost LosesFailed a r x y
+    StepPartOrLost ReportsFailed a r x y
 ran_failed c a b r taken x y found shut ran =
-    ran_as (ProposedBy taken (commands.Lost c.name)) LosesFailed a b r x y
+    ran_as (ProposedBy taken (commands.Lost c.name)) ReportsFailed a b r x y
     (λ account runs. tells_one c found (as_proposes taken (commands.Lost c.name) (closes_failed a) account
     (subst (λ (k : CoreState). ProposedBy taken (commands.Lost c.name) k account) shut runs))) ran
 

@@ -8,26 +8,26 @@ use Rattle.ballot.specs.ballot_base.declared.message.Effect.{Effect}
 use Rattle.node_connections.specs.declared.connection.Connection.{Connection}
 use Rattle.node_connections.specs.Connections.{has_failed}
 use Rattle.node_core.specs.Core.{CoreState, StepOutcome}
-use Rattle.node_core.specs.Failing.{closes_failed, loses_failed}
+use Rattle.node_core.specs.Failing.{closes_failed, reports_failed}
 use Rattle.node_core.specs.Inside.{RunningStep, DoesOutcome}
 use Rattle.node_core.specs.Effects.{without_messages, proposes}
 use Rattle.node_core.proofs.StepsJoin.{turns_idle, turns_after}
 
 -- none failed
-pub failed_next : (core : CoreState) → find has_failed core.connections ≡ None → loses_failed core ≡ without_messages core
-unfolding loses_failed
+pub failed_next : (core : CoreState) → find has_failed core.connections ≡ None → reports_failed core ≡ without_messages core
+unfolding reports_failed
 failed_next core none = rw none refl
 
 pub failed_none : (r : RunningStep) (out : List (Effect Command Output)) → find has_failed r.core.connections ≡ None →
-    DoesOutcome r r out out (loses_failed r.core)
-unfolding loses_failed
+    DoesOutcome r r out out (reports_failed r.core)
+unfolding reports_failed
 failed_none r out none = subst (λ (t : StepOutcome). DoesOutcome r r out out t) (rw none refl) (turns_idle r out)
 
 -- one did
 pub failed_one : (c : Connection) (a b r : RunningStep) (x y : List (Effect Command Output)) →
     find has_failed a.core.connections ≡ Some c → b ≡ record a { core = closes_failed a.core } →
-    DoesOutcome b r x y (proposes (commands.Lost c.name) b.core) → DoesOutcome a r x y (loses_failed a.core)
-unfolding loses_failed
+    DoesOutcome b r x y (proposes (commands.Lost c.name) b.core) → DoesOutcome a r x y (reports_failed a.core)
+unfolding reports_failed
 failed_one c a b r x y found shut turns =
     subst (λ (t : StepOutcome). DoesOutcome a r x y t) (rw found refl)
     (turns_after a b r x y (closes_failed a.core) (proposes (commands.Lost c.name)) shut turns)

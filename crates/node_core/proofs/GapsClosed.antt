@@ -26,12 +26,12 @@ use Rattle.node_core.specs.Lossy.{Account, Drives, HandledStepOrLost, Repeated, 
 use Rattle.node_core.specs.LossyProposals.{Declines, ProposesCommand}
 use Rattle.node_core.specs.LossyProposals.Declines.{no_room, forgets, stops}
 use Rattle.node_core.specs.LossyStep.{ActsOn, LogCutOrLost, HoldsBytes, AcceptsConnection, DoesItem}
-use Rattle.node_core.specs.LossyEndings.{EndsConnection, EndsSilent, LosesFailed}
+use Rattle.node_core.specs.LossyEndings.{EndsConnection, EndsSilent, ReportsFailed}
 use Rattle.node_core.specs.LossyReading.{TakesOr, TakesFirstPacket, ClosesConnection, ReadsNext, Shuts}
 use Rattle.node_core.specs.LossyStep.LogCutOrLost.{nothing_to_cut, cuts_log, forgets_cut}
 use Rattle.node_core.specs.LossyEndings.EndsConnection.{none_open, unproposed, proposed}
 use Rattle.node_core.specs.LossyEndings.EndsSilent.{none_silent, ends_one}
-use Rattle.node_core.specs.LossyEndings.LosesFailed.{none_failed, tells_one}
+use Rattle.node_core.specs.LossyEndings.ReportsFailed.{none_failed, tells_one}
 use Rattle.node_core.specs.LossyReading.ReadsNext.{waits, first, later, refuses, ends}
 use Rattle.node_core.specs.Reading.{changes, open_at, connect_refused, unread_of}
 use Rattle.node_core.specs.Step.{next_name, with_next_connection}
@@ -120,7 +120,7 @@ silent_on : (now : ℕ) (core : CoreState) (account : Account) → EndsSilent no
 silent_on now core account (none_silent none is) = without_effects_on core core account is (each_itself core.connections)
 silent_on now core account (ends_one port found runs) = ends_on port core account runs
 
-failed_on : (core : CoreState) (account : Account) → LosesFailed core account → Goes core account
+failed_on : (core : CoreState) (account : Account) → ReportsFailed core account → Goes core account
 failed_on core account (none_failed none is) = without_effects_on core core account is (each_itself core.connections)
 failed_on core account (tells_one c found proposes) =
     after_on core (closes_failed core) account (changed_on has_failed closed_connection (λ d fails. goes_closed [] d) core.connections)
@@ -170,8 +170,8 @@ holds_on port piece core account (inl is) =
     (changes_on port (with_unread piece) core (λ c stays. goes_still c (with_unread piece c) refl refl refl (λ e. e)))
 holds_on port piece core account (inr runs) = ends_on port core account runs
 
-all_failed_on : (core : CoreState) (account : Account) → Repeated (length core.connections) LosesFailed core account → Goes core account
-all_failed_on core account runs = repeated_on (length core.connections) LosesFailed failed_on core account runs
+all_failed_on : (core : CoreState) (account : Account) → Repeated (length core.connections) ReportsFailed core account → Goes core account
+all_failed_on core account runs = repeated_on (length core.connections) ReportsFailed failed_on core account runs
 
 all_silent_on : (now : ℕ) (core : CoreState) (account : Account) → Repeated (length core.connections) (EndsSilent now) core account → Goes core account
 all_silent_on now core account runs = repeated_on (length core.connections) (EndsSilent now) (silent_on now) core account runs
@@ -222,7 +222,7 @@ opened_on port now core account acts = by acts.first (opens_one port core)
     none : acts.one ≡ without_effects core → GoOn (Opened port now) core account
     none is =
         with_none_new (Opened port now) core account (inl refl)
-        (then_on (λ k d. d ≡ without_effects k) (λ k d. Repeated (length k.connections) LosesFailed k d)
+        (then_on (λ k d. d ≡ without_effects k) (λ k d. Repeated (length k.connections) ReportsFailed k d)
         (λ k d same. without_effects_on k k d same (each_itself k.connections)) all_failed_on core account
         (record { one = acts.one; two = acts.two; first = is; next = acts.next; is = acts.is }))
 
@@ -233,7 +233,7 @@ opened_on port now core account acts = by acts.first (opens_one port core)
           new = fresh port (next_name core) ∷ [];
           is_new = inr refl;
           each = λ apart. subst (λ (l : List Connection). EachGoesOn account.given l account.core.connections) more
-              (then_on (λ k d. d ≡ without_effects k) (λ k d. Repeated (length k.connections) LosesFailed k d)
+              (then_on (λ k d. d ≡ without_effects k) (λ k d. Repeated (length k.connections) ReportsFailed k d)
               (λ k d same. without_effects_on k k d same (each_itself k.connections)) all_failed_on (with_next_connection port core) account
               (record { one = acts.one; two = acts.two; first = is; next = acts.next; is = acts.is })
               (subst (λ (l : List Connection). AreNamedApart l) (sym more) apart));
@@ -250,7 +250,7 @@ acts_by : (item : Item) (core : CoreState) (account : Account) → OpensAtMostOn
     ((k : CoreState) (d : Account) → DoesItem item k d → Goes k d) → ActsOn item core account → GoOn item core account
 acts_by item core account is on acts =
     with_none_new item core account is
-    (then_on (DoesItem item) (λ k d. Repeated (length k.connections) LosesFailed k d) on all_failed_on core account
+    (then_on (DoesItem item) (λ k d. Repeated (length k.connections) ReportsFailed k d) on all_failed_on core account
     (record { one = acts.one; two = acts.two; first = acts.first; next = acts.next; is = acts.is }))
 
 pub a_gap_is_closed : AGapIsClosed

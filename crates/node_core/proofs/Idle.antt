@@ -17,13 +17,13 @@ use Rattle.node_connections.specs.declared.connection.Connection.{Connection}
 use Rattle.node_connections.specs.Connections.{has_failed, is_open_at, is_proposed}
 use Rattle.node_connections.specs.ConnectionChanges.{changed_where, closed_connection, with_unread}
 use Rattle.node_core.specs.Core.{CoreState, StepOutcome}
-use Rattle.node_core.specs.Failing.{loses_all_failed}
+use Rattle.node_core.specs.Failing.{reports_all_failed}
 use Rattle.node_core.specs.Inside.{StepPartOrLost, RunningStep, DoesOutcome, WithoutFailure}
 use Rattle.node_core.specs.KeepAlive.{ends_all_silent, ends_silent}
 use Rattle.node_core.specs.Losses.{DoesNothing, IsHeardQuietly, IsIgnored, ReadsNone, ItemTakesNoMemory, was_proposed}
 use Rattle.node_core.specs.Lossy.{Account, Drives, Repeated, without_effects}
 use Rattle.node_core.specs.Lossy.HandlesAll.{nothing}
-use Rattle.node_core.specs.LossyStep.{ActsOn, LosesAllFailed, ReadsPackets, DoesItem}
+use Rattle.node_core.specs.LossyStep.{ActsOn, ReportsAllFailed, ReadsPackets, DoesItem}
 use Rattle.node_core.specs.LossyEndings.{EndsSilent}
 use Rattle.node_core.specs.LossyReading.{ReadsNext}
 use Rattle.ballot.specs.ballot_base.Cutting.{can_cut}
@@ -167,14 +167,14 @@ none_open_at port core (Some i) false at is =
 
 -- the reports of connections that failed, if there are any, are all that is done
 pub turns_ignored : (item : Item) (a b : RunningStep) (x y : List (Effect Command Output)) → DoesNothing item a.core →
-    DoesOutcome a b x y (loses_all_failed a.core) → DoesOutcome a b x y (acts_on item a.core)
+    DoesOutcome a b x y (reports_all_failed a.core) → DoesOutcome a b x y (acts_on item a.core)
 turns_ignored item a b x y idle turns =
-    subst (λ (t : StepOutcome). DoesOutcome a b x y t) (sym (ap (λ (t : StepOutcome). then_also t loses_all_failed) (takes_nothing item a.core idle))) turns
+    subst (λ (t : StepOutcome). DoesOutcome a b x y t) (sym (ap (λ (t : StepOutcome). then_also t reports_all_failed) (takes_nothing item a.core idle))) turns
 
 pub ran_ignored : (item : Item) (a b : CoreState) (x y : List (Effect Command Output)) → DoesNothing item a →
-    StepPartOrLost LosesAllFailed a b x y → StepPartOrLost (ActsOn item) a b x y
+    StepPartOrLost ReportsAllFailed a b x y → StepPartOrLost (ActsOn item) a b x y
 ran_ignored item a b x y idle ran =
-    ran_then (DoesItem item) LosesAllFailed a a b x x y (ran_without_effects (DoesItem item) a a x (takes_idle item a idle)) ran
+    ran_then (DoesItem item) ReportsAllFailed a a b x x y (ran_without_effects (DoesItem item) a a x (takes_idle item a idle)) ran
 
 -- if nothing failed there are none
 pub quiet_ignored : (a b : RunningStep) → (find has_failed a.core.connections ≡ None → b ≡ a) → find has_failed a.core.connections ≡ None →

@@ -17,14 +17,14 @@ closes_failed core = record core {
 }
 
 -- a failed connection, if there is one, is closed for good, and its loss is proposed
-abbrev pub loses_if : Option Connection → CoreState → StepOutcome
-loses_if None core = without_messages core
-loses_if (Some connection) core = proposes (commands.Lost connection.name) (closes_failed core)
+abbrev pub reports_if : Option Connection → CoreState → StepOutcome
+reports_if None core = without_messages core
+reports_if (Some connection) core = proposes (commands.Lost connection.name) (closes_failed core)
 
 -- the loss of the first failed connection is reported to the broker
-unfoldable pub loses_failed : CoreState → StepOutcome
-loses_failed core = loses_if (find has_failed core.connections) core
+unfoldable pub reports_failed : CoreState → StepOutcome
+reports_failed core = reports_if (find has_failed core.connections) core
 
 -- the loss of all failed connections is reported; what is then sent may close others, reported too
-abbrev pub loses_all_failed : CoreState → StepOutcome
-loses_all_failed core = repeated (length core.connections) loses_failed core
+abbrev pub reports_all_failed : CoreState → StepOutcome
+reports_all_failed core = repeated (length core.connections) reports_failed core

@@ -40,12 +40,12 @@ pub data EndsSilent (now : ℕ) (core : CoreState) (account : Account) : Type 0 
   ends_one : (port : Port) → lowest_silent now core.connections ≡ Some port →
       EndsConnection port core account → EndsSilent now core account
 
--- the first connection that failed is reported to the broker
-pub data LosesFailed (core : CoreState) (account : Account) : Type 0 where
+-- the loss of the first connection that failed is reported to the broker
+pub data ReportsFailed (core : CoreState) (account : Account) : Type 0 where
   -- no connection failed
   none_failed : find has_failed core.connections ≡ None → account ≡ without_effects core →
-      LosesFailed core account
+      ReportsFailed core account
   -- the loss of this one is proposed
   tells_one : (connection : Connection) → find has_failed core.connections ≡ Some connection →
       ProposesCommand (commands.Lost connection.name) (closes_failed core) account →
-      LosesFailed core account
+      ReportsFailed core account

@@ -17,7 +17,7 @@ use Rattle.node_core.specs.Lossy.{Account, Drives, Repeated, Then, without_effec
 use Rattle.node_core.specs.LossyProposals.{ProposesCommand}
 use Rattle.node_core.specs.Reading.{changes, open_at, unread_of}
 use Rattle.node_core.specs.Step.{crashed, with_next_connection, settled, with_cut}
-use Rattle.node_core.specs.LossyEndings.{EndsConnection, EndsSilent, LosesFailed}
+use Rattle.node_core.specs.LossyEndings.{EndsConnection, EndsSilent, ReportsFailed}
 use Rattle.node_core.specs.LossyReading.{ReadsNext}
 
 -- ---- an item
@@ -54,8 +54,8 @@ abbrev pub EndsAllSilent : ℕ → CoreState → Account → Type 0
 EndsAllSilent now core account = Repeated (length core.connections) (EndsSilent now) core account
 
 -- the loss of each connection that failed is reported, or memory ran out for that
-abbrev pub LosesAllFailed : CoreState → Account → Type 0
-LosesAllFailed core account = Repeated (length core.connections) LosesFailed core account
+abbrev pub ReportsAllFailed : CoreState → Account → Type 0
+ReportsAllFailed core account = Repeated (length core.connections) ReportsFailed core account
 
 -- the packets of a port are read, one after another, at most as many as it has bytes
 abbrev pub ReadsPackets : ℕ → Port → CoreState → Account → Type 0
@@ -76,7 +76,7 @@ DoesItem Crash core account = account ≡ without_effects (crashed core)
 
 -- what an item asks for, and then the reports of connections that failed in the step
 abbrev pub ActsOn : Item → CoreState → Account → Type 0
-ActsOn item core account = Then (DoesItem item) LosesAllFailed core account
+ActsOn item core account = Then (DoesItem item) ReportsAllFailed core account
 
 -- a step on an item: what was done, and how connections were settled after it
 pub record RunsOn (item : Item) (old new : CoreState)

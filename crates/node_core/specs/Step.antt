@@ -12,7 +12,7 @@ use Rattle.node_core.specs.declared.item.Item.TheVariants.{Peer, Tick, Opened, B
 use Rattle.node_connections.specs.Connections.{is_at, is_listed, fresh}
 use Rattle.node_connections.specs.ConnectionChanges.{with_unread, closed_connection}
 use Rattle.node_core.specs.Core.{CoreState, StepOutcome, rules, serves}
-use Rattle.node_core.specs.Failing.{loses_all_failed}
+use Rattle.node_core.specs.Failing.{reports_all_failed}
 use Rattle.node_core.specs.KeepAlive.{ends_all_silent}
 use Rattle.node_core.specs.Reading.{changes, port_closed, reads_all}
 use Rattle.node_core.specs.Effects.{without_messages, then_also, drives, proposes}
@@ -80,7 +80,7 @@ does_item Crash core = without_messages (crashed core)
 
 -- what an item asks for, and then the reports of connections that failed in the step
 abbrev pub acts_on : Item → CoreState → StepOutcome
-acts_on item core = then_also (does_item item core) loses_all_failed
+acts_on item core = then_also (does_item item core) reports_all_failed
 
 -- the step of a node on an item, after which connections are settled
 abbrev pub node_step : Item → CoreState → StepOutcome

@@ -11,10 +11,10 @@ ghost use Rattle.node_core.specs.declared.item.Item.TheVariants as items;
 ghost use Rattle.node_core.specs.Losses.{DoesNothing, IsHeardQuietly, ReadsNone, ItemTakesNoMemory, was_proposed};
 ghost use Rattle.node_core.specs.Lossy.{without_effects};
 ghost use Rattle.node_core.specs.LossyProposals.{ProposesCommand};
-ghost use Rattle.node_core.specs.LossyStep.{ActsOn, EndsAllSilent, HoldsBytes, LosesAllFailed, ReadsPackets, DoesItem};
-ghost use Rattle.node_core.specs.LossyEndings.{EndsConnection, LosesFailed};
+ghost use Rattle.node_core.specs.LossyStep.{ActsOn, EndsAllSilent, HoldsBytes, ReportsAllFailed, ReadsPackets, DoesItem};
+ghost use Rattle.node_core.specs.LossyEndings.{EndsConnection, ReportsFailed};
 ghost use Rattle.node_core.specs.LossyReading.{ProposesConnect, ReadsNext, ProposesPacket};
-ghost use Rattle.node_core.specs.Failing.{loses_all_failed, loses_failed};
+ghost use Rattle.node_core.specs.Failing.{reports_all_failed, reports_failed};
 ghost use Rattle.node_core.specs.KeepAlive.{ends_all_silent};
 ghost use Rattle.node_core.specs.Reading.{connect_proposed, takes_first_packet, changes, port_closed, open_at, reads_all, reads_next, proposes_packet};
 ghost use Rattle.node_core.specs.Step.{acts_on, does_item};
@@ -296,8 +296,8 @@ impl SteppingNode {
     // are reported too.
     fn report_failed(&mut self, effects: &mut Vec<Effect<Command, Output>>)
         ensures exact { DoesOutcome self.old self.new effects.old.items effects.new.items
-            (loses_all_failed self.old.core) }
-        ensures lossy { StepPartOrLost LosesAllFailed
+            (reports_all_failed self.old.core) }
+        ensures lossy { StepPartOrLost ReportsAllFailed
             self.old.core self.new.core effects.old.items effects.new.items }
         ensures none { find has_failed self.old.core.connections ≡ None → self.new ≡ self.old }
     {
@@ -311,13 +311,14 @@ impl SteppingNode {
     // Reports the first connection that failed to the broker. Returns whether there was one.
     fn report_one_failed(&mut self, effects: &mut Vec<Effect<Command, Output>>) -> bool
         ensures exact { DoesOutcome self.old self.new effects.old.items effects.new.items
-            (loses_failed self.old.core) }
-        ensures lossy { StepPartOrLost LosesFailed
+            (reports_failed self.old.core) }
+        ensures lossy { StepPartOrLost ReportsFailed
             self.old.core self.new.core effects.old.items effects.new.items }
         ensures none { find has_failed self.old.core.connections ≡ None → self.new ≡ self.old }
         ensures done { result ≡ false →
-            loses_failed self.new.core ≡ without_messages self.new.core }
-        ensures idle { result ≡ false → LosesFailed self.new.core (without_effects self.new.core) }
+            reports_failed self.new.core ≡ without_messages self.new.core }
+        ensures idle { result ≡ false →
+            ReportsFailed self.new.core (without_effects self.new.core) }
     {
         let Some(index) = self.index_failed() else {
             return false;

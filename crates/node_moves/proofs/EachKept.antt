@@ -18,7 +18,7 @@ use Rattle.node_core.specs.declared.Connection.{Connection}
 use Rattle.node_core.specs.node_connections.Connections.{has_failed, is_listed, is_open_named}
 use Rattle.node_core.specs.node_connections.ConnectionChanges.{closed_connection, with_queued}
 use Rattle.node_core.specs.Core.{CoreState, StepOutcome, rules, serves}
-use Rattle.node_core.specs.Failing.{closes_failed, loses_failed, loses_if}
+use Rattle.node_core.specs.Failing.{closes_failed, reports_failed, reports_if}
 use Rattle.node_core.specs.Step.{settled}
 use Rattle.node_core.specs.Effects.{without_messages, repeated, with_effect, after_replica_step, proposes, changes_named}
 use Rattle.node_moves.proofs.Views.{each_kept, each_mapped, each_filtered}
@@ -54,18 +54,18 @@ module _ (P : Connection → Type 0) (kept : IsKept P) where
       by true = each_moved (proposed rules core.replica.state command) core all
       by false = all
 
-  each_lost : (core : CoreState) (o : Option Connection) → Each P core.connections → Each P (loses_if o core).core.connections
+  each_lost : (core : CoreState) (o : Option Connection) → Each P core.connections → Each P (reports_if o core).core.connections
   each_lost core None all = all
   each_lost core (Some c) all = each_proposed (commands.Lost c.name) (closes_failed core) (each_kept P has_failed closed_connection core.connections kept.shut all)
 
-  each_failed : (core : CoreState) → Each P core.connections → Each P (loses_failed core).core.connections
-  unfolding loses_failed
+  each_failed : (core : CoreState) → Each P core.connections → Each P (reports_failed core).core.connections
+  unfolding reports_failed
   each_failed core all = each_lost core (find has_failed core.connections) all
 
-  pub each_repeated : (n : ℕ) (core : CoreState) → Each P core.connections → Each P (repeated n loses_failed core).core.connections
+  pub each_repeated : (n : ℕ) (core : CoreState) → Each P core.connections → Each P (repeated n reports_failed core).core.connections
   unfolding repeated
   each_repeated zero core all = all
-  each_repeated (suc n) core all = each_repeated n (loses_failed core).core (each_failed core all)
+  each_repeated (suc n) core all = each_repeated n (reports_failed core).core (each_failed core all)
 
 pub each_settled : (P : Connection → Type 0) → ((c : Connection) → P c → P (closed_connection c)) → (core : CoreState) → Each P core.connections → Each P (settled core).connections
 unfolding settled

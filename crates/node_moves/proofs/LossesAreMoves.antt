@@ -11,7 +11,7 @@ use Rattle.node_core.specs.declared.item.Item.TheVariants.{Peer, Tick, Opened, B
 use Rattle.node_core.specs.node_connections.ConnectionChanges.{closed_connection, with_unread}
 use Rattle.node_core.specs.Core.{CoreState, StepOutcome}
 use Rattle.node_core.specs.Lossy.{Account, both_accounts, without_effects}
-use Rattle.node_core.specs.LossyStep.{LogCutOrLost, HoldsBytes, LosesAllFailed, AcceptsConnection, DoesItem}
+use Rattle.node_core.specs.LossyStep.{LogCutOrLost, HoldsBytes, ReportsAllFailed, AcceptsConnection, DoesItem}
 use Rattle.node_core.specs.LossyEndings.{EndsSilent}
 use Rattle.node_core.specs.LossyReading.{ReadsNext}
 use Rattle.node_core.specs.LossyStep.LogCutOrLost.{nothing_to_cut, cuts_log as cuts_log_at, forgets_cut}
@@ -93,7 +93,7 @@ taken_in Crash core account is =
 -- ---- a step
 
 -- the failed ones are reported to the broker, and connections are settled
-tail_of : (core : CoreState) (account : Account) → LosesAllFailed core account → Calm core (let t : StepOutcome = record { core = settled account.core; messages = account.messages } in t)
+tail_of : (core : CoreState) (account : Account) → ReportsAllFailed core account → Calm core (let t : StepOutcome = record { core = settled account.core; messages = account.messages } in t)
 tail_of core account runs =
     subst (λ (given : Given). Calm core (let t : StepOutcome = record { core = settled account.core; messages = given } in t)) (append-nil account.messages)
     (calm_join (all_failed core account runs) (calm_move (exactly settles) (refl, refl, refl, λ x. refl)))

@@ -10,7 +10,7 @@ use Rattle.node_core.specs.declared.ConnectionStage.TheVariants.{Awaits, Propose
 use Rattle.node_core.specs.node_connections.Connections.{is_proposed, is_failed, has_failed}
 use Rattle.node_core.specs.node_connections.ConnectionChanges.{closed_connection}
 use Rattle.node_core.specs.Core.{CoreState}
-use Rattle.node_core.specs.Failing.{closes_failed, loses_failed, loses_if}
+use Rattle.node_core.specs.Failing.{closes_failed, reports_failed, reports_if}
 use Rattle.node_core.specs.Step.{acts_on, does_item}
 use Rattle.node_core.specs.Effects.{without_messages, proposes}
 use Rattle.node_moves.specs.Settled.{EachLossIsReported}
@@ -68,9 +68,9 @@ none_found test (c ∷ cs) e = by (test c) refl (none_found test cs) e
 abbrev NoneFailed : CoreState → Type 0
 NoneFailed core = Each (λ (c : Connection). has_failed c ≡ false) core.connections
 
-failed_step : (core : CoreState) → (NoneFailed core × (loses_failed core ≡ without_messages core))
-    ⊎ (total untold_weight (loses_failed core).core.connections < total untold_weight core.connections)
-unfolding loses_failed
+failed_step : (core : CoreState) → (NoneFailed core × (reports_failed core ≡ without_messages core))
+    ⊎ (total untold_weight (reports_failed core).core.connections < total untold_weight core.connections)
+unfolding reports_failed
 failed_step core = by (find has_failed core.connections) refl
   where
     lowers : (c : Connection) → find has_failed core.connections ≡ Some c
@@ -80,15 +80,15 @@ failed_step core = by (find has_failed core.connections) refl
         let most = total_proposed untold_weight untold_light (commands.Lost c.name) (closes_failed core) in
         omega (arith, less, most)
 
-    by : (o : Option Connection) → find has_failed core.connections ≡ o → (NoneFailed core × (loses_if o core ≡ without_messages core))
-        ⊎ (total untold_weight (loses_if o core).core.connections < total untold_weight core.connections)
+    by : (o : Option Connection) → find has_failed core.connections ≡ o → (NoneFailed core × (reports_if o core ≡ without_messages core))
+        ⊎ (total untold_weight (reports_if o core).core.connections < total untold_weight core.connections)
     by None e = inl (none_found has_failed core.connections e, refl)
     by (Some c) e = inr (lowers c e)
 
 pub each_loss_is_reported : EachLossIsReported
 each_loss_is_reported item core =
     each_settled (λ (c : Connection). has_failed c ≡ false) (λ c other. refl) (acts_on item core).core
-    (comes_to_end loses_failed NoneFailed untold_weight failed_step (length taken.connections) taken
+    (comes_to_end reports_failed NoneFailed untold_weight failed_step (length taken.connections) taken
     (total_few untold_weight taken.connections (λ c. one_untold c.stage)))
   where
     taken : CoreState

@@ -20,12 +20,12 @@ use Rattle.node_core.specs.Failing.{closes_failed}
 use Rattle.node_core.specs.Lossy.{Account, Repeated, Then, without_effects}
 use Rattle.node_core.specs.LossyProposals.{Declines, ProposesCommand}
 use Rattle.node_core.specs.LossyProposals.Declines.{no_room, forgets as forgets_it, stops}
-use Rattle.node_core.specs.LossyStep.{LosesAllFailed}
-use Rattle.node_core.specs.LossyEndings.{EndsConnection, EndsSilent, LosesFailed}
+use Rattle.node_core.specs.LossyStep.{ReportsAllFailed}
+use Rattle.node_core.specs.LossyEndings.{EndsConnection, EndsSilent, ReportsFailed}
 use Rattle.node_core.specs.LossyReading.{TakesOr, TakesFirstPacket, ClosesConnection, ReadsNext, Shuts}
 use Rattle.node_core.specs.LossyEndings.EndsConnection.{none_open, unproposed, proposed}
 use Rattle.node_core.specs.LossyEndings.EndsSilent.{none_silent, ends_one}
-use Rattle.node_core.specs.LossyEndings.LosesFailed.{none_failed, tells_one}
+use Rattle.node_core.specs.LossyEndings.ReportsFailed.{none_failed, tells_one}
 use Rattle.node_core.specs.LossyReading.ReadsNext.{waits, first, later, refuses as refuses_it, ends}
 use Rattle.node_core.specs.Reading.{changes, open_at, connect_refused}
 use Rattle.node_core.specs.Effects.{without_messages}
@@ -123,13 +123,13 @@ pub still_silent : (now : ℕ) (core : CoreState) (account : Account) → EndsSi
 still_silent now core account (none_silent none is) = by_none core account is
 still_silent now core account (ends_one port found runs) = still_ends port core account runs
 
-still_failed : (core : CoreState) (account : Account) → LosesFailed core account → Still core account
+still_failed : (core : CoreState) (account : Account) → ReportsFailed core account → Still core account
 still_failed core account (none_failed none is) = by_none core account is
 still_failed core account (tells_one c found proposes) =
     still_after core (closes_failed core) account (calm_move unheard (refl, refl, refl, λ x. refl)) (still_lost c.name (closes_failed core) account proposes)
 
-pub all_failed : (core : CoreState) (account : Account) → LosesAllFailed core account → Still core account
-all_failed core account runs = still_repeated (length core.connections) LosesFailed still_failed core account runs
+pub all_failed : (core : CoreState) (account : Account) → ReportsAllFailed core account → Still core account
+all_failed core account runs = still_repeated (length core.connections) ReportsFailed still_failed core account runs
 
 -- ---- a packet is read, and not taken
 

@@ -30,11 +30,11 @@ use Rattle.node_core.specs.LossyProposals.{Declines, ProposesCommand}
 use Rattle.node_core.specs.LossyProposals.Declines.{no_room, forgets, stops}
 use Rattle.node_core.specs.Lossy.HandlesAll.{nothing, does, sends, loses}
 use Rattle.node_core.specs.LossyStep.{ActsOn, HoldsBytes, RunsOn, DoesItem}
-use Rattle.node_core.specs.LossyEndings.{EndsConnection, EndsSilent, LosesFailed}
+use Rattle.node_core.specs.LossyEndings.{EndsConnection, EndsSilent, ReportsFailed}
 use Rattle.node_core.specs.LossyReading.{TakesOr, TakesFirstPacket, ClosesConnection, ReadsNext, Shuts}
 use Rattle.node_core.specs.LossyEndings.EndsConnection.{none_open, unproposed, proposed}
 use Rattle.node_core.specs.LossyEndings.EndsSilent.{none_silent, ends_one}
-use Rattle.node_core.specs.LossyEndings.LosesFailed.{none_failed, tells_one}
+use Rattle.node_core.specs.LossyEndings.ReportsFailed.{none_failed, tells_one}
 use Rattle.node_core.specs.LossyReading.ReadsNext.{waits, first, later, refuses, ends}
 use Rattle.node_core.specs.Reading.{changes, open_at, connect_refused, unread_of}
 use Rattle.node_core.specs.Step.{crashed, next_name, with_next_connection, settled, with_cut}
@@ -214,7 +214,7 @@ keep_silent : (now : ℕ) (core : CoreState) (account : Account) → EndsSilent 
 keep_silent now core account (none_silent none is) = by_account core core account is (keep_same core)
 keep_silent now core account (ends_one port found runs) = keep_ended port core account runs
 
-keep_lost : (core : CoreState) (account : Account) → LosesFailed core account → Keep core account.core
+keep_lost : (core : CoreState) (account : Account) → ReportsFailed core account → Keep core account.core
 keep_lost core account (none_failed none is) = by_account core core account is (keep_same core)
 keep_lost core account (tells_one c found proposes) =
     keep_both core (closes_failed core) account.core (keep_failed core)
@@ -310,8 +310,8 @@ keep_item Crash core account is = by_account core (crashed core) account is (kee
 
 keep_acts : (item : Item) (core : CoreState) (account : Account) → ActsOn item core account → Keep core account.core
 keep_acts item core account acts =
-    keep_then (DoesItem item) (λ k d. Repeated (length k.connections) LosesFailed k d) (keep_item item)
-    (λ k d lost. keep_repeated (length k.connections) LosesFailed keep_lost k d lost) core account
+    keep_then (DoesItem item) (λ k d. Repeated (length k.connections) ReportsFailed k d) (keep_item item)
+    (λ k d lost. keep_repeated (length k.connections) ReportsFailed keep_lost k d lost) core account
     (record { one = acts.one; two = acts.two; first = acts.first; next = acts.next; is = acts.is })
 
 keep_settled : (core : CoreState) → Keep core (settled core)

@@ -24,7 +24,7 @@ use Rattle.node_core.specs.Core.{CoreState, StepOutcome}
 use Rattle.node_core.specs.Reading.{changes, open_at, loses, loses_open, port_closed, connect_proposed, proposes_packet, takes_first_packet, reads, reads_of, reads_next, connect_refused, unread_of}
 use Rattle.node_core.specs.ballot_base.Cutting.{can_cut}
 use Rattle.node_core.specs.Step.{node_step, acts_on, cuts, settled, does_item, with_cut}
-use Rattle.node_core.specs.Failing.{loses_failed, loses_if}
+use Rattle.node_core.specs.Failing.{reports_failed, reports_if}
 use Rattle.node_core.specs.KeepAlive.{ends_if, ends_silent, lowest_silent}
 use Rattle.node_core.specs.Effects.{without_messages, proposes, drives, has_room, repeated}
 use Rattle.node_moves.specs.Hearing.{NodeCallsHearAtFirst}
@@ -220,12 +220,12 @@ silent_run now core = silent_runs core (lowest_silent now core.connections)
 
 -- ---- a connection failed
 
-failed_runs : (core : CoreState) (o : Option Connection) → find has_failed core.connections ≡ o → Calm core (loses_if o core)
+failed_runs : (core : CoreState) (o : Option Connection) → find has_failed core.connections ≡ o → Calm core (reports_if o core)
 failed_runs core None at = (rests, tt)
 failed_runs core (Some c) at = calm_move (loses_next c at) (refl, refl)
 
-failed_run : (core : CoreState) → Calm core (loses_failed core)
-unfolding loses_failed
+failed_run : (core : CoreState) → Calm core (reports_failed core)
+unfolding reports_failed
 failed_run core = failed_runs core (find has_failed core.connections) refl
 
 -- ---- an Expel
@@ -263,7 +263,7 @@ taken_in Crash core = first_move crashes
 acted_on : (item : Item) (core : CoreState) → First (part_of (takes item) core) core (acts_on item core)
 acted_on item core =
     first_join (taken_in item core)
-    (repeated_runs loses_failed failed_run (length (does_item item core).core.connections) (does_item item core).core)
+    (repeated_runs reports_failed failed_run (length (does_item item core).core.connections) (does_item item core).core)
 
 step_runs : (item : Item) (core : CoreState) → First (part_of (takes item) core) core (node_step item core)
 step_runs item core =

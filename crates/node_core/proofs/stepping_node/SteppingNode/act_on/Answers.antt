@@ -1,4 +1,4 @@
-use Rattle.node_core.specs.LossyStep.{LosesAllFailed, DoesItem}
+use Rattle.node_core.specs.LossyStep.{ReportsAllFailed, DoesItem}
 use Rattle.node_core.proofs.Accounts.{ran_then}
 use Rattle.node_core.proofs.Idle.{quiet_ignored, quiet_otherwise, ran_ignored, turns_ignored}
 use Rattle.node_core.proofs.stepping_node.SteppingNode.act_on.Goals as goal
@@ -16,7 +16,7 @@ returns-then-ignores-clause-quiet c = λ _ failed. quiet_ignored _ _ c.report_fa
 
 pub returns-clause-lossy : goal.returns-clause-lossy
 returns-clause-lossy c =
-    ran_then (DoesItem c.args.item) LosesAllFailed _ _ _ _ _ _ c.do_item.ensures.lossy c.report_failed-2.ensures.lossy
+    ran_then (DoesItem c.args.item) ReportsAllFailed _ _ _ _ _ _ c.do_item.ensures.lossy c.report_failed-2.ensures.lossy
 
 pub returns-clause-quiet : goal.returns-clause-quiet
 returns-clause-quiet c =

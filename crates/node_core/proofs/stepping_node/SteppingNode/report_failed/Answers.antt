@@ -1,9 +1,9 @@
 use Rattle.std.proofs.Common.{◌≡◌, ◌≤◌, ℕ, suc, ◌+◌, length, refl, subst, arith}
-use Rattle.node_core.specs.Failing.{loses_failed}
+use Rattle.node_core.specs.Failing.{reports_failed}
 use Rattle.node_core.specs.Inside.{StepPartOrLost, DoesOutcome}
 use Rattle.node_core.specs.Lossy.{Repeated}
-use Rattle.node_core.specs.LossyStep.{LosesAllFailed}
-use Rattle.node_core.specs.LossyEndings.{LosesFailed}
+use Rattle.node_core.specs.LossyStep.{ReportsAllFailed}
+use Rattle.node_core.specs.LossyEndings.{ReportsFailed}
 use Rattle.node_core.specs.Effects.{repeated}
 use Rattle.node_core.proofs.Accounts.{ran_as, ran_enough, ran_more, ran_none}
 use Rattle.node_core.proofs.Failures.{none_again}
@@ -12,8 +12,8 @@ use Rattle.node_core.proofs.stepping_node.SteppingNode.report_failed.Goals as go
 
 pub loop-connection-init : goal.loop-connection-init
 loop-connection-init c = record {
-  exact = repeats_none loses_failed c.args.self.now c.args.effects.now.items;
-  lossy = ran_none LosesFailed c.args.self.now.core c.args.effects.now.items;
+  exact = repeats_none reports_failed c.args.self.now c.args.effects.now.items;
+  lossy = ran_none ReportsFailed c.args.self.now.core c.args.effects.now.items;
   none = λ _. refl;
 }
 
@@ -22,9 +22,9 @@ pub returns-then-not-report_one_failed-clause-exact : goal.returns-then-not-repo
 returns-then-not-report_one_failed-clause-exact c =
     let few : suc c.loop-connection._connection ≤ length c.args.self.now.core.connections =
     omega (arith, c.loop-connection-test.true, c.listed-connection-end.ensures) in
-    repeats_enough loses_failed (suc c.loop-connection._connection) (length c.args.self.now.core.connections)
+    repeats_enough reports_failed (suc c.loop-connection._connection) (length c.args.self.now.core.connections)
     c.args.self.now c.report_one_failed.new.self c.args.effects.now.items c.report_one_failed.new.effects.items few
-    (repeats_more loses_failed c.loop-connection._connection c.args.self.now c.loop-connection.self c.report_one_failed.new.self
+    (repeats_more reports_failed c.loop-connection._connection c.args.self.now c.loop-connection.self c.report_one_failed.new.self
     c.args.effects.now.items c.loop-connection.effects.items c.report_one_failed.new.effects.items
     c.loop-connection.invariant.exact c.report_one_failed.ensures.exact)
     (λ _. c.report_one_failed.ensures.done c.if-not-report_one_failed.true)
@@ -33,11 +33,11 @@ pub returns-then-not-report_one_failed-clause-lossy : goal.returns-then-not-repo
 returns-then-not-report_one_failed-clause-lossy c =
     let few : suc c.loop-connection._connection ≤ length c.args.self.now.core.connections =
     omega (arith, c.loop-connection-test.true, c.listed-connection-end.ensures) in
-    ran_as (Repeated (length c.args.self.now.core.connections) LosesFailed) LosesAllFailed
+    ran_as (Repeated (length c.args.self.now.core.connections) ReportsFailed) ReportsAllFailed
     c.args.self.now.core c.args.self.now.core _ _ _ (λ account runs. runs)
-    (ran_enough LosesFailed (suc c.loop-connection._connection) (length c.args.self.now.core.connections)
+    (ran_enough ReportsFailed (suc c.loop-connection._connection) (length c.args.self.now.core.connections)
     c.args.self.now.core c.report_one_failed.new.self.core c.args.effects.now.items c.report_one_failed.new.effects.items few
-    (ran_more LosesFailed c.loop-connection._connection c.args.self.now.core c.loop-connection.self.core c.report_one_failed.new.self.core
+    (ran_more ReportsFailed c.loop-connection._connection c.args.self.now.core c.loop-connection.self.core c.report_one_failed.new.self.core
     c.args.effects.now.items c.loop-connection.effects.items c.report_one_failed.new.effects.items
     c.loop-connection.invariant.lossy c.report_one_failed.ensures.lossy)
     (c.report_one_failed.ensures.idle c.if-not-report_one_failed.true))
@@ -47,13 +47,13 @@ loop-connection-preserved c =
     let one_more : suc c.loop-connection._connection ≡ c.loop-connection._connection + 1 = omega arith in
     record {
       exact = subst (λ (k : ℕ). DoesOutcome c.args.self.now c.report_one_failed.new.self c.args.effects.now.items c.report_one_failed.new.effects.items
-          (repeated k loses_failed c.args.self.now.core)) one_more
-          (repeats_more loses_failed c.loop-connection._connection c.args.self.now c.loop-connection.self c.report_one_failed.new.self
+          (repeated k reports_failed c.args.self.now.core)) one_more
+          (repeats_more reports_failed c.loop-connection._connection c.args.self.now c.loop-connection.self c.report_one_failed.new.self
           c.args.effects.now.items c.loop-connection.effects.items c.report_one_failed.new.effects.items
           c.loop-connection.invariant.exact c.report_one_failed.ensures.exact);
-      lossy = subst (λ (k : ℕ). StepPartOrLost (Repeated k LosesFailed) c.args.self.now.core c.report_one_failed.new.self.core
+      lossy = subst (λ (k : ℕ). StepPartOrLost (Repeated k ReportsFailed) c.args.self.now.core c.report_one_failed.new.self.core
           c.args.effects.now.items c.report_one_failed.new.effects.items) one_more
-          (ran_more LosesFailed c.loop-connection._connection c.args.self.now.core c.loop-connection.self.core c.report_one_failed.new.self.core
+          (ran_more ReportsFailed c.loop-connection._connection c.args.self.now.core c.loop-connection.self.core c.report_one_failed.new.self.core
           c.args.effects.now.items c.loop-connection.effects.items c.report_one_failed.new.effects.items
           c.loop-connection.invariant.lossy c.report_one_failed.ensures.lossy);
       none = none_again c.args.self.now c.loop-connection.self c.report_one_failed.new.self c.loop-connection.invariant.none
