@@ -19,7 +19,7 @@ use Rattle.broker_spec.specs.Times.{entries_of, room_of}
 use Rattle.broker_spec.specs.Marks.{is_queued_at, lacks_room, is_refused}
 use Rattle.broker_base.specs.ClientSession.{flights_below, queue_of, client_session}
 use Rattle.broker_base.specs.State.{keyed, table, state_of}
-use Rattle.broker_base.specs.Decisions.{has_no_room_for, refuses, repeats_taken}
+use Rattle.broker_base.specs.Decisions.{row_lacks_room, refuses, repeats_taken}
 use Rattle.session_base.proofs.CountedIdentifiers.{same_length}
 use Rattle.broker_spec.proofs.SoundEntries.{Sound}
 use Rattle.broker_base.proofs.flights.IdentifiersInFlight.{same_ids}
@@ -47,12 +47,12 @@ room_is limits past c = ap (λ k. limits.entries - k) (held_is (length past) (en
 -- ---- publications
 
 full_in : (limits : Limits) (past : Past) (p : Publication) (ds : List Client) →
-    list_any (has_no_room_for limits p) (table (client_session limits past) ds) ≡ list_any (lacks_room limits past p) (filter (λ c. is_some (clean_session_of past c)) ds)
+    list_any (row_lacks_room limits p) (table (client_session limits past) ds) ≡ list_any (lacks_room limits past p) (filter (λ c. is_some (clean_session_of past c)) ds)
 full_in limits past p [] = refl
 full_in limits past p (d ∷ ds) = by (clean_session_of past d) (full_in limits past p ds)
   where
-    by : (session : Option Bool) → list_any (has_no_room_for limits p) (table (client_session limits past) ds) ≡ list_any (lacks_room limits past p) (filter (λ c. is_some (clean_session_of past c)) ds) →
-        list_any (has_no_room_for limits p) (keyed d (option_map (kept_now limits past d) session) (table (client_session limits past) ds))
+    by : (session : Option Bool) → list_any (row_lacks_room limits p) (table (client_session limits past) ds) ≡ list_any (lacks_room limits past p) (filter (λ c. is_some (clean_session_of past c)) ds) →
+        list_any (row_lacks_room limits p) (keyed d (option_map (kept_now limits past d) session) (table (client_session limits past) ds))
         ≡ list_any (lacks_room limits past p) (if is_some session then d ∷ filter (λ c. is_some (clean_session_of past c)) ds else filter (λ c. is_some (clean_session_of past c)) ds)
     by None e = e
     by (Some clean) e = ap₂ (λ k b. (is_queued_at (effective_qos past d p) && (k == 0)) || b) (room_is limits past d) e

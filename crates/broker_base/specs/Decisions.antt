@@ -21,8 +21,8 @@ use Rattle.broker_spec.specs.declared.command.Command.{Command}
 use Rattle.broker_spec.specs.declared.command.Command.TheVariants as commands
 
 -- whether a session would have to queue the publication but is full
-abbrev pub has_no_room_for : Limits → Publication → Client × ClientSession → Bool
-has_no_room_for limits publication row =
+abbrev pub row_lacks_room : Limits → Publication → Client × ClientSession → Bool
+row_lacks_room limits publication row =
     is_queued_at
     (option_map (lower_qos publication.qos)
     (granted_qos publication.topic row.1.state.subscriptions))
@@ -39,7 +39,7 @@ is_one_topic_over limits content publication =
 -- retained
 abbrev pub refuses : Limits → State → Publication → Bool
 refuses limits state publication =
-    list_any (has_no_room_for limits publication) state.sessions
+    list_any (row_lacks_room limits publication) state.sessions
     || is_one_topic_over limits state.retained publication
 
 -- whether a delivery repeats one that the session took

@@ -25,7 +25,7 @@ use Rattle.broker_base.specs.ClientSession.{ClientSession}
 use Rattle.broker_base.specs.SessionStep.{copies_with}
 use Rattle.broker_base.specs.State.{Sessions, State, session_in, owner_in}
 use Rattle.broker_base.specs.StateLaws.{AreByClient}
-use Rattle.broker_base.specs.Decisions.{has_no_room_for, is_one_topic_over, refuses, repeats_taken, owned_mark, packet_mark_in, place_in}
+use Rattle.broker_base.specs.Decisions.{row_lacks_room, is_one_topic_over, refuses, repeats_taken, owned_mark, packet_mark_in, place_in}
 use Rattle.broker_rows.proofs.FindsEach.{Finds, finds_each}
 use Rattle.broker_rows.proofs.OwnersRow.{owner_found}
 use Rattle.broker_form.specs.InRange.{IsSession}
@@ -73,11 +73,11 @@ one_copy limits p q (Some qos) few e = by (is_answered (lower_qos p.qos qos)) e
     by false e = omega (arith, few)
 
 taken_rooms : (limits : Limits) (x : ConnectionName) (p : Publish) (d : Client) (content : RetainedTopics) (rows : Sessions) →
-    list_any (has_no_room_for limits (publication_of p)) rows ≡ false → AllInRange limits rows →
+    list_any (row_lacks_room limits (publication_of p)) rows ≡ false → AllInRange limits rows →
     AllHaveRoom limits (record { command = commands.Packet x (packets.Publish p); mark = Mark.Taken d }) content rows
 taken_rooms limits x p d content [] e h = tt
 taken_rooms limits x p d content (row ∷ rows) e h =
-    let parts = both_no (has_no_room_for limits (publication_of p) row) (list_any (has_no_room_for limits (publication_of p)) rows) e in (
+    let parts = both_no (row_lacks_room limits (publication_of p) row) (list_any (row_lacks_room limits (publication_of p)) rows) e in (
       record {
         entries = one_copy limits (publication_of p) row.1.state.queue (granted_qos p.topic row.1.state.subscriptions) h.0.queue.few parts.0;
         filters = h.0.few_filters;
@@ -153,7 +153,7 @@ owned_rooms limits state x owner (packets.Publish p) sorted e h =
           AllHaveRoom limits (record { command = commands.Packet x (packets.Publish p); mark = if b then Mark.Refused owner.0 else Mark.Taken owner.0 }) state.retained state.sessions) [
             | true ↦ λ f. nothing_made limits _ state.retained state.sessions (λ content c held. (refl, omega arith)) h
             | false ↦ λ f. taken_rooms limits x p owner.0 state.retained state.sessions
-                (first_no (list_any (has_no_room_for limits (publication_of p)) state.sessions) (is_one_topic_over limits state.retained (publication_of p)) f) h
+                (first_no (list_any (row_lacks_room limits (publication_of p)) state.sessions) (is_one_topic_over limits state.retained (publication_of p)) f) h
           ] refl
     ]
   where

@@ -12,10 +12,10 @@ use Rattle.broker_spec.specs.Place.{Client, Limits}
 use Rattle.broker_spec.specs.EntryLaws.{place_of_taken}
 use Rattle.broker_base.specs.State.{Sessions, session_in}
 use Rattle.broker_base.specs.StateLaws.{AllSound, AreByClient}
-use Rattle.broker_base.specs.Decisions.{has_no_room_for}
+use Rattle.broker_base.specs.Decisions.{row_lacks_room}
 use Rattle.broker_base.specs.StepAnswers.{copies_answered}
 use Rattle.broker_rows.specs.Indexed.{content_in}
-use Rattle.broker_rows.specs.Published.{granted_rows, is_full_at, copy_answered}
+use Rattle.broker_rows.specs.Published.{granted_rows, session_lacks_room, copy_answered}
 
 -- the rows that an index grants, if it holds the sessions' subscriptions, are the sessions that
 -- match
@@ -30,8 +30,8 @@ GrantedRowsMatch =
 abbrev pub RoomIsOfGrantedRows : Type 0
 RoomIsOfGrantedRows =
     (limits : Limits) → (publication : Publication) → (rows : Sessions) → AreByClient rows →
-    list_any (has_no_room_for limits publication) rows
-    ≡ list_any (λ row. is_full_at limits publication row.1 (session_in row.0 rows))
+    list_any (row_lacks_room limits publication) rows
+    ≡ list_any (λ row. session_lacks_room limits publication row.1 (session_in row.0 rows))
     (granted_rows publication.topic rows)
 
 -- what all sessions are sent of it is what the granted ones are, in order

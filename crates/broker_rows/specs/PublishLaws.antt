@@ -23,12 +23,12 @@ use Rattle.subs_base.specs.Granted.{Row}
 use Rattle.broker_rows.specs.Touched.{written}
 use Rattle.broker_rows.specs.Served.{ServesClient, with_session, left_off}
 use Rattle.broker_rows.specs.Published.{granted_rows, session_changed, received_on, delivered_on}
-use Rattle.broker_rows.specs.Published.{all_delivered, is_full_at, answered_in_turn}
+use Rattle.broker_rows.specs.Published.{all_delivered, session_lacks_room, answered_in_turn}
 
 -- whether a granted row's session is full for it, or it would be retained on a topic too many
 abbrev pub is_refused_in : Limits → State → Publication → Bool
 is_refused_in limits state publication =
-    list_any (λ row. is_full_at limits publication row.1 (session_in row.0 state.sessions))
+    list_any (λ row. session_lacks_room limits publication row.1 (session_in row.0 state.sessions))
     (granted_rows publication.topic state.sessions)
     || is_one_topic_over limits state.retained publication
 
@@ -71,7 +71,7 @@ TakenStep =
 -- each granted row's session still has room when its copy is queued
 abbrev pub HaveRoomInTurn : Limits → ℕ → Publication → List Row → Sessions → Type 0
 HaveRoomInTurn limits window publication (row ∷ granted) rows =
-    (is_full_at limits publication row.1 (session_in row.0 rows) ≡ false)
+    (session_lacks_room limits publication row.1 (session_in row.0 rows) ≡ false)
     × HaveRoomInTurn limits window publication granted
     (session_changed row.0 (delivered_on window publication row.1) rows)
 HaveRoomInTurn limits window publication [] rows = Unit {0}
@@ -81,7 +81,7 @@ abbrev pub RoomLastsToItsTurn : Type 0
 RoomLastsToItsTurn =
     (limits : Limits) → (window : ℕ) → (publication : Publication) → (publisher : Client) →
     (delivery : Delivery) → (rows : Sessions) → AreByClient rows →
-    list_any (λ row. is_full_at limits publication row.1 (session_in row.0 rows))
+    list_any (λ row. session_lacks_room limits publication row.1 (session_in row.0 rows))
     (granted_rows publication.topic rows)
     ≡ false →
     HaveRoomInTurn limits window publication (granted_rows publication.topic rows)

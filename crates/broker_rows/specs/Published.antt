@@ -60,10 +60,10 @@ all_delivered window publication granted sessions =
 -- ---- room and answers, of a granted row's session
 
 -- whether a granted session, if there is one, would have to queue the publication and is full
-abbrev pub is_full_at : Limits → Publication → QoS → Option ClientSession → Bool
-is_full_at limits publication qos (Some kept) =
+abbrev pub session_lacks_room : Limits → Publication → QoS → Option ClientSession → Bool
+session_lacks_room limits publication qos (Some kept) =
     is_answered (lower_qos publication.qos qos) && (room limits.entries kept.state.queue == 0)
-is_full_at limits publication qos None = false
+session_lacks_room limits publication qos None = false
 
 -- what the client of a granted session is sent
 abbrev pub copy_answered : ℕ → Publication → QoS → Option ClientSession → List Output

@@ -11,7 +11,7 @@ ghost use Rattle.session_base.specs.Session.{with_queue};
 ghost use Rattle.broker_rows.specs.broker_base.SessionStep.{copied_queue};
 ghost use Rattle.broker_rows.specs.broker_base.StepAnswers.{sent_on};
 ghost use Rattle.broker_spec.specs.Commands.{usual_limits};
-ghost use Rattle.broker_rows.specs.Published.{delivered_on, is_full_at};
+ghost use Rattle.broker_rows.specs.Published.{delivered_on, session_lacks_room};
 ghost use Rattle.broker_session.specs.OneSession.{lowered};
 
 use crate::client_row::ClientRow;
@@ -93,7 +93,7 @@ pub fn deliver(
     qos: QoS,
     out: &mut Vec<Output>,
 ) -> Result<(), Halted>
-    requires room { is_full_at usual_limits publication.now qos (Some row.old) ≡ false }
+    requires room { session_lacks_room usual_limits publication.now qos (Some row.old) ≡ false }
     ensures state { OnOk result (row.new ≡ delivered_on window publication.now qos row.old) }
     ensures outputs { OnOk result
         (out.new.items ≡ out.old.items ++ sent_on row.old.connection

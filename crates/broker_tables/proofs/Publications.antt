@@ -20,7 +20,7 @@ use Rattle.broker_session.specs.broker_base.ClientSession.{ClientSession}
 use Rattle.broker_session.specs.broker_base.State.{Sessions, session_in}
 use Rattle.broker_session.specs.broker_base.Decisions.{repeats_taken, is_one_topic_over}
 use Rattle.broker_session.specs.broker_rows.Served.{ServesClient}
-use Rattle.broker_session.specs.broker_rows.Published.{granted_rows, session_changed, received_on, all_delivered, answered_in_turn, is_full_at}
+use Rattle.broker_session.specs.broker_rows.Published.{granted_rows, session_changed, received_on, all_delivered, answered_in_turn, session_lacks_room}
 use Rattle.broker_session.specs.broker_rows.PublishLaws.{is_refused_in, HaveRoomInTurn}
 use Rattle.broker_session.proofs.of_broker_rows.PacketSteps.{repeat_step}
 use Rattle.broker_session.proofs.of_broker_rows.publications.RoomInTurn.{room_lasts}
@@ -87,7 +87,7 @@ module _ (tables : Tables) (x : ConnectionName) (c : Client) (kept : ClientSessi
       (subst (λ (sessions : Sessions). HaveRoomInTurn usual_limits tables.window (publication_of p) (granted_rows p.topic tables.sessions.entries) sessions) (sym after)
       (room_lasts usual_limits tables.window (publication_of p) c p.delivery tables.sessions.entries served.sound.by_client
       (or_parts
-      (list_any (λ (row : Row). is_full_at usual_limits (publication_of p) row.1 (session_in row.0 tables.sessions.entries)) (granted_rows p.topic tables.sessions.entries))
+      (list_any (λ (row : Row). session_lacks_room usual_limits (publication_of p) row.1 (session_in row.0 tables.sessions.entries)) (granted_rows p.topic tables.sessions.entries))
       (is_one_topic_over usual_limits tables.retained (publication_of p)) taken).0))
 
 -- the ties after it

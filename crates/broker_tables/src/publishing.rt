@@ -13,7 +13,7 @@ ghost use Rattle.broker_spec.specs.Commands.{usual_limits};
 ghost use Rattle.broker_spec.specs.Retained.{retains};
 ghost use Rattle.broker_session.specs.broker_base.Decisions.{repeats_taken, is_one_topic_over};
 ghost use Rattle.broker_session.specs.broker_base.State.{session_in};
-ghost use Rattle.broker_session.specs.broker_rows.Published.{is_full_at, all_delivered, answered_in_turn, session_changed};
+ghost use Rattle.broker_session.specs.broker_rows.Published.{session_lacks_room, all_delivered, answered_in_turn, session_changed};
 ghost use Rattle.broker_session.specs.broker_rows.Published.{copy_answered, delivered_on};
 ghost use Rattle.broker_session.specs.broker_rows.Published.{granted_rows, received_on};
 
@@ -80,7 +80,7 @@ impl Tables {
         requires { granted.now ≡ granted_rows publication.now.topic self.now.sessions.entries }
         ensures { result ≡ is_refused_in usual_limits (state_in self.now) publication.now }
     {
-        is_any_full(&self.sessions, publication, granted)
+        any_lacks_room(&self.sessions, publication, granted)
             || is_one_topic_over(&self.retained, publication)
     }
 
@@ -139,12 +139,12 @@ fn note_identifier(row: &mut ClientRow, delivery: Delivery) -> Result<(), Halted
 }
 
 // Says whether a session would have to queue the publication and is full.
-fn is_full_at(
+fn lacks_room(
     sessions: &BTreeMap<ClientId, ClientRow>,
     publication: &Publication,
     granted: &(ClientId, QoS),
 ) -> bool
-    ensures { result ≡ is_full_at usual_limits publication.now granted.now.1
+    ensures { result ≡ session_lacks_room usual_limits publication.now granted.now.1
         (session_in granted.now.0 sessions.now.entries) }
 {
     let (client, qos) = granted;
@@ -155,18 +155,18 @@ fn is_full_at(
 }
 
 // Says whether a session that is granted it would have to queue the publication and is full.
-fn is_any_full(
+fn any_lacks_room(
     sessions: &BTreeMap<ClientId, ClientRow>,
     publication: &Publication,
     granted: &[(ClientId, QoS)],
 ) -> bool
-    ensures { result ≡ list_any (λ row.
-        is_full_at usual_limits publication.now row.1 (session_in row.0 sessions.now.entries))
+    ensures { result ≡ list_any (λ row. session_lacks_room usual_limits publication.now row.1
+        (session_in row.0 sessions.now.entries))
         granted.now }
 {
     granted
         .iter()
-        .any(|row| is_full_at(sessions, publication, row))
+        .any(|row| lacks_room(sessions, publication, row))
 }
 
 // Says whether the publication is to be retained on a topic too many.
@@ -207,7 +207,7 @@ fn deliver_to(
     granted: &(ClientId, QoS),
     out: &mut Vec<Output>,
 ) -> Result<(), Halted>
-    requires room { is_full_at usual_limits publication.now granted.now.1
+    requires room { session_lacks_room usual_limits publication.now granted.now.1
         (session_in granted.now.0 sessions.old.entries) ≡ false }
     ensures state { OnOk result
         (sessions.new.entries ≡ session_changed granted.now.0
