@@ -19,7 +19,7 @@ use Rattle.broker_spec.specs.Times.{entries_of, room_of}
 use Rattle.broker_spec.specs.Marks.{is_queued_at, lacks_room, is_refused}
 use Rattle.broker_base.specs.ClientSession.{flights_below, queue_of, client_session}
 use Rattle.broker_base.specs.State.{keyed, table, state_of}
-use Rattle.broker_base.specs.Decisions.{row_lacks_room, refuses, repeats_taken}
+use Rattle.broker_base.specs.Decisions.{row_lacks_room, is_refused_in, repeats_taken}
 use Rattle.session_base.proofs.CountedIdentifiers.{same_length}
 use Rattle.broker_spec.proofs.SoundEntries.{Sound}
 use Rattle.broker_base.proofs.flights.IdentifiersInFlight.{same_ids}
@@ -57,7 +57,7 @@ full_in limits past p (d ∷ ds) = by (clean_session_of past d) (full_in limits 
     by None e = e
     by (Some clean) e = ap₂ (λ k b. (is_queued_at (effective_qos past d p) && (k == 0)) || b) (room_is limits past d) e
 
-pub refuses_is : (limits : Limits) (past : Past) (p : Publication) → refuses limits (state_of limits past) p ≡ is_refused limits past p
+pub refuses_is : (limits : Limits) (past : Past) (p : Publication) → is_refused_in limits (state_of limits past) p ≡ is_refused limits past p
 refuses_is limits past p = ap (λ b. b || is_retained_over limits past p) (full_in limits past p (named past))
 
 pub again_is : (limits : Limits) (past : Past) (c : Client) (clean : Bool) (d : Delivery) → repeats_taken (kept_now limits past c clean) d ≡ is_repeat past c d

@@ -37,8 +37,8 @@ is_one_topic_over limits content publication =
 
 -- a publication is refused as a whole if one session has no room for it, or if it cannot be
 -- retained
-abbrev pub refuses : Limits → State → Publication → Bool
-refuses limits state publication =
+abbrev pub is_refused_in : Limits → State → Publication → Bool
+is_refused_in limits state publication =
     list_any (row_lacks_room limits publication) state.sessions
     || is_one_topic_over limits state.retained publication
 
@@ -51,7 +51,7 @@ repeats_taken kept _ = false
 abbrev pub owned_mark : Limits → State → Client × ClientSession → Packet → Mark
 owned_mark limits state owner (packets.Publish publish) =
     if repeats_taken owner.1 publish.delivery then Mark.Repeat owner.0 else
-    if refuses limits state (publication_of publish) then Mark.Refused owner.0
+    if is_refused_in limits state (publication_of publish) then Mark.Refused owner.0
     else Mark.Taken owner.0
 owned_mark limits state owner (packets.Subscribe subscribe) =
     Mark.Granted owner.0 (grants limits state.retained owner.1.state.subscriptions

@@ -19,7 +19,7 @@ use Rattle.broker_base.specs.ClientSession.{ClientSession}
 use Rattle.broker_base.specs.SessionStep.{session_connected, session_by}
 use Rattle.broker_base.specs.State.{Sessions, State, keyed, session_in, owner_in, put_session}
 use Rattle.broker_base.specs.StateLaws.{AreByClient}
-use Rattle.broker_base.specs.Decisions.{is_one_topic_over, row_lacks_room, refuses, repeats_taken, packet_mark_in, connect_mark_in, place_in}
+use Rattle.broker_base.specs.Decisions.{is_one_topic_over, row_lacks_room, is_refused_in, repeats_taken, packet_mark_in, connect_mark_in, place_in}
 use Rattle.broker_base.specs.Step.{session_after, sessions_left, sessions_with, window_after, step}
 use Rattle.broker_base.proofs.SessionsStayByClient.{left_by_client}
 use Rattle.session_base.specs.InRange.{CanBeSent}
@@ -182,9 +182,9 @@ pub stays_retained : (limits : Limits) (state : State) (command : Command) → (
 stays_retained limits state (commands.Packet x (packets.Publish p)) sent h =
     elim (owner_in x state.sessions) as (λ (o : Option (Client × ClientSession)). Kept (packet_mark_in limits state (packets.Publish p) o)) [
       | Some owner ↦
-          elim (repeats_taken owner.1 p.delivery) as (λ (b : Bool). Kept (if b then Mark.Repeat owner.0 else if refuses limits state (publication_of p) then Mark.Refused owner.0 else Mark.Taken owner.0)) [
+          elim (repeats_taken owner.1 p.delivery) as (λ (b : Bool). Kept (if b then Mark.Repeat owner.0 else if is_refused_in limits state (publication_of p) then Mark.Refused owner.0 else Mark.Taken owner.0)) [
             | true ↦ h
-            | false ↦ elim (refuses limits state (publication_of p)) as (λ (b : Bool). refuses limits state (publication_of p) ≡ b → Kept (if b then Mark.Refused owner.0 else Mark.Taken owner.0)) [
+            | false ↦ elim (is_refused_in limits state (publication_of p)) as (λ (b : Bool). is_refused_in limits state (publication_of p) ≡ b → Kept (if b then Mark.Refused owner.0 else Mark.Taken owner.0)) [
               | true ↦ λ e. h
               | false ↦ λ e. taken (second_no (list_any (row_lacks_room limits (publication_of p)) state.sessions) (is_one_topic_over limits state.retained (publication_of p)) e)
             ] refl

@@ -17,7 +17,7 @@ use Rattle.broker_spec.specs.declared.command.Command.{Command}
 use Rattle.broker_spec.specs.declared.command.Command.TheVariants as commands
 use Rattle.broker_base.specs.ClientSession.{ClientSession}
 use Rattle.broker_base.specs.State.{State, empty_state, session_in, owner_in}
-use Rattle.broker_base.specs.Decisions.{refuses, repeats_taken, owned_mark, packet_mark_in, mark_in}
+use Rattle.broker_base.specs.Decisions.{is_refused_in, repeats_taken, owned_mark, packet_mark_in, mark_in}
 use Rattle.broker_base.specs.StepAnswers.{packet_answers_in, connection_of, resumed, connect_answers_in}
 use Rattle.broker_base.specs.Step.{step, state_from, steps_from}
 use Rattle.broker_form.specs.InRange.{IsBrokerState}
@@ -44,7 +44,7 @@ owned w limits state x owner (packets.Publish p) m k h room =
     elim (repeats_taken owner.1 p.delivery) as (λ (b : Bool). RoomAt (again b) → Answered w state x (packets.Publish p) (again b)) [
       | true ↦ λ room. acknowledged_spelled x p.delivery k.1.1
       | false ↦
-          elim (refuses limits state (publication_of p)) as (λ (b : Bool). RoomAt (refused b) → Answered w state x (packets.Publish p) (refused b)) [
+          elim (is_refused_in limits state (publication_of p)) as (λ (b : Bool). RoomAt (refused b) → Answered w state x (packets.Publish p) (refused b)) [
             | true ↦ λ room. (tt, tt)
             | false ↦ λ room.
                 all_append CanBeSpelled (acknowledged x p.delivery) _ (acknowledged_spelled x p.delivery k.1.1)
@@ -56,7 +56,7 @@ owned w limits state x owner (packets.Publish p) m k h room =
     refused b = if b then Mark.Refused owner.0 else Mark.Taken owner.0
 
     again : Bool → Mark
-    again b = if b then Mark.Repeat owner.0 else refused (refuses limits state (publication_of p))
+    again b = if b then Mark.Repeat owner.0 else refused (is_refused_in limits state (publication_of p))
 
     RoomAt : Mark → Type 0
     RoomAt mark = AllHaveRoom limits (record { command = commands.Packet x (packets.Publish p); mark = mark }) state.retained state.sessions

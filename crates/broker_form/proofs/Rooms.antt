@@ -25,7 +25,7 @@ use Rattle.broker_base.specs.ClientSession.{ClientSession}
 use Rattle.broker_base.specs.SessionStep.{copies_with}
 use Rattle.broker_base.specs.State.{Sessions, State, session_in, owner_in}
 use Rattle.broker_base.specs.StateLaws.{AreByClient}
-use Rattle.broker_base.specs.Decisions.{row_lacks_room, is_one_topic_over, refuses, repeats_taken, owned_mark, packet_mark_in, place_in}
+use Rattle.broker_base.specs.Decisions.{row_lacks_room, is_one_topic_over, is_refused_in, repeats_taken, owned_mark, packet_mark_in, place_in}
 use Rattle.broker_rows.proofs.FindsEach.{Finds, finds_each}
 use Rattle.broker_rows.proofs.OwnersRow.{owner_found}
 use Rattle.broker_form.specs.InRange.{IsSession}
@@ -146,10 +146,10 @@ owned_rooms limits state x owner (packets.Publish p) sorted e h =
     AllHaveRoom limits (record {
       command = commands.Packet x (packets.Publish p);
       mark = if b then Mark.Repeat owner.0 else
-          if refuses limits state (publication_of p) then Mark.Refused owner.0 else Mark.Taken owner.0;
+          if is_refused_in limits state (publication_of p) then Mark.Refused owner.0 else Mark.Taken owner.0;
     }) state.retained state.sessions) [
       | true ↦ nothing_made limits _ state.retained state.sessions (λ content c held. (refl, omega arith)) h
-      | false ↦ elim (refuses limits state (publication_of p)) as (λ (b : Bool). refuses limits state (publication_of p) ≡ b →
+      | false ↦ elim (is_refused_in limits state (publication_of p)) as (λ (b : Bool). is_refused_in limits state (publication_of p) ≡ b →
           AllHaveRoom limits (record { command = commands.Packet x (packets.Publish p); mark = if b then Mark.Refused owner.0 else Mark.Taken owner.0 }) state.retained state.sessions) [
             | true ↦ λ f. nothing_made limits _ state.retained state.sessions (λ content c held. (refl, omega arith)) h
             | false ↦ λ f. taken_rooms limits x p owner.0 state.retained state.sessions

@@ -11,7 +11,7 @@ use Rattle.broker_spec.specs.Place.{Client, same_client, Mark, Limits}
 use Rattle.broker_spec.specs.Past.{any_connection, is_leaving, ends, expels}
 use Rattle.broker_base.specs.ClientSession.{ClientSession}
 use Rattle.broker_base.specs.State.{State, owner_in}
-use Rattle.broker_base.specs.Decisions.{refuses, repeats_taken, owned_mark, packet_mark_in, connect_mark_in, mark_in, place_in}
+use Rattle.broker_base.specs.Decisions.{is_refused_in, repeats_taken, owned_mark, packet_mark_in, connect_mark_in, mark_in, place_in}
 use Rattle.broker_base.specs.Step.{is_about}
 use Rattle.broker_spec.specs.declared.command.Command.{Command}
 use Rattle.broker_spec.specs.declared.command.Command.TheVariants as commands
@@ -64,7 +64,7 @@ ones_marked command mark x d on of c kept other off =
 -- the mark of an owner's PUBLISH that is not taken
 publish_mark : (limits : Limits) (state : State) (owner : Client × ClientSession) (p : Publish) → is_taken (owned_mark limits state owner (packets.Publish p)) ≡ false →
     IsMarkOf owner.0 (owned_mark limits state owner (packets.Publish p))
-publish_mark limits state owner p = by (repeats_taken owner.1 p.delivery) (refuses limits state (publication_of p))
+publish_mark limits state owner p = by (repeats_taken owner.1 p.delivery) (is_refused_in limits state (publication_of p))
   where
     by : (again refused : Bool) → is_taken (if again then Mark.Repeat owner.0 else if refused then Mark.Refused owner.0 else Mark.Taken owner.0) ≡ false →
         IsMarkOf owner.0 (if again then Mark.Repeat owner.0 else if refused then Mark.Refused owner.0 else Mark.Taken owner.0)

@@ -14,7 +14,7 @@ use Rattle.broker_spec.specs.Answers.{acknowledged, codes_of}
 use Rattle.broker_base.specs.ClientSession.{ClientSession}
 use Rattle.broker_base.specs.State.{State, session_in}
 use Rattle.broker_base.specs.StepAnswers.{handled_in, sent_on, copies_to, answers_by_state}
-use Rattle.broker_base.specs.Decisions.{refuses, packet_mark_in}
+use Rattle.broker_base.specs.Decisions.{is_refused_in, packet_mark_in}
 use Rattle.broker_spec.specs.declared.command.Command.TheVariants as commands
 use Rattle.broker_spec.specs.declared.command.Output.{Output}
 use Rattle.broker_spec.specs.declared.command.Output.TheVariants.{Send}
@@ -74,6 +74,6 @@ pub repeat_step : RepeatStep
 repeat_step limits later state x c kept served p again =
     served_step limits later state (commands.Packet x (packets.Publish p)) x c kept (Mark.Repeat c) (Some kept) (acknowledged x p.delivery) served refl refl
     (ap (packet_mark_in limits state (packets.Publish p)) served.owner
-    ∙ ap (λ b. if b then Mark.Repeat c else if refuses limits state (publication_of p) then Mark.Refused c else Mark.Taken c) again) refl
+    ∙ ap (λ b. if b then Mark.Repeat c else if is_refused_in limits state (publication_of p) then Mark.Refused c else Mark.Taken c) again) refl
     (repeat_is state.window x state.retained c kept (served_on state x c kept served) p) refl
     ∙ ap (λ s. (s, acknowledged x p.delivery)) (same_session state x c kept served)

@@ -26,8 +26,8 @@ use Rattle.broker_rows.specs.Published.{granted_rows, session_changed, received_
 use Rattle.broker_rows.specs.Published.{all_delivered, session_lacks_room, answered_in_turn}
 
 -- whether a granted row's session is full for it, or it would be retained on a topic too many
-abbrev pub is_refused_in : Limits → State → Publication → Bool
-is_refused_in limits state publication =
+abbrev pub is_refused_by_rows : Limits → State → Publication → Bool
+is_refused_by_rows limits state publication =
     list_any (λ row. session_lacks_room limits publication row.1 (session_in row.0 state.sessions))
     (granted_rows publication.topic state.sessions)
     || is_one_topic_over limits state.retained publication
@@ -39,7 +39,7 @@ RefusedStep =
     (client : Client) → (kept : ClientSession) →
     ServesClient state connection client kept → (publish : Publish) →
     repeats_taken kept publish.delivery ≡ false →
-    is_refused_in limits state (publication_of publish) ≡ true →
+    is_refused_by_rows limits state (publication_of publish) ≡ true →
     step limits later state (commands.Packet connection (packets.Publish publish))
     ≡ (with_session client (left_off kept) state, Close connection ∷ [])
 
@@ -52,7 +52,7 @@ TakenStep =
     (client : Client) → (kept : ClientSession) →
     ServesClient state connection client kept → (publish : Publish) →
     repeats_taken kept publish.delivery ≡ false →
-    is_refused_in limits state (publication_of publish) ≡ false →
+    is_refused_by_rows limits state (publication_of publish) ≡ false →
     let granted = granted_rows publish.topic state.sessions in
     let noted = session_changed client (received_on publish.delivery) state.sessions in
     step limits later state (commands.Packet connection (packets.Publish publish))

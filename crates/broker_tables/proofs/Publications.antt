@@ -21,7 +21,7 @@ use Rattle.broker_session.specs.broker_base.State.{Sessions, session_in}
 use Rattle.broker_session.specs.broker_base.Decisions.{repeats_taken, is_one_topic_over}
 use Rattle.broker_session.specs.broker_rows.Served.{ServesClient}
 use Rattle.broker_session.specs.broker_rows.Published.{granted_rows, session_changed, received_on, all_delivered, answered_in_turn, session_lacks_room}
-use Rattle.broker_session.specs.broker_rows.PublishLaws.{is_refused_in, HaveRoomInTurn}
+use Rattle.broker_session.specs.broker_rows.PublishLaws.{is_refused_by_rows, HaveRoomInTurn}
 use Rattle.broker_session.proofs.of_broker_rows.PacketSteps.{repeat_step}
 use Rattle.broker_session.proofs.of_broker_rows.publications.RoomInTurn.{room_lasts}
 use Rattle.broker_session.proofs.of_broker_rows.PublishSteps.{refused_step, taken_step}
@@ -39,7 +39,7 @@ module _ (tables : Tables) (x : ConnectionName) (c : Client) (kept : ClientSessi
   repeat_of again = repeat_step usual_limits 64 (state_in tables) x c kept served p again
 
   -- one for which there is no room
-  pub refused_of : repeats_taken kept p.delivery ≡ false → is_refused_in usual_limits (state_in tables) (publication_of p) ≡ true →
+  pub refused_of : repeats_taken kept p.delivery ≡ false → is_refused_by_rows usual_limits (state_in tables) (publication_of p) ≡ true →
       stepped tables (commands.Packet x (packets.Publish p)) ≡ ((stepped tables (commands.Lost x)).0, outputs.Close x ∷ [])
   unfolding stepped
   refused_of new refused =
@@ -52,7 +52,7 @@ module _ (tables : Tables) (x : ConnectionName) (c : Client) (kept : ClientSessi
       after.sessions.entries ≡ all_delivered tables.window (publication_of p) granted (session_changed c (received_on p.delivery) tables.sessions.entries)
 
   -- one that is taken
-  pub taken_of : repeats_taken kept p.delivery ≡ false → is_refused_in usual_limits (state_in tables) (publication_of p) ≡ false →
+  pub taken_of : repeats_taken kept p.delivery ≡ false → is_refused_by_rows usual_limits (state_in tables) (publication_of p) ≡ false →
       (granted : List Row) → granted ≡ granted_rows p.topic tables.sessions.entries →
       stepped tables (commands.Packet x (packets.Publish p))
       ≡ (
@@ -78,7 +78,7 @@ module _ (tables : Tables) (x : ConnectionName) (c : Client) (kept : ClientSessi
       )) (sym is)
 
   -- each session that is granted one finds room for it when its turn comes
-  pub room_of_taken : is_refused_in usual_limits (state_in tables) (publication_of p) ≡ false →
+  pub room_of_taken : is_refused_by_rows usual_limits (state_in tables) (publication_of p) ≡ false →
       (granted : List Row) → granted ≡ granted_rows p.topic tables.sessions.entries →
       (noted : Sessions) → noted ≡ session_changed c (received_on p.delivery) tables.sessions.entries →
       HaveRoomInTurn usual_limits tables.window (publication_of p) granted noted

@@ -5,7 +5,7 @@ ghost use Rattle.std.specs.List.{list_any};
 ghost use Rattle.packet.specs.declared.packet.Packet.TheVariants as packets;
 ghost use Rattle.broker_spec.specs.declared.command.Command.TheVariants as commands;
 ghost use Rattle.broker_session.specs.broker_rows.Owners.{owners_in};
-ghost use Rattle.broker_session.specs.broker_rows.PublishLaws.{is_refused_in, HaveRoomInTurn};
+ghost use Rattle.broker_session.specs.broker_rows.PublishLaws.{is_refused_by_rows, HaveRoomInTurn};
 ghost use Rattle.broker_tables.specs.Tables.{DoesCommand, IsConsistent, IsTied, state_in};
 ghost use Rattle.broker_tables.specs.Inside.{HasOthersOf};
 ghost use Rattle.broker_spec.specs.Answers.{acknowledged};
@@ -78,7 +78,7 @@ impl Tables {
     // too many.
     fn refuses(&self, publication: &Publication, granted: &[(ClientId, QoS)]) -> bool
         requires { granted.now ≡ granted_rows publication.now.topic self.now.sessions.entries }
-        ensures { result ≡ is_refused_in usual_limits (state_in self.now) publication.now }
+        ensures { result ≡ is_refused_by_rows usual_limits (state_in self.now) publication.now }
     {
         any_lacks_room(&self.sessions, publication, granted)
             || is_one_topic_over(&self.retained, publication)

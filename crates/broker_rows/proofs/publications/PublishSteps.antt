@@ -9,11 +9,11 @@ use Rattle.broker_spec.specs.Retained.{retains}
 use Rattle.broker_spec.specs.Past.{is_leaving}
 use Rattle.broker_base.specs.ClientSession.{ClientSession}
 use Rattle.broker_base.specs.State.{State}
-use Rattle.broker_base.specs.Decisions.{is_one_topic_over, refuses, repeats_taken, owned_mark, packet_mark_in}
+use Rattle.broker_base.specs.Decisions.{is_one_topic_over, is_refused_in, repeats_taken, owned_mark, packet_mark_in}
 use Rattle.broker_base.specs.Step.{step_at}
 use Rattle.broker_base.specs.StateLaws.{AreByClient}
 use Rattle.broker_spec.specs.declared.command.Command.TheVariants as commands
-use Rattle.broker_rows.specs.PublishLaws.{is_refused_in, RefusedStep, TakenStep}
+use Rattle.broker_rows.specs.PublishLaws.{is_refused_by_rows, RefusedStep, TakenStep}
 use Rattle.broker_rows.proofs.publications.RoomOfGranted.{full_of_granted}
 use Rattle.broker_rows.proofs.publications.AnswersOfGranted.{answers_of_granted}
 use Rattle.broker_rows.proofs.publications.PublishLeft.{publish_left}
@@ -22,10 +22,10 @@ use Rattle.broker_rows.proofs.LeavingSteps.{leaving_step}
 
 -- what happens to it
 publish_mark : (limits : Limits) (state : State) (c : Client) (kept : ClientSession) (p : Publish) (refused : Bool) → AreByClient state.sessions →
-    repeats_taken kept p.delivery ≡ false → is_refused_in limits state (publication_of p) ≡ refused →
+    repeats_taken kept p.delivery ≡ false → is_refused_by_rows limits state (publication_of p) ≡ refused →
     owned_mark limits state (c, kept) (packets.Publish p) ≡ (if refused then Mark.Refused c else Mark.Taken c)
 publish_mark limits state c kept p refused by_client new is =
-    ap (λ b. if b then Mark.Repeat c else if refuses limits state (publication_of p) then Mark.Refused c else Mark.Taken c) new
+    ap (λ b. if b then Mark.Repeat c else if is_refused_in limits state (publication_of p) then Mark.Refused c else Mark.Taken c) new
     ∙ ap (λ full. if full || is_one_topic_over limits state.retained (publication_of p) then Mark.Refused c else Mark.Taken c)
     (full_of_granted limits (publication_of p) state.sessions by_client)
     ∙ ap (λ b. if b then Mark.Refused c else Mark.Taken c) is

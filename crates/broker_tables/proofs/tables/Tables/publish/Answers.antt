@@ -8,7 +8,7 @@ use Rattle.broker_spec.specs.Answers.{acknowledged}
 use Rattle.broker_spec.specs.Retained.{retains}
 use Rattle.broker_spec.specs.Commands.{usual_limits}
 use Rattle.broker_session.specs.broker_rows.Published.{all_delivered, answered_in_turn, session_changed, received_on}
-use Rattle.broker_session.specs.broker_rows.PublishLaws.{is_refused_in, HaveRoomInTurn}
+use Rattle.broker_session.specs.broker_rows.PublishLaws.{is_refused_by_rows, HaveRoomInTurn}
 use Rattle.broker_tables.specs.Tables.{state_in}
 use Rattle.broker_tables.proofs.FoundByMaps.{has_session, is_served}
 use Rattle.broker_tables.proofs.Publications.{repeat_of, refused_of, taken_of, room_of_taken, ties_of_taken}
@@ -36,8 +36,8 @@ returns-then-refuses-clause-step c =
     let t = c.args.self.now in
     let kept = c.index.result.now in
     let served = is_served t c.args.connection c.args.client.now kept c.requires.consistent c.requires.served c.index.ensures in
-    let refused : is_refused_in usual_limits (state_in t) (publication_of c.args.publish.now) ≡ true
-    = ap (is_refused_in usual_limits (state_in t)) (sym c.in_ok-publication.ensures) ∙ sym c.refuses.ensures ∙ c.if-refuses.true in
+    let refused : is_refused_by_rows usual_limits (state_in t) (publication_of c.args.publish.now) ≡ true
+    = ap (is_refused_by_rows usual_limits (state_in t)) (sym c.in_ok-publication.ensures) ∙ sym c.refuses.ensures ∙ c.if-refuses.true in
     record {
       state = c.in_ok-close.ensures.state
           ∙ sym (ap (λ p. p.0)
@@ -53,8 +53,8 @@ returns-clause-step c =
     let t = c.args.self.now in
     let kept = c.index.result.now in
     let served = is_served t c.args.connection c.args.client.now kept c.requires.consistent c.requires.served c.index.ensures in
-    let taken : is_refused_in usual_limits (state_in t) (publication_of c.args.publish.now) ≡ false
-    = ap (is_refused_in usual_limits (state_in t)) (sym c.in_ok-publication.ensures) ∙ sym c.refuses.ensures ∙ c.if-refuses.false in
+    let taken : is_refused_by_rows usual_limits (state_in t) (publication_of c.args.publish.now) ≡ false
+    = ap (is_refused_by_rows usual_limits (state_in t)) (sym c.in_ok-publication.ensures) ∙ sym c.refuses.ensures ∙ c.if-refuses.false in
     record {
       state = (λ i. record {
         window = c.in_ok-note_received.ensures.others.window i;
@@ -89,8 +89,8 @@ deliver_all-requires c =
     let t = c.args.self.now in
     let kept = c.index.result.now in
     let served = is_served t c.args.connection c.args.client.now kept c.requires.consistent c.requires.served c.index.ensures in
-    let taken : is_refused_in usual_limits (state_in t) (publication_of c.args.publish.now) ≡ false
-    = ap (is_refused_in usual_limits (state_in t)) (sym c.in_ok-publication.ensures) ∙ sym c.refuses.ensures ∙ c.if-refuses.false in
+    let taken : is_refused_by_rows usual_limits (state_in t) (publication_of c.args.publish.now) ≡ false
+    = ap (is_refused_by_rows usual_limits (state_in t)) (sym c.in_ok-publication.ensures) ∙ sym c.refuses.ensures ∙ c.if-refuses.false in
     record {
       room = subst (λ (w : ℕ). HaveRoomInTurn usual_limits w c.in_ok-publication.publication c.deref-2.result.now c.note_received.new.self.sessions.entries)
           (sym c.in_ok-note_received.ensures.others.window)
