@@ -1,16 +1,16 @@
 -- OpenBytes.antt: no byte is left out of the count of those that are not known to be agreed.
 use Rattle.std.proofs.Common.{◌≡◌, ℕ, ◌+◌, ◌≤◌, Bool, true, false, nat_le, nat_lt, min, if◌then◌else◌, List, [], ◌∷◌, Some, refl, arith}
 use Rattle.node_core.specs.declared.Status.{Status}
-use Rattle.node.specs.Crowding.{IntakeView, is_agreed, took}
+use Rattle.node.specs.Intake.{IntakeView, is_agreed, took}
 use Rattle.node.specs.Counting.{Counts, Taken, bytes_behind, committed_of, held_of}
 use Rattle.node.specs.Counting.Counts.{admits, begins, shows, takes}
 use Rattle.node.specs.Laws.{OpenBytesAreCounted}
 
 -- what is known about the bytes that were taken and their count
-record Known (all : List Taken) (taking : IntakeView) : Type 0 where
-  none : bytes_behind (held_of taking.status) all ≤ 0
-  after_earlier : bytes_behind taking.earlier_end all ≤ taking.later
-  counted : bytes_behind (committed_of taking.status) all ≤ taking.earlier + taking.later
+record Known (all : List Taken) (intake : IntakeView) : Type 0 where
+  none : bytes_behind (held_of intake.status) all ≤ 0
+  after_earlier : bytes_behind intake.earlier_end all ≤ intake.later
+  counted : bytes_behind (committed_of intake.status) all ≤ intake.earlier + intake.later
 
 falls_one : (low high bytes places : ℕ) → low ≤ high
     → (if nat_lt high places then bytes else 0) ≤ (if nat_lt low places then bytes else 0)
@@ -28,12 +28,12 @@ at_most places bytes place = grind arith
 none_behind : (places bytes : ℕ) → (if nat_lt places places then bytes else 0) ≤ 0
 none_behind places bytes = grind arith
 
-known_taken : (bytes : ℕ) (all : List Taken) (taking : IntakeView) → Known all taking
-    → Known (record { bytes = min bytes taking.entering; places = held_of taking.status } ∷ all) (took bytes taking)
-known_taken bytes all taking known = record {
-  none = let a = none_behind (held_of taking.status) (min bytes taking.entering) in let e = known.none in omega (arith, a, e);
-  after_earlier = let a = at_most taking.earlier_end (min bytes taking.entering) (held_of taking.status) in let e = known.after_earlier in omega (arith, a, e);
-  counted = let a = at_most (committed_of taking.status) (min bytes taking.entering) (held_of taking.status) in
+known_taken : (bytes : ℕ) (all : List Taken) (intake : IntakeView) → Known all intake
+    → Known (record { bytes = min bytes intake.in_transit; places = held_of intake.status } ∷ all) (took bytes intake)
+known_taken bytes all intake known = record {
+  none = let a = none_behind (held_of intake.status) (min bytes intake.in_transit) in let e = known.none in omega (arith, a, e);
+  after_earlier = let a = at_most intake.earlier_end (min bytes intake.in_transit) (held_of intake.status) in let e = known.after_earlier in omega (arith, a, e);
+  counted = let a = at_most (committed_of intake.status) (min bytes intake.in_transit) (held_of intake.status) in
       let e = known.counted in omega (arith, a, e);
 }
 
@@ -52,33 +52,33 @@ reaches true earlier_end held committed all later below agreed after_earlier non
 reaches false earlier_end held committed all later above agreed after_earlier none =
     let a = falls held committed all (below_held earlier_end held committed agreed above) in omega (arith, a, none)
 
-known_shown : (b : Bool) (status : Status) (all : List Taken) (taking : IntakeView) → is_agreed taking.earlier_end status ≡ b
-    → Known all taking → held_of taking.status ≤ status.held → committed_of taking.status ≤ status.committed
+known_shown : (b : Bool) (status : Status) (all : List Taken) (intake : IntakeView) → is_agreed intake.earlier_end status ≡ b
+    → Known all intake → held_of intake.status ≤ status.held → committed_of intake.status ≤ status.committed
     → Known all
     (if b
-    then record taking { status = Some status; earlier_end = status.held; earlier = taking.later; later = 0 }
-    else record taking { status = Some status })
-known_shown true status all taking agreed known held committed =
+    then record intake { status = Some status; earlier_end = status.held; earlier = intake.later; later = 0 }
+    else record intake { status = Some status })
+known_shown true status all intake agreed known held committed =
     let n = known.none in
-    let f = falls (held_of taking.status) status.held all held in
+    let f = falls (held_of intake.status) status.held all held in
     let none : bytes_behind status.held all ≤ 0 = omega (arith, n, f) in
-    let r = reaches (nat_le taking.earlier_end status.committed) taking.earlier_end status.held status.committed all taking.later refl agreed known.after_earlier none in
+    let r = reaches (nat_le intake.earlier_end status.committed) intake.earlier_end status.held status.committed all intake.later refl agreed known.after_earlier none in
     record { none = none; after_earlier = none; counted = omega (arith, r) }
-known_shown false status all taking unagreed known held committed =
+known_shown false status all intake unagreed known held committed =
     let n = known.none in
-    let f = falls (held_of taking.status) status.held all held in
+    let f = falls (held_of intake.status) status.held all held in
     let m = known.after_earlier in
     let c = known.counted in
-    let g = falls (committed_of taking.status) status.committed all committed in
+    let g = falls (committed_of intake.status) status.committed all committed in
     record { none = omega (arith, n, f); after_earlier = m; counted = omega (arith, c, g) }
 
-known : (all : List Taken) (taking : IntakeView) → Counts all taking → Known all taking
+known : (all : List Taken) (intake : IntakeView) → Counts all intake → Known all intake
 known _ _ begins = record { none = omega arith; after_earlier = omega arith; counted = omega arith }
-known all _ (admits {taking = taking} bytes counts) =
-    let k = known all taking counts in record { none = k.none; after_earlier = k.after_earlier; counted = k.counted }
-known _ _ (takes {all = all} {taking = taking} bytes counts) = known_taken bytes all taking (known all taking counts)
-known all _ (shows {taking = taking} status counts held committed) =
-    known_shown (is_agreed taking.earlier_end status) status all taking refl (known all taking counts) held committed
+known all _ (admits {intake = intake} bytes counts) =
+    let k = known all intake counts in record { none = k.none; after_earlier = k.after_earlier; counted = k.counted }
+known _ _ (takes {all = all} {intake = intake} bytes counts) = known_taken bytes all intake (known all intake counts)
+known all _ (shows {intake = intake} status counts held committed) =
+    known_shown (is_agreed intake.earlier_end status) status all intake refl (known all intake counts) held committed
 
 pub open_bytes_counted : OpenBytesAreCounted
-open_bytes_counted all taking counts = (known all taking counts).counted
+open_bytes_counted all intake counts = (known all intake counts).counted

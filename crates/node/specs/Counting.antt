@@ -1,7 +1,7 @@
 -- How a node's count of bytes that are not known to be agreed changes, while its log only grows.
 use Rattle.std.specs.Prelude.{ℕ, ◌+◌, ◌≤◌, nat_lt, min, if◌then◌else◌, List, [], ◌∷◌, Option, Some, None}
 use Rattle.node_core.specs.declared.Status.{Status}
-use Rattle.node.specs.Crowding.{IntakeView, status_shown, took}
+use Rattle.node.specs.Intake.{IntakeView, status_shown, took}
 
 -- bytes that a node took, and how many places its log had once it had taken them
 pub record Taken : Type 0 where
@@ -29,16 +29,16 @@ committed_of (Some status) = status.committed
 pub data Counts : List Taken → IntakeView → Type 0 where
   -- nothing was taken yet
   begins : Counts []
-      (record { status = None; entering = 0; earlier_end = 0; earlier = 0; later = 0 })
-  -- bytes enter
-  admits : {all : List Taken} {taking : IntakeView} (bytes : ℕ) → Counts all taking
-      → Counts all (record taking { entering = taking.entering + bytes })
+      (record { status = None; in_transit = 0; earlier_end = 0; earlier = 0; later = 0 })
+  -- bytes are admitted
+  admits : {all : List Taken} {intake : IntakeView} (bytes : ℕ) → Counts all intake
+      → Counts all (record intake { in_transit = intake.in_transit + bytes })
   -- bytes are taken
-  takes : {all : List Taken} {taking : IntakeView} (bytes : ℕ) → Counts all taking
+  takes : {all : List Taken} {intake : IntakeView} (bytes : ℕ) → Counts all intake
       → Counts
-      (record { bytes = min bytes taking.entering; places = held_of taking.status } ∷ all)
-      (took bytes taking)
+      (record { bytes = min bytes intake.in_transit; places = held_of intake.status } ∷ all)
+      (took bytes intake)
   -- the status is shown
-  shows : {all : List Taken} {taking : IntakeView} (status : Status) → Counts all taking
-      → held_of taking.status ≤ status.held → committed_of taking.status ≤ status.committed
-      → Counts all (status_shown status taking)
+  shows : {all : List Taken} {intake : IntakeView} (status : Status) → Counts all intake
+      → held_of intake.status ≤ status.held → committed_of intake.status ≤ status.committed
+      → Counts all (status_shown status intake)

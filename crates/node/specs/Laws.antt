@@ -2,14 +2,14 @@
 use Rattle.std.specs.Prelude.{◌≡◌, ℕ, ◌+◌, ◌<◌, ◌≤◌, List, true}
 use Rattle.node_core.specs.ballot_base.LawfulConfig.{max_node}
 use Rattle.node.specs.Counting.{Counts, Taken, bytes_behind, committed_of}
-use Rattle.node.specs.Crowding.{IntakeView}
+use Rattle.node.specs.Intake.{IntakeView}
 use Rattle.node.specs.Cutting.{cuts_after}
 
 -- The count includes every byte that the node took and that may be in a place which is not agreed.
 abbrev pub OpenBytesAreCounted : Type 0
 OpenBytesAreCounted =
-    (all : List Taken) (taking : IntakeView) → Counts all taking →
-    bytes_behind (committed_of taking.status) all ≤ taking.earlier + taking.later
+    (all : List Taken) (intake : IntakeView) → Counts all intake →
+    bytes_behind (committed_of intake.status) all ≤ intake.earlier + intake.later
 
 -- No two nodes, whose numbers are at most `max_node`, have their logs cut after the same tick.
 abbrev pub CutsComeApart : Type 0

@@ -1,5 +1,5 @@
 pub mod Counting
-pub mod Crowding
+pub mod Intake
 pub mod Cutting
 pub mod Growth
 pub mod Laws

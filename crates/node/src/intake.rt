@@ -1,7 +1,7 @@
 // What a node takes from its clients, and when it takes nothing more.
 
 ghost use Rattle.std.specs.Prelude.{◌≡◌, ◌+◌, ◌≤◌, None, false, true};
-ghost use Rattle.node.specs.Crowding.{admits, is_agreed, open_places, status_shown, took};
+ghost use Rattle.node.specs.Intake.{admits, is_agreed, open_places, status_shown, took};
 
 use devices::PIECE_BYTES;
 use node_core::Status;
@@ -14,7 +14,7 @@ const MAX_OPEN: u64 = 4_096;
 const MAX_OPEN_BYTES: u64 = 67_108_864;
 
 /// How many bytes may be in transit when more are taken.
-const MAX_ENTERING: u64 = 262_144;
+const MAX_IN_TRANSIT: u64 = 262_144;
 
 /// What a node takes from its clients, and its status. It counts the bytes that are not known to be
 /// agreed: they may be in places of the log that some member does not hold. The type bounds how
@@ -24,7 +24,7 @@ pub struct Intake {
     // None before the node is served.
     status: Option<Status>,
     // How many bytes are in transit to the node.
-    entering: u64,
+    in_transit: u64,
     // How many places at the front of the node's log have the bytes that `earlier` counts.
     earlier_end: u64,
     // How many bytes that the node took are in these places.
@@ -34,13 +34,13 @@ pub struct Intake {
 }
 
 impl Model for Intake {
-    ghost use Rattle.node.specs.Crowding.{IsBounded, IntakeView};
+    ghost use Rattle.node.specs.Intake.{IsBounded, IntakeView};
 
     ghost Value = { IntakeView };
 
     ghost view = { λ intake. record {
       status = intake.status;
-      entering = intake.entering;
+      in_transit = intake.in_transit;
       earlier_end = intake.earlier_end;
       earlier = intake.earlier;
       later = intake.later;
@@ -48,7 +48,7 @@ impl Model for Intake {
 
     ghost invariant = { λ intake. IsBounded (record {
       status = intake.status;
-      entering = intake.entering;
+      in_transit = intake.in_transit;
       earlier_end = intake.earlier_end;
       earlier = intake.earlier;
       later = intake.later;
@@ -59,11 +59,11 @@ impl Intake {
     /// Returns the intake of a node that is not yet served.
     pub fn new() -> Intake
         ensures { result
-            ≡ record { status = None; entering = 0; earlier_end = 0; earlier = 0; later = 0 } }
+            ≡ record { status = None; in_transit = 0; earlier_end = 0; earlier = 0; later = 0 } }
     {
         Intake {
             status: None,
-            entering: 0,
+            in_transit: 0,
             earlier_end: 0,
             earlier: 0,
             later: 0,
@@ -82,14 +82,14 @@ impl Intake {
         requires { bytes ≤ PIECE_BYTES }
         ensures admits { result ≡ admits self.old }
         ensures counted { result ≡ true →
-            self.new ≡ record self.old { entering = self.old.entering + bytes } }
+            self.new ≡ record self.old { in_transit = self.old.in_transit + bytes } }
         ensures same { result ≡ false → self.new ≡ self.old }
     {
         let admits = open_places(&self.status) <= MAX_OPEN
             && self.earlier + self.later <= MAX_OPEN_BYTES
-            && self.entering <= MAX_ENTERING;
+            && self.in_transit <= MAX_IN_TRANSIT;
         if admits {
-            self.entering += bytes;
+            self.in_transit += bytes;
         }
         admits
     }
@@ -98,8 +98,8 @@ impl Intake {
     pub fn count_taken(&mut self, bytes: u64)
         ensures { self.new ≡ took bytes self.old }
     {
-        let taken = bytes.min(self.entering);
-        self.entering -= taken;
+        let taken = bytes.min(self.in_transit);
+        self.in_transit -= taken;
         self.later += taken;
     }
 

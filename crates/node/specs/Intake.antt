@@ -3,14 +3,14 @@ use Rattle.std.specs.Prelude.{ℕ, ◌+◌, ◌-◌, ◌≤◌, Bool, ◌&&◌, 
 use Rattle.node_core.specs.declared.Status.{Status}
 use Rattle.node_core.specs.ballot_base.Replica.{is_active}
 use Rattle.devices.specs.declared.counted.TheConstants.{PIECE_BYTES}
-use Rattle.node.specs.declared.intake.TheConstants.{MAX_ENTERING, MAX_OPEN, MAX_OPEN_BYTES}
+use Rattle.node.specs.declared.intake.TheConstants.{MAX_IN_TRANSIT, MAX_OPEN, MAX_OPEN_BYTES}
 
--- What a node takes from its clients. `entering` bytes are in transit to it. Of those that it took,
--- `earlier` are in the first `earlier_end` places of its log, and `later` in places after these.
--- What every member holds is no longer counted.
+-- What a node takes from its clients. It counts the bytes that are in transit to it. Of those that
+-- it took, `earlier` are in the first `earlier_end` places of its log, and `later` in places after
+-- these. What every member holds is no longer counted.
 pub record IntakeView : Type 0 where
   pub status : Option Status
-  pub entering : ℕ
+  pub in_transit : ℕ
   pub earlier_end : ℕ
   pub earlier : ℕ
   pub later : ℕ
@@ -30,29 +30,29 @@ abbrev pub max_open_bytes : ℕ
 max_open_bytes = MAX_OPEN_BYTES
 
 -- how many bytes may be in transit then: 256 KiB
-abbrev pub max_entering : ℕ
-max_entering = MAX_ENTERING
+abbrev pub max_in_transit : ℕ
+max_in_transit = MAX_IN_TRANSIT
 
 -- whether a node takes more bytes from its clients
 abbrev pub admits : IntakeView → Bool
-admits taking = nat_le (open_places taking.status) max_open
-    && (nat_le (taking.earlier + taking.later) max_open_bytes
-    && nat_le taking.entering max_entering)
+admits intake = nat_le (open_places intake.status) max_open
+    && (nat_le (intake.earlier + intake.later) max_open_bytes
+    && nat_le intake.in_transit max_in_transit)
 
 -- how many bytes there are at most of both: what may be there when one more piece is admitted, and
 -- that piece
 abbrev pub max_taken : ℕ
-max_taken = max_open_bytes + max_entering + PIECE_BYTES
+max_taken = max_open_bytes + max_in_transit + PIECE_BYTES
 
 -- the bound of all that a node took and is not known to be agreed, together with what is in transit
 abbrev pub IsBounded : IntakeView → Type 0
-IsBounded taking = taking.entering + (taking.earlier + taking.later) ≤ max_taken
+IsBounded intake = intake.in_transit + (intake.earlier + intake.later) ≤ max_taken
 
 -- some bytes that were in transit were taken
 abbrev pub took : ℕ → IntakeView → IntakeView
-took bytes taking = record taking {
-  entering = taking.entering - min bytes taking.entering;
-  later = taking.later + min bytes taking.entering;
+took bytes intake = record intake {
+  in_transit = intake.in_transit - min bytes intake.in_transit;
+  later = intake.later + min bytes intake.in_transit;
 }
 
 -- whether everything in the first `earlier_end` places is agreed, or everything in the log
@@ -62,12 +62,12 @@ is_agreed earlier_end status = nat_le (min earlier_end status.held) status.commi
 -- The node shows its status. Once the first `earlier_end` places are agreed the later bytes become
 -- the earlier ones.
 abbrev pub status_shown : Status → IntakeView → IntakeView
-status_shown status taking =
-    if is_agreed taking.earlier_end status
-    then record taking {
+status_shown status intake =
+    if is_agreed intake.earlier_end status
+    then record intake {
       status = Some status;
       earlier_end = status.held;
-      earlier = taking.later;
+      earlier = intake.later;
       later = 0;
     }
-    else record taking { status = Some status }
+    else record intake { status = Some status }
