@@ -4,7 +4,7 @@ use Rattle.std.proofs.Common.{◌≡◌, Bool, true, false, not, ◌&&◌, Optio
 use Rattle.std.specs.Prelude.{option_map, is_some}
 use Rattle.broker_spec.specs.Connection.{ConnectionName, same_connection}
 use Rattle.broker_spec.specs.Place.{Client}
-use Rattle.broker_spec.specs.Past.{any_connection}
+use Rattle.broker_spec.specs.Sessions.{any_connection}
 use Rattle.broker_tables.specs.broker_base.ClientSession.{ClientSession}
 use Rattle.broker_tables.specs.broker_base.State.{Sessions, owner_in}
 use Rattle.broker_tables.proofs.of_broker_base.ConnectionsOfSessions.{same_turned}

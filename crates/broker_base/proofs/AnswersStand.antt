@@ -3,7 +3,7 @@ use Rattle.std.proofs.Common.{◌≡◌, ℕ, Bool, not, Option, Some, None, ◌
 use Rattle.std.specs.Prelude.{option_map}
 use Rattle.broker_spec.specs.Connection.{ConnectionName}
 use Rattle.broker_spec.specs.Place.{Client, Mark, Place, Past, Limits, only_if}
-use Rattle.broker_spec.specs.Past.{clean_session_of, is_beginning, begins_session}
+use Rattle.broker_spec.specs.Sessions.{clean_session_of, is_beginning, begins_session}
 use Rattle.broker_spec.specs.Times.{window_at}
 use Rattle.broker_spec.specs.Answers.{close_outputs, welcome, connect_answers, answers_by}
 use Rattle.broker_spec.specs.AnswersInOrder.{answers_at}

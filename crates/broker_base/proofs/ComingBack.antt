@@ -5,7 +5,7 @@ use Rattle.session_base.specs.packet.declared.packet.Packet.TheVariants as packe
 use Rattle.session_base.specs.Sending.{fill_sends, resend}
 use Rattle.broker_spec.specs.Connection.{ConnectionName}
 use Rattle.broker_spec.specs.Place.{Client, Place, Past, Limits}
-use Rattle.broker_spec.specs.Past.{accepts, expels, ends_any, current_connection, clean_session_of, newest_clean_session, newest_connection, is_beginning, in_session}
+use Rattle.broker_spec.specs.Sessions.{accepts, expels, ends_any, current_connection, clean_session_of, newest_clean_session, newest_connection, is_beginning, in_session}
 use Rattle.broker_spec.specs.Subscriptions.{subscriptions_of}
 use Rattle.broker_spec.specs.Received.{received_of}
 use Rattle.broker_spec.specs.Entries.{Entry, copies_at, queued}

@@ -6,7 +6,7 @@ use Rattle.std.specs.Ordering.{match_ordering}
 use Rattle.broker_spec.specs.retained.Retained.{RetainedTopics}
 use Rattle.broker_spec.specs.Connection.{ConnectionName, same_connection}
 use Rattle.broker_spec.specs.Place.{Client, by_bytes, Place, only_if}
-use Rattle.broker_spec.specs.Past.{accepts, any_connection, expels, ends_any}
+use Rattle.broker_spec.specs.Sessions.{accepts, any_connection, expels, ends_any}
 use Rattle.broker_base.specs.ClientSession.{ClientSession}
 use Rattle.broker_base.specs.SessionStep.{session_anew, session_resumed, session_connected, session_by, session_touched}
 use Rattle.broker_base.specs.State.{Sessions, keyed, put_session}

@@ -6,7 +6,7 @@ use Rattle.std.specs.Ordering.{is_eq, match_ordering}
 use Rattle.broker_spec.specs.retained.Retained.{RetainedTopics}
 use Rattle.broker_spec.specs.Connection.{ConnectionName, same_connection}
 use Rattle.broker_spec.specs.Place.{Client, by_bytes, same_client, Mark, Place, Limits, only_if}
-use Rattle.broker_spec.specs.Past.{accepts, any_connection}
+use Rattle.broker_spec.specs.Sessions.{accepts, any_connection}
 use Rattle.broker_base.specs.ClientSession.{ClientSession}
 use Rattle.broker_base.specs.SessionStep.{session_anew, session_resumed, session_connected}
 use Rattle.broker_base.specs.State.{Sessions, State, keyed, session_in, put_session, owner_in}

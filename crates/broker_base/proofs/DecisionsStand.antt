@@ -6,7 +6,7 @@ use Rattle.session_base.specs.packet.declared.packet.Packet.TheVariants as packe
 use Rattle.session_base.specs.Publication.{publication_of}
 use Rattle.broker_spec.specs.Connection.{ConnectionName, same_connection}
 use Rattle.broker_spec.specs.Place.{Client, Mark, Past, Limits}
-use Rattle.broker_spec.specs.Past.{any_connection, current_connection, clean_session_of}
+use Rattle.broker_spec.specs.Sessions.{any_connection, current_connection, clean_session_of}
 use Rattle.broker_spec.specs.Owner.{named, first_client}
 use Rattle.broker_spec.specs.Subscriptions.{subscriptions_of}
 use Rattle.broker_spec.specs.Retained.{retained_publications}

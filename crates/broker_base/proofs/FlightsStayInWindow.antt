@@ -12,7 +12,7 @@ use Rattle.session_base.proofs.FillsOfQueues.{fill_within}
 use Rattle.session_base.proofs.IdentifiersStayApart.{pubrec_length}
 use Rattle.broker_spec.specs.Connection.{ConnectionName}
 use Rattle.broker_spec.specs.Place.{Client, same_client, Mark, Place, Limits, only_if}
-use Rattle.broker_spec.specs.Past.{accepts, ends_any, expels}
+use Rattle.broker_spec.specs.Sessions.{accepts, ends_any, expels}
 use Rattle.broker_spec.specs.Commands.{is_start}
 use Rattle.broker_base.specs.ClientSession.{ClientSession}
 use Rattle.broker_base.specs.SessionStep.{copies_with, filled_on, answered_queue, copied_queue, session_on, session_anew, session_resumed, session_connected, session_by, session_touched}

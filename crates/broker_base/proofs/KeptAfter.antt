@@ -6,7 +6,7 @@ use Rattle.broker_spec.specs.retained.Retained.{RetainedTopics}
 use Rattle.session_base.specs.declared.publication.Publication.{Publication}
 use Rattle.broker_spec.specs.Connection.{ConnectionName}
 use Rattle.broker_spec.specs.Place.{Client, Place, Past, Limits, only_if}
-use Rattle.broker_spec.specs.Past.{accepts, expels, ends_any, newest_connection, current_connection, newest_clean_session, clean_session_of, is_beginning, in_session}
+use Rattle.broker_spec.specs.Sessions.{accepts, expels, ends_any, newest_connection, current_connection, newest_clean_session, clean_session_of, is_beginning, in_session}
 use Rattle.broker_spec.specs.Subscriptions.{filters_after, subscriptions_of}
 use Rattle.broker_spec.specs.Received.{received_by, received_of}
 use Rattle.broker_spec.specs.Retained.{retained_publications}

@@ -3,7 +3,7 @@ use Rattle.std.proofs.Common.{◌≡◌, ℕ, Some, None, [], ◌∷◌, ◌∙�
 use Rattle.broker_spec.specs.retained.Retained.{RetainedTopics}
 use Rattle.broker_spec.specs.Connection.{ConnectionName}
 use Rattle.broker_spec.specs.Place.{Place}
-use Rattle.broker_spec.specs.Past.{accepts}
+use Rattle.broker_spec.specs.Sessions.{accepts}
 use Rattle.broker_base.specs.State.{Sessions}
 use Rattle.broker_base.specs.Step.{session_after, sessions_left}
 use Rattle.broker_base.specs.StateLaws.{IsNobodys, ConnectionsAreApart}

@@ -8,7 +8,7 @@ use Rattle.session_base.specs.Queue.{on_puback, on_pubcomp}
 use Rattle.session_base.specs.Sending.{fill_sends}
 use Rattle.broker_spec.specs.Connection.{ConnectionName, same_connection}
 use Rattle.broker_spec.specs.Place.{Client, Mark, Place, Past, Limits}
-use Rattle.broker_spec.specs.Past.{any_connection, current_connection, clean_session_of}
+use Rattle.broker_spec.specs.Sessions.{any_connection, current_connection, clean_session_of}
 use Rattle.broker_spec.specs.Owner.{named}
 use Rattle.broker_spec.specs.Retained.{retained_publications}
 use Rattle.broker_spec.specs.Times.{at_pubrec, window_at, entries_of}

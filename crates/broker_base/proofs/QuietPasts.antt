@@ -7,7 +7,7 @@ use Rattle.session_base.specs.Identifiers.{least_free}
 use Rattle.session_base.specs.Queue.{Flight, ids_of, fill}
 use Rattle.broker_spec.specs.Connection.{ConnectionName}
 use Rattle.broker_spec.specs.Place.{Client, Place, Past, Limits, only_if}
-use Rattle.broker_spec.specs.Past.{accepts, any_connection, ends, expels, ends_any, newest_connection, current_connection, newest_clean_session, clean_session_of, is_beginning, begins, in_session}
+use Rattle.broker_spec.specs.Sessions.{accepts, any_connection, ends, expels, ends_any, newest_connection, current_connection, newest_clean_session, clean_session_of, is_beginning, begins, in_session}
 use Rattle.broker_spec.specs.Entries.{Entry, copies_at, queued}
 use Rattle.broker_spec.specs.Readings.{waiting_of, busy_ids}
 use Rattle.broker_spec.specs.Times.{answered_by, start_all, started, window_at, entries_of}

@@ -8,7 +8,7 @@ use Rattle.session_base.specs.packet.declared.delivery.Delivery.TheVariants as d
 use Rattle.session_base.specs.declared.publication.Publication.{Publication}
 use Rattle.session_base.specs.Queue.{Flight, ids_of, room}
 use Rattle.broker_spec.specs.Place.{Client, Past, Limits}
-use Rattle.broker_spec.specs.Past.{clean_session_of}
+use Rattle.broker_spec.specs.Sessions.{clean_session_of}
 use Rattle.broker_spec.specs.Owner.{named}
 use Rattle.broker_spec.specs.Subscriptions.{effective_qos}
 use Rattle.broker_spec.specs.Received.{is_repeat}

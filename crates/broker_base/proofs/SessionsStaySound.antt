@@ -26,7 +26,7 @@ use Rattle.session_base.proofs.IdentifiersStayApart.{answers_keep_apart}
 use Rattle.session_base.proofs.OrderInFlight.{released_first}
 use Rattle.broker_spec.specs.Connection.{ConnectionName}
 use Rattle.broker_spec.specs.Place.{Client, same_client, Mark, Place, Limits, only_if}
-use Rattle.broker_spec.specs.Past.{accepts, expels, ends_any}
+use Rattle.broker_spec.specs.Sessions.{accepts, expels, ends_any}
 use Rattle.broker_base.specs.ClientSession.{ClientSession}
 use Rattle.broker_base.specs.SessionStep.{copies_with, filled_on, answered_queue, copied_queue, session_on, session_anew, session_resumed, session_connected, session_by, session_touched}
 use Rattle.broker_base.specs.State.{State}

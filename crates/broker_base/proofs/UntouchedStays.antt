@@ -7,7 +7,7 @@ use Rattle.broker_spec.specs.retained.Retained.{RetainedTopics}
 use Rattle.session_base.specs.Queue.{Queue}
 use Rattle.broker_spec.specs.Connection.{ConnectionName}
 use Rattle.broker_spec.specs.Place.{Client, same_client, Mark, Place, Past, Limits, only_if}
-use Rattle.broker_spec.specs.Past.{accepts, any_connection, ends, expels, ends_any}
+use Rattle.broker_spec.specs.Sessions.{accepts, any_connection, ends, expels, ends_any}
 use Rattle.session_base.specs.Publication.{publication_of}
 use Rattle.session_base.specs.packet.packet_base.QoS.{lower_qos}
 use Rattle.session_base.specs.packet.packet_base.declared.qos.QoS.{QoS}

@@ -25,7 +25,7 @@ pub use Rattle.broker_spec.specs.FullQueueRows
 pub use Rattle.broker_spec.specs.WindowRows
 pub use Rattle.broker_spec.specs.OriginLaws
 pub use Rattle.broker_spec.specs.Owner
-pub use Rattle.broker_spec.specs.Past
+pub use Rattle.broker_spec.specs.Sessions
 pub use Rattle.broker_spec.specs.Place
 pub use Rattle.broker_spec.specs.QosRows
 pub use Rattle.broker_spec.specs.NobodyLaws

@@ -11,7 +11,7 @@ use Rattle.session_base.specs.Queue.{Flight, Queue, on_puback, on_pubrec, on_pub
 use Rattle.session_base.specs.Copies.{copies_left, copies_waiting}
 use Rattle.broker_spec.specs.Connection.{ConnectionName}
 use Rattle.broker_spec.specs.Place.{Client, same_client, Mark, Place, only_if}
-use Rattle.broker_spec.specs.Past.{accepts, expels, ends_any}
+use Rattle.broker_spec.specs.Sessions.{accepts, expels, ends_any}
 use Rattle.broker_spec.specs.Subscriptions.{granted_of, filters_after}
 use Rattle.broker_spec.specs.Received.{received_by}
 use Rattle.broker_spec.specs.Entries.{copy_of, copies_for_all}

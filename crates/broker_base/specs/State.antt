@@ -5,7 +5,7 @@ use Rattle.std.specs.Map.{lookup}
 use Rattle.broker_spec.specs.retained.Retained.{RetainedTopics}
 use Rattle.broker_spec.specs.Connection.{ConnectionName, same_connection}
 use Rattle.broker_spec.specs.Place.{Client, by_bytes, Past, Limits}
-use Rattle.broker_spec.specs.Past.{any_connection}
+use Rattle.broker_spec.specs.Sessions.{any_connection}
 use Rattle.broker_spec.specs.Owner.{named}
 use Rattle.broker_spec.specs.Retained.{retained_publications}
 use Rattle.broker_spec.specs.Times.{window_at}

@@ -5,7 +5,7 @@ use Rattle.std.specs.Prelude.{Some, is_some}
 use Rattle.session_base.specs.packet.declared.packet.Packet.TheVariants as packets
 use Rattle.broker_spec.specs.retained.Retained.{RetainedTopics}
 use Rattle.broker_spec.specs.Place.{Client, same_client, Mark, Place, Past, Limits}
-use Rattle.broker_spec.specs.Past.{ends_any}
+use Rattle.broker_spec.specs.Sessions.{ends_any}
 use Rattle.session_base.specs.Subscriptions.{GrantedFilter, granted_qos}
 use Rattle.broker_spec.specs.Retained.{retained_by}
 use Rattle.broker_spec.specs.Commands.{is_start}

@@ -8,7 +8,7 @@ use Rattle.session_base.specs.Queue.{on_puback, on_pubrec, on_pubcomp}
 use Rattle.session_base.specs.Sending.{fill_sends, resend, pubrec_sends, copies_sent}
 use Rattle.broker_spec.specs.Connection.{ConnectionName}
 use Rattle.broker_spec.specs.Place.{Client, Mark, Place}
-use Rattle.broker_spec.specs.Past.{begins_session}
+use Rattle.broker_spec.specs.Sessions.{begins_session}
 use Rattle.broker_spec.specs.Answers.{close_outputs, welcome, turned_away, acknowledged, codes_of}
 use Rattle.broker_base.specs.ClientSession.{ClientSession}
 use Rattle.broker_base.specs.SessionStep.{copies_with}

@@ -2,7 +2,7 @@
 -- commands.
 use Rattle.std.specs.Prelude.{◌≡◌, ℕ, false, List, [], ◌∷◌, Some, None}
 use Rattle.broker_spec.specs.Place.{Client, Place, Past, Limits}
-use Rattle.broker_spec.specs.Past.{accepts}
+use Rattle.broker_spec.specs.Sessions.{accepts}
 use Rattle.broker_spec.specs.Retained.{retained_publications}
 use Rattle.broker_spec.specs.Times.{window_at}
 use Rattle.broker_spec.specs.Marks.{mark_of}

@@ -10,7 +10,7 @@ use Rattle.session_base.specs.declared.publication.Publication.{Publication}
 use Rattle.session_base.specs.Publication.{publication_of}
 use Rattle.broker_spec.specs.Connection.{ConnectionName}
 use Rattle.broker_spec.specs.Place.{Client, same_client, Mark, Place, Limits, only_if}
-use Rattle.broker_spec.specs.Past.{ends_any}
+use Rattle.broker_spec.specs.Sessions.{ends_any}
 use Rattle.broker_spec.specs.Retained.{retains, retained_by}
 use Rattle.broker_spec.proofs.ClientsInOrder.{equal_is}
 use Rattle.broker_spec.specs.declared.command.Command.{Command}

@@ -14,7 +14,7 @@ use Rattle.session_base.proofs.Counted.{AllFollow}
 use Rattle.session_base.proofs.Follows.{last_is}
 use Rattle.broker_spec.specs.Connection.{ConnectionName, same_connection}
 use Rattle.broker_spec.specs.Place.{Client, by_bytes}
-use Rattle.broker_spec.specs.Past.{any_connection}
+use Rattle.broker_spec.specs.Sessions.{any_connection}
 use Rattle.broker_base.specs.ClientSession.{ClientSession}
 use Rattle.broker_base.specs.State.{Sessions, owner_in}
 use Rattle.broker_base.specs.StateLaws.{IsNobodys, ConnectionsAreApart, AreByClient}

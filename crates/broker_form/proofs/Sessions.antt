@@ -10,7 +10,7 @@ use Rattle.session_base.specs.declared.publication.Publication.{Publication}
 use Rattle.session_base.specs.Queue.{Queue, ids_of, on_puback, on_pubcomp}
 use Rattle.broker_spec.specs.Connection.{ConnectionName, IsConnectionName}
 use Rattle.broker_spec.specs.Place.{Client, same_client, Mark, Place, Limits, only_if}
-use Rattle.broker_spec.specs.Past.{accepts, expels, ends_any}
+use Rattle.broker_spec.specs.Sessions.{accepts, expels, ends_any}
 use Rattle.broker_spec.specs.Subscriptions.{filters_after}
 use Rattle.broker_spec.specs.Entries.{queued}
 use Rattle.broker_spec.specs.Logged.{IsBrokerCommand}

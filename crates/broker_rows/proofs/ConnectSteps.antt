@@ -9,7 +9,7 @@ use Rattle.std.specs.Ordering.{is_eq, match_ordering}
 use Rattle.broker_spec.specs.session_base.Sending.{fill_sends, resend}
 use Rattle.broker_spec.specs.Connection.{ConnectionName}
 use Rattle.broker_spec.specs.Place.{Client, by_bytes, Mark, Limits}
-use Rattle.broker_spec.specs.Past.{begins_session}
+use Rattle.broker_spec.specs.Sessions.{begins_session}
 use Rattle.broker_spec.specs.Answers.{close_outputs, welcome}
 use Rattle.broker_base.specs.ClientSession.{ClientSession}
 use Rattle.broker_base.specs.SessionStep.{session_anew, session_resumed, session_connected}

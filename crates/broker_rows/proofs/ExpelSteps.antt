@@ -5,7 +5,7 @@ use Rattle.std.specs.Ordering.{is_eq}
 use Rattle.broker_spec.specs.retained.Retained.{RetainedTopics}
 use Rattle.broker_spec.specs.Connection.{ConnectionName}
 use Rattle.broker_spec.specs.Place.{Client, same_client, Mark, Place, only_if}
-use Rattle.broker_spec.specs.Past.{any_connection, ends, expels, ends_any}
+use Rattle.broker_spec.specs.Sessions.{any_connection, ends, expels, ends_any}
 use Rattle.broker_spec.specs.Answers.{close_outputs}
 use Rattle.broker_base.specs.ClientSession.{ClientSession}
 use Rattle.broker_base.specs.SessionStep.{session_on}

@@ -4,7 +4,7 @@ use Rattle.packet.specs.declared.packet.Packet.{Packet}
 use Rattle.packet.specs.declared.packet.Packet.TheVariants as packets
 use Rattle.broker_spec.specs.Connection.{ConnectionName, same_connection}
 use Rattle.broker_spec.specs.Place.{Mark, Place}
-use Rattle.broker_spec.specs.Past.{is_leaving, ends_any}
+use Rattle.broker_spec.specs.Sessions.{is_leaving, ends_any}
 use Rattle.broker_base.specs.State.{State}
 use Rattle.broker_base.specs.StepAnswers.{answers_by_state}
 use Rattle.broker_base.specs.Decisions.{owned_mark, packet_mark_in, connect_mark_in}

@@ -8,7 +8,7 @@ use Rattle.packet.specs.declared.packet.Packet.TheVariants as packets
 use Rattle.broker_spec.specs.session_base.Publication.{publication_of}
 use Rattle.broker_spec.specs.Connection.{ConnectionName, same_connection}
 use Rattle.broker_spec.specs.Place.{Client, same_client, Mark, Limits}
-use Rattle.broker_spec.specs.Past.{any_connection, is_leaving, ends, expels}
+use Rattle.broker_spec.specs.Sessions.{any_connection, is_leaving, ends, expels}
 use Rattle.broker_base.specs.ClientSession.{ClientSession}
 use Rattle.broker_base.specs.State.{State, owner_in}
 use Rattle.broker_base.specs.Decisions.{is_refused_in, repeats_taken, owned_mark, packet_mark_in, connect_mark_in, mark_in, place_in}

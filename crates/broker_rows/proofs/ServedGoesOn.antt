@@ -13,7 +13,7 @@ use Rattle.broker_spec.specs.session_base.Queue.{Queue, on_puback, on_pubrec, on
 use Rattle.broker_spec.specs.session_base.Copies.{copies_left}
 use Rattle.broker_spec.specs.Connection.{ConnectionName}
 use Rattle.broker_spec.specs.Place.{Client, Mark, Place, only_if}
-use Rattle.broker_spec.specs.Past.{ends_any, is_leaving}
+use Rattle.broker_spec.specs.Sessions.{ends_any, is_leaving}
 use Rattle.broker_spec.specs.Subscriptions.{as_granted, granted_of}
 use Rattle.broker_spec.specs.Entries.{copies_for_all}
 use Rattle.broker_base.specs.ClientSession.{ClientSession}

@@ -5,7 +5,7 @@ use Rattle.broker_spec.specs.retained.Retained.{RetainedTopics}
 use Rattle.broker_spec.specs.session_base.Subscriptions.{GrantedFilter}
 use Rattle.broker_spec.specs.session_base.Queue.{Queue}
 use Rattle.broker_spec.specs.Place.{Client, Mark, Place, only_if}
-use Rattle.broker_spec.specs.Past.{accepts, ends_any, expels}
+use Rattle.broker_spec.specs.Sessions.{accepts, ends_any, expels}
 use Rattle.broker_spec.specs.Subscriptions.{filters_after}
 use Rattle.broker_spec.specs.Received.{received_by}
 use Rattle.broker_base.specs.ClientSession.{ClientSession}

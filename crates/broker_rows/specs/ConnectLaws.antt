@@ -7,7 +7,7 @@ use Rattle.std.specs.BTreeMap.{insert_entry}
 use Rattle.broker_spec.specs.session_base.Sending.{fill_sends, resend}
 use Rattle.broker_spec.specs.Connection.{ConnectionName}
 use Rattle.broker_spec.specs.Place.{Client, by_bytes, Limits}
-use Rattle.broker_spec.specs.Past.{begins_session}
+use Rattle.broker_spec.specs.Sessions.{begins_session}
 use Rattle.broker_spec.specs.Answers.{close_outputs, welcome, turned_away}
 use Rattle.broker_base.specs.ClientSession.{ClientSession}
 use Rattle.broker_base.specs.SessionStep.{session_anew, session_resumed}

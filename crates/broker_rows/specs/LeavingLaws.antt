@@ -4,7 +4,7 @@ use Rattle.std.specs.Prelude.{◌≡◌, ℕ, true, Bool, [], ◌∷◌, None}
 use Rattle.packet.specs.declared.packet.Packet.{Packet}
 use Rattle.broker_spec.specs.Connection.{ConnectionName}
 use Rattle.broker_spec.specs.Place.{Client, Limits}
-use Rattle.broker_spec.specs.Past.{is_leaving}
+use Rattle.broker_spec.specs.Sessions.{is_leaving}
 use Rattle.broker_base.specs.ClientSession.{ClientSession}
 use Rattle.broker_base.specs.State.{State, owner_in}
 use Rattle.broker_base.specs.Decisions.{owned_mark}

@@ -4,7 +4,7 @@ use Rattle.std.specs.BTreeMap.{is_at}
 use Rattle.std.specs.Map.{remove_entry, set_value}
 use Rattle.broker_spec.specs.Connection.{ConnectionName, same_connection}
 use Rattle.broker_spec.specs.Place.{Client, by_bytes, same_client, Mark, Place}
-use Rattle.broker_spec.specs.Past.{any_connection}
+use Rattle.broker_spec.specs.Sessions.{any_connection}
 use Rattle.broker_base.specs.ClientSession.{ClientSession}
 use Rattle.broker_base.specs.State.{Sessions}
 use Rattle.broker_base.specs.Step.{touches}

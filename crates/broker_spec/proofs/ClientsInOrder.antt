@@ -6,7 +6,7 @@ use Rattle.std.specs.Ordering.{is_eq, match_ordering, ordering_reverse}
 use Rattle.std.proofs.lemmas.Cmp.{nat_list_cmp_total}
 use Rattle.std.proofs.lemmas.Map.Lookups.{exact_bytes}
 use Rattle.broker_spec.specs.Place.{Client, by_bytes, same_client, Mark, Past, only_if}
-use Rattle.broker_spec.specs.Past.{accepts, expels, ends_any, current_connection, newest_clean_session, clean_session_of}
+use Rattle.broker_spec.specs.Sessions.{accepts, expels, ends_any, current_connection, newest_clean_session, clean_session_of}
 use Rattle.broker_spec.specs.Owner.{insert_client, named_by, named}
 use Rattle.broker_spec.specs.declared.command.Command.{Command}
 use Rattle.broker_spec.specs.declared.command.Command.TheVariants as commands

@@ -3,7 +3,7 @@ use Rattle.std.proofs.Common.{◌≡◌, Bool, true, false, not, [], ◌∷◌, 
 use Rattle.std.specs.List.{AllByRecursion}
 use Rattle.broker_spec.specs.Connection.{ConnectionName}
 use Rattle.broker_spec.specs.Place.{Client, Place, Past, only_if}
-use Rattle.broker_spec.specs.Past.{accepts, ends_any, newest_connection, current_connection}
+use Rattle.broker_spec.specs.Sessions.{accepts, ends_any, newest_connection, current_connection}
 use Rattle.broker_spec.specs.Laws.{KeepsConnection, WasOpened, CurrentIsLastAccepted}
 
 -- either this place opened it, or it was current before and was kept

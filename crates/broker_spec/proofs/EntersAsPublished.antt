@@ -8,7 +8,7 @@ use Rattle.session_base.specs.Publication.{publication_of}
 use Rattle.session_base.specs.Identifiers.{least_free}
 use Rattle.broker_spec.specs.Connection.{ConnectionName}
 use Rattle.broker_spec.specs.Place.{Client, Past, Limits}
-use Rattle.broker_spec.specs.Past.{current_connection, clean_session_of, in_session}
+use Rattle.broker_spec.specs.Sessions.{current_connection, clean_session_of, in_session}
 use Rattle.broker_spec.specs.Subscriptions.{effective_qos}
 use Rattle.broker_spec.specs.Entries.{Entry, copy_of, queued}
 use Rattle.broker_spec.specs.Readings.{made_of, publication_in}

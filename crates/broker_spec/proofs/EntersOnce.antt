@@ -7,7 +7,7 @@ use Rattle.retained.specs.declared.retained_publication.RetainedPublication.{Ret
 use Rattle.retained.specs.Retained.{RetainedTopics, matching_entries}
 use Rattle.broker_spec.specs.Connection.{ConnectionName}
 use Rattle.broker_spec.specs.Place.{Client, same_client, Mark, Past, Limits}
-use Rattle.broker_spec.specs.Past.{current_connection, clean_session_of, begins, in_session}
+use Rattle.broker_spec.specs.Sessions.{current_connection, clean_session_of, begins, in_session}
 use Rattle.session_base.specs.declared.publication.Publication.{Publication}
 use Rattle.session_base.specs.Publication.{publication_of, is_answered}
 use Rattle.broker_spec.specs.Subscriptions.{effective_qos, granted_of}

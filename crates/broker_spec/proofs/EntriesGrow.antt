@@ -5,7 +5,7 @@ use Rattle.std.specs.List.{AllByRecursion}
 use Rattle.packet.specs.declared.packet.Packet.TheVariants as packets
 use Rattle.broker_spec.specs.Connection.{ConnectionName}
 use Rattle.broker_spec.specs.Place.{Client, same_client, Mark}
-use Rattle.broker_spec.specs.Past.{current_connection, clean_session_of, begins, in_session}
+use Rattle.broker_spec.specs.Sessions.{current_connection, clean_session_of, begins, in_session}
 use Rattle.session_base.specs.declared.publication.Publication.{Publication}
 use Rattle.session_base.specs.Publication.{is_qos1}
 use Rattle.broker_spec.specs.Entries.{Entry, copies_at, queued}

@@ -7,7 +7,7 @@ use Rattle.retained.specs.packet_base.declared.qos.QoS.{QoS}
 use Rattle.packet.specs.declared.subscribe.Subscription.{Subscription}
 use Rattle.packet.specs.declared.packet.Packet.TheVariants as packets
 use Rattle.broker_spec.specs.Place.{Client, same_client, Mark}
-use Rattle.broker_spec.specs.Past.{clean_session_of, begins, in_session}
+use Rattle.broker_spec.specs.Sessions.{clean_session_of, begins, in_session}
 use Rattle.broker_spec.specs.Subscriptions.{as_granted, granted_of, filters_after, subscriptions_of, qos_asked}
 use Rattle.session_base.specs.Subscriptions.{GrantedFilter, with_subscription, with_subscriptions, without_filter, without_filters}
 use Rattle.broker_spec.specs.Laws.{newer_of_two, either, last_qos, word_on, last_granting, FilterHasLastGranting}

@@ -2,7 +2,7 @@
 use Rattle.std.proofs.Common.{◌≡◌, ℕ, ◌≤◌, ◌<◌, Bool, true, false, nat_lt, if◌then◌else◌, List, [], ◌∷◌, ◌++◌, length, map, Option, Some, None, inl, inr, refl, arith}
 use Rattle.std.specs.List.{AllByRecursion}
 use Rattle.broker_spec.specs.Connection.{ConnectionName}
-use Rattle.broker_spec.specs.Past.{current_connection, clean_session_of, begins, in_session}
+use Rattle.broker_spec.specs.Sessions.{current_connection, clean_session_of, begins, in_session}
 use Rattle.session_base.specs.declared.publication.Publication.{Publication}
 use Rattle.broker_spec.specs.Entries.{Entry, copies_at, queued}
 use Rattle.broker_spec.specs.Readings.{busy_ids}

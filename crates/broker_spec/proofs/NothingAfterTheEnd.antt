@@ -5,7 +5,7 @@ use Rattle.std.specs.List.{AllByRecursion}
 use Rattle.retained.specs.lists.Lists.{In}
 use Rattle.broker_spec.specs.Connection.{ConnectionName}
 use Rattle.broker_spec.specs.Place.{Client, Mark, Place, Past, Limits, only_if, same_client}
-use Rattle.broker_spec.specs.Past.{accepts, ends, expels, ends_any, any_connection, newest_clean_session, is_beginning, current_connection, clean_session_of, session_start}
+use Rattle.broker_spec.specs.Sessions.{accepts, ends, expels, ends_any, any_connection, newest_clean_session, is_beginning, current_connection, clean_session_of, session_start}
 use Rattle.broker_spec.specs.Commands.{place_of}
 use Rattle.broker_spec.specs.AnswersInOrder.{answers_at}
 use Rattle.broker_spec.specs.Laws.{KeepsConnection}

@@ -3,7 +3,7 @@ use Rattle.std.proofs.Common.{◌≡◌, Bool, true, false, if◌then◌else◌,
 use Rattle.std.proofs.lemmas.Bool.{both_ways, cases_Bool}
 use Rattle.broker_spec.specs.Connection.{ConnectionName, same_connection}
 use Rattle.broker_spec.specs.Place.{Client, Past}
-use Rattle.broker_spec.specs.Past.{any_connection, current_connection}
+use Rattle.broker_spec.specs.Sessions.{any_connection, current_connection}
 use Rattle.broker_spec.specs.Owner.{clients, first_client, owner_of}
 use Rattle.broker_spec.proofs.ConnectionNames.{same_name}
 

@@ -10,7 +10,7 @@ use Rattle.retained.specs.packet_base.QoS.{lower_qos}
 use Rattle.session_base.specs.Subscriptions.{granted_qos}
 use Rattle.broker_spec.specs.Connection.{ConnectionName, same_connection}
 use Rattle.broker_spec.specs.Place.{Client, Past, Limits}
-use Rattle.broker_spec.specs.Past.{current_connection, clean_session_of, begins, in_session, newest_clean_session, ends_any}
+use Rattle.broker_spec.specs.Sessions.{current_connection, clean_session_of, begins, in_session, newest_clean_session, ends_any}
 use Rattle.broker_spec.specs.Subscriptions.{subscriptions_of, effective_qos}
 use Rattle.broker_spec.specs.Marks.{is_queued_at}
 use Rattle.broker_spec.specs.Entries.{Entry, copy_of, queued}

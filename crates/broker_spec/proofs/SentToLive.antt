@@ -8,7 +8,7 @@ use Rattle.retained.specs.lists.Lists.{In}
 use Rattle.retained.specs.lists.Lists.In.{here, there}
 use Rattle.broker_spec.specs.Connection.{ConnectionName, same_connection}
 use Rattle.broker_spec.specs.Place.{Client, Mark, Place, Past, Limits}
-use Rattle.broker_spec.specs.Past.{is_leaving, ends, expels, accepts, current_connection, begins}
+use Rattle.broker_spec.specs.Sessions.{is_leaving, ends, expels, accepts, current_connection, begins}
 use Rattle.broker_spec.specs.Owner.{owner_of}
 use Rattle.broker_spec.specs.Marks.{mark_of, packet_mark_of}
 use Rattle.broker_spec.specs.Times.{entries_of}

@@ -3,7 +3,7 @@ use Rattle.std.proofs.Common.{◌≡◌, ℕ, suc, ◌≤◌, ◌<◌, ◌+◌, 
 use Rattle.std.specs.Prelude.{is_some}
 use Rattle.broker_spec.specs.Connection.{ConnectionName}
 use Rattle.broker_spec.specs.Place.{Client, Past, Limits}
-use Rattle.broker_spec.specs.Past.{current_connection, clean_session_of, begins, in_session}
+use Rattle.broker_spec.specs.Sessions.{current_connection, clean_session_of, begins, in_session}
 use Rattle.session_base.specs.declared.publication.Publication.{Publication}
 use Rattle.retained.specs.lists.Lists.{has_id}
 use Rattle.broker_spec.specs.Entries.{Entry, copies_at, queued}

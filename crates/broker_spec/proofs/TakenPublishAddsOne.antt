@@ -4,7 +4,7 @@ use Rattle.std.specs.Prelude.{is_some}
 use Rattle.retained.specs.packet_base.declared.qos.QoS.{QoS}
 use Rattle.retained.specs.packet_base.declared.qos.QoS.TheVariants as qualities
 use Rattle.broker_spec.specs.Connection.{ConnectionName}
-use Rattle.broker_spec.specs.Past.{current_connection, clean_session_of, in_session}
+use Rattle.broker_spec.specs.Sessions.{current_connection, clean_session_of, in_session}
 use Rattle.session_base.specs.declared.publication.Publication.{Publication}
 use Rattle.session_base.specs.Publication.{publication_of}
 use Rattle.broker_spec.specs.Subscriptions.{effective_qos}

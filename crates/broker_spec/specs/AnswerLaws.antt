@@ -4,7 +4,7 @@ use Rattle.std.specs.List.{AllByRecursion}
 use Rattle.packet.specs.declared.packet.Packet.TheVariants as packets
 use Rattle.broker_spec.specs.Connection.{ConnectionName}
 use Rattle.broker_spec.specs.Place.{Client, Past, Limits}
-use Rattle.broker_spec.specs.Past.{current_connection}
+use Rattle.broker_spec.specs.Sessions.{current_connection}
 use Rattle.broker_spec.specs.AnswersInOrder.{answers_of}
 use Rattle.broker_spec.specs.declared.command.Command.{Command}
 use Rattle.broker_spec.specs.declared.command.Command.TheVariants as commands

@@ -6,7 +6,7 @@ use Rattle.packet.specs.declared.packet.Packet.{Packet}
 use Rattle.retained.specs.lists.Lists.{In}
 use Rattle.broker_spec.specs.Connection.{ConnectionName, same_connection}
 use Rattle.broker_spec.specs.Place.{Client, Place, Past, Limits}
-use Rattle.broker_spec.specs.Past.{accepts, session_start}
+use Rattle.broker_spec.specs.Sessions.{accepts, session_start}
 use Rattle.broker_spec.specs.Commands.{past_of}
 use Rattle.broker_spec.specs.AnswersInOrder.{answers_at}
 use Rattle.broker_spec.specs.declared.command.Command.{Command}

@@ -10,8 +10,8 @@ use Rattle.packet.specs.declared.subscribe.Subscription.{Subscription}
 use Rattle.packet.specs.declared.packet.Packet.TheVariants as packets
 use Rattle.broker_spec.specs.Connection.{ConnectionName}
 use Rattle.broker_spec.specs.Place.{Client, same_client, Mark, Place, Past}
-use Rattle.broker_spec.specs.Past.{accepts, ends_any, current_connection, clean_session_of}
-use Rattle.broker_spec.specs.Past.{begins, in_session}
+use Rattle.broker_spec.specs.Sessions.{accepts, ends_any, current_connection, clean_session_of}
+use Rattle.broker_spec.specs.Sessions.{begins, in_session}
 use Rattle.broker_spec.specs.Subscriptions.{granted_of, subscriptions_of, qos_asked}
 use Rattle.retained.specs.lists.Lists.{has_id}
 use Rattle.broker_spec.specs.Received.{received_of}

@@ -16,7 +16,7 @@ pub mod PacketRows
 pub mod WindowRows
 pub mod OriginLaws
 pub mod Owner
-pub mod Past
+pub mod Sessions
 pub mod Place
 pub mod QosRows
 pub mod RetainedRows

@@ -8,7 +8,7 @@ use Rattle.packet.specs.declared.packet.Packet.{Packet}
 use Rattle.packet.specs.declared.packet.Packet.TheVariants as packets
 use Rattle.retained.specs.Retained.{RetainedTopics}
 use Rattle.broker_spec.specs.Place.{Client, Mark, Past, Limits}
-use Rattle.broker_spec.specs.Past.{clean_session_of}
+use Rattle.broker_spec.specs.Sessions.{clean_session_of}
 use Rattle.broker_spec.specs.Owner.{clients, owner_of}
 use Rattle.session_base.specs.declared.publication.Publication.{Publication}
 use Rattle.session_base.specs.Publication.{publication_of, is_answered}

@@ -4,7 +4,7 @@ use Rattle.std.specs.Prelude.{None, is_some}
 use Rattle.std.specs.Ordering.{match_ordering}
 use Rattle.broker_spec.specs.Connection.{ConnectionName, same_connection}
 use Rattle.broker_spec.specs.Place.{Client, by_bytes, Mark, Past}
-use Rattle.broker_spec.specs.Past.{any_connection, current_connection, clean_session_of}
+use Rattle.broker_spec.specs.Sessions.{any_connection, current_connection, clean_session_of}
 use Rattle.broker_spec.specs.declared.command.Command.{Command}
 use Rattle.broker_spec.specs.declared.command.Command.TheVariants as commands
 

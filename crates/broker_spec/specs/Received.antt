@@ -7,7 +7,7 @@ use Rattle.packet.specs.declared.packet.Packet.TheVariants as packets
 use Rattle.retained.specs.lists.Lists.{has_id}
 use Rattle.session_base.specs.Identifiers.{with_id, without_id}
 use Rattle.broker_spec.specs.Place.{Client, same_client, Mark, Past}
-use Rattle.broker_spec.specs.Past.{clean_session_of, begins, in_session}
+use Rattle.broker_spec.specs.Sessions.{clean_session_of, begins, in_session}
 use Rattle.broker_spec.specs.declared.command.Command.{Command}
 use Rattle.broker_spec.specs.declared.command.Command.TheVariants as commands
 

@@ -4,7 +4,7 @@ use Rattle.std.specs.Prelude.{length, map, take, drop, flat_map, Option, Some, N
 use Rattle.packet.specs.declared.packet.Packet.TheVariants as packets
 use Rattle.broker_spec.specs.Connection.{ConnectionName}
 use Rattle.broker_spec.specs.Place.{Client, Place, Past, Limits}
-use Rattle.broker_spec.specs.Past.{current_connection}
+use Rattle.broker_spec.specs.Sessions.{current_connection}
 use Rattle.session_base.specs.declared.publication.Publication.{Publication}
 use Rattle.session_base.specs.Publication.{publish_for, is_answered}
 use Rattle.broker_spec.specs.Entries.{Entry, copies_at}

@@ -4,7 +4,7 @@ use Rattle.std.specs.Prelude.{◌≡◌, ℕ, Bool, true, false, List, [], ◌�
 use Rattle.packet.specs.declared.delivery.Delivery.TheVariants as deliveries
 use Rattle.packet.specs.declared.packet.Packet.TheVariants as packets
 use Rattle.broker_spec.specs.Place.{Client}
-use Rattle.broker_spec.specs.Past.{ends_session, session_start, StandsIn}
+use Rattle.broker_spec.specs.Sessions.{ends_session, session_start, StandsIn}
 use Rattle.broker_spec.specs.Owner.{owner_of, IsLive}
 use Rattle.broker_spec.specs.Received.{is_new}
 use Rattle.broker_spec.specs.Marks.{mark_of}

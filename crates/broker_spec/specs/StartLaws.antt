@@ -1,7 +1,7 @@
 -- What readers may want to know about the start of an entry (MQTT 2.3.1, 4.6).
 use Rattle.std.specs.Prelude.{◌≡◌, ◌≤◌, ◌<◌, ℕ, true, false, List, ◌∷◌, ◌++◌, length, is_some}
 use Rattle.broker_spec.specs.Place.{Client, Place, Past, Limits}
-use Rattle.broker_spec.specs.Past.{current_connection}
+use Rattle.broker_spec.specs.Sessions.{current_connection}
 use Rattle.session_base.specs.declared.publication.Publication.{Publication}
 use Rattle.retained.specs.lists.Lists.{has_id}
 use Rattle.broker_spec.specs.Entries.{Entry}

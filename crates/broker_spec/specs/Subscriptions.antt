@@ -6,7 +6,7 @@ use Rattle.retained.specs.packet_base.declared.qos.QoS.{QoS}
 use Rattle.packet.specs.declared.subscribe.Subscription.{Subscription}
 use Rattle.packet.specs.declared.packet.Packet.TheVariants as packets
 use Rattle.broker_spec.specs.Place.{Client, same_client, Mark, Past}
-use Rattle.broker_spec.specs.Past.{clean_session_of, begins, in_session}
+use Rattle.broker_spec.specs.Sessions.{clean_session_of, begins, in_session}
 use Rattle.session_base.specs.declared.publication.Publication.{Publication}
 use Rattle.retained.specs.packet_base.QoS.{lower_qos}
 use Rattle.session_base.specs.Subscriptions.{GrantedFilter, with_subscriptions}

@@ -10,7 +10,7 @@ use Rattle.broker_spec.specs.Answers.{close_outputs, welcome, turned_away}
 use Rattle.broker_spec.specs.Commands.{usual_limits}
 use Rattle.broker_spec.specs.declared.command.Command.TheVariants as commands
 use Rattle.broker_spec.specs.declared.command.Output.TheVariants as outputs
-use Rattle.broker_spec.specs.Past.{begins_session}
+use Rattle.broker_spec.specs.Sessions.{begins_session}
 use Rattle.broker_session.specs.broker_base.ClientSession.{ClientSession}
 use Rattle.broker_session.specs.broker_base.SessionStep.{session_anew, session_resumed}
 use Rattle.broker_session.specs.broker_base.State.{State, session_in, owner_in}

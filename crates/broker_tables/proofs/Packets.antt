@@ -9,7 +9,7 @@ use Rattle.packet.specs.declared.unsubscribe.Unsubscribe.{Unsubscribe}
 use Rattle.packet.specs.declared.packet.Packet.TheVariants as packets
 use Rattle.broker_spec.specs.Connection.{ConnectionName}
 use Rattle.broker_spec.specs.Place.{Client}
-use Rattle.broker_spec.specs.Past.{is_leaving}
+use Rattle.broker_spec.specs.Sessions.{is_leaving}
 use Rattle.broker_spec.specs.Commands.{usual_limits}
 use Rattle.broker_spec.specs.declared.command.Command.TheVariants as commands
 use Rattle.broker_spec.specs.declared.command.Output.TheVariants as outputs

@@ -8,7 +8,7 @@ use Rattle.node_group.specs.broker_spec.declared.command.Command.{Command}
 use Rattle.node_group.specs.broker_spec.declared.command.Command.TheVariants as commands
 use Rattle.node_group.specs.broker_spec.Commands.{past_from, past_of, place_of, usual_limits}
 use Rattle.node_group.specs.broker_spec.Connection.{ConnectionName}
-use Rattle.node_group.specs.broker_spec.Past.{accepts, current_connection, ends_any, expels, newest_clean_session, clean_session_of}
+use Rattle.node_group.specs.broker_spec.Sessions.{accepts, current_connection, ends_any, expels, newest_clean_session, clean_session_of}
 use Rattle.node_group.specs.broker_spec.Place.{Client, Limits, Mark, Past, Place, only_if, same_client}
 use Rattle.byte_world.specs.Kept.{NoSessionIsClean, NoneIsClean}
 

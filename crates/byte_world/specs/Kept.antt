@@ -7,7 +7,7 @@ use Rattle.node_group.specs.broker_spec.declared.command.Command.{Command}
 use Rattle.node_group.specs.broker_spec.declared.command.Command.TheVariants as commands
 use Rattle.node_group.specs.broker_spec.Commands.{past_of, usual_limits}
 use Rattle.node_group.specs.broker_spec.Connection.{ConnectionName}
-use Rattle.node_group.specs.broker_spec.Past.{clean_session_of}
+use Rattle.node_group.specs.broker_spec.Sessions.{clean_session_of}
 use Rattle.node_group.specs.broker_spec.Place.{Client}
 use Rattle.node_group.specs.snapshots.Moments.{IsAgreed}
 use Rattle.node_group.specs.Group.{moment_of_nodes}

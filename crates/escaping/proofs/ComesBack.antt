@@ -16,7 +16,7 @@ use Rattle.packet_world.specs.broker_spec.Marks.{connect_mark, mark_of}
 use Rattle.packet_world.specs.broker_spec.declared.command.Output.{Output}
 use Rattle.packet_world.specs.broker_spec.declared.command.Output.TheVariants.{Send}
 use Rattle.packet_world.specs.broker_spec.Owner.{clients, first_client, owner_of}
-use Rattle.packet_world.specs.broker_spec.Past.{any_connection, begins_session, current_connection, ends, ends_any, is_beginning, newest_connection, newest_clean_session, clean_session_of}
+use Rattle.packet_world.specs.broker_spec.Sessions.{any_connection, begins_session, current_connection, ends, ends_any, is_beginning, newest_connection, newest_clean_session, clean_session_of}
 use Rattle.packet_world.specs.broker_spec.Place.{Client, Limits, Mark, Past, Place, only_if, same_client}
 use Rattle.packet_world.specs.broker_spec.Readings.{released_below}
 use Rattle.packet_world.specs.broker_spec.Sends.{all_started, publish_output, resent_outputs, repeated_output, first_output}

@@ -10,7 +10,7 @@ use Rattle.packet_world.specs.broker_spec.Commands.{past_of, usual_limits}
 use Rattle.packet_world.specs.broker_spec.Connection.{ConnectionName}
 use Rattle.packet_world.specs.broker_spec.declared.command.Output.{Output}
 use Rattle.packet_world.specs.broker_spec.declared.command.Output.TheVariants.{Send, Close}
-use Rattle.packet_world.specs.broker_spec.Past.{clean_session_of}
+use Rattle.packet_world.specs.broker_spec.Sessions.{clean_session_of}
 use Rattle.packet_world.specs.broker_spec.Place.{Client}
 use Rattle.node_moves.specs.node_core.Core.{rules}
 

@@ -9,7 +9,7 @@ use Rattle.escaping.specs.broker_spec.Connection.{ConnectionName, first_connecti
 use Rattle.escaping.specs.broker_spec.Marks.{connect_mark}
 use Rattle.escaping.specs.broker_spec.declared.command.Output.{Output}
 use Rattle.escaping.specs.broker_spec.Owner.{clients}
-use Rattle.escaping.specs.broker_spec.Past.{begins_session, current_connection, ends_any, is_beginning, newest_clean_session, clean_session_of}
+use Rattle.escaping.specs.broker_spec.Sessions.{begins_session, current_connection, ends_any, is_beginning, newest_clean_session, clean_session_of}
 use Rattle.escaping.specs.broker_spec.Place.{Client, Limits, Mark, Past, only_if, same_client}
 use Rattle.escaping.specs.broker_spec.Sends.{resent_outputs}
 use Rattle.escaping.specs.broker_spec.Times.{entries_of}

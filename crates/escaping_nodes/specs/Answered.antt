@@ -16,7 +16,7 @@ use Rattle.escaping.specs.broker_spec.declared.command.Command.TheVariants as co
 use Rattle.escaping.specs.broker_spec.Commands.{past_of, usual_limits}
 use Rattle.escaping.specs.broker_spec.Connection.{ConnectionName}
 use Rattle.escaping.specs.broker_spec.declared.command.Output.{Output}
-use Rattle.escaping.specs.broker_spec.Past.{clean_session_of}
+use Rattle.escaping.specs.broker_spec.Sessions.{clean_session_of}
 use Rattle.escaping.specs.broker_base.State.{State}
 use Rattle.escaping.specs.Answering.{PutsOutFirst}
 use Rattle.escaping.specs.Waiting.{AwaitsConnect}

@@ -5,7 +5,7 @@ use Rattle.escaping.specs.broker_spec.declared.command.Command.{Command}
 use Rattle.escaping.specs.broker_spec.Commands.{past_of, usual_limits}
 use Rattle.escaping.specs.broker_spec.Connection.{ConnectionName, max_ballot}
 use Rattle.escaping.specs.broker_spec.declared.command.Output.{Output}
-use Rattle.escaping.specs.broker_spec.Past.{clean_session_of}
+use Rattle.escaping.specs.broker_spec.Sessions.{clean_session_of}
 use Rattle.escaping.specs.broker_spec.Place.{Client}
 use Rattle.escaping.specs.broker_base.State.{State}
 use Rattle.escaping.specs.Waiting.{AwaitsConnect}

@@ -22,7 +22,7 @@ use Rattle.exactly_once.specs.HandshakeSteps.HandshakeStep.{hears}
 use Rattle.exactly_once.specs.HandshakeSteps.HandshakeTrace.{stays, goes_on}
 use Rattle.lists.proofs.Tests.{or_then}
 use Rattle.exactly_once.specs.HandshakeInvariant.{IsGood, IsJoined, FitsTransit}
-use Rattle.broker_spec.specs.Past.{current_connection}
+use Rattle.broker_spec.specs.Sessions.{current_connection}
 use Rattle.exactly_once.specs.Sends.{put_to}
 use Rattle.client_base.specs.Keeper.{Own, Written, Keeper}
 use Rattle.exactly_once.specs.Sides.{ClientConnection, Side}

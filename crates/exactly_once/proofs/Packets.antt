@@ -9,7 +9,7 @@ use Rattle.session_base.specs.declared.publication.Publication.{Publication}
 use Rattle.session_base.specs.Publication.{is_answered, publish_for}
 use Rattle.broker_spec.specs.Connection.{ConnectionName, same_connection}
 use Rattle.broker_spec.specs.Place.{Client, Mark, Place, Past, Limits, only_if}
-use Rattle.broker_spec.specs.Past.{is_leaving, ends_any, newest_clean_session, current_connection, clean_session_of, in_session}
+use Rattle.broker_spec.specs.Sessions.{is_leaving, ends_any, newest_clean_session, current_connection, clean_session_of, in_session}
 use Rattle.broker_spec.specs.Received.{received_by, received_of}
 use Rattle.broker_spec.specs.Entries.{Entry, copies_at}
 use Rattle.broker_spec.specs.Readings.{made_at}

@@ -11,7 +11,7 @@ use Rattle.packet.specs.declared.packet.Packet.TheVariants as packets
 use Rattle.lists.specs.Lists.{has_id}
 use Rattle.broker_spec.specs.Connection.{ConnectionName, same_connection}
 use Rattle.broker_spec.specs.Place.{Client, Mark, Place, Past, Limits}
-use Rattle.broker_spec.specs.Past.{current_connection, clean_session_of}
+use Rattle.broker_spec.specs.Sessions.{current_connection, clean_session_of}
 use Rattle.broker_spec.specs.Owner.{clients}
 use Rattle.broker_spec.specs.Received.{receives, received_of, is_exactly_once}
 use Rattle.broker_spec.specs.Sends.{deliveries_to}

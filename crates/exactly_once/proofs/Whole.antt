@@ -1,7 +1,7 @@
 -- From the three lemmas on one event to every story.
 use Rattle.std.proofs.Common.{[], inl, refl}
 use Rattle.broker_spec.specs.Place.{Client, Limits}
-use Rattle.broker_spec.specs.Past.{current_connection, clean_session_of}
+use Rattle.broker_spec.specs.Sessions.{current_connection, clean_session_of}
 use Rattle.broker_spec.specs.NobodyLaws.{IsSteady}
 use Rattle.broker_spec.specs.Received.{received_of}
 use Rattle.broker_spec.specs.Times.{entries_of}

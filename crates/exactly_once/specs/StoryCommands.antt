@@ -8,7 +8,7 @@ use Rattle.broker_spec.specs.Place.{Client, Past}
 use Rattle.broker_spec.specs.declared.command.Command.{Command}
 use Rattle.broker_spec.specs.declared.command.Command.TheVariants as commands
 use Rattle.exactly_once.specs.Sides.{ClientConnection}
-use Rattle.broker_spec.specs.Past.{clean_session_of}
+use Rattle.broker_spec.specs.Sessions.{clean_session_of}
 
 -- the first packet of a connection is a CONNECT and becomes a Connect; each later one a Packet
 abbrev pub command_of : ConnectionName → ℕ → Packet → Command

@@ -4,7 +4,7 @@ use Rattle.broker_spec.specs.Place.{Client, Limits}
 use Rattle.broker_spec.specs.Commands.{past_of}
 use Rattle.broker_spec.specs.declared.command.Command.{Command}
 use Rattle.client_base.specs.Keeper.{Keeper, new_keeper, ids_in_use, Own}
-use Rattle.broker_spec.specs.Past.{clean_session_of}
+use Rattle.broker_spec.specs.Sessions.{clean_session_of}
 use Rattle.lists.specs.Lists.{IsDistinct}
 use Rattle.client_base.specs.OrderLaws.{AreNumbered}
 use Rattle.exactly_once.specs.Story.{Story, no_story, StoryStep}

@@ -2,7 +2,7 @@
 use Rattle.std.specs.Prelude.{◌≡◌, false}
 use Rattle.lists.specs.Lists.{Each}
 use Rattle.broker_spec.specs.Place.{Client, Place, Past, Limits}
-use Rattle.broker_spec.specs.Past.{expels}
+use Rattle.broker_spec.specs.Sessions.{expels}
 use Rattle.exactly_once.specs.Story.{Story}
 use Rattle.exactly_once.specs.InStep.{IsInStep, IsFirstSession}
 use Rattle.exactly_once.specs.Lives.{Lived}

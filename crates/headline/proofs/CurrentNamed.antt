@@ -6,7 +6,7 @@ use Rattle.broker_spec.specs.declared.command.Command.{Command}
 use Rattle.broker_spec.specs.declared.command.Command.TheVariants as commands
 use Rattle.broker_spec.specs.Commands.{place_of}
 use Rattle.broker_spec.specs.Connection.{ConnectionName, same_connection}
-use Rattle.broker_spec.specs.Past.{accepts, current_connection}
+use Rattle.broker_spec.specs.Sessions.{accepts, current_connection}
 use Rattle.broker_spec.specs.Place.{Client, Limits, Mark, Past, Place}
 use Rattle.broker_spec.proofs.ClientsInOrder.{same_self}
 use Rattle.exactly_once.specs.Sides.{ClientConnection}

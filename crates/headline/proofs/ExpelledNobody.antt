@@ -12,7 +12,7 @@ use Rattle.byte_world.specs.broker_base.SessionStep.{session_touched}
 use Rattle.byte_world.specs.broker_base.State.{Sessions, State, keyed}
 use Rattle.byte_world.specs.broker_base.Step.{sessions_left, step}
 use Rattle.broker_spec.proofs.ClientsInOrder.{same_is}
-use Rattle.broker_spec.specs.Past.{any_connection, ends}
+use Rattle.broker_spec.specs.Sessions.{any_connection, ends}
 use Rattle.byte_world.specs.broker_form.InRange.{IsBrokerState, IsSession}
 use Rattle.byte_world.proofs.of_broker_form.States.{stays_in_range}
 

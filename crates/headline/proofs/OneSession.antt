@@ -5,7 +5,7 @@ use Rattle.std.proofs.lemmas.Bool.{both_ways}
 use Rattle.std.proofs.lemmas.List.{append-nil}
 use Rattle.session_base.specs.declared.publication.Publication.{Publication}
 use Rattle.broker_spec.specs.Commands.{usual_limits}
-use Rattle.broker_spec.specs.Past.{clean_session_of, session_start}
+use Rattle.broker_spec.specs.Sessions.{clean_session_of, session_start}
 use Rattle.broker_spec.specs.Place.{Client, Past}
 use Rattle.broker_spec.specs.Readings.{publication_in}
 use Rattle.client_base.specs.State.{ClientState}

@@ -11,7 +11,7 @@ use Rattle.broker_spec.specs.Commands.{place_of}
 use Rattle.broker_spec.specs.Connection.{ConnectionName, same_connection}
 use Rattle.broker_spec.specs.EndingLaws.{StandsAt}
 use Rattle.broker_spec.specs.Owner.{owner_of}
-use Rattle.broker_spec.specs.Past.{current_connection}
+use Rattle.broker_spec.specs.Sessions.{current_connection}
 use Rattle.broker_spec.specs.Place.{Client, Limits, Mark, Past, Place, same_client}
 use Rattle.broker_spec.proofs.ClientsInOrder.{same_self}
 use Rattle.client_base.specs.Called.{written_for}

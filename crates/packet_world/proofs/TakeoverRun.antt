@@ -6,7 +6,7 @@ use Rattle.exactly_once.specs.packet.declared.suback.SubackCode.TheVariants as c
 use Rattle.exactly_once.specs.packet.declared.packet.Packet.TheVariants as packets
 use Rattle.exactly_once.specs.session_base.Publication.{publish_for}
 use Rattle.exactly_once.specs.packet.packet_base.declared.qos.QoS.TheVariants as qualities
-use Rattle.exactly_once.specs.broker_spec.Past.{current_connection, clean_session_of}
+use Rattle.exactly_once.specs.broker_spec.Sessions.{current_connection, clean_session_of}
 use Rattle.exactly_once.specs.broker_spec.Owner.{named}
 use Rattle.exactly_once.specs.broker_spec.Subscriptions.{subscriptions_of}
 use Rattle.exactly_once.specs.broker_spec.Received.{received_of}

@@ -8,7 +8,7 @@ use Rattle.session.specs.session_base.Identifiers.{least_free}
 use Rattle.session.specs.session_base.Publication.{is_qos1}
 use Rattle.broker_form.specs.broker_spec.Connection.{ConnectionName}
 use Rattle.broker_form.specs.broker_spec.Place.{Client, same_client, Mark}
-use Rattle.broker_form.specs.broker_spec.Past.{current_connection, clean_session_of, begins, in_session}
+use Rattle.broker_form.specs.broker_spec.Sessions.{current_connection, clean_session_of, begins, in_session}
 use Rattle.broker_form.specs.broker_spec.Entries.{Entry, copies_at, queued}
 use Rattle.broker_form.specs.broker_spec.Times.{at_puback, at_pubrec, at_pubcomp, answered_by, start_all, started, window_at, entries_of}
 use Rattle.storage_tests.specs.Guards.{FitsItsQoS, EntriesFitTheirQoS}

@@ -5,7 +5,7 @@ ghost use Rattle.std.specs.Prelude.{◌≡◌, false, [], ◌∷◌, Some};
 ghost use Rattle.broker_form.specs.broker_spec.Connection.{ConnectionName};
 ghost use Rattle.broker_form.specs.broker_spec.Entries.{Entry};
 ghost use Rattle.broker_form.specs.broker_spec.Owner.{IsLive};
-ghost use Rattle.broker_form.specs.broker_spec.Past.{current_connection};
+ghost use Rattle.broker_form.specs.broker_spec.Sessions.{current_connection};
 ghost use Rattle.broker_form.specs.broker_spec.Place.{Client, Limits, Past};
 ghost use Rattle.broker_form.specs.broker_spec.Readings.{sent_entries, start_place};
 ghost use Rattle.broker_form.specs.broker_spec.Retained.{is_retained_over};

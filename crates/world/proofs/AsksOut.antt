@@ -10,7 +10,7 @@ use Rattle.headline.specs.broker_spec.declared.command.Command.{Command}
 use Rattle.headline.specs.broker_spec.declared.command.Command.TheVariants as commands
 use Rattle.headline.specs.broker_spec.Commands.{past_of, usual_limits}
 use Rattle.headline.specs.broker_spec.declared.command.Output.{Output}
-use Rattle.headline.specs.broker_spec.Past.{clean_session_of}
+use Rattle.headline.specs.broker_spec.Sessions.{clean_session_of}
 use Rattle.headline.specs.broker_base.State.{State}
 use Rattle.escaping_client.specs.client.Core.{Core}
 use Rattle.escaping_nodes.specs.Answered.{CanAsk, begun_log}

@@ -11,7 +11,7 @@ use Rattle.headline.specs.ballot_base.declared.config.Config.{Config}
 use Rattle.headline.specs.ballot_base.LawfulConfig.{are_rising, is_lawful}
 use Rattle.headline.specs.ballot_base.Serving.{max_places}
 use Rattle.headline.specs.broker_spec.Commands.{past_from, past_of, usual_limits}
-use Rattle.headline.specs.broker_spec.Past.{clean_session_of}
+use Rattle.headline.specs.broker_spec.Sessions.{clean_session_of}
 use Rattle.headline.specs.broker_spec.Place.{Client}
 use Rattle.ways_out.specs.Deliveries.{asked_and_answered, way_out}
 use Rattle.escaping_nodes.proofs.WelcomedKept.{welcomed_are_kept}

@@ -8,7 +8,7 @@ use Rattle.headline.specs.ballot_base.Logs.{places}
 use Rattle.headline.specs.ballot_base.Serving.{max_places}
 use Rattle.headline.specs.broker_spec.declared.command.Command.{Command}
 use Rattle.headline.specs.broker_spec.Commands.{past_of, usual_limits}
-use Rattle.headline.specs.broker_spec.Past.{clean_session_of}
+use Rattle.headline.specs.broker_spec.Sessions.{clean_session_of}
 use Rattle.headline.specs.broker_spec.Place.{Client}
 use Rattle.escaping_client.specs.client.Core.{Core}
 use Rattle.escaping_client.specs.client_base.State.{is_online}

@@ -4,7 +4,7 @@ ghost use Rattle.std.specs.Prelude.{ℕ, ◌≡◌, ◌≤◌, ◌<◌, ◌+◌,
 ghost use Rattle.std.specs.List.{list_all, position};
 ghost use Rattle.headline.specs.agreement.MasterState.{refusal};
 ghost use Rattle.headline.specs.broker_spec.Commands.{past_of, usual_limits};
-ghost use Rattle.headline.specs.broker_spec.Past.{clean_session_of};
+ghost use Rattle.headline.specs.broker_spec.Sessions.{clean_session_of};
 ghost use Rattle.world_nodes.specs.Asking.{whole_log_of};
 ghost use Rattle.world_events.specs.EscapeEvents.{connect_bytes};
 ghost use Rattle.world_pipes.specs.Piped.{is_holding};

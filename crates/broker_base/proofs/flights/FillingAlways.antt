@@ -6,7 +6,7 @@ use Rattle.broker_spec.specs.retained.Retained.{RetainedTopics}
 use Rattle.session_base.specs.Queue.{Flight, on_puback, on_pubrec, on_pubcomp}
 use Rattle.broker_spec.specs.Connection.{ConnectionName}
 use Rattle.broker_spec.specs.Place.{Client, same_client, Mark, Place, only_if}
-use Rattle.broker_spec.specs.Past.{accepts, expels, ends_any}
+use Rattle.broker_spec.specs.Sessions.{accepts, expels, ends_any}
 use Rattle.broker_spec.specs.Subscriptions.{filters_after}
 use Rattle.broker_spec.specs.Received.{received_by}
 use Rattle.broker_spec.specs.Entries.{queued}

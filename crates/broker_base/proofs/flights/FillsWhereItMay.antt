@@ -10,7 +10,7 @@ use Rattle.session_base.specs.Queue.{Flight, on_puback, on_pubrec, on_pubcomp, f
 use Rattle.session_base.proofs.CopiesOneByOne.{fill_quiet, copies_are_one_fill}
 use Rattle.broker_spec.specs.Connection.{ConnectionName}
 use Rattle.broker_spec.specs.Place.{Client, same_client, Mark, Place, only_if}
-use Rattle.broker_spec.specs.Past.{expels, ends_any}
+use Rattle.broker_spec.specs.Sessions.{expels, ends_any}
 use Rattle.broker_spec.specs.Subscriptions.{filters_after}
 use Rattle.broker_spec.specs.Received.{received_by}
 use Rattle.broker_spec.specs.Entries.{queued}

@@ -7,7 +7,7 @@ use Rattle.broker_spec.specs.session_base.Subscriptions.{GrantedFilter}
 use Rattle.broker_spec.specs.session_base.KeepingLaws.{AreFiltersApart}
 use Rattle.broker_spec.specs.Connection.{ConnectionName, same_connection}
 use Rattle.broker_spec.specs.Place.{Client, same_client}
-use Rattle.broker_spec.specs.Past.{any_connection}
+use Rattle.broker_spec.specs.Sessions.{any_connection}
 use Rattle.broker_base.specs.State.{Sessions, session_in}
 use Rattle.broker_base.specs.StateLaws.{AllSound, AreByClient, ConnectionsAreApart}
 use Rattle.broker_spec.proofs.ClientsInOrder.{same_is}

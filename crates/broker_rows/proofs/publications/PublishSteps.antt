@@ -6,7 +6,7 @@ use Rattle.broker_spec.specs.session_base.Publication.{publication_of}
 use Rattle.broker_spec.specs.Place.{Client, Mark, Limits}
 use Rattle.broker_spec.specs.Answers.{acknowledged}
 use Rattle.broker_spec.specs.Retained.{retains}
-use Rattle.broker_spec.specs.Past.{is_leaving}
+use Rattle.broker_spec.specs.Sessions.{is_leaving}
 use Rattle.broker_base.specs.ClientSession.{ClientSession}
 use Rattle.broker_base.specs.State.{State}
 use Rattle.broker_base.specs.Decisions.{is_one_topic_over, is_refused_in, repeats_taken, owned_mark, packet_mark_in}

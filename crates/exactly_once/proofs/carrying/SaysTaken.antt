@@ -12,7 +12,7 @@ use Rattle.session_base.specs.declared.publication.Publication.{Publication}
 use Rattle.session_base.specs.Publication.{publication_of}
 use Rattle.broker_spec.specs.Connection.{ConnectionName}
 use Rattle.broker_spec.specs.Place.{Client, Mark, Past, Limits}
-use Rattle.broker_spec.specs.Past.{current_connection}
+use Rattle.broker_spec.specs.Sessions.{current_connection}
 use Rattle.broker_spec.specs.Received.{is_repeat}
 use Rattle.broker_spec.specs.Marks.{is_refused, packet_mark, packet_mark_of, mark_of}
 use Rattle.broker_spec.specs.Commands.{place_of}

@@ -10,7 +10,7 @@ use Rattle.session_base.specs.Publication.{publish_for, is_answered}
 use Rattle.lists.specs.Lists.{has_id, Each}
 use Rattle.broker_spec.specs.Connection.{ConnectionName, same_connection}
 use Rattle.broker_spec.specs.Place.{Client, Place, Past, Limits}
-use Rattle.broker_spec.specs.Past.{current_connection}
+use Rattle.broker_spec.specs.Sessions.{current_connection}
 use Rattle.broker_spec.specs.Entries.{Entry, copies_at}
 use Rattle.broker_spec.specs.Readings.{made_at, released_below}
 use Rattle.broker_spec.specs.Times.{entries_of}

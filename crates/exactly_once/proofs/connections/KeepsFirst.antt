@@ -35,7 +35,7 @@ use Rattle.exactly_once.proofs.publishing.Last.{each_there, none_named, taken_mo
 use Rattle.exactly_once.proofs.publishing.Grown.{handled_grows}
 use Rattle.exactly_once.proofs.connections.GoRight.{not_its_connect, place_no_connack, place_nothing}
 use Rattle.exactly_once.proofs.connections.Opens.{FirstOf, connack_more, own_first}
-use Rattle.broker_spec.specs.Past.{current_connection}
+use Rattle.broker_spec.specs.Sessions.{current_connection}
 
 -- ---- a place of another connection
 

@@ -5,7 +5,7 @@ use Rattle.packet.specs.declared.packet.Packet.{Packet}
 use Rattle.packet.specs.declared.packet.Packet.TheVariants as packets
 use Rattle.broker_spec.specs.Connection.{ConnectionName}
 use Rattle.broker_spec.specs.Place.{Client, Mark, Place, Past, Limits}
-use Rattle.broker_spec.specs.Past.{current_connection, begins, clean_session_of}
+use Rattle.broker_spec.specs.Sessions.{current_connection, begins, clean_session_of}
 use Rattle.broker_spec.specs.Owner.{clients, owner_of}
 use Rattle.broker_spec.specs.Times.{entries_of}
 use Rattle.broker_spec.specs.Sends.{resent_outputs}

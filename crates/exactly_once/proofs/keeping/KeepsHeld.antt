@@ -8,7 +8,7 @@ use Rattle.packet.specs.declared.packet.Packet.{Packet}
 use Rattle.packet.specs.declared.packet.Packet.TheVariants as packets
 use Rattle.broker_spec.specs.Connection.{ConnectionName}
 use Rattle.broker_spec.specs.Place.{Client, Mark, Place, Past, Limits, only_if}
-use Rattle.broker_spec.specs.Past.{accepts, clean_session_of, is_beginning, begins}
+use Rattle.broker_spec.specs.Sessions.{accepts, clean_session_of, is_beginning, begins}
 use Rattle.broker_spec.specs.AnswersInOrder.{answers_at}
 use Rattle.broker_spec.specs.Commands.{place_of}
 use Rattle.broker_spec.specs.declared.command.Command.TheVariants as commands

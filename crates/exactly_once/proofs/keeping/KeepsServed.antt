@@ -3,7 +3,7 @@ use Rattle.std.proofs.Common.{◌≡◌, ℕ, zero, suc, true, false, List, [], 
 use Rattle.std.specs.Prelude.{slice_get}
 use Rattle.packet.specs.declared.packet.Packet.{Packet}
 use Rattle.broker_spec.specs.Place.{Client, Limits}
-use Rattle.broker_spec.specs.Past.{clean_session_of}
+use Rattle.broker_spec.specs.Sessions.{clean_session_of}
 use Rattle.broker_spec.specs.Commands.{place_of}
 use Rattle.lists.specs.Lists.{Each}
 use Rattle.exactly_once.specs.Sends.{put_to}

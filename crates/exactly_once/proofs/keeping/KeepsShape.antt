@@ -1,7 +1,7 @@
 -- Each event keeps the shape of a story, if it keeps that of the client's connections.
 use Rattle.std.proofs.Common.{◌≡◌, refl, subst, sym}
 use Rattle.broker_spec.specs.Place.{Client, Limits}
-use Rattle.broker_spec.specs.Past.{clean_session_of}
+use Rattle.broker_spec.specs.Sessions.{clean_session_of}
 use Rattle.lists.specs.Lists.{Each}
 use Rattle.exactly_once.specs.Story.{Story, StoryStep}
 use Rattle.exactly_once.specs.Story.StoryStep.{takes, others_take, receives, opens_anew, loses, disconnects, publishes_one, subscribes, unsubscribes}

@@ -3,7 +3,7 @@
 use Rattle.std.proofs.Common.{◌≡◌, Bool, true, false, [], ◌∷◌, Option, Some, None, ap, ap₂, sym, ◌∙◌, inl, inr, ◌⊎◌}
 use Rattle.broker_spec.specs.Connection.{ConnectionName}
 use Rattle.broker_spec.specs.Place.{Client, Place, Past}
-use Rattle.broker_spec.specs.Past.{accepts, expels, ends_any, newest_connection, newest_clean_session, current_connection, clean_session_of, is_beginning, in_session}
+use Rattle.broker_spec.specs.Sessions.{accepts, expels, ends_any, newest_connection, newest_clean_session, current_connection, clean_session_of, is_beginning, in_session}
 use Rattle.broker_spec.specs.Received.{received_by, received_of}
 use Rattle.broker_spec.specs.declared.command.Command.{Command}
 use Rattle.exactly_once.proofs.places.Sessions.{received_outside}

@@ -4,7 +4,7 @@ use Rattle.std.proofs.Common.{◌≡◌, ◌≤◌, ◌<◌, suc, Bool, true, fa
 use Rattle.std.proofs.lemmas.Bool.{both_ways}
 use Rattle.broker_spec.specs.Connection.{ConnectionName}
 use Rattle.broker_spec.specs.Place.{Client, Mark, Place, Past, only_if, same_client}
-use Rattle.broker_spec.specs.Past.{accepts, ends_any, newest_connection, current_connection}
+use Rattle.broker_spec.specs.Sessions.{accepts, ends_any, newest_connection, current_connection}
 use Rattle.broker_spec.specs.declared.command.Command.{Command}
 use Rattle.broker_spec.specs.declared.command.Command.TheVariants as commands
 use Rattle.exactly_once.specs.StoryCommands.{is_packet_of, packet_count}

@@ -5,7 +5,7 @@ use Rattle.packet.specs.declared.packet.Packet.{Packet}
 use Rattle.packet.specs.declared.packet.Packet.TheVariants as packets
 use Rattle.broker_spec.specs.Connection.{ConnectionName, same_connection}
 use Rattle.broker_spec.specs.Place.{Client, Mark, Place, Past, Limits, only_if}
-use Rattle.broker_spec.specs.Past.{accepts, any_connection, expels, ends_any, is_leaving, current_connection, clean_session_of}
+use Rattle.broker_spec.specs.Sessions.{accepts, any_connection, expels, ends_any, is_leaving, current_connection, clean_session_of}
 use Rattle.broker_spec.specs.Received.{receives, received_by, received_of}
 use Rattle.session_base.specs.Identifiers.{without_id}
 use Rattle.broker_spec.specs.Marks.{packet_mark, packet_mark_of}

@@ -5,7 +5,7 @@ use Rattle.std.specs.Prelude.{is_some}
 use Rattle.std.proofs.lemmas.Bool.{both_ways}
 use Rattle.broker_spec.specs.Connection.{ConnectionName, same_connection}
 use Rattle.broker_spec.specs.Place.{Client, Past, same_client}
-use Rattle.broker_spec.specs.Past.{any_connection, current_connection}
+use Rattle.broker_spec.specs.Sessions.{any_connection, current_connection}
 use Rattle.broker_spec.specs.Owner.{owner_of}
 use Rattle.broker_spec.proofs.ClientsInOrder.{same_is}
 use Rattle.exactly_once.specs.Sides.{ClientConnection}

@@ -5,7 +5,7 @@ use Rattle.std.specs.Prelude.{is_some}
 use Rattle.std.proofs.lemmas.Bool.{both_ways, cases_Bool}
 use Rattle.broker_spec.specs.Connection.{ConnectionName, same_connection}
 use Rattle.broker_spec.specs.Place.{Client, Past}
-use Rattle.broker_spec.specs.Past.{any_connection, current_connection, clean_session_of}
+use Rattle.broker_spec.specs.Sessions.{any_connection, current_connection, clean_session_of}
 use Rattle.broker_spec.specs.Owner.{named, clients, first_client, owner_of}
 use Rattle.broker_spec.proofs.ClientsInOrder.{IsNamed, session_is_named}
 use Rattle.exactly_once.proofs.places.Sessions.{current_has_session}

@@ -3,7 +3,7 @@ use Rattle.std.proofs.Common.{◌≡◌, Bool, true, false, not, ◌||◌, [], �
 use Rattle.std.specs.Prelude.{is_some}
 use Rattle.broker_spec.specs.Connection.{ConnectionName}
 use Rattle.broker_spec.specs.Place.{Client, Past}
-use Rattle.broker_spec.specs.Past.{accepts, any_connection, ends, expels, ends_any, newest_connection, newest_clean_session, current_connection, clean_session_of, begins, in_session}
+use Rattle.broker_spec.specs.Sessions.{accepts, any_connection, ends, expels, ends_any, newest_connection, newest_clean_session, current_connection, clean_session_of, begins, in_session}
 use Rattle.broker_spec.specs.Received.{received_by, received_of}
 use Rattle.exactly_once.proofs.places.Counts.{only_there}
 

@@ -6,7 +6,7 @@ use Rattle.std.proofs.lemmas.Bool.{both_ways}
 use Rattle.packet.specs.declared.packet.Packet.TheVariants as packets
 use Rattle.lists.specs.Lists.{has_id}
 use Rattle.broker_spec.specs.Place.{Past, Limits}
-use Rattle.broker_spec.specs.Past.{current_connection}
+use Rattle.broker_spec.specs.Sessions.{current_connection}
 use Rattle.exactly_once.specs.Items.{SenderItem, has_sent}
 use Rattle.exactly_once.specs.Handshake.{Forward, Backward, Transit, Handshake, sender_hears, reply}
 use Rattle.exactly_once.specs.HandshakeInvariant.{IsGood, IsDue, FitsTransit}

@@ -7,7 +7,7 @@ use Rattle.packet.specs.declared.packet.Packet.{Packet}
 use Rattle.packet.specs.declared.packet.Packet.TheVariants as packets
 use Rattle.broker_spec.specs.Connection.{ConnectionName, same_connection}
 use Rattle.broker_spec.specs.Place.{Client, Mark, Place, Past, Limits}
-use Rattle.broker_spec.specs.Past.{any_connection, current_connection}
+use Rattle.broker_spec.specs.Sessions.{any_connection, current_connection}
 use Rattle.broker_spec.specs.Received.{is_new, received_by, received_of}
 use Rattle.broker_spec.specs.Marks.{packet_mark_of}
 use Rattle.broker_spec.specs.Answers.{packet_answers}

@@ -6,7 +6,7 @@ use Rattle.lists.specs.Lists.{IsDistinct}
 use Rattle.packet.specs.declared.packet.Packet.{Packet}
 use Rattle.broker_spec.specs.Connection.{ConnectionName}
 use Rattle.broker_spec.specs.Place.{Client, Mark, Place, Past, Limits}
-use Rattle.broker_spec.specs.Past.{begins, is_beginning, current_connection, clean_session_of}
+use Rattle.broker_spec.specs.Sessions.{begins, is_beginning, current_connection, clean_session_of}
 use Rattle.broker_spec.specs.Marks.{mark_of}
 use Rattle.broker_spec.specs.Commands.{place_of, past_of}
 use Rattle.broker_spec.specs.Answers.{welcome}

@@ -2,7 +2,7 @@
 -- and each that is released.
 use Rattle.std.proofs.Common.{ℕ, [], ◌∷◌, length, refl, ◌∙◌, ap, subst, inl, inr, ◌⊎◌}
 use Rattle.broker_spec.specs.Place.{Client, Limits}
-use Rattle.broker_spec.specs.Past.{current_connection, clean_session_of, session_start}
+use Rattle.broker_spec.specs.Sessions.{current_connection, clean_session_of, session_start}
 use Rattle.broker_spec.specs.NobodyLaws.{IsSteady}
 use Rattle.broker_spec.specs.Commands.{place_of, past_from}
 use Rattle.broker_spec.specs.declared.command.Command.TheVariants as commands

@@ -6,7 +6,7 @@ use Rattle.std.proofs.lemmas.List.{append-nil, length-append}
 use Rattle.lists.specs.Lists.{Each}
 use Rattle.broker_spec.specs.Connection.{ConnectionName}
 use Rattle.broker_spec.specs.Place.{Client, Place, Past, Limits, same_client}
-use Rattle.broker_spec.specs.Past.{accepts, begins, begins_session, is_beginning, clean_session_of, session_start}
+use Rattle.broker_spec.specs.Sessions.{accepts, begins, begins_session, is_beginning, clean_session_of, session_start}
 use Rattle.broker_spec.specs.Commands.{place_of}
 use Rattle.broker_spec.proofs.ClientsInOrder.{same_self}
 use Rattle.exactly_once.specs.Sides.{ClientConnection}

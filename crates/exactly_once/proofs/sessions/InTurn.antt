@@ -8,7 +8,7 @@ use Rattle.lists.specs.Lists.{Each}
 use Rattle.lists.proofs.Tests.{eq_same}
 use Rattle.session_base.specs.declared.publication.Publication.{Publication}
 use Rattle.broker_spec.specs.Place.{Client, Place, Past}
-use Rattle.broker_spec.specs.Past.{begins}
+use Rattle.broker_spec.specs.Sessions.{begins}
 use Rattle.client_base.specs.Keeper.{Written}
 use Rattle.client_base.specs.Written.{writes_first}
 use Rattle.exactly_once.specs.Sides.{ClientConnection}

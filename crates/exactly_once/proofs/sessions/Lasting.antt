@@ -7,7 +7,7 @@ use Rattle.lists.proofs.OfEach.{each_then}
 use Rattle.lists.proofs.Tests.{none_or}
 use Rattle.broker_spec.specs.Connection.{ConnectionName}
 use Rattle.broker_spec.specs.Place.{Client, Place, Past, Limits}
-use Rattle.broker_spec.specs.Past.{accepts, clean_session_of, session_start, begins}
+use Rattle.broker_spec.specs.Sessions.{accepts, clean_session_of, session_start, begins}
 use Rattle.broker_spec.specs.Times.{entries_of}
 use Rattle.exactly_once.specs.Sides.{ClientConnection}
 use Rattle.exactly_once.specs.StoryCommands.{with_one_counted}

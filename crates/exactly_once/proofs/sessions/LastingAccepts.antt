@@ -3,7 +3,7 @@ use Rattle.std.proofs.Common.{◌≡◌, ℕ, Bool, true, false, if◌then◌els
 use Rattle.std.specs.Prelude.{◌==◌}
 use Rattle.lists.proofs.Tests.{eq_same, eq_is}
 use Rattle.broker_spec.specs.Place.{Client, Past, Limits}
-use Rattle.broker_spec.specs.Past.{session_start}
+use Rattle.broker_spec.specs.Sessions.{session_start}
 use Rattle.broker_spec.specs.NobodyLaws.{IsSteady}
 use Rattle.broker_spec.specs.Times.{entries_of}
 use Rattle.client_base.specs.Keeper.{Keeper}

@@ -1,7 +1,7 @@
 -- An Expel of a client keeps what holds for its life, and leaves no session.
 use Rattle.std.proofs.Common.{◌≡◌, Bool, true, false, List, [], ◌∷◌, ◌++◌, Option, Some, None, refl, ◌∙◌, ap, inl}
 use Rattle.broker_spec.specs.Place.{Client, Past, Limits}
-use Rattle.broker_spec.specs.Past.{ends_any, newest_clean_session, current_connection, clean_session_of}
+use Rattle.broker_spec.specs.Sessions.{ends_any, newest_clean_session, current_connection, clean_session_of}
 use Rattle.broker_spec.specs.Commands.{place_of}
 use Rattle.broker_spec.specs.declared.command.Command.TheVariants as commands
 use Rattle.broker_spec.proofs.ClientsInOrder.{same_self}

@@ -4,7 +4,7 @@ use Rattle.std.specs.Prelude.{slice_get}
 use Rattle.packet.specs.declared.packet.Packet.{Packet}
 use Rattle.lists.proofs.Tests.{or_right}
 use Rattle.broker_spec.specs.Place.{Client, Place, Past, Limits}
-use Rattle.broker_spec.specs.Past.{expels, begins}
+use Rattle.broker_spec.specs.Sessions.{expels, begins}
 use Rattle.broker_spec.specs.Marks.{mark_of}
 use Rattle.broker_spec.specs.Commands.{place_of, past_from, past_of}
 use Rattle.broker_spec.specs.declared.command.Command.{Command}

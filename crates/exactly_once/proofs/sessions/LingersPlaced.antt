@@ -8,7 +8,7 @@ use Rattle.packet.specs.declared.packet.Packet.TheVariants as packets
 use Rattle.lists.proofs.Tests.{or_none}
 use Rattle.broker_spec.specs.Connection.{ConnectionName, same_connection}
 use Rattle.broker_spec.specs.Place.{Client, Mark, Place, Past, Limits}
-use Rattle.broker_spec.specs.Past.{accepts, clean_session_of, current_connection}
+use Rattle.broker_spec.specs.Sessions.{accepts, clean_session_of, current_connection}
 use Rattle.broker_spec.specs.AnswersInOrder.{answers_at}
 use Rattle.broker_spec.specs.Marks.{mark_of}
 use Rattle.broker_spec.specs.Commands.{place_of}

@@ -8,7 +8,7 @@ use Rattle.lists.proofs.Prefixes.{prefix_then}
 use Rattle.lists.proofs.OfEach.{each_then}
 use Rattle.broker_spec.specs.Connection.{ConnectionName}
 use Rattle.broker_spec.specs.Place.{Client, Past, Limits}
-use Rattle.broker_spec.specs.Past.{current_connection, clean_session_of}
+use Rattle.broker_spec.specs.Sessions.{current_connection, clean_session_of}
 use Rattle.broker_spec.specs.Received.{is_new}
 use Rattle.broker_spec.specs.Marks.{mark_of}
 use Rattle.broker_spec.specs.Commands.{place_of}

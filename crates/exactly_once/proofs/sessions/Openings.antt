@@ -5,7 +5,7 @@ use Rattle.std.proofs.lemmas.Bool.{both_ways, cases_Bool}
 use Rattle.lists.proofs.Tests.{or_right}
 use Rattle.broker_spec.specs.Connection.{ConnectionName, same_connection}
 use Rattle.broker_spec.specs.Place.{Client, Mark, Place, Past, only_if}
-use Rattle.broker_spec.specs.Past.{accepts, expels, ends_any, newest_clean_session, is_beginning, current_connection, clean_session_of, session_start, begins}
+use Rattle.broker_spec.specs.Sessions.{accepts, expels, ends_any, newest_clean_session, is_beginning, current_connection, clean_session_of, session_start, begins}
 use Rattle.broker_spec.specs.declared.command.Command.{Command}
 use Rattle.broker_spec.proofs.ConnectionNames.{same_name}
 use Rattle.exactly_once.specs.StoryCommands.{is_packet_of, packet_count}

@@ -7,7 +7,7 @@ use Rattle.packet.specs.declared.packet.Packet.TheVariants as packets
 use Rattle.lists.proofs.OfEach.{each_append}
 use Rattle.broker_spec.specs.Connection.{ConnectionName}
 use Rattle.broker_spec.specs.Place.{Client, Mark, Place, Past, Limits}
-use Rattle.broker_spec.specs.Past.{accepts, session_start}
+use Rattle.broker_spec.specs.Sessions.{accepts, session_start}
 use Rattle.broker_spec.specs.AnswersInOrder.{answers_at}
 use Rattle.broker_spec.proofs.ConnectionNames.{same_itself}
 use Rattle.exactly_once.specs.Sides.{ClientConnection}

@@ -6,7 +6,7 @@ use Rattle.lists.specs.Lists.{In}
 use Rattle.lists.proofs.Members.{in_right}
 use Rattle.broker_spec.specs.Connection.{same_connection}
 use Rattle.broker_spec.specs.Place.{Client, Limits}
-use Rattle.broker_spec.specs.Past.{current_connection}
+use Rattle.broker_spec.specs.Sessions.{current_connection}
 use Rattle.broker_spec.specs.Received.{is_new}
 use Rattle.broker_spec.specs.Marks.{mark_of}
 use Rattle.broker_spec.specs.Commands.{place_of}

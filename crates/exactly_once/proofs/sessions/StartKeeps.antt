@@ -3,7 +3,7 @@ use Rattle.std.proofs.Common.{◌≡◌, ℕ, Bool, false, ◌∷◌, Option, So
 use Rattle.std.specs.Prelude.{is_some}
 use Rattle.broker_spec.specs.Connection.{ConnectionName}
 use Rattle.broker_spec.specs.Place.{Client, Place, Past}
-use Rattle.broker_spec.specs.Past.{accepts, clean_session_of, session_start, begins_session, is_beginning}
+use Rattle.broker_spec.specs.Sessions.{accepts, clean_session_of, session_start, begins_session, is_beginning}
 use Rattle.exactly_once.proofs.places.After.{IsKeptSession, IsSpared, session_spared, session_opens}
 use Rattle.exactly_once.proofs.publishing.kept.KeepsNames.{OpensKept}
 use Rattle.exactly_once.proofs.sessions.Openings.{no_start, start_stays}

@@ -2,7 +2,7 @@
 use Rattle.std.proofs.Common.{◌≡◌, ◌<◌, ℕ, suc, Bool, true, false, if◌then◌else◌, [], ◌∷◌, length, Option, Some, None, refl, sym, ◌∙◌, ap, arith, inl, inr, ◌⊎◌}
 use Rattle.std.specs.Prelude.{is_some, ◌==◌}
 use Rattle.broker_spec.specs.Place.{Client, Place, Past, Limits, only_if}
-use Rattle.broker_spec.specs.Past.{clean_session_of, session_start, begins}
+use Rattle.broker_spec.specs.Sessions.{clean_session_of, session_start, begins}
 use Rattle.broker_spec.specs.Times.{entries_of}
 use Rattle.exactly_once.specs.Carried.{is_this}
 use Rattle.exactly_once.specs.InStep.{entries_in}

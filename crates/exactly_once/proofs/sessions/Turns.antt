@@ -5,7 +5,7 @@ use Rattle.std.proofs.lemmas.List.{append-nil}
 use Rattle.lists.specs.Lists.{Each}
 use Rattle.lists.proofs.OfEach.{each_append, each_then}
 use Rattle.broker_spec.specs.Place.{Client, Place, Past, only_if}
-use Rattle.broker_spec.specs.Past.{accepts, begins, is_beginning, clean_session_of, session_start}
+use Rattle.broker_spec.specs.Sessions.{accepts, begins, is_beginning, clean_session_of, session_start}
 use Rattle.exactly_once.specs.InStep.{starts_of}
 
 -- ---- below a place

@@ -3,7 +3,7 @@ use Rattle.std.proofs.Common.{◌≡◌, ℕ, List, [], ◌∷◌, ◌++◌, len
 use Rattle.packet.specs.declared.packet.Packet.{Packet}
 use Rattle.packet.specs.declared.packet.Packet.TheVariants as packets
 use Rattle.broker_spec.specs.Place.{Limits}
-use Rattle.broker_spec.specs.Past.{current_connection}
+use Rattle.broker_spec.specs.Sessions.{current_connection}
 use Rattle.broker_spec.specs.Times.{at_puback, at_pubcomp, window_at, entries_of}
 use Rattle.exactly_once.specs.Handshake.{Backward, sender_hears, reply, with_items}
 use Rattle.exactly_once.specs.HandshakeSteps.HandshakeTrace.{stays}

@@ -4,7 +4,7 @@ use Rattle.packet.specs.declared.packet.Packet.{Packet}
 use Rattle.session_base.specs.declared.publication.Publication.{Publication}
 use Rattle.broker_spec.specs.Connection.{ConnectionName, same_connection}
 use Rattle.broker_spec.specs.Place.{Client, same_client, Mark, Place, Past, Limits}
-use Rattle.broker_spec.specs.Past.{current_connection, clean_session_of}
+use Rattle.broker_spec.specs.Sessions.{current_connection, clean_session_of}
 use Rattle.broker_spec.specs.Entries.{Entry, copies_at, queued}
 use Rattle.broker_spec.specs.Times.{answered_by, start_all, started, window_at, entries_of}
 use Rattle.broker_spec.specs.Sends.{all_started}

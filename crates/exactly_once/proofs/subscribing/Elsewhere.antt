@@ -8,7 +8,7 @@ use Rattle.lists.specs.Lists.{has_id}
 use Rattle.session_base.specs.Publication.{publication_of}
 use Rattle.broker_spec.specs.Connection.{ConnectionName, same_connection}
 use Rattle.broker_spec.specs.Place.{Client, same_client, Mark, Place, Past, Limits}
-use Rattle.broker_spec.specs.Past.{is_leaving, ends_any}
+use Rattle.broker_spec.specs.Sessions.{is_leaving, ends_any}
 use Rattle.broker_spec.specs.Subscriptions.{subscriptions_of}
 use Rattle.broker_spec.specs.Received.{is_repeat}
 use Rattle.broker_spec.specs.Retained.{retained_publications}

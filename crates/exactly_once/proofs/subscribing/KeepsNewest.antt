@@ -6,7 +6,7 @@ use Rattle.std.proofs.lemmas.Bool.{both_ways, cases_Bool}
 use Rattle.packet.specs.declared.packet.Packet.TheVariants as packets
 use Rattle.broker_spec.specs.Connection.{ConnectionName, same_connection}
 use Rattle.broker_spec.specs.Place.{Client, same_client, Mark, Past, Limits}
-use Rattle.broker_spec.specs.Past.{accepts, current_connection, clean_session_of}
+use Rattle.broker_spec.specs.Sessions.{accepts, current_connection, clean_session_of}
 use Rattle.broker_spec.specs.Owner.{clients, owner_of}
 use Rattle.broker_spec.specs.Marks.{mark_of, connect_mark}
 use Rattle.broker_spec.specs.Commands.{place_of}

@@ -5,7 +5,7 @@ use Rattle.std.specs.Prelude.{slice_get}
 use Rattle.std.proofs.lemmas.Bool.{both_ways, cases_Bool}
 use Rattle.broker_spec.specs.Connection.{ConnectionName, same_connection}
 use Rattle.broker_spec.specs.Place.{Client, Place, Past}
-use Rattle.broker_spec.specs.Past.{accepts, ends_any, current_connection}
+use Rattle.broker_spec.specs.Sessions.{accepts, ends_any, current_connection}
 use Rattle.lists.specs.Lists.{Each}
 use Rattle.lists.proofs.Tests.{or_none}
 use Rattle.exactly_once.specs.Sides.{ClientConnection}

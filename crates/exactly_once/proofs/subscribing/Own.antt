@@ -7,7 +7,7 @@ use Rattle.packet.specs.declared.packet.Packet.TheVariants as packets
 use Rattle.session_base.specs.Publication.{publication_of}
 use Rattle.broker_spec.specs.Connection.{ConnectionName, same_connection}
 use Rattle.broker_spec.specs.Place.{Client, Mark, Place, Limits}
-use Rattle.broker_spec.specs.Past.{is_leaving, ends_any, current_connection}
+use Rattle.broker_spec.specs.Sessions.{is_leaving, ends_any, current_connection}
 use Rattle.broker_spec.specs.Received.{is_repeat}
 use Rattle.broker_spec.specs.Marks.{is_refused, packet_mark}
 use Rattle.broker_spec.specs.Entries.{copies_at}

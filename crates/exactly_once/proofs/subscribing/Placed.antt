@@ -4,7 +4,7 @@ use Rattle.session_base.specs.declared.publication.Publication.{Publication}
 use Rattle.lists.specs.Lists.{has_id}
 use Rattle.broker_spec.specs.Connection.{ConnectionName}
 use Rattle.broker_spec.specs.Place.{Place, Limits}
-use Rattle.broker_spec.specs.Past.{current_connection}
+use Rattle.broker_spec.specs.Sessions.{current_connection}
 use Rattle.broker_spec.specs.Entries.{Entry}
 use Rattle.broker_spec.specs.Times.{started, window_at, entries_of}
 use Rattle.broker_spec.proofs.SoundEntries.{Sound}

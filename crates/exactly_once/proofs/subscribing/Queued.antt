@@ -9,7 +9,7 @@ use Rattle.session_base.specs.Publication.{is_qos1, is_answered}
 use Rattle.session_base.specs.Identifiers.{least_free}
 use Rattle.broker_spec.specs.Connection.{ConnectionName}
 use Rattle.broker_spec.specs.Place.{Client, same_client, Mark, Past, Limits}
-use Rattle.broker_spec.specs.Past.{current_connection, clean_session_of, begins, in_session}
+use Rattle.broker_spec.specs.Sessions.{current_connection, clean_session_of, begins, in_session}
 use Rattle.broker_spec.specs.Entries.{Entry, copies_at, queued}
 use Rattle.broker_spec.specs.Times.{at_puback, at_pubrec, at_pubcomp, answered_by, start_all, started, window_at, entries_of}
 use Rattle.broker_spec.specs.declared.command.Command.{Command}

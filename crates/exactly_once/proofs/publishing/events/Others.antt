@@ -8,7 +8,7 @@ use Rattle.packet.specs.declared.packet.Packet.TheVariants as packets
 use Rattle.session_base.specs.Publication.{publication_of}
 use Rattle.broker_spec.specs.Connection.{ConnectionName, same_connection}
 use Rattle.broker_spec.specs.Place.{Client, Mark, Place, Past, Limits, same_client, only_if}
-use Rattle.broker_spec.specs.Past.{accepts, ends_any, current_connection}
+use Rattle.broker_spec.specs.Sessions.{accepts, ends_any, current_connection}
 use Rattle.broker_spec.specs.Owner.{owner_of}
 use Rattle.broker_spec.specs.Received.{is_new, is_repeat, receives, received_by, received_of}
 use Rattle.session_base.specs.Identifiers.{without_id}

@@ -8,7 +8,7 @@ use Rattle.session_base.specs.declared.publication.Publication.{Publication}
 use Rattle.session_base.specs.Publication.{is_answered}
 use Rattle.session_base.specs.Identifiers.{least_free}
 use Rattle.broker_spec.specs.Place.{Past, Limits}
-use Rattle.broker_spec.specs.Past.{current_connection}
+use Rattle.broker_spec.specs.Sessions.{current_connection}
 use Rattle.lists.specs.Lists.{Each}
 use Rattle.exactly_once.specs.Items.{SenderItem}
 use Rattle.exactly_once.specs.Handshake.{Forward, Backward, Handshake}

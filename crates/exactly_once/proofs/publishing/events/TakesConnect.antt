@@ -4,7 +4,7 @@ use Rattle.std.specs.Prelude.{slice_get, is_some}
 use Rattle.std.proofs.lemmas.Bool.{both_ways, cases_Bool}
 use Rattle.broker_spec.specs.Connection.{ConnectionName, same_connection}
 use Rattle.broker_spec.specs.Place.{Client, Mark, Place, Past, Limits, only_if}
-use Rattle.broker_spec.specs.Past.{any_connection, current_connection, clean_session_of}
+use Rattle.broker_spec.specs.Sessions.{any_connection, current_connection, clean_session_of}
 use Rattle.broker_spec.specs.Marks.{connect_mark}
 use Rattle.broker_spec.specs.Owner.{clients}
 use Rattle.broker_spec.specs.Commands.{place_of}

@@ -5,7 +5,7 @@ use Rattle.std.specs.Prelude.{slice_get}
 use Rattle.lists.specs.Lists.{has_id}
 use Rattle.broker_spec.specs.Connection.{ConnectionName, same_connection}
 use Rattle.broker_spec.specs.Place.{Mark, Place, Past, Limits}
-use Rattle.broker_spec.specs.Past.{any_connection, current_connection, clean_session_of, is_leaving}
+use Rattle.broker_spec.specs.Sessions.{any_connection, current_connection, clean_session_of, is_leaving}
 use Rattle.broker_spec.specs.Received.{is_new, received_by, received_of}
 use Rattle.broker_spec.specs.Answers.{packet_answers}
 use Rattle.broker_spec.specs.declared.command.Command.TheVariants as commands

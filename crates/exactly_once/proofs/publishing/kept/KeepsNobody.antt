@@ -6,7 +6,7 @@ use Rattle.packet.specs.declared.packet.Packet.{Packet}
 use Rattle.packet.specs.declared.packet.Packet.TheVariants as packets
 use Rattle.broker_spec.specs.Connection.{ConnectionName, same_connection}
 use Rattle.broker_spec.specs.Place.{Client, Mark, Place, Past, Limits, same_client}
-use Rattle.broker_spec.specs.Past.{accepts, ends_any, newest_connection, current_connection}
+use Rattle.broker_spec.specs.Sessions.{accepts, ends_any, newest_connection, current_connection}
 use Rattle.broker_spec.specs.Marks.{mark_of}
 use Rattle.broker_spec.specs.Commands.{place_of}
 use Rattle.broker_spec.specs.declared.command.Command.{Command}

@@ -11,7 +11,7 @@ use Rattle.session_base.specs.declared.publication.Publication.{Publication}
 use Rattle.lists.specs.Lists.{IsDistinct, has_id}
 use Rattle.session_base.specs.Publication.{publication_of}
 use Rattle.broker_spec.specs.Place.{Past, Limits}
-use Rattle.broker_spec.specs.Past.{current_connection}
+use Rattle.broker_spec.specs.Sessions.{current_connection}
 use Rattle.exactly_once.specs.Items.{busy, has_sent}
 use Rattle.exactly_once.specs.Handshake.{Backward}
 use Rattle.exactly_once.specs.HandshakeInvariant.{IsGood}

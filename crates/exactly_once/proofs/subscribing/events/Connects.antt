@@ -5,7 +5,7 @@ use Rattle.std.proofs.lemmas.List.{append-nil}
 use Rattle.session_base.specs.declared.publication.Publication.{Publication}
 use Rattle.broker_spec.specs.Connection.{ConnectionName}
 use Rattle.broker_spec.specs.Place.{Mark, Limits}
-use Rattle.broker_spec.specs.Past.{current_connection}
+use Rattle.broker_spec.specs.Sessions.{current_connection}
 use Rattle.broker_spec.specs.Entries.{Entry}
 use Rattle.broker_spec.specs.Readings.{released_below}
 use Rattle.broker_spec.specs.Times.{started, window_at, entries_of}

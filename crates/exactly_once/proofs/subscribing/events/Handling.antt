@@ -9,7 +9,7 @@ use Rattle.session_base.specs.declared.publication.Publication.{Publication}
 use Rattle.session_base.specs.Publication.{publication_of}
 use Rattle.lists.specs.Lists.{has_id}
 use Rattle.broker_spec.specs.Place.{Client, Past, Limits}
-use Rattle.broker_spec.specs.Past.{current_connection}
+use Rattle.broker_spec.specs.Sessions.{current_connection}
 use Rattle.broker_spec.specs.Times.{entries_of}
 use Rattle.exactly_once.specs.Handshake.{Forward, Backward, Transit, Handshake, answer, receiver_takes}
 use Rattle.exactly_once.specs.HandshakeSteps.HandshakeStep.{takes, takes_alone}

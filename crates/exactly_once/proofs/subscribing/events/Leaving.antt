@@ -6,7 +6,7 @@ use Rattle.packet.specs.declared.packet.Packet.TheVariants as packets
 use Rattle.lists.specs.Lists.{has_id, Each}
 use Rattle.broker_spec.specs.Connection.{ConnectionName, same_connection}
 use Rattle.broker_spec.specs.Place.{Client, Past, Limits}
-use Rattle.broker_spec.specs.Past.{current_connection}
+use Rattle.broker_spec.specs.Sessions.{current_connection}
 use Rattle.broker_spec.specs.Times.{entries_of}
 use Rattle.exactly_once.specs.Handshake.{Transit}
 use Rattle.client_base.specs.Keeper.{Written, Keeper}

@@ -6,7 +6,7 @@ use Rattle.packet.specs.declared.connack.Connack.TheVariants as connacks
 use Rattle.packet.specs.declared.packet.Packet.TheVariants as packets
 use Rattle.broker_spec.specs.Connection.{ConnectionName, same_connection}
 use Rattle.broker_spec.specs.Place.{Client, same_client, Mark, Place, Past, Limits}
-use Rattle.broker_spec.specs.Past.{accepts, ends_any, current_connection, begins}
+use Rattle.broker_spec.specs.Sessions.{accepts, ends_any, current_connection, begins}
 use Rattle.broker_spec.specs.Entries.{Entry}
 use Rattle.broker_spec.specs.Readings.{released_below}
 use Rattle.broker_spec.specs.Times.{entries_of}

@@ -4,7 +4,7 @@ use Rattle.std.proofs.lemmas.Bool.{both_ways, cases_Bool}
 use Rattle.packet.specs.declared.packet.Packet.{Packet}
 use Rattle.broker_spec.specs.Connection.{ConnectionName, same_connection}
 use Rattle.broker_spec.specs.Place.{Client, same_client, Mark, Limits}
-use Rattle.broker_spec.specs.Past.{current_connection}
+use Rattle.broker_spec.specs.Sessions.{current_connection}
 use Rattle.broker_spec.specs.Owner.{owner_of}
 use Rattle.broker_spec.specs.Marks.{packet_mark, packet_mark_of}
 use Rattle.broker_spec.specs.Times.{entries_of}

@@ -6,7 +6,7 @@ use Rattle.packet.specs.declared.connack.Connack.TheVariants as connacks
 use Rattle.packet.specs.declared.packet.Packet.TheVariants as packets
 use Rattle.broker_spec.specs.Connection.{ConnectionName}
 use Rattle.broker_spec.specs.Place.{Client, Mark, Place, Past, Limits}
-use Rattle.broker_spec.specs.Past.{ends_any, current_connection, clean_session_of}
+use Rattle.broker_spec.specs.Sessions.{ends_any, current_connection, clean_session_of}
 use Rattle.broker_spec.specs.Owner.{clients, owner_of}
 use Rattle.broker_spec.specs.Marks.{connect_mark}
 use Rattle.broker_spec.specs.AnswersInOrder.{answers_at}

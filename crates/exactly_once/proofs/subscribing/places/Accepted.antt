@@ -7,7 +7,7 @@ use Rattle.packet.specs.declared.connack.Connack.TheVariants as connacks
 use Rattle.packet.specs.declared.packet.Packet.TheVariants as packets
 use Rattle.broker_spec.specs.Connection.{ConnectionName, same_connection}
 use Rattle.broker_spec.specs.Place.{Client, same_client, Mark, Place, Past, Limits, only_if}
-use Rattle.broker_spec.specs.Past.{accepts, expels, ends_any, newest_connection, newest_clean_session, is_beginning, current_connection, clean_session_of, begins, in_session}
+use Rattle.broker_spec.specs.Sessions.{accepts, expels, ends_any, newest_connection, newest_clean_session, is_beginning, current_connection, clean_session_of, begins, in_session}
 use Rattle.broker_spec.specs.Entries.{Entry}
 use Rattle.broker_spec.specs.Readings.{released_below}
 use Rattle.broker_spec.specs.Times.{start_all, started, window_at, entries_of}

@@ -6,7 +6,7 @@ use Rattle.std.proofs.lemmas.List.{append-nil}
 use Rattle.std.proofs.lemmas.Bool.{both_ways, cases_Bool}
 use Rattle.broker_spec.specs.Connection.{ConnectionName, same_connection}
 use Rattle.broker_spec.specs.Place.{Client, by_bytes, Place, Past, Limits}
-use Rattle.broker_spec.specs.Past.{any_connection, current_connection}
+use Rattle.broker_spec.specs.Sessions.{any_connection, current_connection}
 use Rattle.broker_spec.specs.Owner.{clients}
 use Rattle.broker_spec.specs.Sends.{deliveries_to}
 use Rattle.broker_spec.specs.declared.command.Output.{Output}

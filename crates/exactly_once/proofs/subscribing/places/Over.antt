@@ -3,7 +3,7 @@ use Rattle.std.proofs.Common.{◌≡◌, ℕ, Bool, true, false, List, [], ◌�
 use Rattle.std.proofs.lemmas.List.{append-nil}
 use Rattle.broker_spec.specs.Connection.{ConnectionName}
 use Rattle.broker_spec.specs.Place.{Client, Place, Past, Limits}
-use Rattle.broker_spec.specs.Past.{accepts, expels, ends_any, newest_clean_session, is_beginning, current_connection, clean_session_of, in_session}
+use Rattle.broker_spec.specs.Sessions.{accepts, expels, ends_any, newest_clean_session, is_beginning, current_connection, clean_session_of, in_session}
 use Rattle.broker_spec.specs.Entries.{Entry, copies_at, queued}
 use Rattle.broker_spec.specs.Times.{answered_by, started, window_at, entries_of}
 use Rattle.broker_base.proofs.QuietPasts.{entries_none}

@@ -11,7 +11,7 @@ use Rattle.packet.specs.declared.packet.Packet.TheVariants as packets
 use Rattle.session_base.specs.declared.publication.Publication.{Publication}
 use Rattle.broker_spec.specs.Connection.{ConnectionName, same_connection}
 use Rattle.broker_spec.specs.Place.{Client, same_client, Mark, Place, Past, Limits}
-use Rattle.broker_spec.specs.Past.{current_connection}
+use Rattle.broker_spec.specs.Sessions.{current_connection}
 use Rattle.broker_spec.specs.Owner.{clients}
 use Rattle.broker_spec.specs.Entries.{copies_at}
 use Rattle.broker_spec.specs.Readings.{made_at}

@@ -1,5 +1,5 @@
 use Rattle.std.proofs.Common.{refl}
-use Rattle.broker_form.specs.broker_spec.Past.{current_connection, clean_session_of}
+use Rattle.broker_form.specs.broker_spec.Sessions.{current_connection, clean_session_of}
 use Rattle.broker_form.specs.broker_spec.Owner.{named}
 use Rattle.broker_form.specs.broker_spec.Subscriptions.{subscriptions_of}
 use Rattle.broker_form.specs.broker_spec.Received.{received_of}

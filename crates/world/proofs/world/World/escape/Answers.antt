@@ -2,7 +2,7 @@ use Rattle.std.proofs.Common.{◌≡◌, ◌≤◌, ◌<◌, ◌+◌, ◌*◌, �
 use Rattle.std.specs.List.{list_all}
 use Rattle.headline.specs.agreement.MasterState.{refusal}
 use Rattle.headline.specs.broker_spec.Commands.{past_of, usual_limits}
-use Rattle.headline.specs.broker_spec.Past.{clean_session_of}
+use Rattle.headline.specs.broker_spec.Sessions.{clean_session_of}
 use Rattle.escaping_client.specs.client.Core.{Core}
 use Rattle.escaping_nodes.proofs.of_master.Counting.{get_there}
 use Rattle.world_nodes.specs.Asking.{whole_log_of}
