@@ -120,17 +120,17 @@ impl Tables {
         &mut self,
         connection: ConnectionName,
         client: &ClientId,
-        present: bool,
+        session_present: bool,
         out: &mut Vec<Output>,
     ) -> Result<(), Halted>
         ensures owners { OnOk result (TakesOver self.old connection client.now self.new) }
         ensures outputs { OnOk result
             (out.new.items ≡ out.old.items
             ++ (close_outputs (connection_of (session_in client.now self.old.sessions.entries))
-            ++ welcome connection present ∷ [])) }
+            ++ welcome connection session_present ∷ [])) }
         ensures others { HasOthersThanOwners self.old self.new }
     {
-        answer_connect(self.connection_of(client), connection, present, out)?;
+        answer_connect(self.connection_of(client), connection, session_present, out)?;
         let left = self.connection_of(client);
         move_client(&mut self.owners, left, connection, client)
     }
@@ -216,14 +216,15 @@ fn move_client(
 fn answer_connect(
     left: Option<ConnectionName>,
     connection: ConnectionName,
-    present: bool,
+    session_present: bool,
     out: &mut Vec<Output>,
 ) -> Result<(), Halted>
     ensures { OnOk result
-        (out.new.items ≡ out.old.items ++ (close_outputs left ++ welcome connection present ∷ [])) }
+        (out.new.items ≡ out.old.items
+        ++ (close_outputs left ++ welcome connection session_present ∷ [])) }
 {
     push_close(left, out)?;
-    out.push(Output::Send(connection, Packet::Connack(Connack::Accepted(present))))?;
+    out.push(Output::Send(connection, Packet::Connack(Connack::Accepted(session_present))))?;
     Ok(())
 }
 

@@ -47,13 +47,13 @@ impl ClientCore {
     /// Handles CONNACK 0: sends again what is kept. If the server has no session any more, drops it
     /// with [`ClientError::SessionLost`]. [`ClientError::Memory`] comes if memory runs out, and
     /// then nothing changes.
-    pub(crate) fn on_connack(&mut self, present: bool) -> Result<(), ClientError>
-        ensures { Tries (on_connack present self.old.state) self.old result self.new }
+    pub(crate) fn on_connack(&mut self, session_present: bool) -> Result<(), ClientError>
+        ensures { Tries (on_connack session_present self.old.state) self.old result self.new }
     {
-        if !present && self.session > 0 {
+        if !session_present && self.session > 0 {
             self.discard();
             self.stage = Stage::Online;
-            self.session_present = present;
+            self.session_present = session_present;
             return Err(ClientError::SessionLost);
         }
         self.resend()?;
@@ -61,7 +61,7 @@ impl ClientCore {
             self.session = 1;
         }
         self.stage = Stage::Online;
-        self.session_present = present;
+        self.session_present = session_present;
         Ok(())
     }
 

@@ -103,7 +103,7 @@ impl ClientCore {
         ensures { Tries (on_first packet self.old.state) self.old result self.new }
     {
         match packet {
-            Packet::Connack(Connack::Accepted(present)) => self.on_connack(present),
+            Packet::Connack(Connack::Accepted(session_present)) => self.on_connack(session_present),
             Packet::Connack(Connack::Refused(_)) => Err(ClientError::NotActive),
             _ => Err(ClientError::Protocol),
         }
