@@ -1,5 +1,5 @@
 -- What a replica keeps, and how it opens.
-use Rattle.std.specs.Prelude.{ℕ, Bool, true, false, List, [], filter, map, not, ◌==◌, if◌then◌else◌}
+use Rattle.std.specs.Prelude.{ℕ, Bool, true, false, List, [], filter, map, not, ◌&&◌, ◌==◌, if◌then◌else◌}
 use Rattle.machine.specs.Machine.{Rules}
 use Rattle.ballot_base.specs.Logs.{Log, empty_log, places}
 use Rattle.ballot_base.specs.declared.config.Config.{Config}
@@ -42,6 +42,10 @@ is_active Backup = false
 is_active Fetching = false
 is_active Installing = false
 is_active Active = true
+
+-- whether a replica in this role serves clients: it is the active primary, and has not stopped
+abbrev pub serves_in_role : Role → Bool → Bool
+serves_in_role role stopped = is_active role && not stopped
 
 -- whether a role is that of a backup
 abbrev pub is_backup : Role → Bool

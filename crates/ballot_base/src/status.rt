@@ -1,7 +1,7 @@
 // What a replica shows of itself.
 
-ghost use Rattle.std.specs.Prelude.{◌≡◌, ◌&&◌, not};
-ghost use Rattle.ballot_base.specs.Replica.{is_active, is_backup, is_fetching, is_installing};
+ghost use Rattle.std.specs.Prelude.{◌≡◌};
+ghost use Rattle.ballot_base.specs.Replica.{is_active, is_backup, is_fetching, is_installing, serves_in_role};
 
 /// What a replica does in the ballot that it joined.
 #[derive(Clone, Copy, Debug, PartialEq, Eq)]
@@ -85,7 +85,7 @@ pub struct Status {
 impl Status {
     /// Says whether it serves clients: it is the active primary of its ballot, and has not stopped.
     pub fn serves(self) -> bool
-        ensures { result ≡ (is_active self.role && not self.stopped) }
+        ensures { result ≡ serves_in_role self.role self.stopped }
     {
         self.role.is_active() && !self.stopped
     }

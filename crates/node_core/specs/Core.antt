@@ -1,5 +1,5 @@
 -- A node: one replica of the broker with its connections, and how it opens.
-use Rattle.std.specs.Prelude.{ℕ, Bool, not, ◌&&◌, List, []}
+use Rattle.std.specs.Prelude.{ℕ, Bool, List, []}
 use Rattle.ballot.specs.machine.Machine.{Rules}
 use Rattle.broker.specs.broker_base.State.{State}
 use Rattle.broker_spec.specs.Connection.{ConnectionName}
@@ -8,7 +8,7 @@ use Rattle.broker_spec.specs.declared.command.Output.{Output}
 use Rattle.broker.specs.broker_form.BrokerRules.{broker_rules}
 use Rattle.ballot.specs.ballot_base.declared.config.Config.{Config}
 use Rattle.ballot.specs.ballot_base.declared.message.Effect.{Effect}
-use Rattle.ballot.specs.ballot_base.Replica.{CountedReplica, is_active, opening}
+use Rattle.ballot.specs.ballot_base.Replica.{CountedReplica, opening, serves_in_role}
 use Rattle.node_connections.specs.declared.connection.Connection.{Connection}
 
 -- what a node keeps; its connections are in the order in which they were opened
@@ -43,4 +43,4 @@ opening_core id config =
 
 -- a node serves clients while its replica is the active primary and has not stopped
 abbrev pub serves : CoreState → Bool
-serves core = is_active core.replica.state.role && not core.replica.state.stopped
+serves core = serves_in_role core.replica.state.role core.replica.state.stopped

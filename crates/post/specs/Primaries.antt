@@ -1,12 +1,12 @@
 -- For which node an order about a client is queued, by the status that each node showed last.
-use Rattle.std.specs.Prelude.{◌≡◌, ℕ, ◌≤◌, Bool, true, false, ◌&&◌, not, nat_lt, if◌then◌else◌, List, [], ◌∷◌, Option, Some, None}
-use Rattle.master.specs.ballot_base.Replica.{is_active}
+use Rattle.std.specs.Prelude.{◌≡◌, ℕ, ◌≤◌, Bool, true, false, ◌&&◌, nat_lt, if◌then◌else◌, List, [], ◌∷◌, Option, Some, None}
+use Rattle.master.specs.ballot_base.Replica.{serves_in_role}
 use Rattle.master.specs.lists.Lists.{Each, In}
 use Rattle.post.specs.declared.choosing.Shown.{Shown}
 
 -- the node serves clients: it is the active primary of its ballot, and has not stopped
 abbrev pub serves : Shown → Bool
-serves shown = is_active shown.status.role && not shown.status.stopped
+serves shown = serves_in_role shown.status.role shown.status.stopped
 
 -- none of those that serve among these nodes has a higher ballot
 abbrev pub NoneIsHigher : ℕ → List Shown → Type 0
