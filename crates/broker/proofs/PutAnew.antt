@@ -5,7 +5,7 @@ use Rattle.std.specs.Map.{update, update_all}
 use Rattle.std.specs.List.Sorted.{IsStrictlySortedBy}
 use Rattle.std.specs.Cmp.Lexicographic.{bytes_decides}
 use Rattle.packet_base.specs.declared.qos.QoS.{QoS}
-use Rattle.session_base.specs.Subscriptions.{GrantedFilter}
+use Rattle.session_base.specs.Subscriptions.{GrantedSubscription}
 use Rattle.session_base.specs.KeepingLaws.{AreFiltersApart}
 use Rattle.broker_spec.specs.Place.{Client, same_client}
 use Rattle.broker_tables.specs.broker_base.ClientSession.{ClientSession}
@@ -28,7 +28,7 @@ first_of (Some a) other = Some a
 first_of None other = other
 
 -- each filter is subscribed once
-last_once : (subscriptions : List GrantedFilter) (g : List ℕ → Option QoS) (f : List ℕ) → AreFiltersApart subscriptions → update_all bytes_eq g subscriptions f ≡ first_of (qos_asked f subscriptions) (g f)
+last_once : (subscriptions : List GrantedSubscription) (g : List ℕ → Option QoS) (f : List ℕ) → AreFiltersApart subscriptions → update_all bytes_eq g subscriptions f ≡ first_of (qos_asked f subscriptions) (g f)
 last_once [] g f apart = refl
 last_once (new ∷ more) g f apart = last_once more (update bytes_eq g new.0 (Some new.1)) f apart.1 ∙ by (bytes_eq f new.0) refl
   where
@@ -40,7 +40,7 @@ last_once (new ∷ more) g f apart = last_once more (update bytes_eq g new.0 (So
     by true e = ap₂ (λ b o. first_of o (cond b (Some new.1) (g f))) (bytes_back new.0 f ∙ e) (once e)
     by false e = ap (λ b. first_of (qos_asked f more) (cond b (Some new.1) (g f))) (bytes_back new.0 f ∙ e)
 
-last_is : (subscriptions : List GrantedFilter) (f : List ℕ) → AreFiltersApart subscriptions → last_qos_in subscriptions f ≡ qos_asked f subscriptions
+last_is : (subscriptions : List GrantedSubscription) (f : List ℕ) → AreFiltersApart subscriptions → last_qos_in subscriptions f ≡ qos_asked f subscriptions
 last_is subscriptions f apart = last_once subscriptions (λ _. None) f apart ∙ alone (qos_asked f subscriptions)
   where
     alone : (o : Option QoS) → first_of o None ≡ o

@@ -1,6 +1,6 @@
 -- What a client that comes back is sent, as what is kept of its session says.
 use Rattle.std.proofs.Common.{◌≡◌, ℕ, Bool, true, false, ◌||◌, if◌then◌else◌, Option, Some, None, List, [], ◌∷◌, ◌++◌, length, map, refl, ap, ap₂, ◌∙◌}
-use Rattle.session_base.specs.Subscriptions.{GrantedFilter}
+use Rattle.session_base.specs.Subscriptions.{GrantedSubscription}
 use Rattle.session_base.specs.packet.declared.packet.Packet.TheVariants as packets
 use Rattle.session_base.specs.Sending.{fill_sends, resend}
 use Rattle.broker_spec.specs.Connection.{ConnectionName}
@@ -34,7 +34,7 @@ closed_is limits past c = by (clean_session_of past c) refl
     by None e = ap close_outputs (no_connection past c e)
     by (Some clean) e = refl
 
-resumed_by : (x : ConnectionName) (w n : ℕ) (clean expelled over : Bool) (session : Option Bool) (connection : Option ConnectionName) (held : List GrantedFilter) (ids : List ℕ) (es : List Entry) → Sound n es →
+resumed_by : (x : ConnectionName) (w n : ℕ) (clean expelled over : Bool) (session : Option Bool) (connection : Option ConnectionName) (held : List GrantedSubscription) (ids : List ℕ) (es : List Entry) → Sound n es →
     resent_outputs x n (in_session (newest_clean_session (Some (x, clean)) expelled over session) (is_beginning (Some (x, clean)) session) []
     (started w n (newest_connection (Some (x, clean)) over connection) (es ++ map (Entry.Waits n) [])))
     ≡ map (Send x) (resumed w clean (kept_with n session connection held ids es))

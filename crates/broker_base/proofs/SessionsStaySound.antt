@@ -8,11 +8,11 @@ use Rattle.session_base.specs.packet.declared.delivery.Delivery.{Delivery}
 use Rattle.session_base.specs.packet.declared.delivery.Delivery.TheVariants as deliveries
 use Rattle.session_base.specs.packet.declared.packet.Packet.TheVariants as packets
 use Rattle.session_base.specs.Identifiers.{without_id}
-use Rattle.session_base.specs.Subscriptions.{GrantedFilter, with_subscription, with_subscriptions, without_filter, without_filters}
+use Rattle.session_base.specs.Subscriptions.{GrantedSubscription, with_subscription, with_subscriptions, without_filter, without_filters}
 use Rattle.session_base.specs.KeepingLaws.{AreFiltersApart}
 use Rattle.session_base.proofs.FiltersApart.{filters_stay_apart}
 use Rattle.session_base.proofs.ReceivedRise.{received_rise}
-use Rattle.broker_spec.specs.Subscriptions.{as_granted, granted_of, filters_after}
+use Rattle.broker_spec.specs.Subscriptions.{as_granted, granted_of, subscriptions_after}
 use Rattle.broker_spec.specs.Received.{receives, received_by}
 use Rattle.broker_spec.specs.retained.Retained.{RetainedTopics}
 use Rattle.session_base.specs.declared.publication.Publication.{Publication}
@@ -81,19 +81,19 @@ copied_fly w None copies q h = h
 
 -- ---- filters and received identifiers
 
-granted_apart : (new held : List GrantedFilter) → AreFiltersApart held → AreFiltersApart (with_subscriptions new held)
+granted_apart : (new held : List GrantedSubscription) → AreFiltersApart held → AreFiltersApart (with_subscriptions new held)
 granted_apart [] held h = h
 granted_apart (one ∷ more) held h = granted_apart more (with_subscription one held) ((filters_stay_apart held h).0 one)
 
-given_up_apart : (given_up : List (List ℕ)) (held : List GrantedFilter) → AreFiltersApart held → AreFiltersApart (without_filters given_up held)
+given_up_apart : (given_up : List (List ℕ)) (held : List GrantedSubscription) → AreFiltersApart held → AreFiltersApart (without_filters given_up held)
 given_up_apart [] held h = h
 given_up_apart (one ∷ more) held h = given_up_apart more (without_filter one held) ((filters_stay_apart held h).1 one)
 
-filters_if : (b : Bool) (held others : List GrantedFilter) → AreFiltersApart held → AreFiltersApart others → AreFiltersApart (if b then held else others)
+filters_if : (b : Bool) (held others : List GrantedSubscription) → AreFiltersApart held → AreFiltersApart others → AreFiltersApart (if b then held else others)
 filters_if true held others h k = h
 filters_if false held others h k = k
 
-subscribed_apart : (command : Command) (mark : Mark) (c : Client) (held : List GrantedFilter) → AreFiltersApart held → AreFiltersApart (filters_after command mark c held)
+subscribed_apart : (command : Command) (mark : Mark) (c : Client) (held : List GrantedSubscription) → AreFiltersApart held → AreFiltersApart (subscriptions_after command mark c held)
 subscribed_apart (commands.Packet x (packets.Subscribe s)) (Mark.Granted d which) c held h =
     filters_if (same_client d c) (with_subscriptions (map as_granted (granted_of s.filters which)) held) held (granted_apart (map as_granted (granted_of s.filters which)) held h) h
 subscribed_apart (commands.Packet x (packets.Unsubscribe u)) (Mark.Handled d) c held h =

@@ -1,7 +1,7 @@
 -- What a command is not about stays, of plain values.
 use Rattle.std.proofs.Common.{◌≡◌, ℕ, Bool, true, false, not, ◌&&◌, ◌||◌, if◌then◌else◌, Option, Some, None, List, [], ◌∷◌, refl, ap, ap₂, ◌∙◌}
 use Rattle.std.proofs.lemmas.Bool.{or_parts}
-use Rattle.session_base.specs.Subscriptions.{GrantedFilter, granted_qos}
+use Rattle.session_base.specs.Subscriptions.{GrantedSubscription, granted_qos}
 use Rattle.session_base.specs.packet.declared.packet.Packet.TheVariants as packets
 use Rattle.broker_spec.specs.retained.Retained.{RetainedTopics}
 use Rattle.session_base.specs.Queue.{Queue}
@@ -12,7 +12,7 @@ use Rattle.session_base.specs.Publication.{publication_of}
 use Rattle.session_base.specs.packet.packet_base.QoS.{lower_qos}
 use Rattle.session_base.specs.packet.packet_base.declared.qos.QoS.{QoS}
 use Rattle.std.specs.Prelude.{option_map, is_some}
-use Rattle.broker_spec.specs.Subscriptions.{filters_after}
+use Rattle.broker_spec.specs.Subscriptions.{subscriptions_after}
 use Rattle.broker_spec.specs.Received.{received_by}
 use Rattle.broker_spec.specs.Entries.{copy_of}
 use Rattle.broker_spec.specs.Times.{window_at}
@@ -28,28 +28,28 @@ if_no : {A : Type 0} (b : Bool) (x y : A) → b ≡ false → (if b then x else 
 if_no true x y e = absurd (cc)
 if_no false x y e = refl
 
-pub not_opened : (command : Command) (mark : Mark) (c : Client) (held : List GrantedFilter) → is_about command mark c held ≡ false → accepts command mark c ≡ None
+pub not_opened : (command : Command) (mark : Mark) (c : Client) (held : List GrantedSubscription) → is_about command mark c held ≡ false → accepts command mark c ≡ None
 not_opened (commands.Connect x d clean) Mark.Accepted c held e = ap (λ b. only_if b (Some (x, clean))) e
 not_opened _ _ c held e = refl
 
-subscribed_same : (command : Command) (mark : Mark) (c : Client) (held : List GrantedFilter) → is_about command mark c held ≡ false → filters_after command mark c held ≡ held
+subscribed_same : (command : Command) (mark : Mark) (c : Client) (held : List GrantedSubscription) → is_about command mark c held ≡ false → subscriptions_after command mark c held ≡ held
 subscribed_same (commands.Packet x (packets.Subscribe s)) (Mark.Granted d which) c held e = if_no (same_client d c) _ held e
 subscribed_same (commands.Packet x (packets.Unsubscribe u)) (Mark.Handled d) c held e = if_no (same_client d c) _ held e
 subscribed_same _ _ c held e = refl
 
-received_same : (command : Command) (mark : Mark) (c : Client) (held : List GrantedFilter) (ids : List ℕ) → is_about command mark c held ≡ false → received_by command mark c ids ≡ ids
+received_same : (command : Command) (mark : Mark) (c : Client) (held : List GrantedSubscription) (ids : List ℕ) → is_about command mark c held ≡ false → received_by command mark c ids ≡ ids
 received_same (commands.Packet x (packets.Publish p)) (Mark.Taken d) c held ids e = if_no (same_client d c) _ ids (or_parts (same_client d c) (is_some (granted_qos p.topic held)) e).0
 received_same (commands.Packet x (packets.Pubrel id)) (Mark.Handled d) c held ids e = if_no (same_client d c) _ ids e
 received_same _ _ c held ids e = refl
 
-answered_same : (w : ℕ) (command : Command) (mark : Mark) (c : Client) (held : List GrantedFilter) (connection : Option ConnectionName) (q : Queue) → is_about command mark c held ≡ false →
+answered_same : (w : ℕ) (command : Command) (mark : Mark) (c : Client) (held : List GrantedSubscription) (connection : Option ConnectionName) (q : Queue) → is_about command mark c held ≡ false →
     answered_queue w command mark c connection q ≡ q
 answered_same w (commands.Packet x (packets.Puback i)) (Mark.Handled d) c held connection q e = if_no (same_client d c) _ q e
 answered_same w (commands.Packet x (packets.Pubrec i)) (Mark.Handled d) c held connection q e = if_no (same_client d c) _ q e
 answered_same w (commands.Packet x (packets.Pubcomp i)) (Mark.Handled d) c held connection q e = if_no (same_client d c) _ q e
 answered_same w _ _ c held connection q e = refl
 
-no_copies : (command : Command) (mark : Mark) (content : RetainedTopics) (c : Client) (held : List GrantedFilter) → is_about command mark c held ≡ false → copies_with command mark content c held ≡ []
+no_copies : (command : Command) (mark : Mark) (content : RetainedTopics) (c : Client) (held : List GrantedSubscription) → is_about command mark c held ≡ false → copies_with command mark content c held ≡ []
 no_copies (commands.Packet x (packets.Publish p)) (Mark.Taken d) content c held e =
     none (granted_qos p.topic held) (or_parts (same_client d c) (is_some (granted_qos p.topic held)) e).1
   where
@@ -75,7 +75,7 @@ no_copy w None q = ap (λ ms. record { in_flight = q.in_flight; waiting = ms }) 
 no_copy w (Some x) q = refl
 
 -- what is kept, with these parts
-abbrev pub parts : ClientSession → Bool → Bool → List GrantedFilter → List ℕ → Queue → Option ClientSession
+abbrev pub parts : ClientSession → Bool → Bool → List GrantedSubscription → List ℕ → Queue → Option ClientSession
 parts kept expelled over held ids q =
     only_if (not (expelled || (kept.clean && over)))
     (Some (record {
@@ -97,7 +97,7 @@ pub kept_stays : (w : ℕ) (place : Place) (content : RetainedTopics) (c : Clien
     session_touched w place content c (Some kept) ≡ Some kept
 kept_stays w place content c kept not_ended not_about =
     ap (λ opened. session_by w place content c opened (Some kept)) (not_opened place.command place.mark c kept.state.subscriptions not_about)
-    ∙ ap₂ (λ expelled over. parts kept expelled over (filters_after place.command place.mark c kept.state.subscriptions) (received_by place.command place.mark c kept.state.received)
+    ∙ ap₂ (λ expelled over. parts kept expelled over (subscriptions_after place.command place.mark c kept.state.subscriptions) (received_by place.command place.mark c kept.state.received)
     (copied_queue w (only_if (not over) kept.connection) (copies_with place.command place.mark content c kept.state.subscriptions)
     (answered_queue w place.command place.mark c (only_if (not over) kept.connection) kept.state.queue)))
     (not_expelled (expels place.command c) (any_connection (ends place.command place.mark) kept.connection) not_ended) not_ended

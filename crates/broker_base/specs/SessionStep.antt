@@ -5,14 +5,14 @@ use Rattle.broker_spec.specs.retained.Retained.{RetainedTopics}
 use Rattle.session_base.specs.declared.publication.Publication.{Publication}
 use Rattle.session_base.specs.Publication.{publication_of}
 use Rattle.session_base.specs.packet.packet_base.QoS.{lower_qos}
-use Rattle.session_base.specs.Subscriptions.{GrantedFilter, granted_qos}
+use Rattle.session_base.specs.Subscriptions.{GrantedSubscription, granted_qos}
 use Rattle.session_base.specs.Session.{empty_session}
 use Rattle.session_base.specs.Queue.{Flight, Queue, on_puback, on_pubrec, on_pubcomp, fill, filled}
 use Rattle.session_base.specs.Copies.{copies_left, copies_waiting}
 use Rattle.broker_spec.specs.Connection.{ConnectionName}
 use Rattle.broker_spec.specs.Place.{Client, same_client, Mark, Place, only_if}
 use Rattle.broker_spec.specs.Sessions.{accepts, expels, ends_any}
-use Rattle.broker_spec.specs.Subscriptions.{granted_of, filters_after}
+use Rattle.broker_spec.specs.Subscriptions.{granted_of, subscriptions_after}
 use Rattle.broker_spec.specs.Received.{received_by}
 use Rattle.broker_spec.specs.Entries.{copy_of, copies_for_all}
 use Rattle.broker_base.specs.ClientSession.{ClientSession}
@@ -20,7 +20,7 @@ use Rattle.broker_spec.specs.declared.command.Command.{Command}
 use Rattle.broker_spec.specs.declared.command.Command.TheVariants as commands
 
 -- the copies that a command makes for a session with these subscriptions
-abbrev pub copies_with : Command → Mark → RetainedTopics → Client → List GrantedFilter →
+abbrev pub copies_with : Command → Mark → RetainedTopics → Client → List GrantedSubscription →
     List Publication
 copies_with (commands.Packet connection (packets.Publish publish)) (Mark.Taken sender)
     content client subscriptions =
@@ -66,7 +66,7 @@ session_on window place content client connection old =
       clean = old.clean;
       connection = connection;
       state = record {
-        subscriptions = filters_after place.command place.mark client old.state.subscriptions;
+        subscriptions = subscriptions_after place.command place.mark client old.state.subscriptions;
         received = received_by place.command place.mark client old.state.received;
         queue = copied_queue window connection
             (copies_with place.command place.mark content client old.state.subscriptions)

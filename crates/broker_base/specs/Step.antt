@@ -6,7 +6,7 @@ use Rattle.session_base.specs.packet.declared.packet.Packet.TheVariants as packe
 use Rattle.broker_spec.specs.retained.Retained.{RetainedTopics}
 use Rattle.broker_spec.specs.Place.{Client, same_client, Mark, Place, Past, Limits}
 use Rattle.broker_spec.specs.Sessions.{ends_any}
-use Rattle.session_base.specs.Subscriptions.{GrantedFilter, granted_qos}
+use Rattle.session_base.specs.Subscriptions.{GrantedSubscription, granted_qos}
 use Rattle.broker_spec.specs.Retained.{retained_by}
 use Rattle.broker_spec.specs.Commands.{is_start}
 use Rattle.broker_base.specs.ClientSession.{ClientSession}
@@ -20,7 +20,7 @@ use Rattle.broker_spec.specs.declared.command.Output.{Output}
 
 -- Whether a command concerns this client's session with these subscriptions, apart from the end of
 -- its connection: its client sent it, or it is a taken publication that matches one of them.
-abbrev pub is_about : Command → Mark → Client → List GrantedFilter → Bool
+abbrev pub is_about : Command → Mark → Client → List GrantedSubscription → Bool
 is_about (commands.Connect connection sender clean) Mark.Accepted client subscriptions =
     same_client sender client
 is_about (commands.Packet connection (packets.Publish publish)) (Mark.Taken sender)

@@ -21,7 +21,7 @@ use Rattle.packet.specs.declared.subscribe.Subscribe.{Subscribe}
 use Rattle.packet.specs.declared.suback.SubackCode.{SubackCode}
 use Rattle.broker_spec.specs.retained.Retained.{RetainedTopics}
 use Rattle.session_base.specs.Queue.{room, on_puback, on_pubrec, on_pubcomp}
-use Rattle.session_base.specs.Subscriptions.{GrantedFilter, with_subscription}
+use Rattle.session_base.specs.Subscriptions.{GrantedSubscription, with_subscription}
 use Rattle.broker_spec.specs.Connection.{ConnectionName}
 use Rattle.broker_spec.specs.Place.{Client, by_bytes, Place, Limits}
 use Rattle.broker_spec.specs.Subscriptions.{as_granted}
@@ -103,7 +103,7 @@ copies_to_spelled w limits place content c None m k r h = tt
 
 -- ---- SUBACK
 
-pub codes_length : (limits : Limits) (content : RetainedTopics) (held : List GrantedFilter) (space : ℕ) (filters : List Subscription) →
+pub codes_length : (limits : Limits) (content : RetainedTopics) (held : List GrantedSubscription) (space : ℕ) (filters : List Subscription) →
     length (codes_of filters (grants limits content held space filters)) ≡ length filters
 codes_length limits content held space [] = refl
 codes_length limits content held space (new ∷ more) =

@@ -22,16 +22,16 @@ use Rattle.broker_spec.specs.retained.Retained.{RetainedTopics, matching_entries
 use Rattle.session_base.specs.Publication.{publication_of}
 use Rattle.packet_base.specs.QoS.{lower_qos}
 use Rattle.session_base.specs.Identifiers.{with_id}
-use Rattle.session_base.specs.Subscriptions.{GrantedFilter, with_subscription, with_subscriptions, without_filter, without_filters, granted_qos}
+use Rattle.session_base.specs.Subscriptions.{GrantedSubscription, with_subscription, with_subscriptions, without_filter, without_filters, granted_qos}
 use Rattle.broker_spec.specs.Place.{Client, same_client, Mark}
-use Rattle.broker_spec.specs.Subscriptions.{as_granted, granted_of, filters_after}
+use Rattle.broker_spec.specs.Subscriptions.{as_granted, granted_of, subscriptions_after}
 use Rattle.broker_spec.specs.Received.{receives, received_by}
 use Rattle.broker_spec.specs.Entries.{copy_of, retained_copy, copies_for, copies_for_all}
 use Rattle.broker_spec.specs.Logged.{IsBrokerCommand}
 use Rattle.broker_spec.specs.declared.command.Command.{Command}
 use Rattle.broker_spec.specs.declared.command.Command.TheVariants as commands
 use Rattle.broker_base.specs.SessionStep.{copies_with}
-use Rattle.session_base.specs.InRange.{CanBeSent, IsGrantedFilter}
+use Rattle.session_base.specs.InRange.{CanBeSent, IsGrantedSubscription}
 use Rattle.broker_form.specs.InRange.{IsRetained}
 use Rattle.broker_form.proofs.Publications.{marked, lower, lower_asked, carried}
 use Rattle.broker_form.proofs.Queues.{all_append, all_filter}
@@ -50,31 +50,31 @@ all_granted P (x ∷ xs) (false ∷ which) h = all_granted P xs which h.1
 
 -- ---- filters
 
-held_one : (new : GrantedFilter) (held : List GrantedFilter) → IsGrantedFilter new → AllByRecursion IsGrantedFilter held → AllByRecursion IsGrantedFilter (with_subscription new held)
+held_one : (new : GrantedSubscription) (held : List GrantedSubscription) → IsGrantedSubscription new → AllByRecursion IsGrantedSubscription held → AllByRecursion IsGrantedSubscription (with_subscription new held)
 held_one new [] n h = (n, tt)
 held_one new (old ∷ others) n h =
-    elim (bytes_eq new.0 old.0) as (λ (b : Bool). AllByRecursion IsGrantedFilter (if b then (old.0, new.1) ∷ others else old ∷ with_subscription new others)) [
+    elim (bytes_eq new.0 old.0) as (λ (b : Bool). AllByRecursion IsGrantedSubscription (if b then (old.0, new.1) ∷ others else old ∷ with_subscription new others)) [
       | true ↦ h
       | false ↦ (h.0, held_one new others n h.1)
     ]
 
-held_more : (new : List Subscription) (held : List GrantedFilter) → AllByRecursion FitsSubscription new → AllByRecursion IsGrantedFilter held →
-    AllByRecursion IsGrantedFilter (with_subscriptions (map as_granted new) held)
+held_more : (new : List Subscription) (held : List GrantedSubscription) → AllByRecursion FitsSubscription new → AllByRecursion IsGrantedSubscription held →
+    AllByRecursion IsGrantedSubscription (with_subscriptions (map as_granted new) held)
 held_more [] held n h = h
 held_more (one ∷ new) held n h = held_more new (with_subscription (as_granted one) held) n.1 (held_one (as_granted one) held n.0 h)
 
-given_up : (filters : List (List ℕ)) (held : List GrantedFilter) → AllByRecursion IsGrantedFilter held → AllByRecursion IsGrantedFilter (without_filters filters held)
+given_up : (filters : List (List ℕ)) (held : List GrantedSubscription) → AllByRecursion IsGrantedSubscription held → AllByRecursion IsGrantedSubscription (without_filters filters held)
 given_up [] held h = h
-given_up (one ∷ filters) held h = given_up filters (without_filter one held) (all_filter IsGrantedFilter _ held h)
+given_up (one ∷ filters) held h = given_up filters (without_filter one held) (all_filter IsGrantedSubscription _ held h)
 
-pub filters_in_range : (command : Command) (mark : Mark) (c : Client) (held : List GrantedFilter) → IsBrokerCommand command →
-    AllByRecursion IsGrantedFilter held → AllByRecursion IsGrantedFilter (filters_after command mark c held)
+pub filters_in_range : (command : Command) (mark : Mark) (c : Client) (held : List GrantedSubscription) → IsBrokerCommand command →
+    AllByRecursion IsGrantedSubscription held → AllByRecursion IsGrantedSubscription (subscriptions_after command mark c held)
 filters_in_range (commands.Packet x (packets.Subscribe s)) (Mark.Granted d which) c held k h =
-    all_if IsGrantedFilter (same_client d c) _ held
+    all_if IsGrantedSubscription (same_client d c) _ held
     (held_more (granted_of s.filters which) held
     (all_granted FitsSubscription s.filters which (recursion_from_All FitsSubscription s.filters k.1.1)) h) h
 filters_in_range (commands.Packet x (packets.Unsubscribe u)) (Mark.Handled d) c held k h =
-    all_if IsGrantedFilter (same_client d c) _ held (given_up u.filters held h) h
+    all_if IsGrantedSubscription (same_client d c) _ held (given_up u.filters held h) h
 filters_in_range _ _ c held k h = h
 
 -- ---- received identifiers
@@ -119,7 +119,7 @@ all_retained content (s ∷ more) h =
     all_append CanBeSent (copies_for content s) (copies_for_all content more)
     (retained_copies s.qos (matching_entries content s.filter) (all_filter IsRetained (λ (row : List ℕ × RetainedPublication). is_match s.filter row.0) content h)) (all_retained content more h)
 
-pub copies_can_be_sent : (command : Command) (mark : Mark) (content : RetainedTopics) (c : Client) (held : List GrantedFilter) → IsBrokerCommand command →
+pub copies_can_be_sent : (command : Command) (mark : Mark) (content : RetainedTopics) (c : Client) (held : List GrantedSubscription) → IsBrokerCommand command →
     AllByRecursion IsRetained content → AllByRecursion CanBeSent (copies_with command mark content c held)
 copies_can_be_sent (commands.Packet x (packets.Publish p)) (Mark.Taken d) content c held k h =
     copy_in_range p (granted_qos p.topic held) (carried p (k.1, k.2.0, k.2.1))

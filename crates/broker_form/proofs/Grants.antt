@@ -7,7 +7,7 @@ use Rattle.packet.specs.declared.subscribe.Subscription.{Subscription}
 use Rattle.broker_spec.specs.retained.Retained.{RetainedTopics}
 use Rattle.session_base.specs.declared.publication.Publication.{Publication}
 use Rattle.session_base.specs.Publication.{is_answered}
-use Rattle.session_base.specs.Subscriptions.{GrantedFilter, is_subscribed, with_subscription, with_subscriptions, without_filter, without_filters}
+use Rattle.session_base.specs.Subscriptions.{GrantedSubscription, is_subscribed, with_subscription, with_subscriptions, without_filter, without_filters}
 use Rattle.broker_spec.specs.Place.{Limits}
 use Rattle.broker_spec.specs.Subscriptions.{as_granted, granted_of}
 use Rattle.broker_spec.specs.Entries.{queued, copies_for, copies_for_all}
@@ -21,7 +21,7 @@ queued_both xs ys =
     ap (λ (zs : List Publication). length zs) (filter-append (λ (p : Publication). is_answered p.qos) xs ys) ∙ length-append (queued xs) (queued ys)
 
 -- the copies for the granted filters have room
-pub grants_have_room : (limits : Limits) (content : RetainedTopics) (held : List GrantedFilter) (room : ℕ) (filters : List Subscription) →
+pub grants_have_room : (limits : Limits) (content : RetainedTopics) (held : List GrantedSubscription) (room : ℕ) (filters : List Subscription) →
     length (queued (copies_for_all content (granted_of filters (grants limits content held room filters)))) ≤ room
 grants_have_room limits content held room [] = omega arith
 grants_have_room limits content held room (new ∷ more) =
@@ -47,7 +47,7 @@ grants_have_room limits content held room (new ∷ more) =
 -- ---- filters
 
 -- a filter that is held takes its own place
-pub one_more : (new : GrantedFilter) (held : List GrantedFilter) → length (with_subscription new held) ≤ suc (length held)
+pub one_more : (new : GrantedSubscription) (held : List GrantedSubscription) → length (with_subscription new held) ≤ suc (length held)
 one_more new [] = omega arith
 one_more new (old ∷ others) =
     elim (bytes_eq new.0 old.0) as (λ (b : Bool). length (if b then (old.0, new.1) ∷ others else old ∷ with_subscription new others) ≤ suc (suc (length others))) [
@@ -55,7 +55,7 @@ one_more new (old ∷ others) =
       | false ↦ (let k = one_more new others in omega (arith, k))
     ]
 
-same_many : (new : GrantedFilter) (held : List GrantedFilter) → is_subscribed new.0 held ≡ true → length (with_subscription new held) ≤ length held
+same_many : (new : GrantedSubscription) (held : List GrantedSubscription) → is_subscribed new.0 held ≡ true → length (with_subscription new held) ≤ length held
 same_many new [] e = absurd (cc)
 same_many new (old ∷ others) e =
     elim (bytes_eq new.0 old.0) as (λ (b : Bool). (b || is_subscribed new.0 others) ≡ true →
@@ -64,7 +64,7 @@ same_many new (old ∷ others) e =
       | false ↦ λ e. (let k = same_many new others e in omega (arith, k))
     ] e
 
-one_within : (limits : Limits) (held : List GrantedFilter) (new : Subscription) → is_one_too_many limits held new ≡ false → length held ≤ limits.subscriptions →
+one_within : (limits : Limits) (held : List GrantedSubscription) (new : Subscription) → is_one_too_many limits held new ≡ false → length held ≤ limits.subscriptions →
     length (with_subscription (as_granted new) held) ≤ limits.subscriptions
 one_within limits held new e few =
     elim (is_subscribed new.filter held) as (λ (b : Bool). is_subscribed new.filter held ≡ b → (not b && nat_le limits.subscriptions (length held)) ≡ false →
@@ -74,7 +74,7 @@ one_within limits held new e few =
     ] refl e
 
 -- the granted filters are no more than a session may hold
-pub grants_stay_few : (limits : Limits) (content : RetainedTopics) (held : List GrantedFilter) (room : ℕ) (filters : List Subscription) →
+pub grants_stay_few : (limits : Limits) (content : RetainedTopics) (held : List GrantedSubscription) (room : ℕ) (filters : List Subscription) →
     length held ≤ limits.subscriptions →
     length (with_subscriptions (map as_granted (granted_of filters (grants limits content held room filters))) held) ≤ limits.subscriptions
 grants_stay_few limits content held room [] few = few
@@ -95,8 +95,8 @@ grants_stay_few limits content held room (new ∷ more) few =
     first_no false b e = refl
 
 -- and what is given up leaves no more than there were
-pub given_up_few : (filters : List (List ℕ)) (held : List GrantedFilter) → length (without_filters filters held) ≤ length held
+pub given_up_few : (filters : List (List ℕ)) (held : List GrantedSubscription) → length (without_filters filters held) ≤ length held
 given_up_few [] held = omega arith
 given_up_few (one ∷ filters) held =
     let k = given_up_few filters (without_filter one held) in
-    let f = fewer (λ (other : GrantedFilter). not (bytes_eq one other.0)) held in omega (arith, k, f)
+    let f = fewer (λ (other : GrantedSubscription). not (bytes_eq one other.0)) held in omega (arith, k, f)

@@ -12,10 +12,10 @@ use Rattle.session_base.specs.declared.publication.Publication.{Publication}
 use Rattle.session_base.specs.Publication.{publication_of, is_answered}
 use Rattle.packet_base.specs.QoS.{lower_qos}
 use Rattle.session_base.specs.Queue.{Queue, room}
-use Rattle.session_base.specs.Subscriptions.{GrantedFilter, with_subscriptions, without_filters, granted_qos}
+use Rattle.session_base.specs.Subscriptions.{GrantedSubscription, with_subscriptions, without_filters, granted_qos}
 use Rattle.broker_spec.specs.Connection.{ConnectionName}
 use Rattle.broker_spec.specs.Place.{Client, same_client, Mark, Place, Limits}
-use Rattle.broker_spec.specs.Subscriptions.{as_granted, granted_of, filters_after}
+use Rattle.broker_spec.specs.Subscriptions.{as_granted, granted_of, subscriptions_after}
 use Rattle.broker_spec.specs.Entries.{copy_of, queued, copies_for_all}
 use Rattle.broker_spec.specs.Marks.{is_queued_at, grants}
 use Rattle.broker_spec.proofs.ClientsInOrder.{same_is}
@@ -45,9 +45,9 @@ AllHaveRoom limits place content rows = AllByRecursion (λ row. HasRoom limits p
 -- it makes none, and adds no filter
 abbrev pub MakesNothing : Place → Type 0
 MakesNothing place =
-    (content : RetainedTopics) (c : Client) (held : List GrantedFilter) →
+    (content : RetainedTopics) (c : Client) (held : List GrantedSubscription) →
     (length (queued (copies_with place.command place.mark content c held)) ≡ 0)
-    × (length (filters_after place.command place.mark c held) ≤ length held)
+    × (length (subscriptions_after place.command place.mark c held) ≤ length held)
 
 nothing_made : (limits : Limits) (place : Place) (content : RetainedTopics) (rows : Sessions) → MakesNothing place → AllInRange limits rows →
     AllHaveRoom limits place content rows
@@ -165,7 +165,7 @@ owned_rooms limits state x owner (packets.Subscribe s) sorted e h =
 owned_rooms limits state x owner (packets.Unsubscribe u) sorted e h =
     nothing_made limits _ state.retained state.sessions (λ content c held. (refl, given_up (same_client owner.0 c) held)) h
   where
-    given_up : (b : Bool) (held : List GrantedFilter) → length (if b then without_filters u.filters held else held) ≤ length held
+    given_up : (b : Bool) (held : List GrantedSubscription) → length (if b then without_filters u.filters held else held) ≤ length held
     given_up true held = given_up_few u.filters held
     given_up false held = omega arith
 owned_rooms limits state x owner packet sorted e h =

@@ -11,7 +11,7 @@ use Rattle.session_base.specs.Queue.{Queue, ids_of, on_puback, on_pubcomp}
 use Rattle.broker_spec.specs.Connection.{ConnectionName, IsConnectionName}
 use Rattle.broker_spec.specs.Place.{Client, same_client, Mark, Place, Limits, only_if}
 use Rattle.broker_spec.specs.Sessions.{accepts, expels, ends_any}
-use Rattle.broker_spec.specs.Subscriptions.{filters_after}
+use Rattle.broker_spec.specs.Subscriptions.{subscriptions_after}
 use Rattle.broker_spec.specs.Entries.{queued}
 use Rattle.broker_spec.specs.Logged.{IsBrokerCommand}
 use Rattle.broker_spec.specs.declared.command.Command.{Command}
@@ -29,7 +29,7 @@ use Rattle.broker_form.proofs.Filters.{filters_in_range, received_in_range, copi
 pub record HasRoom (limits : Limits) (place : Place) (content : RetainedTopics) (c : Client) (old : ClientSession) : Type 0 where
   pub entries : length old.state.queue.in_flight + length old.state.queue.waiting
       + length (queued (copies_with place.command place.mark content c old.state.subscriptions)) ≤ limits.entries
-  pub filters : length (filters_after place.command place.mark c old.state.subscriptions) ≤ limits.subscriptions
+  pub filters : length (subscriptions_after place.command place.mark c old.state.subscriptions) ≤ limits.subscriptions
 
 -- a session in its range, if there is one
 abbrev pub IfSession : Limits → Client → Option ClientSession → Type 0

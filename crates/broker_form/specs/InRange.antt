@@ -6,7 +6,7 @@ use Rattle.packet_base.specs.Spelling.{IsId}
 use Rattle.packet_base.specs.ClientId.{is_client}
 use Rattle.broker_spec.specs.retained.declared.retained_publication.RetainedPublication.{RetainedPublication}
 use Rattle.broker_spec.specs.retained.Retained.{IsRising}
-use Rattle.session_base.specs.InRange.{CanBeSent, IsGrantedFilter, IsQueue}
+use Rattle.session_base.specs.InRange.{CanBeSent, IsGrantedSubscription, IsQueue}
 use Rattle.session_base.specs.declared.publication.Publication.{Publication}
 use Rattle.broker_spec.specs.Connection.{ConnectionName, IsConnectionName}
 use Rattle.broker_spec.specs.Place.{Client, Limits}
@@ -36,7 +36,7 @@ IsNamed None = Unit {0}
 pub record IsSession (limits : Limits) (owner : Client) (kept : ClientSession) : Type 0 where
   pub client : IsTrue (is_client owner)
   pub connection : IsNamed kept.connection
-  pub filters : AllByRecursion IsGrantedFilter kept.state.subscriptions
+  pub filters : AllByRecursion IsGrantedSubscription kept.state.subscriptions
   pub few_filters : length kept.state.subscriptions ≤ limits.subscriptions
   pub received : AllByRecursion IsId kept.state.received
   pub queue : IsQueue limits.entries kept.state.queue

@@ -1,7 +1,7 @@
 -- A command on a connection without a client leaves every row, except an accepted Connect.
 use Rattle.std.proofs.Common.{◌≡◌, ℕ, Bool, true, false, ◌||◌, nat_lt, if◌then◌else◌, List, [], ◌∷◌, length, Some, None, refl, ap, ap₂, ◌∙◌, sym, subst}
 use Rattle.std.specs.Prelude.{is_some}
-use Rattle.broker_spec.specs.session_base.Subscriptions.{GrantedFilter}
+use Rattle.broker_spec.specs.session_base.Subscriptions.{GrantedSubscription}
 use Rattle.packet.specs.declared.packet.Packet.TheVariants as packets
 use Rattle.broker_spec.specs.Connection.{ConnectionName, same_connection}
 use Rattle.broker_spec.specs.Place.{Client, Mark, Limits}
@@ -28,7 +28,7 @@ nobody_owns x (row ∷ rows) e = by (any_connection (same_connection x) row.1.co
     by false off later f = (off, later f)
 
 -- a command without a part is about no client
-about_nobody : (command : Command) (mark : Mark) (c : Client) (held : List GrantedFilter) → TouchesNoRow mark → is_about command mark c held ≡ false
+about_nobody : (command : Command) (mark : Mark) (c : Client) (held : List GrantedSubscription) → TouchesNoRow mark → is_about command mark c held ≡ false
 about_nobody (commands.Connect x d clean) Mark.Accepted c held idle = absurd idle
 about_nobody (commands.Packet x (packets.Publish p)) (Mark.Taken d) c held idle = absurd idle
 about_nobody command (Mark.Granted d which) c held idle = absurd idle

@@ -1,7 +1,7 @@
 -- A command of a connection's owner, except a taken PUBLISH, concerns only that connection and
 -- client.
 use Rattle.std.proofs.Common.{◌≡◌, Bool, true, false, ◌&&◌, ◌||◌, if◌then◌else◌, List, Option, Some, None, refl, ap, ap₂, ◌∙◌, sym, subst}
-use Rattle.broker_spec.specs.session_base.Subscriptions.{GrantedFilter}
+use Rattle.broker_spec.specs.session_base.Subscriptions.{GrantedSubscription}
 use Rattle.packet.specs.declared.publish.Publish.{Publish}
 use Rattle.packet.specs.declared.packet.Packet.{Packet}
 use Rattle.packet.specs.declared.packet.Packet.TheVariants as packets
@@ -46,7 +46,7 @@ ends_none command mark x (Some z) on off = ends_on command mark x z on off
 
 -- a command with the mark of one client is about no other
 about_one : (command : Command) (mark : Mark) (d c : Client) → IsMarkOf d mark → same_client d c ≡ false →
-    (subscriptions : List GrantedFilter) → is_about command mark c subscriptions ≡ false
+    (subscriptions : List GrantedSubscription) → is_about command mark c subscriptions ≡ false
 about_one (commands.Connect x e clean) Mark.Accepted d c of other subscriptions = absurd of
 about_one (commands.Packet x (packets.Publish p)) (Mark.Taken e) d c of other subscriptions = absurd of
 about_one command (Mark.Granted e which) d c of other subscriptions = ap (λ b. same_client b c) of ∙ other

@@ -7,8 +7,8 @@ use Rattle.packet.specs.declared.packet.Packet.TheVariants as packets
 use Rattle.std.specs.Prelude.{map}
 use Rattle.broker_spec.specs.retained.Retained.{RetainedTopics}
 use Rattle.broker_spec.specs.session_base.Identifiers.{without_id}
-use Rattle.broker_spec.specs.session_base.Session.{with_filters, with_received, with_queue, with_flights}
-use Rattle.broker_spec.specs.session_base.Subscriptions.{GrantedFilter, with_subscriptions, without_filters}
+use Rattle.broker_spec.specs.session_base.Session.{with_granted, with_received, with_queue, with_flights}
+use Rattle.broker_spec.specs.session_base.Subscriptions.{GrantedSubscription, with_subscriptions, without_filters}
 use Rattle.broker_spec.specs.session_base.Queue.{Queue, on_puback, on_pubrec, on_pubcomp, fill}
 use Rattle.broker_spec.specs.session_base.Copies.{copies_left}
 use Rattle.broker_spec.specs.Connection.{ConnectionName}
@@ -56,7 +56,7 @@ module _ (w : ℕ) (x : ConnectionName) (content : RetainedTopics) (c : Client) 
       ∙ ap (λ connection. Some (session_on w (packet_at x packet mark) content c connection kept)) on
 
   -- the session with these, on its connection
-  back_on : (filters : List GrantedFilter) (ids : List ℕ) (queue : Queue) →
+  back_on : (filters : List GrantedSubscription) (ids : List ℕ) (queue : Queue) →
       Some (record { clean = kept.clean; connection = Some x; state = record { subscriptions = filters; received = ids; queue = queue } })
       ≡ Some (with_content (record { subscriptions = filters; received = ids; queue = queue }) kept)
   back_on filters ids queue =
@@ -85,7 +85,7 @@ module _ (w : ℕ) (x : ConnectionName) (content : RetainedTopics) (c : Client) 
           ap (λ b. Some (record { clean = kept.clean; connection = Some x; state = with_received (if b then without_id id kept.state.received else kept.state.received) kept.state })) (same_self c)
           ∙ back_on kept.state.subscriptions (without_id id kept.state.received) kept.state.queue
       by (packets.Unsubscribe u) =
-          ap (λ b. Some (record { clean = kept.clean; connection = Some x; state = with_filters (if b then without_filters u.filters kept.state.subscriptions else kept.state.subscriptions) kept.state })) (same_self c)
+          ap (λ b. Some (record { clean = kept.clean; connection = Some x; state = with_granted (if b then without_filters u.filters kept.state.subscriptions else kept.state.subscriptions) kept.state })) (same_self c)
           ∙ back_on (without_filters u.filters kept.state.subscriptions) kept.state.received kept.state.queue
       by _ = back_on kept.state.subscriptions kept.state.received kept.state.queue
 

@@ -2,11 +2,11 @@
 use Rattle.std.proofs.Common.{◌≡◌, ℕ, Bool, true, false, not, ◌&&◌, ◌||◌, if◌then◌else◌, List, [], Some, None, refl, ap, ap₂, ◌∙◌}
 use Rattle.packet.specs.declared.packet.Packet.TheVariants as packets
 use Rattle.broker_spec.specs.retained.Retained.{RetainedTopics}
-use Rattle.broker_spec.specs.session_base.Subscriptions.{GrantedFilter}
+use Rattle.broker_spec.specs.session_base.Subscriptions.{GrantedSubscription}
 use Rattle.broker_spec.specs.session_base.Queue.{Queue}
 use Rattle.broker_spec.specs.Place.{Client, Mark, Place, only_if}
 use Rattle.broker_spec.specs.Sessions.{accepts, ends_any, expels}
-use Rattle.broker_spec.specs.Subscriptions.{filters_after}
+use Rattle.broker_spec.specs.Subscriptions.{subscriptions_after}
 use Rattle.broker_spec.specs.Received.{received_by}
 use Rattle.broker_base.specs.ClientSession.{ClientSession}
 use Rattle.broker_base.specs.SessionStep.{copies_with, answered_queue, copied_queue, session_on, session_by, session_touched}
@@ -29,7 +29,7 @@ opens_none (commands.Connect x d clean) Mark.Accepted c parting = absurd parting
 opens_none _ _ c parting = refl
 
 -- the subscriptions stay
-filters_same : (command : Command) (mark : Mark) (c : Client) (held : List GrantedFilter) → IsParting mark → filters_after command mark c held ≡ held
+filters_same : (command : Command) (mark : Mark) (c : Client) (held : List GrantedSubscription) → IsParting mark → subscriptions_after command mark c held ≡ held
 filters_same (commands.Packet x (packets.Subscribe s)) (Mark.Granted d which) c held parting = absurd parting
 filters_same (commands.Packet x (packets.Unsubscribe u)) (Mark.Handled d) c held parting = absurd parting
 filters_same _ _ c held parting = refl
@@ -48,7 +48,7 @@ queue_same w (commands.Packet x (packets.Pubcomp i)) (Mark.Handled d) c queue pa
 queue_same w _ _ c queue parting = refl
 
 -- no copies are made
-no_copies : (command : Command) (mark : Mark) (content : RetainedTopics) (c : Client) (held : List GrantedFilter) → IsParting mark → copies_with command mark content c held ≡ []
+no_copies : (command : Command) (mark : Mark) (content : RetainedTopics) (c : Client) (held : List GrantedSubscription) → IsParting mark → copies_with command mark content c held ≡ []
 no_copies (commands.Packet x (packets.Publish p)) (Mark.Taken d) content c held parting = absurd parting
 no_copies (commands.Packet x (packets.Subscribe s)) (Mark.Granted d which) content c held parting = absurd parting
 no_copies _ _ content c held parting = refl
@@ -59,7 +59,7 @@ by_clean true later = refl
 by_clean false later = refl
 
 -- the session without its connection, with these
-abbrev off : ClientSession → List GrantedFilter → List ℕ → Queue → ClientSession
+abbrev off : ClientSession → List GrantedSubscription → List ℕ → Queue → ClientSession
 off kept held ids queue = record { clean = kept.clean; connection = None; state = record { subscriptions = held; received = ids; queue = queue } }
 
 -- a session continues without its connection as it was

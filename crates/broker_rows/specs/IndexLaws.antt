@@ -4,7 +4,7 @@ use Rattle.std.specs.Prelude.{◌≡◌, ℕ, Bool, if◌then◌else◌, List, S
 use Rattle.std.specs.BTreeMap.{insert_entry}
 use Rattle.packet.specs.declared.delivery.Delivery.{Delivery}
 use Rattle.broker_spec.specs.session_base.declared.publication.Publication.{Publication}
-use Rattle.broker_spec.specs.session_base.Subscriptions.{GrantedFilter, with_subscriptions}
+use Rattle.broker_spec.specs.session_base.Subscriptions.{GrantedSubscription, with_subscriptions}
 use Rattle.broker_spec.specs.session_base.Subscriptions.{without_filters}
 use Rattle.subs_base.specs.Content.{no_subscriptions, without_client}
 use Rattle.subs_base.specs.Granted.{Row}
@@ -32,7 +32,7 @@ WritingKeepsContent =
 -- a SUBSCRIBE sets each filter that is granted (MQTT 3.8.4)
 abbrev pub SubscribingSets : Type 0
 SubscribingSets =
-    (client : Client) → (old new : ClientSession) → (granted : List GrantedFilter) →
+    (client : Client) → (old new : ClientSession) → (granted : List GrantedSubscription) →
     (rows : Sessions) → AreByClient rows →
     session_in client rows ≡ Some old →
     new.state.subscriptions ≡ with_subscriptions granted old.state.subscriptions →

@@ -2,7 +2,7 @@
 use Rattle.std.specs.Prelude.{ℕ, List, [], ◌∷◌, filter, Option, Some, None}
 use Rattle.std.specs.Map.{keys_of}
 use Rattle.subs_base.specs.packet_base.declared.qos.QoS.{QoS}
-use Rattle.broker_spec.specs.session_base.Subscriptions.{GrantedFilter}
+use Rattle.broker_spec.specs.session_base.Subscriptions.{GrantedSubscription}
 use Rattle.broker_spec.specs.Subscriptions.{qos_asked}
 use Rattle.broker_spec.specs.Place.{Client}
 use Rattle.broker_base.specs.ClientSession.{ClientSession}
@@ -21,7 +21,7 @@ content_in sessions client filter = subscribed_in filter (session_in client sess
 -- ---- how an index changes for one client
 
 -- these filters are subscribed, one by one (MQTT 3.8.4)
-abbrev pub all_set : List ℕ → List GrantedFilter → Content → Content
+abbrev pub all_set : List ℕ → List GrantedSubscription → Content → Content
 all_set client (subscription ∷ more) content =
     all_set client more (with_row content client subscription.0 subscription.1)
 all_set client [] content = content

@@ -7,7 +7,7 @@ use Rattle.packet.specs.declared.packet.Packet.{Packet}
 use Rattle.packet.specs.declared.packet.Packet.TheVariants as packets
 use Rattle.broker_spec.specs.retained.Retained.{RetainedTopics}
 use Rattle.broker_spec.specs.session_base.Identifiers.{without_id}
-use Rattle.broker_spec.specs.session_base.Session.{SessionState, with_filters, with_received, with_queue, with_flights}
+use Rattle.broker_spec.specs.session_base.Session.{SessionState, with_granted, with_received, with_queue, with_flights}
 use Rattle.broker_spec.specs.session_base.Subscriptions.{with_subscriptions, without_filters}
 use Rattle.broker_spec.specs.session_base.Queue.{room, on_puback, on_pubrec, on_pubcomp, filled}
 use Rattle.broker_spec.specs.session_base.Copies.{copies_left}
@@ -44,7 +44,7 @@ handled_state window (packets.Pubcomp id) session =
 handled_state window (packets.Pubrel id) session =
     with_received (without_id id session.received) session
 handled_state window (packets.Unsubscribe unsubscribe) session =
-    with_filters (without_filters unsubscribe.filters session.subscriptions) session
+    with_granted (without_filters unsubscribe.filters session.subscriptions) session
 handled_state window _ session = session
 
 -- a packet that is handled writes that to its sender's session, and only its sender is answered
@@ -67,7 +67,7 @@ HandledStep =
 -- come (MQTT 3.8.4)
 abbrev pub subscribed_to : ℕ → RetainedTopics → List Subscription → SessionState → SessionState
 subscribed_to window content granted session =
-    with_filters (with_subscriptions (map as_granted granted) session.subscriptions)
+    with_granted (with_subscriptions (map as_granted granted) session.subscriptions)
     (with_queue (copies_left window (copies_for_all content granted) session.queue) session)
 
 -- the packets that answer a SUBSCRIBE if these of its filters are granted: SUBACK, then the copies

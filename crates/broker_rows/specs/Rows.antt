@@ -8,7 +8,7 @@ use Rattle.packet.specs.declared.delivery.Delivery.{Delivery}
 use Rattle.packet.specs.declared.delivery.Delivery.TheVariants as deliveries
 use Rattle.broker_spec.specs.session_base.declared.publication.Publication.{Publication}
 use Rattle.broker_spec.specs.session_base.declared.awaits.Awaits.TheVariants as waits_for
-use Rattle.broker_spec.specs.session_base.Subscriptions.{GrantedFilter}
+use Rattle.broker_spec.specs.session_base.Subscriptions.{GrantedSubscription}
 use Rattle.broker_spec.specs.session_base.Queue.{Queue, empty_queue}
 use Rattle.broker_spec.specs.Connection.{ConnectionName}
 use Rattle.broker_spec.specs.Place.{Client}
@@ -26,7 +26,7 @@ abbrev pub c : Client
 c = codes "c"
 
 -- a client's row, with this in its session
-abbrev pub row : Client → Bool → Option ConnectionName → List GrantedFilter → List ℕ → Queue →
+abbrev pub row : Client → Bool → Option ConnectionName → List GrantedSubscription → List ℕ → Queue →
     Client × ClientSession
 row client clean connection subscriptions received queue = (
   client,
@@ -38,11 +38,11 @@ row client clean connection subscriptions received queue = (
 )
 
 -- what b and c hold
-abbrev pub of_b : List GrantedFilter
+abbrev pub of_b : List GrantedSubscription
 of_b = (codes "t/#", qualities.AtLeastOnce) ∷ []
 
 -- the subscriptions of c
-abbrev pub of_c : List GrantedFilter
+abbrev pub of_c : List GrantedSubscription
 of_c = (codes "t/1", qualities.ExactlyOnce) ∷ []
 
 -- the sessions of three clients: a and c are connected, b is away

@@ -8,8 +8,8 @@ use Rattle.packet.specs.declared.subscribe.Subscription.{Subscription}
 use Rattle.packet.specs.declared.packet.Packet.TheVariants as packets
 use Rattle.broker_spec.specs.Place.{Client, same_client, Mark}
 use Rattle.broker_spec.specs.Sessions.{clean_session_of, begins, in_session}
-use Rattle.broker_spec.specs.Subscriptions.{as_granted, granted_of, filters_after, subscriptions_of, qos_asked}
-use Rattle.session_base.specs.Subscriptions.{GrantedFilter, with_subscription, with_subscriptions, without_filter, without_filters}
+use Rattle.broker_spec.specs.Subscriptions.{as_granted, granted_of, subscriptions_after, subscriptions_of, qos_asked}
+use Rattle.session_base.specs.Subscriptions.{GrantedSubscription, with_subscription, with_subscriptions, without_filter, without_filters}
 use Rattle.broker_spec.specs.Laws.{newer_of_two, either, last_qos, word_on, last_granting, FilterHasLastGranting}
 use Rattle.broker_spec.specs.declared.command.Command.{Command}
 use Rattle.broker_spec.specs.declared.command.Command.TheVariants as commands
@@ -42,7 +42,7 @@ order false b new old rest h = refl
 not-both : (f new old : List ℕ) → bytes_eq new old ≡ false → bytes_eq f old ≡ true → bytes_eq f new ≡ true → ⊥
 not-both f new old e a b = no-both (bytes_eq new old) (ap (λ z. bytes_eq z old) (sym (same-text f new b)) ∙ a) e
 
-with-by : (f : List ℕ) (new old : GrantedFilter) (others : List GrantedFilter)
+with-by : (f : List ℕ) (new old : GrantedSubscription) (others : List GrantedSubscription)
     → qos_asked f (with_subscription new others) ≡ (if bytes_eq f new.0 then Some new.1 else qos_asked f others)
     → (same : Bool) → bytes_eq new.0 old.0 ≡ same
     → qos_asked f (if same then (old.0, new.1) ∷ others else old ∷ with_subscription new others)
@@ -53,7 +53,7 @@ with-by f new old others ih false e =
     ap (λ z. if bytes_eq f old.0 then Some old.1 else z) ih
     ∙ order (bytes_eq f old.0) (bytes_eq f new.0) (Some new.1) (Some old.1) (qos_asked f others) (not-both f new.0 old.0 e)
 
-asked-with : (f : List ℕ) (new : GrantedFilter) (held : List GrantedFilter)
+asked-with : (f : List ℕ) (new : GrantedSubscription) (held : List GrantedSubscription)
     → qos_asked f (with_subscription new held) ≡ (if bytes_eq f new.0 then Some new.1 else qos_asked f held)
 asked-with f new [] = refl
 asked-with f new (old ∷ others) = with-by f new old others (asked-with f new others) (bytes_eq new.0 old.0) refl
@@ -65,7 +65,7 @@ last-by (Some q) b qos held = refl
 last-by None true qos held = refl
 last-by None false qos held = refl
 
-asked-with-all : (f : List ℕ) (granted : List Subscription) (held : List GrantedFilter)
+asked-with-all : (f : List ℕ) (granted : List Subscription) (held : List GrantedSubscription)
     → qos_asked f (with_subscriptions (map as_granted granted) held) ≡ newer_of_two (option_map (λ q. Some q) (last_qos f granted)) (qos_asked f held)
 asked-with-all f [] held = refl
 asked-with-all f (new ∷ more) held =
@@ -84,7 +84,7 @@ left true true found rest h = elim (h refl refl) [ ]
 left true false found rest h = refl
 left false b found rest h = refl
 
-without-by : (f g : List ℕ) (old : GrantedFilter) (others : List GrantedFilter)
+without-by : (f g : List ℕ) (old : GrantedSubscription) (others : List GrantedSubscription)
     → qos_asked f (without_filter g others) ≡ (if bytes_eq f g then None else qos_asked f others)
     → (same : Bool) → bytes_eq g old.0 ≡ same
     → qos_asked f (if not same then old ∷ without_filter g others else without_filter g others)
@@ -99,7 +99,7 @@ none-twice : (b : Bool) → qos_asked [] [] ≡ (if b then None else qos_asked [
 none-twice true = refl
 none-twice false = refl
 
-asked-without : (f g : List ℕ) (held : List GrantedFilter) → qos_asked f (without_filter g held) ≡ (if bytes_eq f g then None else qos_asked f held)
+asked-without : (f g : List ℕ) (held : List GrantedSubscription) → qos_asked f (without_filter g held) ≡ (if bytes_eq f g then None else qos_asked f held)
 asked-without f g [] = none-twice (bytes_eq f g)
 asked-without f g (old ∷ others) = without-by f g old others (asked-without f g others) (bytes_eq g old.0) refl
 
@@ -109,7 +109,7 @@ any-by true false held = refl
 any-by false true held = refl
 any-by false false held = refl
 
-asked-without-all : (f : List ℕ) (given_up : List (List ℕ)) (held : List GrantedFilter)
+asked-without-all : (f : List ℕ) (given_up : List (List ℕ)) (held : List GrantedSubscription)
     → qos_asked f (without_filters given_up held) ≡ (if list_any (bytes_eq f) given_up then None else qos_asked f held)
 asked-without-all f [] held = refl
 asked-without-all f (g ∷ more) held =
@@ -119,13 +119,13 @@ asked-without-all f (g ∷ more) held =
 
 -- ---- a command
 
-subscribe-by : (b : Bool) (f : List ℕ) (granted : List Subscription) (held : List GrantedFilter)
+subscribe-by : (b : Bool) (f : List ℕ) (granted : List Subscription) (held : List GrantedSubscription)
     → qos_asked f (if b then with_subscriptions (map as_granted granted) held else held)
     ≡ newer_of_two (if b then option_map (λ q. Some q) (last_qos f granted) else None) (qos_asked f held)
 subscribe-by true f granted held = asked-with-all f granted held
 subscribe-by false f granted held = refl
 
-unsubscribe-by : (b : Bool) (f : List ℕ) (given_up : List (List ℕ)) (held : List GrantedFilter)
+unsubscribe-by : (b : Bool) (f : List ℕ) (given_up : List (List ℕ)) (held : List GrantedSubscription)
     → qos_asked f (if b then without_filters given_up held else held)
     ≡ newer_of_two (if b && list_any (bytes_eq f) given_up then Some None else None) (qos_asked f held)
 unsubscribe-by true f given_up held = asked-without-all f given_up held ∙ by (list_any (bytes_eq f) given_up)
@@ -135,7 +135,7 @@ unsubscribe-by true f given_up held = asked-without-all f given_up held ∙ by (
     by false = refl
 unsubscribe-by false f given_up held = refl
 
-word-by : (k : Command) (m : Mark) (c : Client) (f : List ℕ) (held : List GrantedFilter) → qos_asked f (filters_after k m c held) ≡ newer_of_two (word_on k m c f) (qos_asked f held)
+word-by : (k : Command) (m : Mark) (c : Client) (f : List ℕ) (held : List GrantedSubscription) → qos_asked f (subscriptions_after k m c held) ≡ newer_of_two (word_on k m c f) (qos_asked f held)
 word-by (commands.Packet x (packets.Connect q)) m c f held = refl
 word-by (commands.Packet x (packets.Connack q)) m c f held = refl
 word-by (commands.Packet x (packets.Publish p)) m c f held = refl
@@ -171,7 +171,7 @@ word-by (commands.Lost x) m c f held = refl
 word-by (commands.Start ballot) m c f held = refl
 word-by (commands.Expel d) m c f held = refl
 
-in-session : (session : Option Bool) (beginning : Bool) (f : List ℕ) (held : List GrantedFilter) → qos_asked f (in_session session beginning [] held) ≡ in_session session beginning None (qos_asked f held)
+in-session : (session : Option Bool) (beginning : Bool) (f : List ℕ) (held : List GrantedSubscription) → qos_asked f (in_session session beginning [] held) ≡ in_session session beginning None (qos_asked f held)
 in-session (Some clean) true f held = refl
 in-session (Some clean) false f held = refl
 in-session None beginning f held = refl
@@ -180,7 +180,7 @@ pub filter_has_last_granting : FilterHasLastGranting
 unfolding subscriptions_of last_granting
 filter_has_last_granting [] c f = refl
 filter_has_last_granting (place ∷ past) c f =
-    in-session (clean_session_of (place ∷ past) c) (begins place past c) f (filters_after place.command place.mark c (subscriptions_of past c))
+    in-session (clean_session_of (place ∷ past) c) (begins place past c) f (subscriptions_after place.command place.mark c (subscriptions_of past c))
     ∙ ap (in_session (clean_session_of (place ∷ past) c) (begins place past c) None)
     (word-by place.command place.mark c f (subscriptions_of past c)
     ∙ ap (newer_of_two (word_on place.command place.mark c f)) (filter_has_last_granting past c f))

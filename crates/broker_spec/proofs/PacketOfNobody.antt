@@ -1,14 +1,14 @@
 -- A packet on a connection that is no client's current one: nothing changes, and there is no
 -- output.
 use Rattle.std.proofs.Common.{◌≡◌, ℕ, ◌≤◌, Bool, true, false, not, ◌&&◌, nat_lt, if◌then◌else◌, List, [], ◌∷◌, length, Option, Some, None, ◌⊎◌, inl, inr, refl, sym, ◌∙◌, ap, arith, append-nil}
-use Rattle.session_base.specs.Subscriptions.{GrantedFilter}
+use Rattle.session_base.specs.Subscriptions.{GrantedSubscription}
 use Rattle.packet.specs.declared.packet.Packet.{Packet}
 use Rattle.packet.specs.declared.packet.Packet.TheVariants as packets
 use Rattle.retained.specs.Retained.{RetainedTopics}
 use Rattle.broker_spec.specs.Connection.{ConnectionName, same_connection}
 use Rattle.broker_spec.specs.Place.{Client, Mark, Place, Past, Limits, only_if}
 use Rattle.broker_spec.specs.Sessions.{any_connection, current_connection, clean_session_of, newest_clean_session, begins, in_session}
-use Rattle.broker_spec.specs.Subscriptions.{filters_after, subscriptions_of}
+use Rattle.broker_spec.specs.Subscriptions.{subscriptions_after, subscriptions_of}
 use Rattle.broker_spec.specs.Received.{received_by, received_of}
 use Rattle.broker_spec.specs.Retained.{retained_by, retained_publications}
 use Rattle.broker_spec.specs.Entries.{Entry, copies_by}
@@ -23,7 +23,7 @@ use Rattle.broker_spec.proofs.NothingWaits.{IsFull, full-at}
 abbrev pub nobodys : ConnectionName → Packet → Place
 nobodys x packet = record { command = commands.Packet x packet; mark = Mark.Unmarked }
 
-no-subscription : (packet : Packet) (x : ConnectionName) (c : Client) (held : List GrantedFilter) → filters_after (commands.Packet x packet) Mark.Unmarked c held ≡ held
+no-subscription : (packet : Packet) (x : ConnectionName) (c : Client) (held : List GrantedSubscription) → subscriptions_after (commands.Packet x packet) Mark.Unmarked c held ≡ held
 no-subscription (packets.Connect q) x c held = refl
 no-subscription (packets.Connack q) x c held = refl
 no-subscription (packets.Publish p) x c held = refl

@@ -12,7 +12,7 @@ use Rattle.broker_spec.specs.Sessions.{clean_session_of}
 use Rattle.broker_spec.specs.Owner.{clients, owner_of}
 use Rattle.session_base.specs.declared.publication.Publication.{Publication}
 use Rattle.session_base.specs.Publication.{publication_of, is_answered}
-use Rattle.session_base.specs.Subscriptions.{GrantedFilter, is_subscribed, with_subscription}
+use Rattle.session_base.specs.Subscriptions.{GrantedSubscription, is_subscribed, with_subscription}
 use Rattle.broker_spec.specs.Subscriptions.{as_granted, subscriptions_of, effective_qos}
 use Rattle.broker_spec.specs.Received.{is_repeat}
 use Rattle.broker_spec.specs.Retained.{retained_publications, is_retained_over}
@@ -43,7 +43,7 @@ is_refused limits past publication =
 -- ---- filters of a SUBSCRIBE
 
 -- whether one more filter would be one subscription too many: an identical one is only replaced
-abbrev pub is_one_too_many : Limits → List GrantedFilter → Subscription → Bool
+abbrev pub is_one_too_many : Limits → List GrantedSubscription → Subscription → Bool
 is_one_too_many limits granted new =
     not (is_subscribed new.filter granted) && nat_le limits.subscriptions (length granted)
 
@@ -52,7 +52,8 @@ abbrev pub entries_for : RetainedTopics → Subscription → ℕ
 entries_for content new = length (queued (copies_for content new))
 
 -- which filters are granted, one after another, with the subscriptions so far and the room left
-abbrev pub grants : Limits → RetainedTopics → List GrantedFilter → ℕ → List Subscription → List Bool
+abbrev pub grants : Limits → RetainedTopics → List GrantedSubscription → ℕ →
+    List Subscription → List Bool
 grants limits content granted room (new ∷ more) =
     if is_one_too_many limits granted new || nat_lt room (entries_for content new)
     then false ∷ grants limits content granted room more

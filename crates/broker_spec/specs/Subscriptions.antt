@@ -9,17 +9,17 @@ use Rattle.broker_spec.specs.Place.{Client, same_client, Mark, Past}
 use Rattle.broker_spec.specs.Sessions.{clean_session_of, begins, in_session}
 use Rattle.session_base.specs.declared.publication.Publication.{Publication}
 use Rattle.retained.specs.packet_base.QoS.{lower_qos}
-use Rattle.session_base.specs.Subscriptions.{GrantedFilter, with_subscriptions}
+use Rattle.session_base.specs.Subscriptions.{GrantedSubscription, with_subscriptions}
 use Rattle.session_base.specs.Subscriptions.{without_filters, granted_qos}
 use Rattle.broker_spec.specs.declared.command.Command.{Command}
 use Rattle.broker_spec.specs.declared.command.Command.TheVariants as commands
 
 -- a filter of a SUBSCRIBE with the QoS that it asks for, as a session holds it
-abbrev pub as_granted : Subscription → GrantedFilter
+abbrev pub as_granted : Subscription → GrantedSubscription
 as_granted subscription = (subscription.filter, subscription.qos)
 
 -- the QoS at which a session's list has exactly this filter
-abbrev pub qos_asked : List ℕ → List GrantedFilter → Option QoS
+abbrev pub qos_asked : List ℕ → List GrantedSubscription → Option QoS
 qos_asked filter (subscription ∷ more) =
     if bytes_eq filter subscription.0 then Some subscription.1 else qos_asked filter more
 qos_asked filter [] = None
@@ -31,25 +31,26 @@ granted_of (element ∷ more) (granted ∷ others) =
 granted_of _ _ = []
 
 -- the subscriptions after a SUBSCRIBE or UNSUBSCRIBE of the client
-abbrev pub filters_after : Command → Mark → Client → List GrantedFilter → List GrantedFilter
-filters_after (commands.Packet connection (packets.Subscribe subscribe)) (Mark.Granted sender which)
-    client subscriptions =
+abbrev pub subscriptions_after : Command → Mark → Client → List GrantedSubscription →
+    List GrantedSubscription
+subscriptions_after (commands.Packet connection (packets.Subscribe subscribe))
+    (Mark.Granted sender which) client subscriptions =
     if same_client sender client
     then with_subscriptions (map as_granted (granted_of subscribe.filters which)) subscriptions
     else subscriptions
-filters_after (commands.Packet connection (packets.Unsubscribe unsubscribe)) (Mark.Handled sender)
-    client subscriptions =
+subscriptions_after (commands.Packet connection (packets.Unsubscribe unsubscribe))
+    (Mark.Handled sender) client subscriptions =
     if same_client sender client then without_filters unsubscribe.filters subscriptions
     else subscriptions
-filters_after _ _ client subscriptions = subscriptions
+subscriptions_after _ _ client subscriptions = subscriptions
 
 -- The subscriptions of a client's session: each filter with the QoS of its last granting, unless it
 -- was removed since; in the order in which they were first granted.
-unfoldable pub subscriptions_of : Past → Client → List GrantedFilter
+unfoldable pub subscriptions_of : Past → Client → List GrantedSubscription
 subscriptions_of [] client = []
 subscriptions_of (place ∷ past) client =
     in_session (clean_session_of (place ∷ past) client) (begins place past client) []
-    (filters_after place.command place.mark client (subscriptions_of past client))
+    (subscriptions_after place.command place.mark client (subscriptions_of past client))
 
 -- the QoS at which a client's session gets a publication, none if no filter of it matches (MQTT
 -- 3.3.5)

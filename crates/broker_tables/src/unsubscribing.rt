@@ -3,7 +3,7 @@
 ghost use Rattle.std.specs.Prelude.{◌≡◌, Some, OnOk};
 ghost use Rattle.packet.specs.declared.packet.Packet.TheVariants as packets;
 ghost use Rattle.session_base.specs.Subscriptions.{without_filters};
-ghost use Rattle.session_base.specs.Session.{with_filters};
+ghost use Rattle.session_base.specs.Session.{with_granted};
 ghost use Rattle.broker_session.specs.subs_base.ListIndex.{content_of};
 ghost use Rattle.broker_spec.specs.declared.command.Command.TheVariants as commands;
 ghost use Rattle.broker_session.specs.broker_rows.Indexed.{all_cleared};
@@ -45,7 +45,7 @@ impl Tables {
 // Removes these filters from the session, one by one.
 fn unsubscribe_all(session: &mut Session, filters: &[Filter])
     ensures { session.new
-        ≡ with_filters (without_filters filters.now session.old.subscriptions) session.old }
+        ≡ with_granted (without_filters filters.now session.old.subscriptions) session.old }
 {
     for filter in filters {
         session.unsubscribe(filter);

@@ -4,7 +4,7 @@ ghost use Rattle.std.specs.Prelude.{◌≡◌, ◌≤◌, ◌++◌, length, OnOk
 ghost use Rattle.std.specs.List.{flat_map, AllByRecursion};
 ghost use Rattle.packet_base.specs.Spelling.{number};
 ghost use Rattle.session_base.specs.Counted.{counted_bytes};
-ghost use Rattle.session_base.specs.Form.{one_byte, granted_filter_bytes, flight_bytes, publication_bytes};
+ghost use Rattle.session_base.specs.Form.{one_byte, granted_subscription_bytes, flight_bytes, publication_bytes};
 ghost use Rattle.session_base.specs.Form.{state_bytes, HasLength, IsWritable};
 ghost use Rattle.session_base.specs.FormLaws.{HasForm};
 ghost use Rattle.session_base.specs.Identifiers.{max_id};
@@ -16,7 +16,7 @@ use crate::session_queue::SessionQueue;
 use crate::subscriptions::Subscriptions;
 use packet::PacketId;
 use session_base::{
-    Awaits, Publication, write_flight, write_granted_filter, write_number, write_publication,
+    Awaits, Publication, write_flight, write_granted_subscription, write_number, write_publication,
 };
 use std::alloc::AllocError;
 
@@ -40,7 +40,7 @@ impl Subscriptions {
         requires { length self.now ≤ MAX_SUBSCRIPTIONS }
         ensures { OnOk result
             (bytes.new.items ≡ bytes.old.items
-            ++ counted_bytes one_byte granted_filter_bytes self.now) }
+            ++ counted_bytes one_byte granted_subscription_bytes self.now) }
     {
         bytes.push(self.filters.len() as u8)?;
         self.write_each(bytes)
@@ -49,10 +49,10 @@ impl Subscriptions {
     // Appends each filter with its QoS.
     fn write_each(&self, bytes: &mut Vec<u8>) -> Result<(), AllocError>
         ensures { OnOk result
-            (bytes.new.items ≡ bytes.old.items ++ flat_map granted_filter_bytes self.now) }
+            (bytes.new.items ≡ bytes.old.items ++ flat_map granted_subscription_bytes self.now) }
     {
         for (filter, qos) in &self.filters {
-            write_granted_filter(filter, *qos, bytes)?;
+            write_granted_subscription(filter, *qos, bytes)?;
         }
         Ok(())
     }

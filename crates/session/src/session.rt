@@ -8,7 +8,7 @@ ghost use Rattle.session_base.specs.Subscriptions.{is_subscribed, with_subscript
 ghost use Rattle.session_base.specs.Subscriptions.{without_filter, granted_qos};
 ghost use Rattle.session_base.specs.Queue.{on_puback, on_pubrec, on_pubcomp, enqueue, room, filled};
 ghost use Rattle.session_base.specs.Sending.{fill_sends, resend, pubrec_sends};
-ghost use Rattle.session_base.specs.Session.{empty_session, with_filters, with_received};
+ghost use Rattle.session_base.specs.Session.{empty_session, with_granted, with_received};
 ghost use Rattle.session_base.specs.Session.{with_queue, with_flights};
 ghost use Rattle.session.specs.declared.arrival.Arrival.TheVariants.{First, Again};
 ghost use Rattle.session.specs.declared.error.EnqueueError.TheVariants.{QueueFull};
@@ -220,7 +220,7 @@ impl Session {
     pub fn subscribe(&mut self, filter: Filter, qos: QoS) -> Result<(), AllocError>
         ensures ok { OnOk result
             (self.new
-            ≡ with_filters (with_subscription (filter, qos) self.old.subscriptions) self.old) }
+            ≡ with_granted (with_subscription (filter, qos) self.old.subscriptions) self.old) }
         ensures err { OnErr result (self.new ≡ self.old) }
 
         // `Err` only for a new filter.
@@ -232,7 +232,7 @@ impl Session {
     /// Removes a subscription, compared character by character (MQTT 3.10.4).
     pub fn unsubscribe(&mut self, filter: &Filter)
         ensures { self.new
-            ≡ with_filters (without_filter filter.now self.old.subscriptions) self.old }
+            ≡ with_granted (without_filter filter.now self.old.subscriptions) self.old }
     {
         self.subscriptions.remove(filter);
     }

@@ -19,9 +19,9 @@ pub(crate) struct Subscriptions {
 
 impl Model for Subscriptions {
     ghost use Rattle.std.specs.Prelude.{List};
-    ghost use Rattle.session_base.specs.Subscriptions.{GrantedFilter};
+    ghost use Rattle.session_base.specs.Subscriptions.{GrantedSubscription};
 
-    ghost Value = { List GrantedFilter };
+    ghost Value = { List GrantedSubscription };
 
     ghost view = { λ subscriptions. subscriptions.filters.entries };
 }

@@ -6,7 +6,7 @@ ghost use Rattle.std.specs.Ordering.{nat_cmp};
 ghost use Rattle.packet_base.specs.Outcome.{Gives, Reads};
 ghost use Rattle.packet_base.specs.Reading.{byte_at, number_at, id_at};
 ghost use Rattle.session_base.specs.Counted.{counted_items_at, items_after, last_of, AddsItem};
-ghost use Rattle.session_base.specs.Form.{is_new_filter, granted_filter_at, is_above, may_follow, flight_at};
+ghost use Rattle.session_base.specs.Form.{is_new_filter, granted_subscription_at, is_above, may_follow, flight_at};
 ghost use Rattle.session_base.specs.Form.{anything, was_released, waiting_at};
 ghost use Rattle.session_base.specs.SessionForm.{state_at};
 ghost use Rattle.session_base.specs.Identifiers.{max_id};
@@ -23,7 +23,7 @@ use indexmap::IndexMap;
 use packet::{PacketId, QoS};
 use packet_base::{OUT_OF_MEMORY, Reader, Stop};
 use session_base::{
-    Awaits, Publication, check_form, read_flight, read_granted_filter, read_waiting,
+    Awaits, Publication, check_form, read_flight, read_granted_subscription, read_waiting,
 };
 use std::alloc::Global;
 use std::collections::VecDeque;
@@ -34,7 +34,7 @@ impl Subscriptions {
     #[tactic(auto, unfolding(session_base::specs::Counted::counted_items_at))]
     pub(crate) fn read(alloc: Global, reader: &mut Reader) -> Result<Subscriptions, Stop>
         ensures { Reads (λ value. value) result reader.new
-            (counted_items_at byte_at is_new_filter granted_filter_at MAX_SUBSCRIPTIONS
+            (counted_items_at byte_at is_new_filter granted_subscription_at MAX_SUBSCRIPTIONS
             reader.old) }
     {
         let count = reader.byte()?;
@@ -57,11 +57,11 @@ impl Subscriptions {
 // Reads this many filters, each of which is new, with their QoS.
 fn read_filters(alloc: Global, count: u8, reader: &mut Reader) -> Result<Subscriptions, Stop>
     ensures { Reads (λ value. value) result reader.new
-        (items_after is_new_filter granted_filter_at count [] reader.old) }
+        (items_after is_new_filter granted_subscription_at count [] reader.old) }
 {
     let mut read = Subscriptions::new(alloc);
     for _ in 0..count {
-        let (filter, qos) = read_granted_filter(alloc, reader)?;
+        let (filter, qos) = read_granted_subscription(alloc, reader)?;
         read.add(filter, qos)?;
     }
     Ok(read)

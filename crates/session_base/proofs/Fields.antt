@@ -13,10 +13,10 @@ use Rattle.session_base.specs.declared.publication.Publication.{Publication}
 use Rattle.session_base.specs.declared.awaits.Awaits.{Awaits}
 use Rattle.session_base.specs.declared.awaits.Awaits.TheVariants as waits_for
 use Rattle.session_base.specs.Publication.{is_answered, is_qos1}
-use Rattle.session_base.specs.Subscriptions.{GrantedFilter}
+use Rattle.session_base.specs.Subscriptions.{GrantedSubscription}
 use Rattle.session_base.specs.Queue.{Flight}
-use Rattle.session_base.specs.InRange.{CanBeSent, MayWait, IsInFlight, IsGrantedFilter}
-use Rattle.session_base.specs.Form.{long_number, one_byte, publication_bytes, granted_filter_bytes, awaits_bytes, flight_bytes, flag_at, long_number_at, qos_at, body_length, publication_at, granted_filter_at, waiting_at, sent_at, awaits_at, flight_at}
+use Rattle.session_base.specs.InRange.{CanBeSent, MayWait, IsInFlight, IsGrantedSubscription}
+use Rattle.session_base.specs.Form.{long_number, one_byte, publication_bytes, granted_subscription_bytes, awaits_bytes, flight_bytes, flag_at, long_number_at, qos_at, body_length, publication_at, granted_subscription_at, waiting_at, sent_at, awaits_at, flight_at}
 use Rattle.session_base.proofs.Counted.{IsReadAgain}
 
 pub flag_again : (b : Bool) (rest : List ℕ) → flag_at (bit b ∷ rest) ≡ Ok (b, rest)
@@ -79,10 +79,10 @@ waiting_again p h rest = rw (publication_again p h.1 rest, h.0) refl
 
 -- ---- filters
 
-pub held_again : (held : GrantedFilter) → IsGrantedFilter held → IsReadAgain granted_filter_bytes granted_filter_at held
-unfolding granted_filter_at
+pub held_again : (held : GrantedSubscription) → IsGrantedSubscription held → IsReadAgain granted_subscription_bytes granted_subscription_at held
+unfolding granted_subscription_at
 held_again held h rest =
-    ap (λ (z : List ℕ). granted_filter_at z) (append_assoc (text held.0) (one_byte (qos_number held.1)) rest)
+    ap (λ (z : List ℕ). granted_subscription_at z) (append_assoc (text held.0) (one_byte (qos_number held.1)) rest)
     ∙ rw (filter_again held.0 (one_byte (qos_number held.1) ++ rest) h, qos_again held.1 rest) refl
 
 -- ---- entries

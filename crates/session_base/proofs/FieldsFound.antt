@@ -18,10 +18,10 @@ use Rattle.session_base.specs.declared.publication.Publication.{Publication}
 use Rattle.session_base.specs.declared.awaits.Awaits.{Awaits}
 use Rattle.session_base.specs.declared.awaits.Awaits.TheVariants as waits_for
 use Rattle.session_base.specs.Publication.{is_answered, is_qos1}
-use Rattle.session_base.specs.Subscriptions.{GrantedFilter}
+use Rattle.session_base.specs.Subscriptions.{GrantedSubscription}
 use Rattle.session_base.specs.Queue.{Flight}
-use Rattle.session_base.specs.InRange.{CanBeSent, MayWait, IsInFlight, IsGrantedFilter}
-use Rattle.session_base.specs.Form.{flag_at, qos_at, long_number_at, body_length, sized, publication_at, granted_filter_at, waiting_at, sent_at, awaits_at, flight_at}
+use Rattle.session_base.specs.InRange.{CanBeSent, MayWait, IsInFlight, IsGrantedSubscription}
+use Rattle.session_base.specs.Form.{flag_at, qos_at, long_number_at, body_length, sized, publication_at, granted_subscription_at, waiting_at, sent_at, awaits_at, flight_at}
 use Rattle.session_base.proofs.Found.{IsFound, weaker}
 
 -- something that is read, whatever it is
@@ -108,10 +108,10 @@ a_waiting_one bytes fits =
 
 -- ---- filters
 
-pub a_held_one : IsFound granted_filter_at IsGrantedFilter
-unfolding granted_filter_at
+pub a_held_one : IsFound granted_subscription_at IsGrantedSubscription
+unfolding granted_subscription_at
 a_held_one bytes fits =
-    let Q : GrantedFilter × List ℕ → Type 0 = λ x. IsGrantedFilter x.0 × AreBytes x.1 in
+    let Q : GrantedSubscription × List ℕ → Type 0 = λ x. IsGrantedSubscription x.0 × AreBytes x.1 in
     then_if (filter_at bytes) _ (λ x. Splits bytes (text x.0) x.1 × (is_filter x.0 ≡ true)) Q (filter_found bytes fits) (λ filter h.
     then_if (qos_at filter.1) _ (λ x. Unit {0} × AreBytes x.1) Q (a_qos filter.1 h.0.left) (λ qos k. (h.1, k.1)))
 

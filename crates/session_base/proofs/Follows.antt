@@ -8,7 +8,7 @@ use Rattle.std.specs.Ordering.{nat_cmp}
 use Rattle.std.proofs.lemmas.Bool.{or_parts, or_from}
 use Rattle.lists.specs.Lists.{has_id, IsDistinct}
 use Rattle.session_base.specs.declared.publication.Publication.{Publication}
-use Rattle.session_base.specs.Subscriptions.{GrantedFilter, is_subscribed}
+use Rattle.session_base.specs.Subscriptions.{GrantedSubscription, is_subscribed}
 use Rattle.session_base.specs.KeepingLaws.{AreFiltersApart}
 use Rattle.session_base.specs.OrderLaws.{NoneReleased, IsReleasedFirst}
 use Rattle.session_base.specs.Queue.{Flight, ids_of, is_released}
@@ -25,30 +25,30 @@ last_is o (first ∷ front) one = last_is (Some first) front one
 -- ---- filters
 
 -- none of these is held in front
-abbrev NoneHeld : List GrantedFilter → List GrantedFilter → Type 0
-NoneHeld front held = AllByRecursion (λ (one : GrantedFilter). is_subscribed one.0 front ≡ false) held
+abbrev NoneHeld : List GrantedSubscription → List GrantedSubscription → Type 0
+NoneHeld front held = AllByRecursion (λ (one : GrantedSubscription). is_subscribed one.0 front ≡ false) held
 
-held_after : (f : List ℕ) (front : List GrantedFilter) (one : GrantedFilter) → is_subscribed f front ≡ false → bytes_eq f one.0 ≡ false → is_subscribed f (front ++ one ∷ []) ≡ false
+held_after : (f : List ℕ) (front : List GrantedSubscription) (one : GrantedSubscription) → is_subscribed f front ≡ false → bytes_eq f one.0 ≡ false → is_subscribed f (front ++ one ∷ []) ≡ false
 held_after f [] one e k = rw k refl
 held_after f (first ∷ front) one e k =
     let parts = or_parts (bytes_eq f first.0) (is_subscribed f front) e in
     or_from (bytes_eq f first.0) (is_subscribed f (front ++ one ∷ [])) parts.0 (held_after f front one parts.1 k)
 
-none_held : (front : List GrantedFilter) (one : GrantedFilter) (more : List GrantedFilter) → is_subscribed one.0 more ≡ false → NoneHeld front more → NoneHeld (front ++ one ∷ []) more
+none_held : (front : List GrantedSubscription) (one : GrantedSubscription) (more : List GrantedSubscription) → is_subscribed one.0 more ≡ false → NoneHeld front more → NoneHeld (front ++ one ∷ []) more
 none_held front one [] e h = tt
 none_held front one (next ∷ more) e h =
     let parts = or_parts (bytes_eq one.0 next.0) (is_subscribed one.0 more) e in
     (held_after next.0 front one h.0 (turned one.0 next.0 parts.0), none_held front one more parts.1 h.1)
 
-filters_from : (front held : List GrantedFilter) → AreFiltersApart held → NoneHeld front held → AllFollow is_new_filter front held
+filters_from : (front held : List GrantedSubscription) → AreFiltersApart held → NoneHeld front held → AllFollow is_new_filter front held
 filters_from front [] apart none = tt
 filters_from front (one ∷ more) apart none = (ap not none.0, filters_from (front ++ one ∷ []) more apart.1 (none_held front one more apart.0 none.1))
 
-none_at_first : (held : List GrantedFilter) → NoneHeld [] held
+none_at_first : (held : List GrantedSubscription) → NoneHeld [] held
 none_at_first [] = tt
 none_at_first (one ∷ more) = (refl, none_at_first more)
 
-pub filters_follow : (held : List GrantedFilter) → AreFiltersApart held → AllFollow is_new_filter [] held
+pub filters_follow : (held : List GrantedSubscription) → AreFiltersApart held → AllFollow is_new_filter [] held
 filters_follow held apart = filters_from [] held apart (none_at_first held)
 
 -- ---- received identifiers

@@ -9,7 +9,7 @@ use Rattle.std.specs.Ordering.{nat_cmp}
 use Rattle.std.proofs.lemmas.Bool.{or_parts, or_from}
 use Rattle.std.proofs.lemmas.Cmp.{nat_cmp_total}
 use Rattle.lists.specs.Lists.{has_id, IsDistinct}
-use Rattle.session_base.specs.Subscriptions.{GrantedFilter, is_subscribed}
+use Rattle.session_base.specs.Subscriptions.{GrantedSubscription, is_subscribed}
 use Rattle.session_base.specs.KeepingLaws.{AreFiltersApart}
 use Rattle.session_base.specs.OrderLaws.{NoneReleased, IsReleasedFirst}
 use Rattle.session_base.specs.Queue.{Flight, ids_of, is_released}
@@ -26,32 +26,32 @@ off false e = refl
 -- ---- filters
 
 -- what is not after a longer front is not after a shorter one, and is not its last
-split_held : (f : List ℕ) (front : List GrantedFilter) (one : GrantedFilter) → is_subscribed f (front ++ one ∷ []) ≡ false → (is_subscribed f front ≡ false) × (bytes_eq f one.0 ≡ false)
+split_held : (f : List ℕ) (front : List GrantedSubscription) (one : GrantedSubscription) → is_subscribed f (front ++ one ∷ []) ≡ false → (is_subscribed f front ≡ false) × (bytes_eq f one.0 ≡ false)
 split_held f [] one e = (refl, (or_parts (bytes_eq f one.0) false e).0)
 split_held f (first ∷ front) one e =
     let parts = or_parts (bytes_eq f first.0) (is_subscribed f (front ++ one ∷ [])) e in
     let more = split_held f front one parts.1 in (or_from (bytes_eq f first.0) (is_subscribed f front) parts.0 more.0, more.1)
 
 -- none of those that follow is one of those in front
-none_of : (front held : List GrantedFilter) → AllFollow is_new_filter front held → AllByRecursion (λ (one : GrantedFilter). is_subscribed one.0 front ≡ false) held
+none_of : (front held : List GrantedSubscription) → AllFollow is_new_filter front held → AllByRecursion (λ (one : GrantedSubscription). is_subscribed one.0 front ≡ false) held
 none_of front [] h = tt
 none_of front (one ∷ more) h = (off (is_subscribed one.0 front) h.0, shorter more (none_of (front ++ one ∷ []) more h.1))
   where
-    shorter : (more : List GrantedFilter) → AllByRecursion (λ (next : GrantedFilter). is_subscribed next.0 (front ++ one ∷ []) ≡ false) more →
-        AllByRecursion (λ (next : GrantedFilter). is_subscribed next.0 front ≡ false) more
+    shorter : (more : List GrantedSubscription) → AllByRecursion (λ (next : GrantedSubscription). is_subscribed next.0 (front ++ one ∷ []) ≡ false) more →
+        AllByRecursion (λ (next : GrantedSubscription). is_subscribed next.0 front ≡ false) more
     shorter [] h = tt
     shorter (next ∷ more) h = ((split_held next.0 front one h.0).0, shorter more h.1)
 
-filters_apart_from : (front held : List GrantedFilter) → AllFollow is_new_filter front held → AreFiltersApart held
+filters_apart_from : (front held : List GrantedSubscription) → AllFollow is_new_filter front held → AreFiltersApart held
 filters_apart_from front [] h = tt
 filters_apart_from front (one ∷ more) h = (not_after more (none_of (front ++ one ∷ []) more h.1), filters_apart_from (front ++ one ∷ []) more h.1)
   where
-    not_after : (more : List GrantedFilter) → AllByRecursion (λ (next : GrantedFilter). is_subscribed next.0 (front ++ one ∷ []) ≡ false) more → is_subscribed one.0 more ≡ false
+    not_after : (more : List GrantedSubscription) → AllByRecursion (λ (next : GrantedSubscription). is_subscribed next.0 (front ++ one ∷ []) ≡ false) more → is_subscribed one.0 more ≡ false
     not_after [] h = refl
     not_after (next ∷ more) h =
         or_from (bytes_eq one.0 next.0) (is_subscribed one.0 more) (turned next.0 one.0 (split_held next.0 front one h.0).1) (not_after more h.1)
 
-pub filters_are_apart : (held : List GrantedFilter) → AllFollow is_new_filter [] held → AreFiltersApart held
+pub filters_are_apart : (held : List GrantedSubscription) → AllFollow is_new_filter [] held → AreFiltersApart held
 filters_are_apart held h = filters_apart_from [] held h
 
 -- ---- received identifiers

@@ -9,9 +9,9 @@ use Rattle.std.proofs.lemmas.Map.Views.{length-le_from_below}
 use Rattle.packet_base.specs.Spelling.{IsId, number}
 use Rattle.packet_base.specs.Reading.{byte_at, number_at, id_at}
 use Rattle.packet_base.proofs.FieldsAgain.{number_again, id_again}
-use Rattle.session_base.specs.InRange.{IsGrantedFilter, IsInFlight, MayWait}
+use Rattle.session_base.specs.InRange.{IsGrantedSubscription, IsInFlight, MayWait}
 use Rattle.session_base.specs.Counted.{counted_bytes}
-use Rattle.session_base.specs.Form.{one_byte, granted_filter_bytes, flight_bytes, publication_bytes, granted_filter_at, flight_at, waiting_at, is_new_filter, is_above, may_follow, anything}
+use Rattle.session_base.specs.Form.{one_byte, granted_subscription_bytes, flight_bytes, publication_bytes, granted_subscription_at, flight_at, waiting_at, is_new_filter, is_above, may_follow, anything}
 use Rattle.session_base.specs.SessionForm.{state_at}
 use Rattle.session_base.specs.FormLaws.{FrozenIsRead}
 use Rattle.session_base.proofs.Counted.{IsReadAgain, counted_again}
@@ -43,14 +43,14 @@ pub frozen_is_read : FrozenIsRead
 unfolding state_at
 frozen_is_read window small s rest h fits =
     let few = h.queue.few in
-    let a = counted_bytes one_byte granted_filter_bytes s.subscriptions in
+    let a = counted_bytes one_byte granted_subscription_bytes s.subscriptions in
     let b = counted_bytes number number s.received in
     let c = counted_bytes number flight_bytes s.queue.in_flight in
     let d = counted_bytes number publication_bytes s.queue.waiting in
     ap (λ (z : List ℕ). state_at window z) (regrouped a b c d rest)
     ∙ rw (
-      counted_again one_byte byte_at is_new_filter granted_filter_bytes granted_filter_at 64 s.subscriptions (b ++ (c ++ (d ++ rest)))
-          (λ n small rest. refl) h.few_filters (each IsGrantedFilter (IsReadAgain granted_filter_bytes granted_filter_at) held_again s.subscriptions h.filters)
+      counted_again one_byte byte_at is_new_filter granted_subscription_bytes granted_subscription_at 64 s.subscriptions (b ++ (c ++ (d ++ rest)))
+          (λ n small rest. refl) h.few_filters (each IsGrantedSubscription (IsReadAgain granted_subscription_bytes granted_subscription_at) held_again s.subscriptions h.filters)
           (filters_follow s.subscriptions h.filters_apart),
       counted_again number number_at is_above number id_at 65535 s.received (c ++ (d ++ rest))
           (λ n small rest. number_again n rest (omega (arith, small))) (few_ids s.received h.rising h.received)

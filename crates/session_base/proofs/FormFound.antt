@@ -4,9 +4,9 @@ use Rattle.packet_base.specs.Spelling.{IsId}
 use Rattle.packet_base.specs.Reading.{AreBytes, byte_at, number_at, id_at}
 use Rattle.packet_base.proofs.Steps.{then_if}
 use Rattle.session_base.specs.Session.{SessionState}
-use Rattle.session_base.specs.InRange.{IsGrantedFilter, IsInFlight, MayWait}
+use Rattle.session_base.specs.InRange.{IsGrantedSubscription, IsInFlight, MayWait}
 use Rattle.session_base.specs.Counted.{counted_items_at}
-use Rattle.session_base.specs.Form.{granted_filter_at, flight_at, waiting_at, is_new_filter, is_above, may_follow, anything}
+use Rattle.session_base.specs.Form.{granted_subscription_at, flight_at, waiting_at, is_new_filter, is_above, may_follow, anything}
 use Rattle.session_base.specs.SessionForm.{state_at}
 use Rattle.session_base.specs.FormLaws.{HasForm, FitsIn, ReadHasForm}
 use Rattle.session_base.proofs.Found.{AreRead, counted_found}
@@ -17,8 +17,8 @@ pub read_has_form : ReadHasForm
 unfolding state_at
 read_has_form window small bytes fits =
     let Q : SessionState × List ℕ → Type 0 = λ x. HasForm x.0 × FitsIn window x.0 × AreBytes x.1 in
-    then_if (counted_items_at byte_at is_new_filter granted_filter_at 64 bytes) _ (λ x. AreRead is_new_filter IsGrantedFilter 64 x.0 × AreBytes x.1) Q
-    (counted_found byte_at is_new_filter granted_filter_at IsGrantedFilter 64 a_byte a_held_one bytes fits) (λ filters a.
+    then_if (counted_items_at byte_at is_new_filter granted_subscription_at 64 bytes) _ (λ x. AreRead is_new_filter IsGrantedSubscription 64 x.0 × AreBytes x.1) Q
+    (counted_found byte_at is_new_filter granted_subscription_at IsGrantedSubscription 64 a_byte a_held_one bytes fits) (λ filters a.
     then_if (counted_items_at number_at is_above id_at 65535 filters.1) _ (λ x. AreRead is_above IsId 65535 x.0 × AreBytes x.1) Q
     (counted_found number_at is_above id_at IsId 65535 a_number an_id filters.1 a.1) (λ ids b.
     then_if (counted_items_at number_at may_follow flight_at window ids.1) _ (λ x. AreRead may_follow IsInFlight window x.0 × AreBytes x.1) Q

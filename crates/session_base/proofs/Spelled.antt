@@ -20,7 +20,7 @@ use Rattle.session_base.specs.declared.awaits.Awaits.TheVariants as waits_for
 use Rattle.session_base.specs.Publication.{is_answered, is_qos1}
 use Rattle.session_base.specs.Session.{SessionState}
 use Rattle.session_base.specs.Counted.{counted_bytes, counted_items_at, items_after}
-use Rattle.session_base.specs.Form.{long_number, one_byte, publication_bytes, granted_filter_bytes, awaits_bytes, flight_bytes, state_bytes, flag_at, long_number_at, qos_at, body_length, sized, publication_at, granted_filter_at, waiting_at, sent_at, awaits_at, flight_at, is_new_filter, is_above, may_follow, anything}
+use Rattle.session_base.specs.Form.{long_number, one_byte, publication_bytes, granted_subscription_bytes, awaits_bytes, flight_bytes, state_bytes, flag_at, long_number_at, qos_at, body_length, sized, publication_at, granted_subscription_at, waiting_at, sent_at, awaits_at, flight_at, is_new_filter, is_above, may_follow, anything}
 use Rattle.session_base.specs.SessionForm.{state_at}
 use Rattle.session_base.specs.FormLaws.{ReadIsFrozen}
 use Rattle.session_base.proofs.Found.{weaker}
@@ -111,11 +111,11 @@ waiting_spelled given fits =
     then_if (publication_at given) _ (λ x. Splits given (publication_bytes x.0) x.1) Q (publication_spelled given fits) (λ p h.
     check_if (is_answered p.0.qos) _ _ Q (λ test. h))
 
-pub held_spelled : IsSpelled granted_filter_bytes granted_filter_at
-unfolding granted_filter_at
+pub held_spelled : IsSpelled granted_subscription_bytes granted_subscription_at
+unfolding granted_subscription_at
 held_spelled given fits =
-    then_if (filter_at given) _ (λ x. Splits given (text x.0) x.1 × (is_filter x.0 ≡ true)) (λ x. Splits given (granted_filter_bytes x.0) x.1) (filter_found given fits) (λ filter h.
-    then_if (qos_at filter.1) _ (λ x. Splits filter.1 (qos_byte x.0) x.1) (λ x. Splits given (granted_filter_bytes x.0) x.1) (qos_spelled filter.1 h.0.left) (λ qos k.
+    then_if (filter_at given) _ (λ x. Splits given (text x.0) x.1 × (is_filter x.0 ≡ true)) (λ x. Splits given (granted_subscription_bytes x.0) x.1) (filter_found given fits) (λ filter h.
+    then_if (qos_at filter.1) _ (λ x. Splits filter.1 (qos_byte x.0) x.1) (λ x. Splits given (granted_subscription_bytes x.0) x.1) (qos_spelled filter.1 h.0.left) (λ qos k.
     Splits-then given (text filter.0) filter.1 (qos_byte qos.0) qos.1 h.0 k))
 
 -- ---- entries
@@ -202,8 +202,8 @@ pub state_spelled : (window : ℕ) → IsSpelled state_bytes (state_at window)
 unfolding state_at
 state_spelled window given fits =
     let Q : SessionState × List ℕ → Type 0 = λ x. Splits given (state_bytes x.0) x.1 in
-    then_if (counted_items_at byte_at is_new_filter granted_filter_at 64 given) _ (λ x. Splits given (counted_bytes one_byte granted_filter_bytes x.0) x.1) Q
-    (counted_spelled one_byte byte_at is_new_filter granted_filter_bytes granted_filter_at 64 byte_spelled held_spelled given fits) (λ filters a.
+    then_if (counted_items_at byte_at is_new_filter granted_subscription_at 64 given) _ (λ x. Splits given (counted_bytes one_byte granted_subscription_bytes x.0) x.1) Q
+    (counted_spelled one_byte byte_at is_new_filter granted_subscription_bytes granted_subscription_at 64 byte_spelled held_spelled given fits) (λ filters a.
     then_if (counted_items_at number_at is_above id_at 65535 filters.1) _ (λ x. Splits filters.1 (counted_bytes number number x.0) x.1) Q
     (counted_spelled number number_at is_above number id_at 65535 number_spelled id_spelled filters.1 a.left) (λ ids b.
     then_if (counted_items_at number_at may_follow flight_at window ids.1) _ (λ x. Splits ids.1 (counted_bytes number flight_bytes x.0) x.1) Q
@@ -213,7 +213,7 @@ state_spelled window given fits =
     let queue = Splits-then ids.1 (counted_bytes number flight_bytes flights.0) flights.1 (counted_bytes number publication_bytes waiting.0) waiting.1 c d in
     let rest = Splits-then filters.1 (counted_bytes number number ids.0) ids.1
     (counted_bytes number flight_bytes flights.0 ++ counted_bytes number publication_bytes waiting.0) waiting.1 b queue in
-    Splits-then given (counted_bytes one_byte granted_filter_bytes filters.0) filters.1
+    Splits-then given (counted_bytes one_byte granted_subscription_bytes filters.0) filters.1
     (counted_bytes number number ids.0 ++ (counted_bytes number flight_bytes flights.0 ++ counted_bytes number publication_bytes waiting.0)) waiting.1 a rest))))
 
 pub read_is_frozen : ReadIsFrozen

@@ -2,12 +2,12 @@
 use Rattle.std.specs.Prelude.{ℕ, Bool, true, not, ◌&&◌, ◌||◌, nat_lt, List, Option, Some, None}
 use Rattle.lists.specs.Lists.{has_id}
 use Rattle.session_base.specs.declared.publication.Publication.{Publication}
-use Rattle.session_base.specs.Subscriptions.{GrantedFilter, is_subscribed}
+use Rattle.session_base.specs.Subscriptions.{GrantedSubscription, is_subscribed}
 use Rattle.session_base.specs.Queue.{Flight, ids_of, is_released}
 use Rattle.session_base.specs.Counted.{last_of}
 
 -- a filter that the session does not have yet
-abbrev pub is_new_filter : List GrantedFilter → GrantedFilter → Bool
+abbrev pub is_new_filter : List GrantedSubscription → GrantedSubscription → Bool
 is_new_filter front granted = not (is_subscribed granted.0 front)
 
 -- an identifier above the last one, if there is one

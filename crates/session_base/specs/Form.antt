@@ -13,10 +13,10 @@ use Rattle.session_base.specs.declared.publication.Publication.{Publication}
 use Rattle.session_base.specs.declared.awaits.Awaits.{Awaits}
 use Rattle.session_base.specs.declared.awaits.Awaits.TheVariants as waits_for
 use Rattle.session_base.specs.Publication.{is_answered, is_qos1}
-use Rattle.session_base.specs.Subscriptions.{GrantedFilter}
+use Rattle.session_base.specs.Subscriptions.{GrantedSubscription}
 use Rattle.session_base.specs.Queue.{Flight}
 use Rattle.session_base.specs.Counted.{check_form}
-pub use Rattle.session_base.specs.Writing.{long_number, one_byte, publication_bytes, granted_filter_bytes}
+pub use Rattle.session_base.specs.Writing.{long_number, one_byte, publication_bytes, granted_subscription_bytes}
 pub use Rattle.session_base.specs.Writing.{awaits_bytes, flight_bytes, state_bytes, HasLength, IsWritable}
 pub use Rattle.session_base.specs.Follows.{is_new_filter, is_above_last, is_above, was_released}
 pub use Rattle.session_base.specs.Follows.{may_follow, anything}
@@ -67,8 +67,8 @@ publication_at bytes = do
   Ok (publication, payload.1)
 
 -- a filter with its QoS
-unfoldable pub granted_filter_at : List ℕ → Result (GrantedFilter × List ℕ) Stop
-granted_filter_at bytes = do
+unfoldable pub granted_subscription_at : List ℕ → Result (GrantedSubscription × List ℕ) Stop
+granted_subscription_at bytes = do
   filter ← filter_at bytes
   qos ← qos_at filter.1
   Ok ((filter.0, qos.0), qos.1)

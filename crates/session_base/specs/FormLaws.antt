@@ -10,7 +10,7 @@ use Rattle.session_base.specs.KeepingLaws.{AreFiltersApart}
 use Rattle.session_base.specs.OrderLaws.{IsReleasedFirst}
 use Rattle.session_base.specs.Queue.{ids_of}
 use Rattle.session_base.specs.Session.{SessionState, max_entries, max_subscriptions}
-use Rattle.session_base.specs.InRange.{IsGrantedFilter, IsQueue}
+use Rattle.session_base.specs.InRange.{IsGrantedSubscription, IsQueue}
 use Rattle.session_base.specs.Form.{state_bytes}
 use Rattle.session_base.specs.SessionForm.{state_at}
 
@@ -18,7 +18,7 @@ use Rattle.session_base.specs.SessionForm.{state_at}
 -- distinct, the released entries first, no more of each than it may hold, and each in its range
 pub record HasForm (session : SessionState) : Type 0 where
   pub filters_apart : AreFiltersApart session.subscriptions
-  pub filters : AllByRecursion IsGrantedFilter session.subscriptions
+  pub filters : AllByRecursion IsGrantedSubscription session.subscriptions
   pub few_filters : length session.subscriptions ≤ max_subscriptions
   pub rising : IsStrictlySortedBy nat_cmp session.received
   pub received : AllByRecursion IsId session.received

@@ -10,7 +10,7 @@ use Rattle.packet_base.specs.declared.qos.QoS.TheVariants as qualities
 use Rattle.session_base.specs.declared.publication.Publication.{Publication}
 use Rattle.session_base.specs.declared.awaits.Awaits.TheVariants as waits_for
 use Rattle.session_base.specs.Publication.{publish_for, is_answered}
-use Rattle.session_base.specs.Subscriptions.{GrantedFilter}
+use Rattle.session_base.specs.Subscriptions.{GrantedSubscription}
 use Rattle.session_base.specs.Queue.{Flight, Queue}
 
 -- a publication whose PUBLISH can be spelled: a topic name, and a packet within the limit
@@ -30,8 +30,8 @@ IsInFlight (id, waits_for.Pubrec publication) =
 IsInFlight (id, waits_for.Pubcomp) = IsId id
 
 -- a subscription: a filter that is lawful
-abbrev pub IsGrantedFilter : GrantedFilter → Type 0
-IsGrantedFilter granted = IsTrue (is_filter granted.0)
+abbrev pub IsGrantedSubscription : GrantedSubscription → Type 0
+IsGrantedSubscription granted = IsTrue (is_filter granted.0)
 
 -- a queue of no more entries than the limit, each in its range
 pub record IsQueue (limit : ℕ) (queue : Queue) : Type 0 where

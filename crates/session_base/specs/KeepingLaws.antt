@@ -4,10 +4,10 @@ use Rattle.std.specs.Prelude.{◌≡◌, ℕ, false, if◌then◌else◌, List, 
 use Rattle.std.specs.List.Sorted.{IsStrictlySortedBy}
 use Rattle.std.specs.Ordering.{nat_cmp}
 use Rattle.session_base.specs.Identifiers.{with_id, without_id}
-use Rattle.session_base.specs.Subscriptions.{GrantedFilter, is_subscribed, with_subscription, without_filter}
+use Rattle.session_base.specs.Subscriptions.{GrantedSubscription, is_subscribed, with_subscription, without_filter}
 
 -- no filter occurs twice
-abbrev pub AreFiltersApart : List GrantedFilter → Type 0
+abbrev pub AreFiltersApart : List GrantedSubscription → Type 0
 AreFiltersApart (granted ∷ others) =
     (is_subscribed granted.0 others ≡ false) × AreFiltersApart others
 AreFiltersApart [] = Unit {0}
@@ -15,8 +15,8 @@ AreFiltersApart [] = Unit {0}
 -- a granting and a giving up keep it so
 abbrev pub FiltersStayApart : Type 0
 FiltersStayApart =
-    (granted : List GrantedFilter) → AreFiltersApart granted →
-    ((new : GrantedFilter) → AreFiltersApart (with_subscription new granted))
+    (granted : List GrantedSubscription) → AreFiltersApart granted →
+    ((new : GrantedSubscription) → AreFiltersApart (with_subscription new granted))
     × ((given_up : List ℕ) → AreFiltersApart (without_filter given_up granted))
 
 -- received identifiers stay in rising order, each once
@@ -26,12 +26,12 @@ ReceivedStayRising =
     IsStrictlySortedBy nat_cmp (with_id id ids) × IsStrictlySortedBy nat_cmp (without_id id ids)
 
 -- the filters alone, in order
-abbrev pub filters_of : List GrantedFilter → List (List ℕ)
+abbrev pub filters_of : List GrantedSubscription → List (List ℕ)
 filters_of = map (λ granted. granted.0)
 
 -- a filter that the session has keeps its place, and a new one comes last (MQTT 3.8.4)
 abbrev pub FiltersKeepTheirOrder : Type 0
 FiltersKeepTheirOrder =
-    (new : GrantedFilter) → (granted : List GrantedFilter) →
+    (new : GrantedSubscription) → (granted : List GrantedSubscription) →
     filters_of (with_subscription new granted)
     ≡ (if is_subscribed new.0 granted then filters_of granted else filters_of granted ++ new.0 ∷ [])

@@ -1,12 +1,12 @@
 -- What is in one client's session (MQTT 3.1.2.4, 4.1): the record that a `Session` shows.
 use Rattle.std.specs.Prelude.{ℕ, List, []}
-use Rattle.session_base.specs.Subscriptions.{GrantedFilter}
+use Rattle.session_base.specs.Subscriptions.{GrantedSubscription}
 use Rattle.session_base.specs.Queue.{Flight, Queue, empty_queue}
 
 -- a session's subscriptions, the identifiers of QoS 2 publications that were received and have no
 -- PUBREL, in rising order, and what is to be sent
 pub record SessionState : Type 0 where
-  pub subscriptions : List GrantedFilter
+  pub subscriptions : List GrantedSubscription
   pub received : List ℕ
   pub queue : Queue
 
@@ -23,8 +23,8 @@ abbrev pub empty_session : SessionState
 empty_session = record { subscriptions = []; received = []; queue = empty_queue }
 
 -- a session with these subscriptions, and all else as it was
-abbrev pub with_filters : List GrantedFilter → SessionState → SessionState
-with_filters filters old =
+abbrev pub with_granted : List GrantedSubscription → SessionState → SessionState
+with_granted filters old =
     record { subscriptions = filters; received = old.received; queue = old.queue }
 
 -- a session with these received identifiers, and all else as it was

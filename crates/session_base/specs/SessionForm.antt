@@ -8,13 +8,14 @@ use Rattle.session_base.specs.Session.{SessionState, max_entries, max_subscripti
 use Rattle.session_base.specs.Counted.{counted_items_at}
 use Rattle.session_base.specs.Follows.{is_new_filter, is_above}
 use Rattle.session_base.specs.Follows.{may_follow, anything}
-use Rattle.session_base.specs.Form.{granted_filter_at, waiting_at, flight_at}
+use Rattle.session_base.specs.Form.{granted_subscription_at, waiting_at, flight_at}
 
 -- at most 64 subscriptions, no more entries in flight than this window, and 4,096 entries in flight
 -- and waiting
 unfoldable pub state_at : ℕ → List ℕ → Result (SessionState × List ℕ) Stop
 state_at window bytes = do
-  subscriptions ← counted_items_at byte_at is_new_filter granted_filter_at max_subscriptions bytes
+  subscriptions ← counted_items_at byte_at is_new_filter granted_subscription_at
+      max_subscriptions bytes
   received ← counted_items_at number_at is_above id_at max_id subscriptions.1
   in_flight ← counted_items_at number_at may_follow flight_at window received.1
   waiting ← counted_items_at number_at anything waiting_at

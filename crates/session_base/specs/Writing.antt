@@ -7,7 +7,7 @@ use Rattle.packet_base.specs.QoS.{qos_number}
 use Rattle.session_base.specs.declared.publication.Publication.{Publication}
 use Rattle.session_base.specs.declared.awaits.Awaits.{Awaits}
 use Rattle.session_base.specs.declared.awaits.Awaits.TheVariants as waits_for
-use Rattle.session_base.specs.Subscriptions.{GrantedFilter}
+use Rattle.session_base.specs.Subscriptions.{GrantedSubscription}
 use Rattle.session_base.specs.Queue.{Flight}
 use Rattle.session_base.specs.Session.{SessionState}
 use Rattle.session_base.specs.Counted.{counted_bytes}
@@ -27,8 +27,8 @@ publication_bytes publication =
     ∷ (text publication.topic ++ (long_number (length publication.payload) ++ publication.payload))
 
 -- a filter with its QoS
-abbrev pub granted_filter_bytes : GrantedFilter → List ℕ
-granted_filter_bytes granted = text granted.0 ++ one_byte (qos_number granted.1)
+abbrev pub granted_subscription_bytes : GrantedSubscription → List ℕ
+granted_subscription_bytes granted = text granted.0 ++ one_byte (qos_number granted.1)
 
 -- what an entry waits for: 0 PUBACK, 1 PUBREC, 2 PUBCOMP, with its publication if it still has one
 abbrev pub awaits_bytes : Awaits → List ℕ
@@ -44,7 +44,7 @@ flight_bytes flight = number flight.0 ++ awaits_bytes flight.1
 -- waits
 abbrev pub state_bytes : SessionState → List ℕ
 state_bytes session =
-    counted_bytes one_byte granted_filter_bytes session.subscriptions
+    counted_bytes one_byte granted_subscription_bytes session.subscriptions
     ++ (counted_bytes number number session.received
     ++ (counted_bytes number flight_bytes session.queue.in_flight
     ++ counted_bytes number publication_bytes session.queue.waiting))

@@ -19,10 +19,11 @@ pub use laws::{
 };
 pub use publication::{Publication, delivery};
 pub use reading::{
-    body_length, check_form, payload_of, read_flag, read_flight, read_granted_filter,
+    body_length, check_form, payload_of, read_flag, read_flight, read_granted_subscription,
     read_long_number, read_publication, read_qos, read_waiting,
 };
 pub use rows::bodies_are_counted;
 pub use writing::{
-    write_flight, write_granted_filter, write_number, write_payload, write_publication, write_text,
+    write_flight, write_granted_subscription, write_number, write_payload, write_publication,
+    write_text,
 };

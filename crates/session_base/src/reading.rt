@@ -6,7 +6,7 @@ ghost use Rattle.packet.specs.Spelling.{max_body};
 ghost use Rattle.packet_base.specs.Outcome.{Gives, Reads};
 ghost use Rattle.session_base.specs.Counted.{check_form};
 ghost use Rattle.session_base.specs.Form.{flag_at, long_number_at, qos_at, body_length};
-ghost use Rattle.session_base.specs.Form.{publication_at, granted_filter_at, waiting_at, sent_at};
+ghost use Rattle.session_base.specs.Form.{publication_at, granted_subscription_at, waiting_at, sent_at};
 ghost use Rattle.session_base.specs.Form.{awaits_at, flight_at};
 
 use crate::{Awaits, Publication};
@@ -95,9 +95,9 @@ pub fn body_length(publication: &Publication) -> usize
 }
 
 /// Reads a filter with its QoS.
-#[tactic(auto, unfolding(crate::specs::Form::granted_filter_at))]
-pub fn read_granted_filter(alloc: Global, reader: &mut Reader) -> Result<(Filter, QoS), Stop>
-    ensures { Reads (λ value. value) result reader.new (granted_filter_at reader.old) }
+#[tactic(auto, unfolding(crate::specs::Form::granted_subscription_at))]
+pub fn read_granted_subscription(alloc: Global, reader: &mut Reader) -> Result<(Filter, QoS), Stop>
+    ensures { Reads (λ value. value) result reader.new (granted_subscription_at reader.old) }
 {
     let filter = reader.filter(alloc)?;
     let qos = read_qos(reader)?;

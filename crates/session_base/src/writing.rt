@@ -2,7 +2,7 @@
 
 ghost use Rattle.std.specs.Prelude.{◌≡◌, ◌<◌, ◌^◌, ◌++◌, length, OnOk};
 ghost use Rattle.packet_base.specs.Spelling.{number, text};
-ghost use Rattle.session_base.specs.Form.{long_number, publication_bytes, granted_filter_bytes, flight_bytes};
+ghost use Rattle.session_base.specs.Form.{long_number, publication_bytes, granted_subscription_bytes, flight_bytes};
 ghost use Rattle.session_base.specs.Form.{HasLength, IsWritable};
 
 use crate::{Awaits, Publication};
@@ -50,13 +50,13 @@ pub fn write_publication(publication: &Publication, bytes: &mut Vec<u8>) -> Resu
 }
 
 /// Appends a filter with its QoS.
-pub fn write_granted_filter(
+pub fn write_granted_subscription(
     filter: &Filter,
     qos: QoS,
     bytes: &mut Vec<u8>,
 ) -> Result<(), AllocError>
     ensures { OnOk result
-        (bytes.new.items ≡ bytes.old.items ++ granted_filter_bytes (filter.now, qos)) }
+        (bytes.new.items ≡ bytes.old.items ++ granted_subscription_bytes (filter.now, qos)) }
 {
     write_text(filter.as_str(), bytes)?;
     bytes.push(qos.number())?;

@@ -7,7 +7,7 @@ use Rattle.session_base.specs.Queue.{Flight, on_puback, on_pubrec, on_pubcomp}
 use Rattle.broker_spec.specs.Connection.{ConnectionName}
 use Rattle.broker_spec.specs.Place.{Client, same_client, Mark, Place, only_if}
 use Rattle.broker_spec.specs.Sessions.{accepts, expels, ends_any}
-use Rattle.broker_spec.specs.Subscriptions.{filters_after}
+use Rattle.broker_spec.specs.Subscriptions.{subscriptions_after}
 use Rattle.broker_spec.specs.Received.{received_by}
 use Rattle.broker_spec.specs.Entries.{queued}
 use Rattle.broker_base.specs.ClientSession.{ClientSession}
@@ -32,7 +32,7 @@ filled_kept window place content c clean connection old =
       clean = clean;
       connection = connection;
       state = record {
-        subscriptions = filters_after place.command place.mark c old.state.subscriptions;
+        subscriptions = subscriptions_after place.command place.mark c old.state.subscriptions;
         received = received_by place.command place.mark c old.state.received;
         queue = filled_on connection window
             (answered_flights place.command place.mark c old.state.queue.in_flight)

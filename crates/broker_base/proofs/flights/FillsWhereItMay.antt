@@ -5,13 +5,13 @@ use Rattle.session_base.specs.packet.declared.packet.Packet.TheVariants as packe
 use Rattle.broker_spec.specs.retained.Retained.{RetainedTopics}
 use Rattle.session_base.specs.declared.publication.Publication.{Publication}
 use Rattle.session_base.specs.Laws.{IsFilledQueue}
-use Rattle.session_base.specs.Subscriptions.{GrantedFilter}
+use Rattle.session_base.specs.Subscriptions.{GrantedSubscription}
 use Rattle.session_base.specs.Queue.{Flight, on_puback, on_pubrec, on_pubcomp, fill}
 use Rattle.session_base.proofs.CopiesOneByOne.{fill_quiet, copies_are_one_fill}
 use Rattle.broker_spec.specs.Connection.{ConnectionName}
 use Rattle.broker_spec.specs.Place.{Client, same_client, Mark, Place, only_if}
 use Rattle.broker_spec.specs.Sessions.{expels, ends_any}
-use Rattle.broker_spec.specs.Subscriptions.{filters_after}
+use Rattle.broker_spec.specs.Subscriptions.{subscriptions_after}
 use Rattle.broker_spec.specs.Received.{received_by}
 use Rattle.broker_spec.specs.Entries.{queued}
 use Rattle.broker_base.specs.ClientSession.{ClientSession}
@@ -58,7 +58,7 @@ releases w i true (Some x) fs ms h =
     ∙ fill_quiet w (on_pubrec i fs) ms (still_quiet w fs (on_pubrec i fs) ms ((h x refl).1 i) (h x refl).0)
 releases w i false (Some x) fs ms h = ap (fill w fs) (append_none ms) ∙ fill_quiet w fs ms (h x refl).0
 
-queues_same : (w : ℕ) (command : Command) (mark : Mark) (content : RetainedTopics) (c : Client) (connection : Option ConnectionName) (held : List GrantedFilter) (fs : List Flight) (ms : List Publication) →
+queues_same : (w : ℕ) (command : Command) (mark : Mark) (content : RetainedTopics) (c : Client) (connection : Option ConnectionName) (held : List GrantedSubscription) (fs : List Flight) (ms : List Publication) →
     ((x : ConnectionName) → connection ≡ Some x → IsAtRest w fs ms) →
     filled_on connection w (answered_flights command mark c fs) (ms ++ queued (copies_with command mark content c held))
     ≡ copied_queue w connection (copies_with command mark content c held) (answered_queue w command mark c connection (record { in_flight = fs; waiting = ms }))
@@ -83,7 +83,7 @@ later_same w place content c (Some old) h =
       clean = old.clean;
       connection = only_if (not (ends_any place c old.connection)) old.connection;
       state = record {
-        subscriptions = filters_after place.command place.mark c old.state.subscriptions;
+        subscriptions = subscriptions_after place.command place.mark c old.state.subscriptions;
         received = received_by place.command place.mark c old.state.received;
         queue = q;
       };

@@ -3,7 +3,7 @@ use Rattle.std.proofs.Common.{◌≡◌, ℕ, Bool, true, false, ◌&&◌, if◌
 use Rattle.std.specs.Prelude.{bytes_eq}
 use Rattle.std.specs.Cmp.Lexicographic.{bytes_decides, texts_ties}
 use Rattle.subs_base.specs.packet_base.declared.qos.QoS.{QoS}
-use Rattle.broker_spec.specs.session_base.Subscriptions.{GrantedFilter, with_subscription, with_subscriptions, without_filter, without_filters}
+use Rattle.broker_spec.specs.session_base.Subscriptions.{GrantedSubscription, with_subscription, with_subscriptions, without_filter, without_filters}
 use Rattle.broker_spec.specs.Place.{Client, same_client}
 use Rattle.broker_base.specs.ClientSession.{ClientSession}
 use Rattle.broker_base.specs.State.{Sessions, session_in}
@@ -26,7 +26,7 @@ content_now d o rows after now c f = ap (subscribed_in f) (now c) ∙ by (same_c
     by false = refl
 
 -- the content with these subscriptions of the client
-abbrev with_held : Client → List GrantedFilter → Content → Content
+abbrev with_held : Client → List GrantedSubscription → Content → Content
 with_held d held content c f = if bytes_eq d c then qos_asked f held else content c f
 
 -- if the client has them already
@@ -41,7 +41,7 @@ held_already d old rows found = λ i c f. at c f i
         by false e = refl
 
 -- one is set
-set_one : (d : Client) (new : GrantedFilter) (held : List GrantedFilter) (content : Content) →
+set_one : (d : Client) (new : GrantedSubscription) (held : List GrantedSubscription) (content : Content) →
     with_row (with_held d held content) d new.0 new.1 ≡ with_held d (with_subscription new held) content
 set_one d new held content = λ i c f. by c f (bytes_eq d c) i
   where
@@ -52,12 +52,12 @@ set_one d new held content = λ i c f. by c f (bytes_eq d c) i
     by c f false = refl
 
 -- all are set
-set_all : (d : Client) (more held : List GrantedFilter) (content : Content) → all_set d more (with_held d held content) ≡ with_held d (with_subscriptions more held) content
+set_all : (d : Client) (more held : List GrantedSubscription) (content : Content) → all_set d more (with_held d held content) ≡ with_held d (with_subscriptions more held) content
 set_all d [] held content = refl
 set_all d (new ∷ more) held content = ap (all_set d more) (set_one d new held content) ∙ set_all d more (with_subscription new held) content
 
 -- one is given up
-clear_one : (d : Client) (g : List ℕ) (held : List GrantedFilter) (content : Content) →
+clear_one : (d : Client) (g : List ℕ) (held : List GrantedSubscription) (content : Content) →
     without_row (with_held d held content) d g ≡ with_held d (without_filter g held) content
 clear_one d g held content = λ i c f. by c f (bytes_eq d c) i
   where
@@ -68,7 +68,7 @@ clear_one d g held content = λ i c f. by c f (bytes_eq d c) i
     by c f false = refl
 
 -- all are given up
-clear_all : (d : Client) (more : List (List ℕ)) (held : List GrantedFilter) (content : Content) →
+clear_all : (d : Client) (more : List (List ℕ)) (held : List GrantedSubscription) (content : Content) →
     all_cleared d more (with_held d held content) ≡ with_held d (without_filters more held) content
 clear_all d [] held content = refl
 clear_all d (g ∷ more) held content = ap (all_cleared d more) (clear_one d g held content) ∙ clear_all d more (without_filter g held) content
@@ -86,7 +86,7 @@ content_stays d old new rows after now found same =
     held_now d new rows after now ∙ ap (λ held. with_held d held (content_in rows)) same ∙ sym (held_already d old rows found)
 
 -- set each filter that is granted
-pub content_set : (d : Client) (old new : ClientSession) (granted : List GrantedFilter) (rows after : Sessions) → HasNow d (Some new) rows after → session_in d rows ≡ Some old →
+pub content_set : (d : Client) (old new : ClientSession) (granted : List GrantedSubscription) (rows after : Sessions) → HasNow d (Some new) rows after → session_in d rows ≡ Some old →
     new.state.subscriptions ≡ with_subscriptions granted old.state.subscriptions → content_in after ≡ all_set d granted (content_in rows)
 content_set d old new granted rows after now found is =
     held_now d new rows after now ∙ ap (λ held. with_held d held (content_in rows)) is

@@ -3,7 +3,7 @@ use Rattle.std.proofs.Common.{◌≡◌, ℕ, Bool, true, false, not, if◌then�
 use Rattle.std.specs.Prelude.{bytes_eq}
 use Rattle.std.specs.Cmp.Lexicographic.{bytes_decides}
 use Rattle.subs_base.specs.packet_base.declared.qos.QoS.{QoS}
-use Rattle.broker_spec.specs.session_base.Subscriptions.{GrantedFilter, with_subscription, without_filter}
+use Rattle.broker_spec.specs.session_base.Subscriptions.{GrantedSubscription, with_subscription, without_filter}
 use Rattle.broker_spec.specs.Subscriptions.{qos_asked}
 
 -- bytes that are tested equal, either way round
@@ -17,7 +17,7 @@ bytes_back f g = by (bytes_eq f g) refl (bytes_eq g f) refl
     by false e true h = let k : bytes_eq f g ≡ true = (bytes_decides f g).1 (sym ((bytes_decides g f).0 h)) in absurd (cc)
 
 -- one more, or another QoS in place of an identical filter
-pub qos_granted : (new : GrantedFilter) (held : List GrantedFilter) (f : List ℕ) →
+pub qos_granted : (new : GrantedSubscription) (held : List GrantedSubscription) (f : List ℕ) →
     qos_asked f (with_subscription new held) ≡ (if bytes_eq new.0 f then Some new.1 else qos_asked f held)
 qos_granted new [] f = ap (λ b. if b then Some new.1 else None) (bytes_back f new.0)
 qos_granted new (old ∷ others) f = by (bytes_eq new.0 old.0) refl (qos_granted new others f)
@@ -45,7 +45,7 @@ qos_granted new (old ∷ others) f = by (bytes_eq new.0 old.0) refl (qos_granted
         ap (λ o. if bytes_eq f old.0 then Some old.1 else o) more ∙ other (bytes_eq f old.0) refl e (bytes_eq new.0 f) refl
 
 -- one less
-pub qos_given_up : (g : List ℕ) (held : List GrantedFilter) (f : List ℕ) → qos_asked f (without_filter g held) ≡ (if bytes_eq g f then None else qos_asked f held)
+pub qos_given_up : (g : List ℕ) (held : List GrantedSubscription) (f : List ℕ) → qos_asked f (without_filter g held) ≡ (if bytes_eq g f then None else qos_asked f held)
 qos_given_up g [] f = by (bytes_eq g f) None
   where
     by : (b : Bool) (o : Option QoS) → o ≡ (if b then o else o)

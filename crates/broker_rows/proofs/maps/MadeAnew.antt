@@ -3,7 +3,7 @@ use Rattle.std.proofs.Common.{◌≡◌, ℕ, Bool, true, false, ◌&&◌, if◌
 use Rattle.std.specs.Prelude.{bytes_eq}
 use Rattle.std.specs.List.Sorted.{IsStrictlySortedBy}
 use Rattle.std.specs.Cmp.Lexicographic.{bytes_decides}
-use Rattle.broker_spec.specs.session_base.Subscriptions.{GrantedFilter}
+use Rattle.broker_spec.specs.session_base.Subscriptions.{GrantedSubscription}
 use Rattle.broker_spec.specs.session_base.KeepingLaws.{AreFiltersApart}
 use Rattle.broker_spec.specs.Connection.{ConnectionName, same_connection}
 use Rattle.broker_spec.specs.Place.{Client, same_client}
@@ -40,7 +40,7 @@ first_alone None = refl
 -- ---- the index
 
 -- the content if one client's filters, each held once, are set
-set_at : (d : Client) (held : List GrantedFilter) (content : Content) (c f : List ℕ) → AreFiltersApart held →
+set_at : (d : Client) (held : List GrantedSubscription) (content : Content) (c f : List ℕ) → AreFiltersApart held →
     all_set d held content c f ≡ (if bytes_eq d c then first_of (qos_asked f held) (content c f) else content c f)
 set_at d [] content c f apart = by (bytes_eq d c)
   where

@@ -7,7 +7,7 @@ use Rattle.std.proofs.lemmas.Bool.{or_parts}
 use Rattle.packet.specs.topics.Matching.{is_match}
 use Rattle.subs_base.specs.packet_base.declared.qos.QoS.{QoS}
 use Rattle.subs_base.specs.packet_base.QoS.{qos_number, greater_qos}
-use Rattle.broker_spec.specs.session_base.Subscriptions.{GrantedFilter, is_subscribed, granted_qos}
+use Rattle.broker_spec.specs.session_base.Subscriptions.{GrantedSubscription, is_subscribed, granted_qos}
 use Rattle.broker_spec.specs.Subscriptions.{qos_asked}
 use Rattle.broker_spec.specs.session_base.KeepingLaws.{AreFiltersApart}
 
@@ -39,7 +39,7 @@ greater_cases q (Some b) =
 -- ---- of a session's subscriptions
 
 -- a matching filter's QoS is at most the one that is granted
-pub reaches : (topic : List ℕ) (held : List GrantedFilter) (f : List ℕ) (q : QoS) → qos_asked f held ≡ Some q → is_match f topic ≡ true →
+pub reaches : (topic : List ℕ) (held : List GrantedSubscription) (f : List ℕ) (q : QoS) → qos_asked f held ≡ Some q → is_match f topic ≡ true →
     (p : QoS) × (granted_qos topic held ≡ Some p) × (qos_number q ≤ qos_number p)
 reaches topic [] f q found is = absurd (cc)
 reaches topic (s ∷ others) f q found is =
@@ -65,7 +65,7 @@ reaches topic (s ∷ others) f q found is =
     ] refl found
 
 -- the subscription of a filter after the first, if filters are apart
-at_after : (s : GrantedFilter) (others : List GrantedFilter) (f : List ℕ) (p : QoS) → qos_asked s.0 others ≡ None → qos_asked f others ≡ Some p → qos_asked f (s ∷ others) ≡ Some p
+at_after : (s : GrantedSubscription) (others : List GrantedSubscription) (f : List ℕ) (p : QoS) → qos_asked s.0 others ≡ None → qos_asked f others ≡ Some p → qos_asked f (s ∷ others) ≡ Some p
 at_after s others f p apart found =
     elim (bytes_eq f s.0) as (λ v. bytes_eq f s.0 ≡ v → cond v (Some s.1) (qos_asked f others) ≡ Some p) [
       | true ↦ λ t.
@@ -75,13 +75,13 @@ at_after s others f p apart found =
     ] refl
 
 -- a filter that is not held has no QoS
-pub none_held : (f : List ℕ) (held : List GrantedFilter) → is_subscribed f held ≡ false → qos_asked f held ≡ None
+pub none_held : (f : List ℕ) (held : List GrantedSubscription) → is_subscribed f held ≡ false → qos_asked f held ≡ None
 none_held f [] e = refl
 none_held f (old ∷ others) e =
     let parts = or_parts (bytes_eq f old.0) (is_subscribed f others) e in rw (parts.0) (none_held f others parts.1)
 
 -- what is granted is the QoS of a matching filter
-pub comes : (topic : List ℕ) (held : List GrantedFilter) (p : QoS) → AreFiltersApart held → granted_qos topic held ≡ Some p →
+pub comes : (topic : List ℕ) (held : List GrantedSubscription) (p : QoS) → AreFiltersApart held → granted_qos topic held ≡ Some p →
     (f : List ℕ) × (qos_asked f held ≡ Some p) × (is_match f topic ≡ true)
 comes topic [] p apart is = absurd (cc)
 comes topic (s ∷ others) p apart is =

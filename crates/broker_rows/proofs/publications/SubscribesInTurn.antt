@@ -4,7 +4,7 @@ use Rattle.std.specs.Prelude.{map}
 use Rattle.std.proofs.lemmas.List.{append-nil}
 use Rattle.packet.specs.declared.subscribe.Subscription.{Subscription}
 use Rattle.broker_spec.specs.retained.Retained.{RetainedTopics}
-use Rattle.broker_spec.specs.session_base.Session.{SessionState, with_filters, with_queue}
+use Rattle.broker_spec.specs.session_base.Session.{SessionState, with_granted, with_queue}
 use Rattle.broker_spec.specs.session_base.Subscriptions.{with_subscription, with_subscriptions}
 use Rattle.broker_spec.specs.session_base.Queue.{room}
 use Rattle.broker_spec.specs.session_base.Copies.{copies_left}
@@ -37,7 +37,7 @@ module _ (limits : Limits) (w : ℕ) (content : RetainedTopics) where
   subscribed_first : (new : Subscription) (more : List Subscription) (held : SessionState) →
       subscribed_to w content (new ∷ more) held ≡ subscribed_to w content more (subscribed_to w content (new ∷ []) held)
   subscribed_first new more held =
-      ap (λ queue. with_filters (with_subscriptions (map as_granted more) (with_subscription (as_granted new) held.subscriptions)) (with_queue queue held))
+      ap (λ queue. with_granted (with_subscriptions (map as_granted more) (with_subscription (as_granted new) held.subscriptions)) (with_queue queue held))
       ((copies_join w (copies_for content new) (copies_for_all content more) held.queue).0
       ∙ ap (copies_left w (copies_for_all content more)) (sym (queue_by new held)))
 

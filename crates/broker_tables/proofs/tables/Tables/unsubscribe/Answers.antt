@@ -5,7 +5,7 @@ use Rattle.std.specs.BTreeMap.{is_at}
 use Rattle.std.specs.Map.{set_value}
 use Rattle.packet.specs.declared.packet.Packet.TheVariants as packets
 use Rattle.session_base.specs.Subscriptions.{without_filters}
-use Rattle.session_base.specs.Session.{with_filters}
+use Rattle.session_base.specs.Session.{with_granted}
 use Rattle.broker_session.specs.subs_base.ListIndex.{content_of}
 use Rattle.broker_spec.specs.Place.{by_bytes}
 use Rattle.broker_session.specs.broker_base.ClientSession.{ClientSession}
@@ -33,7 +33,7 @@ returns-clause-step c =
           ((c.get_mut.follows.holds _).0
           ∙ ap (λ (s : ClientSession). set_value (is_at (by_bytes c.args.client.now)) t.sessions.entries s)
           (ap (λ s. record { clean = c.row.inside.clean; connection = c.row.inside.connection; state = s })
-          (c.unsubscribe_all.ensures ∙ ap (λ filters. with_filters (without_filters filters c.row.inside.state.subscriptions) c.row.inside.state) c.as_slice.ensures)
+          (c.unsubscribe_all.ensures ∙ ap (λ filters. with_granted (without_filters filters c.row.inside.state.subscriptions) c.row.inside.state) c.as_slice.ensures)
           ∙ ap (λ (k : ClientSession). with_content (handled_state t.window (packets.Unsubscribe c.args.unsubscribe.now) k.state) k) c.row.view_is))
           ∙ sym (ap (λ p. p.0)
           (unsubscribe_of t c.args.connection c.args.client.now kept c.args.unsubscribe.now
