@@ -3,6 +3,7 @@ use Rattle.std.specs.Prelude.{◌≡◌, ℕ, ◌+◌, ◌-◌, ◌^◌, [], Lis
 use Rattle.mailbox.specs.Ends.{ReceiverView}
 use Rattle.node_core.specs.broker_spec.declared.command.Command.{Command}
 use Rattle.node_core.specs.broker_spec.declared.command.Output.{Output}
+use Rattle.node_core.specs.ballot_base.declared.config.Config.{Config}
 use Rattle.node_core.specs.ballot_base.declared.message.Effect.{Effect}
 use Rattle.node_core.specs.declared.item.Item.{Item}
 use Rattle.node_core.specs.declared.Port.{Port}
@@ -43,6 +44,12 @@ pub record TakesOne (old new : NodeStateView)
   pub item : Item
   pub taken : new.receiver ≡ record old.receiver { taken = old.receiver.taken ++ (lane, item) ∷ [] }
   pub stepped : ItemStepOrLost old.node item new.node before after
+
+-- the node of each inbox's number began as the node of that number in this configuration of ballot
+-- 1
+abbrev pub EachOpensAs : Config → (ℕ → CountedCore) → Type 0
+EachOpensAs config first_of =
+    (inbox : ℕ) → first_of inbox ≡ record { core = opening_core inbox config; losses = 0 }
 
 -- the node of a number for which none was chosen
 abbrev pub no_core : CountedCore

@@ -7,9 +7,9 @@ use Rattle.post.specs.node_core.Core.{CountedCore}
 use Rattle.node.specs.declared.Config.{Config}
 use Rattle.post.specs.lists.Lists.{Each, In}
 use Rattle.post.specs.lists.Lists.In.{here, there}
-use Rattle.node.specs.State.{Replays, NodeStateView, TakesOne}
+use Rattle.node.specs.State.{EachOpensAs, Replays, NodeStateView, TakesOne}
 use Rattle.post.proofs.of_lists.OfEach.{each_append}
-use Rattle.post.specs.outbox.Queued.{EachOpens, EachOpensAs, WasGiven}
+use Rattle.post.specs.outbox.Queued.{EachOpens, WasGiven}
 
 -- what holds for whatever is in a list holds for each
 each_in : {X : Type 0} (P : X → Type 0) (xs : List X) → ((x : X) → In x xs → P x) → Each P xs

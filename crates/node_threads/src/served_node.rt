@@ -2,7 +2,7 @@
 
 ghost use Rattle.std.specs.Prelude.{◌≡◌, [], IfOk, map};
 ghost use Rattle.post.specs.lists.Lists.{Each};
-ghost use Rattle.post.specs.outbox.Queued.{EachOpensAs};
+ghost use Rattle.node.specs.State.{EachOpensAs};
 ghost use Rattle.node_threads.specs.Named.{AreNamed};
 
 use crate::node_context::{NodeContext, NodeContexts};

@@ -3,7 +3,7 @@
 ghost use Rattle.std.specs.Prelude.{◌≡◌, All, IfOk, OnErr, OnOk, map};
 ghost use Rattle.mailbox.specs.Ends.{ArrivesWhole, unmet};
 ghost use Rattle.node.specs.Running.{AreItsLanes, ReportsOn};
-ghost use Rattle.post.specs.outbox.Queued.{EachOpensAs};
+ghost use Rattle.node.specs.State.{EachOpensAs};
 
 use crate::node_context::NodeContext;
 use mailbox::Lane;

@@ -32,12 +32,6 @@ pub record IsNewNode (core : CountedCore) : Type 0 where
 abbrev pub EachOpens : (ℕ → CountedCore) → Type 0
 EachOpens first_of = (inbox : ℕ) → ∥ IsNewNode (first_of inbox) ∥₁
 
--- the node of each inbox's number began as the node of that number in this configuration of ballot
--- 1
-abbrev pub EachOpensAs : Config → (ℕ → CountedCore) → Type 0
-EachOpensAs config first_of =
-    (inbox : ℕ) → first_of inbox ≡ record { core = opening_core inbox config; losses = 0 }
-
 -- A step of a node gave this. Before that step the node was what it became, from its opening on, by
 -- one step for each item that it took.
 pub record WasGiven (effect : Effect Command Output) : Type 0 where

@@ -6,7 +6,7 @@ use Rattle.node.specs.ballot_base.declared.message.Effect.TheVariants.{To}
 use Rattle.node.specs.ballot_base.declared.message.Message.{Message}
 use Rattle.node.specs.declared.Item.{Item}
 use Rattle.node.specs.declared.Item.TheVariants.{Peer, Expel, Crash}
-pub use Rattle.outbox.specs.Given.{EachOpens, EachOpensAs, IsNewNode, WasGiven, WasGivenToMaster}
+pub use Rattle.outbox.specs.Given.{EachOpens, IsNewNode, WasGiven, WasGivenToMaster}
 pub use Rattle.outbox.specs.Mastering.{WasAnswered}
 
 -- what any sender except the master may queue for a node of this number

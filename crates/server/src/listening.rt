@@ -2,7 +2,7 @@
 
 ghost use Rattle.std.specs.Prelude.{◌≡◌, ◌≤◌, [], IfOk, length, map, vec_capacity};
 ghost use Rattle.std.specs.Fn.{FnOnceReturnsAt};
-ghost use Rattle.node_threads.specs.outbox.Queued.{EachOpensAs};
+ghost use Rattle.node.specs.State.{EachOpensAs};
 ghost use Rattle.node_threads.specs.Named.{AreNamed};
 
 use crate::closing::{close_all, end_all};

@@ -3,17 +3,16 @@ use Rattle.std.specs.Prelude.{◌≡◌, ℕ, ◌+◌, List, length}
 use Rattle.node.specs.declared.Config.{Config}
 use Rattle.node.specs.declared.Handed.{Handed}
 use Rattle.node.specs.declared.Port.{Port}
-use Rattle.node.specs.node_core.Core.{CountedCore, opening_core}
+use Rattle.node.specs.node_core.Core.{CountedCore}
 use Rattle.node.specs.Growth.{saturated}
 use Rattle.node.specs.node_core.Handing.{handed_after, pending_bytes, listed_at}
-use Rattle.node.specs.State.{Replays, NodeStateView}
+use Rattle.node.specs.State.{EachOpensAs, Replays, NodeStateView}
 use Rattle.streams.specs.declared.port_tap.PortTap.{PortTap}
 
--- the node of each inbox's number began as the one of that number in this configuration of ballot
--- 1
+-- the nodes began as those of their numbers in some configuration of ballot 1
 pub record NodesBegan (first_of : ℕ → CountedCore) : Type 0 where
   pub config : Config
-  pub is : (inbox : ℕ) → first_of inbox ≡ record { core = opening_core inbox config; losses = 0 }
+  pub is : EachOpensAs config first_of
 
 -- These bytes, with this answer, are what a node hands over for a port that is what its first state
 -- became by one step for each item that was taken from its inbox.

@@ -1,7 +1,7 @@
 // What writes to the connections of a node, and which of them it writes to.
 
-ghost use Rattle.std.specs.Prelude.{ℕ, ◌≡◌, []};
-ghost use Rattle.node.specs.node_core.Core.{opening_core};
+ghost use Rattle.std.specs.Prelude.{◌≡◌, []};
+ghost use Rattle.node.specs.State.{EachOpensAs};
 
 use crate::blocked_links::BlockedLinks;
 use node::{Config, Gate, Node, NodeNaming, Stated};
@@ -31,8 +31,7 @@ pub struct Writer<'e, 'a, J: NodeNaming, S: Stated<J>, G: Gate> {
     /// The connections whose sockets were full.
     pub blocked: &'e BlockedLinks,
     /// The node of each inbox's number began as the one of that number in this configuration.
-    pub ghost opens: { (inbox : ℕ) → J.first_of inbox
-        ≡ record { core = opening_core inbox config.now; losses = 0 } },
+    pub ghost opens: { EachOpensAs config.now J.first_of },
 }
 
 impl<'e, 'a, J: NodeNaming, S: Stated<J>, G: Gate> Writer<'e, 'a, J, S, G> {
