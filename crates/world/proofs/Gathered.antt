@@ -27,7 +27,7 @@ is_gathered number place is_open old mid new at positive h is =
       is_node = refl;
       between = h.between;
       gives = h.gives;
-      is = is ∙ ap (marked number place is_open) h.is ∙ ap (λ (b : Bool). marked number place b down) h.told;
+      is = is ∙ ap (marked number place is_open) h.is ∙ ap (λ (b : Bool). marked number place b down) h.reported;
     }
 
 -- one that stays open is as it was

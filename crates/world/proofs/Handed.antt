@@ -50,7 +50,7 @@ gathers_on old number place client way is_open new later owned stands puts = by 
           stands = stands;
           between = new;
           gives = p.0;
-          told = p.2;
+          reported = p.2;
           is = ap (λ (l : Piped). put_down place.client client l new old) (is ∙ ap (λ (b : List ℕ). with_down place.at way b client.piped) p.1);
         })
     by (bytes, inr p, is) =

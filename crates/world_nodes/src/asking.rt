@@ -28,7 +28,7 @@ impl Nodes {
     /// read from the log's snapshot, or begun afresh if there is none, and takes the rest;
     /// [`Memory`] is the only error.
     pub fn welcomes_back(&self, node: u8, client: &ClientId) -> Result<bool, Memory>
-        ensures told { (core : CountedCore) → numbered_node self.now.nodes node ≡ Some core →
+        ensures known { (core : CountedCore) → numbered_node self.now.nodes node ≡ Some core →
             IfOk result (λ welcomes. welcomes
             ≡ welcomes_back client.now (whole_log_of self.now node)) }
         ensures unknown { numbered_node self.now.nodes node ≡ None →

@@ -24,7 +24,7 @@ pub record GathersOn (number : ℕ) (slot : ConnectionSlot) (old : WorldState) (
   pub between : NodesState
   pub gives : HandsOverBytes (numbered_node old.nodes.nodes slot.node) slot.node
       (port_at_node number) old.nodes between
-  pub told : is_open
+  pub reported : is_open
       ≡ is_reported_open (port_at_node number) (numbered_node old.nodes.nodes slot.node)
   pub is : new ≡ record (with_piped slot.client client
       (with_down slot.at way
