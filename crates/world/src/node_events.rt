@@ -127,7 +127,7 @@ impl World {
         ensures quiet { IsQuietAt slot.node (Item.Ended (port_at_node number)) self.old.nodes →
             self.new.nodes.losses ≡ self.old.nodes.losses }
     {
-        self.nodes.ended(slot.node, Port(number))?;
+        self.nodes.end_stream(slot.node, Port(number))?;
         self.gather(slot.node);
         Ok(())
     }

@@ -45,7 +45,7 @@ fn report_opened(nodes: &mut Nodes, node: u8, port: Port) -> bool
     ensures nodes { NodesGoOn nodes.old nodes.new }
     ensures takes { HearsOfOne result node port nodes.old nodes.new }
 {
-    if nodes.opened(node, port, 0).is_err() {
+    if nodes.open_stream(node, port, 0).is_err() {
         return false;
     }
     match nodes.node(node) {

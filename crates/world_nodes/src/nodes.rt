@@ -255,7 +255,7 @@ impl Nodes {
     }
 
     /// Opens a stream at a node, at this time. Idle if the node is unknown or has stopped.
-    pub fn opened(&mut self, node: u8, port: Port, now: u64) -> Result<(), Idle>
+    pub fn open_stream(&mut self, node: u8, port: Port, now: u64) -> Result<(), Idle>
         ensures lossy { OnOk result (NodeItemOrLost node (Item.Opened port now) self.old self.new) }
         ensures exact { NodesLoseNothing self.old self.new →
             OnOk result (TakesExactly node (Item.Opened port now) self.old self.new) }
@@ -288,7 +288,7 @@ impl Nodes {
     }
 
     /// Ends a stream of a node. Idle if the node is unknown or has stopped.
-    pub fn ended(&mut self, node: u8, port: Port) -> Result<(), Idle>
+    pub fn end_stream(&mut self, node: u8, port: Port) -> Result<(), Idle>
         ensures lossy { OnOk result (NodeItemOrLost node (Item.Ended port) self.old self.new) }
         ensures exact { NodesLoseNothing self.old self.new →
             OnOk result (TakesExactly node (Item.Ended port) self.old self.new) }

@@ -4,21 +4,21 @@ use Rattle.world_clients.proofs.Offered.{hears_of_one, not_heard, still_there, w
 use Rattle.world_clients.proofs.opening.report_opened.Goals as goal
 
 pub returns-then-is_err-clause-nodes : goal.returns-then-is_err-clause-nodes
-returns-then-is_err-clause-nodes c = call_goes c.opened.result c.args.nodes.now c.opened.new.self _ _ c.opened.ensures.rises c.opened.ensures.acts c.opened.ensures.same
+returns-then-is_err-clause-nodes c = call_goes c.open_stream.result c.args.nodes.now c.open_stream.new.self _ _ c.open_stream.ensures.rises c.open_stream.ensures.acts c.open_stream.ensures.same
 
 pub returns-then-is_err-clause-takes : goal.returns-then-is_err-clause-takes
-returns-then-is_err-clause-takes c = inl (not_heard c.opened.result _ (sym c.if-is_err.ensures.value) c.opened.ensures.same)
+returns-then-is_err-clause-takes c = inl (not_heard c.open_stream.result _ (sym c.if-is_err.ensures.value) c.open_stream.ensures.same)
 
 pub returns-in-None-clause-nodes : goal.returns-in-None-clause-nodes
-returns-in-None-clause-nodes c = call_goes c.opened.result c.args.nodes.now c.opened.new.self _ _ c.opened.ensures.rises c.opened.ensures.acts c.opened.ensures.same
+returns-in-None-clause-nodes c = call_goes c.open_stream.result c.args.nodes.now c.open_stream.new.self _ _ c.open_stream.ensures.rises c.open_stream.ensures.acts c.open_stream.ensures.same
 
 pub returns-in-None-clause-takes : goal.returns-in-None-clause-takes
-returns-in-None-clause-takes c = absurd (still_there c.args.node _ c.args.nodes.now c.opened.new.self (was_heard c.opened.result _ (sym c.if-is_err.ensures.value) c.opened.ensures.lossy) (c.in-None.ensures.none refl))
+returns-in-None-clause-takes c = absurd (still_there c.args.node _ c.args.nodes.now c.open_stream.new.self (was_heard c.open_stream.result _ (sym c.if-is_err.ensures.value) c.open_stream.ensures.lossy) (c.in-None.ensures.none refl))
 
 pub returns-in-Some-clause-nodes : goal.returns-in-Some-clause-nodes
-returns-in-Some-clause-nodes c = call_goes c.opened.result c.args.nodes.now c.opened.new.self _ _ c.opened.ensures.rises c.opened.ensures.acts c.opened.ensures.same
+returns-in-Some-clause-nodes c = call_goes c.open_stream.result c.args.nodes.now c.open_stream.new.self _ _ c.open_stream.ensures.rises c.open_stream.ensures.acts c.open_stream.ensures.same
 
 pub returns-in-Some-clause-takes : goal.returns-in-Some-clause-takes
 returns-in-Some-clause-takes c =
-    hears_of_one c.has_port.result c.args.node c.args.port c.args.nodes.now c.opened.new.self c.in-Some.core.now c.in-Some.ensures.some c.has_port.ensures
-    (was_heard c.opened.result _ (sym c.if-is_err.ensures.value) c.opened.ensures.lossy) (was_heard c.opened.result _ (sym c.if-is_err.ensures.value) c.opened.ensures.acts)
+    hears_of_one c.has_port.result c.args.node c.args.port c.args.nodes.now c.open_stream.new.self c.in-Some.core.now c.in-Some.ensures.some c.has_port.ensures
+    (was_heard c.open_stream.result _ (sym c.if-is_err.ensures.value) c.open_stream.ensures.lossy) (was_heard c.open_stream.result _ (sym c.if-is_err.ensures.value) c.open_stream.ensures.acts)

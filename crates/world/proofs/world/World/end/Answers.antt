@@ -10,15 +10,15 @@ use Rattle.world.proofs.Joined.{goes_on_join}
 use Rattle.world.proofs.QuietEvents.{item_quiet}
 use Rattle.world.proofs.world.World.end.Goals as goal
 
-pub returns-in_err-ended-clause-goes : goal.returns-in_err-ended-clause-goes
-returns-in_err-ended-clause-goes c =
+pub returns-in_err-end_stream-clause-goes : goal.returns-in_err-end_stream-clause-goes
+returns-in_err-end_stream-clause-goes c =
     rw (← c.self.view_is) (goes_apart (let old : WorldState = record {
       nodes = c.self.inside.nodes;
       clients = c.self.inside.clients.items;
       connections = c.self.inside.connections.items;
       losses = c.self.inside.losses;
-    } in old) c.ended.new.self c.ended.ensures.rises
-    (by_call c.ended.result c.self.inside.nodes c.ended.new.self _ _ refl c.ended.ensures.acts c.ended.ensures.same))
+    } in old) c.end_stream.new.self c.end_stream.ensures.rises
+    (by_call c.end_stream.result c.self.inside.nodes c.end_stream.new.self _ _ refl c.end_stream.ensures.acts c.end_stream.ensures.same))
 
 pub returns-clause-goes : goal.returns-clause-goes
 returns-clause-goes c =
@@ -28,8 +28,8 @@ returns-clause-goes c =
       clients = c.self.inside.clients.items;
       connections = c.self.inside.connections.items;
       losses = c.self.inside.losses;
-    } in old) c.ended.new.self c.ended.ensures.rises
-    (by_call c.ended.result c.self.inside.nodes c.ended.new.self _ _ refl c.ended.ensures.acts c.ended.ensures.same)) c.gather.ensures.goes)
+    } in old) c.end_stream.new.self c.end_stream.ensures.rises
+    (by_call c.end_stream.result c.self.inside.nodes c.end_stream.new.self _ _ refl c.end_stream.ensures.acts c.end_stream.ensures.same)) c.gather.ensures.goes)
 
 pub returns-clause-meets : goal.returns-clause-meets
 returns-clause-meets c =
@@ -40,11 +40,11 @@ returns-clause-meets c =
       connections = c.self.inside.connections.items;
       losses = c.self.inside.losses;
     } in
-    rw (← c.self.view_is) (inl (noticed c.args.number old (connected old c.args.number c.args.slot c.self.invariant.0 stands c.requires.positive) c.ended.new.self c.gather.new.self
-    (not_closed c.args.number old c.args.slot stands c.requires.positive c.requires.up (λ stopped. both_ways false refl (c.in_ok-ended.ensures.idle.1 stopped)))
-    c.in_ok-ended.ensures.lossy c.gather.ensures.gathers c.gather.ensures.still))
+    rw (← c.self.view_is) (inl (noticed c.args.number old (connected old c.args.number c.args.slot c.self.invariant.0 stands c.requires.positive) c.end_stream.new.self c.gather.new.self
+    (not_closed c.args.number old c.args.slot stands c.requires.positive c.requires.up (λ stopped. both_ways false refl (c.in_ok-end_stream.ensures.idle.1 stopped)))
+    c.in_ok-end_stream.ensures.lossy c.gather.ensures.gathers c.gather.ensures.still))
 
 pub returns-clause-quiet : goal.returns-clause-quiet
 returns-clause-quiet c =
-    rw (← c.self.view_is) (λ quiet. item_quiet c.args.slot.node (Ended (port_at_node c.args.number)) c.self.inside.nodes c.ended.new.self c.gather.new.self.nodes quiet
-    c.in_ok-ended.ensures.quiet c.gather.ensures.quiet)
+    rw (← c.self.view_is) (λ quiet. item_quiet c.args.slot.node (Ended (port_at_node c.args.number)) c.self.inside.nodes c.end_stream.new.self c.gather.new.self.nodes quiet
+    c.in_ok-end_stream.ensures.quiet c.gather.ensures.quiet)
