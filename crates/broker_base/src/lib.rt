@@ -4,7 +4,6 @@
 
 mod step_laws;
 
-pub use broker_spec::{Command, ConnectionName, Output, SizedPacket, Unspellable};
 pub use step_laws::{
     decisions_stand_for, entries_start_where_they_are_sent, list_stands_for, others_stay,
     rows_step_by_step, session_step, states_stay_sound, step_stands_for,

@@ -14,7 +14,7 @@ mod reporting;
 mod tap;
 mod unwritten;
 
-pub use devices::{Counted, PIECE_BYTES};
+pub use devices::Counted;
 pub use ending::Ending;
 pub use flow::{Flow, write_out};
 pub use hearer::Hearer;

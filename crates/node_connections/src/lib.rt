@@ -15,7 +15,6 @@ pub use connection::{Connection, ConnectionStage};
 pub use front::Front;
 pub use handed::Handed;
 pub use listing::{close_each, has_port, keep_listed, lowest_silent, push, push_idle};
-pub use machine::Memory;
 pub use piece::Piece;
 pub use port::Port;
 pub use standing::Standing;

@@ -12,6 +12,6 @@ mod queuing;
 pub use addressed_message::AddressedMessage;
 pub use cluster::Cluster;
 pub use master::Idle;
-pub use outbox::{OrderError, later_commits_suffice, later_counts_suffice};
+pub use outbox::OrderError;
 pub use peer::{AdmittedBytes, Peer};
 pub use queuing::{Given, Receivers, queue_all};
