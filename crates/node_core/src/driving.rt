@@ -18,7 +18,11 @@ use broker_spec::{Command, Output};
 
 impl SteppingNode {
     /// Proposes a command and does its effects at once. Returns whether it was taken.
-    pub fn propose(&mut self, command: Command, effects: &mut Vec<Effect<Command, Output>>) -> bool
+    pub(crate) fn propose(
+        &mut self,
+        command: Command,
+        effects: &mut Vec<Effect<Command, Output>>,
+    ) -> bool
         ensures exact { DoesOutcome self.old self.new effects.old.items effects.new.items
             (proposes command self.old.core) }
         ensures lossy { StepPartOrLost (ProposedBy result command) self.old.core self.new.core
@@ -54,7 +58,11 @@ impl SteppingNode {
     }
 
     /// Takes a message of another node and does its effects at once.
-    pub fn receive(&mut self, message: Message<Command>, effects: &mut Vec<Effect<Command, Output>>)
+    pub(crate) fn receive(
+        &mut self,
+        message: Message<Command>,
+        effects: &mut Vec<Effect<Command, Output>>,
+    )
         ensures exact { DoesOutcome self.old self.new effects.old.items effects.new.items
             (drives (Receives message) self.old.core) }
         ensures lossy { StepPartOrLost (Drives (Receives message)) self.old.core self.new.core
@@ -85,7 +93,7 @@ impl SteppingNode {
     }
 
     /// Lets the replica repeat what others may have missed.
-    pub fn tick(&mut self, effects: &mut Vec<Effect<Command, Output>>)
+    pub(crate) fn tick(&mut self, effects: &mut Vec<Effect<Command, Output>>)
         ensures exact { DoesOutcome self.old self.new effects.old.items effects.new.items
             (drives Ticks self.old.core) }
         ensures lossy { StepPartOrLost
@@ -110,7 +118,7 @@ impl SteppingNode {
     }
 
     /// Cuts the replica's log if there is something to cut.
-    pub fn cut_log(&mut self)
+    pub(crate) fn cut_log(&mut self)
         ensures exact { DoesExactly self.old self.new (cuts self.old.core) }
         ensures lossy { LogCutOrLost self.old.core (without_effects self.new.core) }
     {

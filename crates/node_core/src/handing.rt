@@ -14,7 +14,7 @@ use node_connections::{Handed, Port, Standing, keep_listed, push_idle};
 impl SteppingNode {
     /// Appends what was queued for a port and not yet handed over. If memory runs out, nothing
     /// changes; it does not run out if nothing was queued.
-    pub fn outgoing(&mut self, port: Port, out: &mut Vec<u8>) -> Result<Handed, Memory>
+    pub(crate) fn outgoing(&mut self, port: Port, out: &mut Vec<u8>) -> Result<Handed, Memory>
         ensures left { OnOk result
             (self.new ≡ record self.old { core = hands_over port self.old.core }) }
         ensures bytes { OnOk result
@@ -37,7 +37,7 @@ impl SteppingNode {
 
     /// Appends the ports of the connections that are open and have nothing to hand over. If memory
     /// runs out some of them may have been appended.
-    pub fn idle_ports(&self, ports: &mut Vec<Port>) -> Result<(), Memory>
+    pub(crate) fn idle_ports(&self, ports: &mut Vec<Port>) -> Result<(), Memory>
         ensures ok { OnOk result
             (ports.new.items ≡ ports.old.items ++ idle_ports self.now.core) }
         ensures err { OnErr result (IsPrefixOf ports.old.items ports.new.items) }
@@ -46,7 +46,7 @@ impl SteppingNode {
     }
 
     /// Returns the state of a port's connection.
-    pub fn standing(&self, port: Port) -> Standing
+    pub(crate) fn standing(&self, port: Port) -> Standing
         ensures { result ≡ standing_of (listed_at port self.now.core) }
     {
         let Some(index) = self.index_listed(port) else {

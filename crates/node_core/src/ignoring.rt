@@ -11,7 +11,7 @@ use broker_spec::Command;
 
 impl SteppingNode {
     /// Says whether an item does nothing.
-    pub fn ignores(&self, item: &Item) -> bool
+    pub(crate) fn ignores(&self, item: &Item) -> bool
         ensures { (result ≡ true) ↔ DoesNothing item.now self.now.core }
     {
         match item {
@@ -28,7 +28,7 @@ impl SteppingNode {
 
     /// Says whether a message of another node has an effect on the replica, or brings a snapshot
     /// that the replica has to read.
-    pub fn heeds(&self, message: &Message<Command>) -> bool
+    pub(crate) fn heeds(&self, message: &Message<Command>) -> bool
         ensures { (result ≡ false) ↔ (IsIgnored (Receives message.now) self.now.core
             × ReadsNone message.now self.now.core) }
     {

@@ -30,7 +30,7 @@ use std::alloc::Global;
 use std::marker::Model;
 
 /// A replica of the broker with its connections, and whether the current step has lost something.
-pub struct SteppingNode {
+pub(crate) struct SteppingNode {
     /// The allocator of connections, and of what a step gives.
     pub(crate) alloc: Global,
     /// The replica. It counts its own losses.
@@ -80,7 +80,7 @@ impl Model for SteppingNode {
 
 impl SteppingNode {
     /// Opens node `id` in ballot 1, with no connection.
-    pub fn new(alloc: Global, id: u8, config: &Config) -> Result<SteppingNode, OpeningError>
+    pub(crate) fn new(alloc: Global, id: u8, config: &Config) -> Result<SteppingNode, OpeningError>
         requires low { 1 ≤ id }
         requires high { id ≤ MAX_NODE }
         ensures ok { IfOk result (λ stepping.
@@ -100,28 +100,28 @@ impl SteppingNode {
     }
 
     /// Begins a step: nothing is lost yet.
-    pub fn begin_step(&mut self)
+    pub(crate) fn begin_step(&mut self)
         ensures { self.new ≡ record self.old { has_lost = false } }
     {
         self.has_lost = false;
     }
 
     /// Says whether something was lost in this step.
-    pub fn has_lost(&self) -> bool
+    pub(crate) fn has_lost(&self) -> bool
         ensures { result ≡ self.now.has_lost }
     {
         self.has_lost
     }
 
     /// Returns what the replica shows of itself.
-    pub fn status(&self) -> Status
+    pub(crate) fn status(&self) -> Status
         ensures { result ≡ status_of self.now.core.replica.state }
     {
         self.replica.status()
     }
 
     /// Returns the commands of the replica's log from its base on.
-    pub fn rest(&self) -> &[Command]
+    pub(crate) fn rest(&self) -> &[Command]
         ensures rest { result.now ≡ self.now.core.replica.state.log.rest }
         ensures within { self.now.core.replica.state.committed
             ≤ places self.now.core.replica.state.log }
@@ -130,7 +130,7 @@ impl SteppingNode {
     }
 
     /// Returns the base of the replica's log, and the frozen machine at it.
-    pub fn snapshot(&self) -> (u64, &[u8])
+    pub(crate) fn snapshot(&self) -> (u64, &[u8])
         ensures base { result.0 ≡ self.now.core.replica.state.log.base }
         ensures bytes { result.1.now ≡ self.now.core.replica.state.log.snapshot }
         ensures none { result.0 ≡ 0 → result.1.now ≡ [] }
@@ -140,35 +140,35 @@ impl SteppingNode {
     }
 
     /// Says whether the replica has something to cut.
-    pub fn can_cut(&self) -> bool
+    pub(crate) fn can_cut(&self) -> bool
         ensures { result ≡ can_cut self.now.core.replica.state }
     {
         self.replica.can_cut()
     }
 
     /// Says whether a connection of this port is listed.
-    pub fn has_port(&self, port: Port) -> bool
+    pub(crate) fn has_port(&self, port: Port) -> bool
         ensures { result ≡ is_some (listed_at port self.now.core) }
     {
         has_port(&self.connections, port)
     }
 
     /// Says whether the node serves clients.
-    pub fn serves(&self) -> bool
+    pub(crate) fn serves(&self) -> bool
         ensures { result ≡ serves self.now.core }
     {
         self.replica.status().serves()
     }
 
     /// Says whether a proposal would be taken: by an active primary whose log has room.
-    pub fn has_room(&self) -> bool
+    pub(crate) fn has_room(&self) -> bool
         ensures { result ≡ has_room self.now.core }
     {
         self.serves() && self.replica.status().held < MAX_PLACES
     }
 
     /// Returns the index of the open connection of a port in the list.
-    pub fn index_at(&self, port: Port) -> Option<usize>
+    pub(crate) fn index_at(&self, port: Port) -> Option<usize>
         ensures { result ≡ position (is_open_at port) self.now.core.connections }
     {
         self.connections
@@ -177,7 +177,7 @@ impl SteppingNode {
     }
 
     /// Returns the index of the open connection of a name in the list.
-    pub fn index_of(&self, name: ConnectionName) -> Option<usize>
+    pub(crate) fn index_of(&self, name: ConnectionName) -> Option<usize>
         ensures { result ≡ position (is_open_named name) self.now.core.connections }
     {
         self.connections
@@ -186,14 +186,14 @@ impl SteppingNode {
     }
 
     /// Returns how many connections are listed.
-    pub fn listed(&self) -> usize
+    pub(crate) fn listed(&self) -> usize
         ensures { result ≡ length self.now.core.connections }
     {
         self.connections.len()
     }
 
     /// Returns the lowest port of the connections that are silent at this time.
-    pub fn lowest_silent(&self, now: u64) -> Option<Port>
+    pub(crate) fn lowest_silent(&self, now: u64) -> Option<Port>
         ensures { result ≡ lowest_silent now self.now.core.connections }
     {
         lowest_silent(&self.connections, now)
@@ -201,7 +201,7 @@ impl SteppingNode {
 
     /// Returns the index of the first connection that was closed as lost and is still to be
     /// reported to the broker.
-    pub fn index_failed(&self) -> Option<usize>
+    pub(crate) fn index_failed(&self) -> Option<usize>
         ensures { result ≡ position has_failed self.now.core.connections }
     {
         self.connections
@@ -210,7 +210,7 @@ impl SteppingNode {
     }
 
     /// Closes the open connection of a port.
-    pub fn close(&mut self, port: Port)
+    pub(crate) fn close(&mut self, port: Port)
         ensures { self.new
             ≡ record self.old { core = changes port closed_connection self.old.core } }
     {
@@ -220,7 +220,7 @@ impl SteppingNode {
     }
 
     /// Notes that the CONNECT of the open connection of a port, with this keep alive, is proposed.
-    pub fn note_proposed_at(&mut self, port: Port, keep_alive: u16)
+    pub(crate) fn note_proposed_at(&mut self, port: Port, keep_alive: u16)
         ensures { self.new
             ≡ record self.old { core = changes port (noted_proposed keep_alive) self.old.core } }
     {
@@ -231,7 +231,7 @@ impl SteppingNode {
 
     /// Closes the open connection of a port, whose proposal was refused. If the step has lost
     /// something, the connection fails: that it ended is still to be reported to the broker.
-    pub fn give_up(&mut self, port: Port)
+    pub(crate) fn give_up(&mut self, port: Port)
         ensures exact { DoesExactly self.old self.new
             (changes port closed_connection self.old.core) }
         ensures lossy { (self.new.core ≡ changes port closed_connection self.old.core)
@@ -246,7 +246,7 @@ impl SteppingNode {
     }
 
     /// Returns how many bytes of the open connection of a port are not yet read.
-    pub fn unread_len(&self, port: Port) -> usize
+    pub(crate) fn unread_len(&self, port: Port) -> usize
         ensures { result ≡ unread_of (open_at port self.now.core) }
     {
         match self.index_at(port) {
@@ -257,7 +257,7 @@ impl SteppingNode {
 
     /// Appends bytes that arrived to those of the open connection of a port. Returns whether there
     /// was memory.
-    pub fn hold_at(&mut self, port: Port, piece: &Piece) -> bool
+    pub(crate) fn hold_at(&mut self, port: Port, piece: &Piece) -> bool
         ensures ok { result ≡ true →
             self.new ≡ record self.old {
               core =
@@ -272,7 +272,7 @@ impl SteppingNode {
     }
 
     /// Closes the open connection of a name.
-    pub fn close_named(&mut self, name: ConnectionName)
+    pub(crate) fn close_named(&mut self, name: ConnectionName)
         ensures { self.new
             ≡ record self.old { core = changes_named name closed_connection self.old.core } }
     {
@@ -283,7 +283,7 @@ impl SteppingNode {
 
     /// Queues a packet on the open connection of a name, which is closed as lost if there is no
     /// room or no memory for it.
-    pub fn put(&mut self, name: ConnectionName, packet: &Packet)
+    pub(crate) fn put(&mut self, name: ConnectionName, packet: &Packet)
         ensures exact { DoesExactly self.old self.new
             (changes_named name (with_queued (spelling packet.now)) self.old.core) }
         ensures lossy { (self.new.core
@@ -320,14 +320,14 @@ impl SteppingNode {
     }
 
     /// Says whether the numbers of this ballot are used up, so that no connection gets a name.
-    pub fn has_no_name_left(&self) -> bool
+    pub(crate) fn has_no_name_left(&self) -> bool
         ensures { result ≡ not (is_connection_name (next_name self.now.core)) }
     {
         self.next_name().is_none()
     }
 
     /// Returns the name that a new connection of a port gets, or none if it is not accepted.
-    pub fn name_for(&self, port: Port) -> Option<ConnectionName>
+    pub(crate) fn name_for(&self, port: Port) -> Option<ConnectionName>
         ensures named { IfSome result (λ name. name ≡ next_name self.now.core) }
         ensures some { OnSome result (accepts_connection port self.now.core ≡ true) }
         ensures none { IfNone result (accepts_connection port self.now.core ≡ false) }
@@ -343,7 +343,7 @@ impl SteppingNode {
 
     /// Accepts a connection at this port, with the next name, if the node serves clients and the
     /// port is free. Nothing changes otherwise, nor if memory runs out.
-    pub fn open(&mut self, port: Port)
+    pub(crate) fn open(&mut self, port: Port)
         ensures exact { DoesExactly self.old self.new (with_next_connection port self.old.core) }
         ensures lossy { (self.new.core ≡ with_next_connection port self.old.core)
             ⊎ (self.new.core ≡ self.old.core) }
@@ -362,7 +362,7 @@ impl SteppingNode {
 
     /// Closes all connections if the node no longer serves clients, and removes closed ones with
     /// nothing to hand over from the list.
-    pub fn settle(&mut self)
+    pub(crate) fn settle(&mut self)
         ensures { self.new ≡ record self.old { core = settled self.old.core } }
     {
         if !self.serves() {

@@ -30,7 +30,7 @@ use packet::{ClientId, Connect, Packet};
 impl SteppingNode {
     /// Takes an item, and reports each connection that fails in it to the broker. After it
     /// `has_lost` says whether something was lost.
-    pub fn act_on(&mut self, item: Item, effects: &mut Vec<Effect<Command, Output>>)
+    pub(crate) fn act_on(&mut self, item: Item, effects: &mut Vec<Effect<Command, Output>>)
         ensures exact { DoesOutcome self.old self.new effects.old.items effects.new.items
             (acts_on item self.old.core) }
         ensures lossy { StepPartOrLost
@@ -47,7 +47,7 @@ impl SteppingNode {
     }
 
     /// Ignores a message without effect, and reports each connection that failed to the broker.
-    pub fn pass_over(
+    pub(crate) fn pass_over(
         &mut self,
         message: &Message<Command>,
         effects: &mut Vec<Effect<Command, Output>>,
