@@ -5,9 +5,9 @@
 mod replica;
 
 pub use ballot_base::{
-    Body, Config, Effect, Log, MASTER, MAX_MEMBERS, MAX_NODE, Members, Message, Role, Status,
-    copy_log,
+    Body, Config, Effect, Log, MASTER, MAX_MEMBERS, MAX_NODE, MAX_PLACES, Members, Message, Role,
+    Status, copy_log,
 };
 pub use ballot_errors::{OpeningError, ProposeError};
 pub use machine::{Halted, Machine, Memory, ThawFault};
-pub use replica::{MAX_PLACES, Replica};
+pub use replica::Replica;

@@ -14,8 +14,8 @@ ghost use Rattle.ballot_base.specs.Sending.{message_to_followed};
 ghost use Rattle.ballot_base.specs.Serving.{added, commit_at, max_places, proposed};
 
 use ballot_base::{
-    Body, Config, Effect, Log, MAX_NODE, Members, Progress, Role, Status, apply_places, counted,
-    least_held, progress_of_others, send_appends, send_commits,
+    Body, Config, Effect, Log, MAX_NODE, MAX_PLACES, Members, Progress, Role, Status, apply_places,
+    counted, least_held, progress_of_others, send_appends, send_commits,
 };
 use ballot_errors::{OpeningError, ProposeError};
 use machine::{Halted, Machine, Memory};
@@ -29,9 +29,6 @@ mod heeding;
 mod installing;
 mod messages;
 mod ticking;
-
-/// The most places of a log.
-pub const MAX_PLACES: u64 = 1 << 40;
 
 /// A log, the machine that it drives and a role in a ballot. It reaches other nodes only by the
 /// messages that its calls return. Its calls also return the machine's outputs, with their places.

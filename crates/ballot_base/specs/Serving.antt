@@ -1,9 +1,9 @@
 -- The rows of the protocol inside a ballot: Append, Held, Commit, proposals, ticks. Receivers are
 -- in rising order. A message that no row's condition covers changes nothing.
-use Rattle.std.specs.Prelude.{ℕ, Bool, ◌^◌, List, [], ◌∷◌, ◌++◌, map, min, max, Option, Some, None}
-use Rattle.std.specs.Prelude.{◌==◌, ◌&&◌, nat_lt, nat_le, if◌then◌else◌}
+use Rattle.std.specs.Prelude.{ℕ, Bool, List, [], ◌∷◌, ◌++◌, map, min, max, Option, Some, None, ◌==◌, ◌&&◌, nat_lt, nat_le, if◌then◌else◌}
 use Rattle.std.specs.List.{flat_map}
 use Rattle.machine.specs.Machine.{Rules}
+use Rattle.ballot_base.specs.declared.limits.TheConstants.{MAX_PLACES}
 use Rattle.ballot_base.specs.declared.message.Body.TheVariants.{Append, Held, Commit}
 use Rattle.ballot_base.specs.declared.message.Effect.{Effect}
 use Rattle.ballot_base.specs.declared.status.Progress.{Progress}
@@ -43,7 +43,7 @@ commit rules replica = commit_at rules replica (least (places replica.log) repli
 
 -- the most places of a log
 abbrev pub max_places : ℕ
-max_places = 2 ^ 40
+max_places = MAX_PLACES
 
 -- a command is appended to the log and sent to the other members; what all hold is committed
 unfoldable pub added : {S C O : Type 0} → Rules S C O → ReplicaState S C → C → Outcome S C O

@@ -7,6 +7,7 @@ mod applying;
 mod config;
 mod copying;
 mod following;
+mod limits;
 mod log;
 mod message;
 mod sending;
@@ -17,6 +18,7 @@ pub use applying::{apply_dropping, apply_places};
 pub use config::{Config, MAX_MEMBERS, MAX_NODE, Members};
 pub use copying::copy_log;
 pub use following::{forget, least_held, least_raised, others_of, progress_of_others, raise};
+pub use limits::MAX_PLACES;
 pub use log::Log;
 pub use message::{Body, Effect, Message};
 pub use sending::{

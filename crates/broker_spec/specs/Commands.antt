@@ -7,6 +7,7 @@ use Rattle.broker_spec.specs.Window.{wide_window}
 use Rattle.broker_spec.specs.Marks.{mark_of}
 use Rattle.broker_spec.specs.declared.command.Command.{Command}
 use Rattle.broker_spec.specs.declared.command.Command.TheVariants as commands
+use Rattle.broker_spec.specs.declared.limits.TheConstants.{MAX_SESSIONS}
 
 -- the place of a command after these places
 abbrev pub place_of : Limits → Past → Command → Place
@@ -30,7 +31,7 @@ is_start _ = false
 
 -- how many sessions a broker has at most
 abbrev pub max_sessions : ℕ
-max_sessions = 4096
+max_sessions = MAX_SESSIONS
 
 -- the limits of this broker, with any window
 abbrev pub limits_with : (Past → ℕ) → Limits

@@ -6,6 +6,7 @@ mod command;
 mod connection_name;
 mod endings;
 mod laws;
+mod limits;
 mod rows;
 mod sized_packet;
 mod window;
@@ -19,6 +20,7 @@ pub use laws::{
     packet_of_nobody_is_nothing, publication_enters, repeat_is_unreleased, starts_where_it_may,
     taken_publish_adds_one,
 };
+pub use limits::MAX_SESSIONS;
 pub use rows::{
     a_full_queue_keeps_the_order, a_repeat_before_pubrel, a_second_connection_takes_over,
     an_expelled_session_is_gone, connect_is_answered, entries_have_their_places,

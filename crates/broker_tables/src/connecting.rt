@@ -18,10 +18,9 @@ ghost use Rattle.broker_tables.specs.Connecting.{connect_outcome, TakesOver};
 ghost use Rattle.broker_session.specs.OneSession.{sent_to_resumed};
 
 use crate::leaving::{push_close, remove_owner};
-use crate::limits::MAX_SESSIONS;
 use crate::tables::Tables;
 use broker_session::{ClientRow, send_all};
-use broker_spec::{ConnectionName, Output};
+use broker_spec::{ConnectionName, MAX_SESSIONS, Output};
 use machine::Halted;
 use packet::{ClientId, Connack, Packet, RefusalCode};
 use std::collections::BTreeMap;
@@ -224,7 +223,10 @@ fn answer_connect(
         ++ (close_outputs left ++ welcome connection session_present ∷ [])) }
 {
     push_close(left, out)?;
-    out.push(Output::Send(connection, Packet::Connack(Connack::Accepted(session_present))))?;
+    out.push(Output::Send(
+        connection,
+        Packet::Connack(Connack::Accepted(session_present)),
+    ))?;
     Ok(())
 }
 

@@ -7,7 +7,6 @@ mod expelling;
 mod handling;
 mod handshaking;
 mod leaving;
-mod limits;
 mod publishing;
 mod starting;
 mod subscribing;
@@ -15,5 +14,5 @@ mod tables;
 mod unsubscribing;
 
 pub use broker_session::ClientRow;
-pub use limits::MAX_SESSIONS;
+pub use broker_spec::MAX_SESSIONS;
 pub use tables::Tables;

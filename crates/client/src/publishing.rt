@@ -14,14 +14,11 @@ ghost use Rattle.client.specs.Inside.Handling.{kept_publication, sent_publicatio
 
 use crate::client_core::ClientCore;
 use crate::writing::{publish_again, write, write_publish};
-use client_base::{ClientError, Stage, UnacknowledgedPublication};
+use client_base::{ClientError, MAX_KEPT, Stage, UnacknowledgedPublication};
 use packet::{Delivery, Packet, PacketId, Payload, Publish, QoS};
 use session_base::Publication;
 use std::alloc::AllocError;
 use topics::TopicName;
-
-/// The most publications that are kept.
-const MAX_KEPT: usize = 64;
 
 impl ClientCore {
     /// Publishes. At QoS 1 and 2 the publication is kept until its handshake has ended. It is sent

@@ -9,6 +9,7 @@ use Rattle.session_base.specs.Publication.{publish_for, is_answered}
 use Rattle.session_base.specs.Identifiers.{least_free, max_id}
 use Rattle.client_base.specs.declared.error.ClientError.{ClientError}
 use Rattle.client_base.specs.declared.error.ClientError.TheVariants as errors
+use Rattle.client_base.specs.declared.limits.TheConstants.{MAX_KEPT}
 use Rattle.client_base.specs.declared.unacknowledged_publication.UnacknowledgedPublication.{UnacknowledgedPublication}
 use Rattle.client_base.specs.State.{ClientState, is_online, kept_count, used_ids}
 use Rattle.client_base.specs.Answered.{ClientOutcome, going_on}
@@ -23,7 +24,7 @@ has_free_id state = nat_lt (next_id state) (max_id + 1)
 
 -- the most publications that a client keeps
 abbrev pub max_kept : ℕ
-max_kept = 64
+max_kept = MAX_KEPT
 
 -- the PUBLISH of a publication, with the next identifier
 abbrev pub publish_packet : Publication → ClientState → Packet

@@ -5,6 +5,7 @@
 mod accepted;
 mod error;
 mod laws;
+mod limits;
 mod request;
 mod stage;
 mod unacknowledged_publication;
@@ -15,6 +16,7 @@ pub use laws::{
     accepted_once_an_identifier, history_is_followed, publishing_order_is_kept,
     used_identifiers_are_distinct,
 };
+pub use limits::MAX_KEPT;
 pub use request::Request;
 pub use stage::Stage;
 pub use unacknowledged_publication::UnacknowledgedPublication;

@@ -11,12 +11,13 @@ ghost use Rattle.session_base.specs.Identifiers.{max_id};
 ghost use Rattle.session.specs.Inside.{AreWritable};
 
 use crate::received::Received;
-use crate::session::{MAX_ENTRIES, MAX_SUBSCRIPTIONS, Session};
+use crate::session::Session;
 use crate::session_queue::SessionQueue;
 use crate::subscriptions::Subscriptions;
 use packet::PacketId;
 use session_base::{
-    Awaits, Publication, write_flight, write_granted_subscription, write_number, write_publication,
+    Awaits, MAX_ENTRIES, MAX_SUBSCRIPTIONS, Publication, write_flight, write_granted_subscription,
+    write_number, write_publication,
 };
 use std::alloc::AllocError;
 

@@ -14,4 +14,5 @@ mod thawing;
 
 pub use arrival::Arrival;
 pub use error::EnqueueError;
-pub use session::{MAX_ENTRIES, MAX_SUBSCRIPTIONS, Session};
+pub use session::Session;
+pub use session_base::{MAX_ENTRIES, MAX_SUBSCRIPTIONS};

@@ -20,16 +20,10 @@ use crate::session_queue::SessionQueue;
 use crate::subscriptions::Subscriptions;
 use indexmap::IndexMap;
 use packet::{Packet, PacketId, QoS};
-use session_base::{Publication, resend_keeps_the_order};
+use session_base::{MAX_ENTRIES, Publication, resend_keeps_the_order};
 use std::alloc::{AllocError, Global};
 use std::marker::Model;
 use topics::{Filter, TopicName};
-
-/// The most entries that a session holds, including those in flight.
-pub const MAX_ENTRIES: usize = 4096;
-
-/// The most subscriptions of a session. [`Session::subscribe`] does not check it.
-pub const MAX_SUBSCRIPTIONS: usize = 64;
 
 /// One client's session: its subscriptions, the identifiers of QoS 2 publications that were
 /// received, the entries in flight and those that wait.

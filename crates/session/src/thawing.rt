@@ -16,14 +16,15 @@ ghost use Rattle.session_base.specs.OrderLaws.{IsReleasedFirst};
 
 use crate::received::Received;
 use crate::sending::waits_for_pubcomp;
-use crate::session::{MAX_ENTRIES, MAX_SUBSCRIPTIONS, Session};
+use crate::session::Session;
 use crate::session_queue::{SessionQueue, put_last};
 use crate::subscriptions::Subscriptions;
 use indexmap::IndexMap;
 use packet::{PacketId, QoS};
 use packet_base::{OUT_OF_MEMORY, Reader, Stop};
 use session_base::{
-    Awaits, Publication, check_form, read_flight, read_granted_subscription, read_waiting,
+    Awaits, MAX_ENTRIES, MAX_SUBSCRIPTIONS, Publication, check_form, read_flight,
+    read_granted_subscription, read_waiting,
 };
 use std::alloc::Global;
 use std::collections::VecDeque;

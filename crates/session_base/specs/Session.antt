@@ -2,6 +2,7 @@
 use Rattle.std.specs.Prelude.{ℕ, List, []}
 use Rattle.session_base.specs.Subscriptions.{GrantedSubscription}
 use Rattle.session_base.specs.Queue.{Flight, Queue, empty_queue}
+use Rattle.session_base.specs.declared.limits.TheConstants.{MAX_ENTRIES, MAX_SUBSCRIPTIONS}
 
 -- a session's subscriptions, the identifiers of QoS 2 publications that were received and have no
 -- PUBREL, in rising order, and what is to be sent
@@ -12,11 +13,11 @@ pub record SessionState : Type 0 where
 
 -- how many subscriptions a session has at most
 abbrev pub max_subscriptions : ℕ
-max_subscriptions = 64
+max_subscriptions = MAX_SUBSCRIPTIONS
 
 -- how many entries a session has in flight and waiting at most
 abbrev pub max_entries : ℕ
-max_entries = 4096
+max_entries = MAX_ENTRIES
 
 -- a session with nothing in it
 abbrev pub empty_session : SessionState

@@ -5,6 +5,7 @@
 mod awaits;
 mod form_laws;
 mod laws;
+mod limits;
 mod publication;
 mod reading;
 mod rows;
@@ -17,6 +18,7 @@ pub use laws::{
     least_identifier_is_free, other_answers_change_nothing, resend_keeps_the_order,
     sessions_keep_their_form,
 };
+pub use limits::{MAX_ENTRIES, MAX_SUBSCRIPTIONS};
 pub use publication::{Publication, delivery};
 pub use reading::{
     body_length, check_form, payload_of, read_flag, read_flight, read_granted_subscription,

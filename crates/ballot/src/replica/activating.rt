@@ -13,10 +13,10 @@ ghost use Rattle.ballot_base.specs.Losses.{halted, one_more};
 ghost use Rattle.ballot_base.specs.Applying.{applied_to};
 ghost use Rattle.ballot_base.specs.lists.Lists.{IsPrefixOf};
 
-use super::{MAX_PLACES, Replica};
+use super::Replica;
 use ballot_base::{
-    Body, Effect, Progress, Role, apply_dropping, counted, least_held, progress_of_others,
-    send_appends,
+    Body, Effect, MAX_PLACES, Progress, Role, apply_dropping, counted, least_held,
+    progress_of_others, send_appends,
 };
 use machine::{Halted, Machine, Memory};
 use std::mem;

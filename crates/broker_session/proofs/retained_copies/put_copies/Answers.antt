@@ -1,7 +1,7 @@
 -- A copy takes one place at most, and the others find theirs.
 use Rattle.std.proofs.Common.{rules, ◌≡◌, ◌≤◌, ◌∷◌, ◌∙◌, ap, sym, subst, List, length}
 use Rattle.session_base.specs.declared.publication.Publication.{Publication}
-use Rattle.session.specs.declared.session.TheConstants.{MAX_ENTRIES}
+use Rattle.session_base.specs.declared.limits.TheConstants.{MAX_ENTRIES}
 use Rattle.session_base.specs.Queue.{Queue, room}
 use Rattle.session_base.specs.Session.{SessionState}
 use Rattle.broker_spec.specs.Entries.{queued}

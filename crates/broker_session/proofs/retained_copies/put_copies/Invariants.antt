@@ -1,6 +1,6 @@
 -- What came so far, and what is still to come, make the whole.
 use Rattle.std.proofs.Common.{◌≡◌, ◌≤◌, ◌++◌, length}
-use Rattle.session.specs.declared.session.TheConstants.{MAX_ENTRIES}
+use Rattle.session_base.specs.declared.limits.TheConstants.{MAX_ENTRIES}
 use Rattle.session_base.specs.Queue.{room}
 use Rattle.session_base.specs.Copies.{copies_left}
 use Rattle.broker_spec.specs.Entries.{queued}
