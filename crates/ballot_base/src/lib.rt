@@ -10,6 +10,7 @@ mod following;
 mod limits;
 mod log;
 mod message;
+mod rows;
 mod sending;
 mod status;
 mod taking;
@@ -21,6 +22,7 @@ pub use following::{forget, least_held, least_raised, others_of, progress_of_oth
 pub use limits::MAX_PLACES;
 pub use log::Log;
 pub use message::{Body, Effect, Message};
+pub use rows::a_log_ends_at_its_limit;
 pub use sending::{
     MASTER, send, send_after, send_appends, send_commits, send_installs, send_joins, send_state,
 };

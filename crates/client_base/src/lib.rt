@@ -7,6 +7,7 @@ mod error;
 mod laws;
 mod limits;
 mod request;
+mod rows;
 mod stage;
 mod unacknowledged_publication;
 
@@ -18,5 +19,6 @@ pub use laws::{
 };
 pub use limits::MAX_KEPT;
 pub use request::Request;
+pub use rows::sixty_four_are_kept;
 pub use stage::Stage;
 pub use unacknowledged_publication::UnacknowledgedPublication;

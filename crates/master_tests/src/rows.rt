@@ -1,9 +1,8 @@
 // Rows of the definitions. The call does nothing; its contract is the rows.
 
-ghost use Rattle.master_tests.specs.Ranges.{MaxBallotIs, MaxPlacesAre};
+ghost use Rattle.master_tests.specs.Ranges.{MaxBallotIs};
 
-/// Shows the last ballot that a master gives, and how many places a log has.
+/// Shows the last ballot that a master gives.
 pub fn ranges_have_their_edges()
-    ensures ballots { MaxBallotIs }
-    ensures places { MaxPlacesAre }
+    ensures { MaxBallotIs }
 {}

@@ -1,0 +1,9 @@
+// A worked example of a limit.
+
+ghost use Rattle.std.specs.Prelude.{◌≡◌};
+ghost use Rattle.ballot_base.specs.Serving.{max_places};
+
+/// Shows how many places a log has at most, 2^40.
+pub fn a_log_ends_at_its_limit()
+    ensures { max_places ≡ 1099511627776 }
+{}
