@@ -8,7 +8,7 @@ use std::rt::Files;
 use std::str;
 use std::sync::Wait;
 use std::thread::Threads;
-use std::time::Clock;
+use std::time::{Clock, SystemTime, UNIX_EPOCH};
 
 /// How a job ends: its exit status, and what it writes on standard output and on standard error.
 pub type End<'a> = (u8, &'a str, &'a str);
@@ -23,19 +23,28 @@ pub fn write_orders(orders: &mut PipeWriter, lines: &str) -> bool {
     orders.write_all(lines.as_bytes()).is_ok()
 }
 
+/// Returns the name of a file that no program has yet, with this ending.
+pub fn free_name<R: Clock + AllocGlobal>(rt: &R, ending: &str) -> Option<String> {
+    let now = SystemTime::now(rt).ok()?.duration_since(UNIX_EPOCH).ok()?;
+    let seconds = now.as_secs();
+    let nanoseconds = now.subsec_nanos();
+    format!(in rt.alloc(); "/tmp/vbroker_{seconds}_{nanoseconds}.{ending}").ok()
+}
+
 /// Does what a command line of these words says, and returns the exit status.
-pub fn status_of_words<R, I, O>(
+pub fn status_of_words<R, I, O, E>(
     rt: &R,
     words: &[&str],
     input: &mut I,
     output: &mut O,
-    faults: &mut Vec<u8>,
+    faults: &mut E,
 ) -> u8
 where
     R: Files + Threads + Wait + Clock + Sync + AllocGlobal,
     R: Net<Listener = TcpListener, Stream = TcpStream>,
     I: BufRead + Drop,
     O: Write + Drop,
+    E: Write + Drop,
 {
     match line(rt.alloc(), words) {
         Ok(job) => perform(rt, &job, input, output, faults),

@@ -1,10 +1,10 @@
 // Two nodes over the loopback, a subscriber and a publisher, each by its command line, and orders
 // between them.
 
-use super::hand::{status_of_words, write_orders};
-use super::orders::{KEPT, Served, free_port, keep};
+use super::hand::{free_name, status_of_words, write_orders};
+use super::orders::{KEPT, TABLE, keep};
 use super::shown::Shown;
-use std::io::{BufReader, PipeReader, PipeWriter, Write};
+use std::io::{BufReader, ErrorKind, PipeReader, PipeWriter, Write};
 use std::net::{Net, TcpListener, TcpStream};
 use std::rt::Files;
 use std::sync::Wait;
@@ -23,21 +23,22 @@ const SENT: &str = "2 0 t/1 x\n";
 // All that it prints: before, it gets what was kept.
 const PRINTED: &str = "2 1 t/1 x\n2 0 t/1 x\n";
 
-// A file with a table of two nodes, of which the first serves on an address.
+// A server: the file with its table of two nodes, and what it reports.
 #[derive(Drop)]
-struct Table {
+struct Server {
     file: String,
-    served: Served,
+    reports: Shown,
 }
 
-impl Table {
-    // Writes the table of a server on this port of the loopback.
-    fn new<R: Files + AllocGlobal>(rt: &R, port: u16) -> io::Result<Table> {
-        let alloc = rt.alloc();
-        let served = Served::new(alloc, port)?;
-        let file = format!(in alloc; "/tmp/vbroker_{port}.toml")?;
-        fs::write(rt, file.as_str(), served.table.as_str())?;
-        Ok(Table { file, served })
+impl Server {
+    // Writes the table of a server that has reported nothing.
+    fn new<R: Files + Clock + AllocGlobal>(rt: &R) -> io::Result<Server> {
+        let file = free_name(rt, "toml").ok_or(ErrorKind::Other)?;
+        fs::write(rt, file.as_str(), TABLE)?;
+        Ok(Server {
+            file,
+            reports: Shown::new(rt.alloc()),
+        })
     }
 }
 
@@ -78,16 +79,16 @@ fn first_fault(parts: &[Part]) -> Option<&'static str> {
 }
 
 // Takes a part to its end. What the subscriber prints is shown to the publisher.
-fn take_part<R>(rt: &R, table: &Table, printed: &Shown, part: &mut Part)
+fn take_part<R>(rt: &R, server: &Server, printed: &Shown, part: &mut Part)
 where
     R: Files + Threads + Wait + Clock + Sync + AllocGlobal,
     R: Net<Listener = TcpListener, Stream = TcpStream>,
 {
     let is_well = match mem::replace(part, Part::Ended(false)) {
-        Part::Nodes(orders) => serve(rt, table, orders),
-        Part::Meter => keep_and_hear(rt, table, printed),
+        Part::Nodes(orders) => serve(rt, server, orders),
+        Part::Meter => keep_and_hear(rt, server, printed),
         Part::Switch(mut giver) => {
-            let is_done = publish_and_give(rt, table, printed, &mut giver);
+            let is_done = publish_and_give(rt, server, printed, &mut giver);
             drop(giver);
             is_done
         }
@@ -97,80 +98,86 @@ where
 }
 
 // Says whether `serve` gives the wanted answers to the orders, and ends with status 0.
-fn serve<R>(rt: &R, table: &Table, orders: PipeReader) -> bool
+fn serve<R>(rt: &R, server: &Server, orders: PipeReader) -> bool
 where
     R: Files + Threads + Wait + Clock + Sync + AllocGlobal,
     R: Net<Listener = TcpListener, Stream = TcpStream>,
 {
     match BufReader::new(rt.alloc(), orders) {
-        Ok(mut input) => are_answered(rt, table, &mut input),
+        Ok(mut input) => are_answered(rt, server, &mut input),
         Err(_) => false,
     }
 }
 
 // Says whether `serve` gives the wanted answers to the orders of this input, and ends with status
 // 0.
-fn are_answered<R>(rt: &R, table: &Table, input: &mut BufReader<PipeReader>) -> bool
+fn are_answered<R>(rt: &R, server: &Server, input: &mut BufReader<PipeReader>) -> bool
 where
     R: Files + Threads + Wait + Clock + Sync + AllocGlobal,
     R: Net<Listener = TcpListener, Stream = TcpStream>,
 {
     let mut output = Vec::new(rt.alloc());
-    let mut faults = Vec::new(rt.alloc());
-    let words = ["vbroker", "serve", "--config", table.file.as_str()];
-    let status = status_of_words(rt, words.as_slice(), input, &mut output, &mut faults);
+    let mut reports = server.reports.output(rt);
+    let words = ["vbroker", "serve", "--config", server.file.as_str()];
+    let status = status_of_words(rt, words.as_slice(), input, &mut output, &mut reports);
     status == 0 && output.as_slice() == ANSWERS.as_bytes()
 }
 
 // Says whether something is kept, and `sub`, which comes after it, reports nothing and ends with
 // status 0.
-fn keep_and_hear<R>(rt: &R, table: &Table, printed: &Shown) -> bool
+fn keep_and_hear<R>(rt: &R, server: &Server, printed: &Shown) -> bool
 where
     R: Files + Threads + Wait + Clock + Sync + AllocGlobal,
     R: Net<Listener = TcpListener, Stream = TcpStream>,
 {
-    keep(rt, table.served.address.as_str()).is_ok() && hear(rt, table, printed)
+    match server.reports.await_address(rt) {
+        Some(address) => {
+            keep(rt, address.as_str()).is_ok() && hear(rt, address.as_str(), printed)
+        }
+        None => false,
+    }
 }
 
 // Says whether `sub` reports nothing, and ends with status 0.
-fn hear<R>(rt: &R, table: &Table, printed: &Shown) -> bool
+fn hear<R>(rt: &R, address: &str, printed: &Shown) -> bool
 where
     R: Files + Threads + Wait + Clock + Sync + AllocGlobal,
     R: Net<Listener = TcpListener, Stream = TcpStream>,
 {
     let words = [
-        "vbroker",
-        "sub",
-        "--id",
-        "meter",
-        "--filter",
-        "t/#",
-        "--qos",
-        "2",
-        "--count",
-        "2",
-        "--tries",
-        "50",
-        table.served.address.as_str(),
+        "vbroker", "sub", "--id", "meter", "--filter", "t/#", "--qos", "2", "--count", "2",
+        "--tries", "50", address,
     ];
     end_without_fault(rt, words.as_slice(), &mut printed.output(rt))
 }
 
 // Says whether `pub` publishes once the subscriber has its subscription, and the orders are given
 // once that is printed.
-fn publish_and_give<R>(rt: &R, table: &Table, printed: &Shown, orders: &mut PipeWriter) -> bool
+fn publish_and_give<R>(rt: &R, server: &Server, printed: &Shown, orders: &mut PipeWriter) -> bool
 where
     R: Files + Threads + Wait + Clock + Sync + AllocGlobal,
     R: Net<Listener = TcpListener, Stream = TcpStream>,
 {
     printed.await_line(rt, KEPT)
-        && publish(rt, table)
+        && publish_to(rt, server)
         && printed.await_line(rt, SENT)
         && write_orders(orders, ORDERS)
 }
 
+// Says whether `pub` publishes at the address that the server reports.
+fn publish_to<R>(rt: &R, server: &Server) -> bool
+where
+    R: Files + Threads + Wait + Clock + Sync + AllocGlobal,
+    R: Net<Listener = TcpListener, Stream = TcpStream>,
+{
+    match server.reports.await_address(rt) {
+        Some(address) => publish(rt, address.as_str()),
+        None => false,
+    }
+}
+
 // Says whether `pub` ends with status 0, prints nothing, and reports nothing.
-fn publish<R>(rt: &R, table: &Table) -> bool
+fn publish<R>(rt: &R, address: &str) -> bool
 where
     R: Files + Threads + Wait + Clock + Sync + AllocGlobal,
     R: Net<Listener = TcpListener, Stream = TcpStream>,
@@ -186,7 +193,7 @@ where
         "2",
         "--message",
         "x",
-        table.served.address.as_str(),
+        address,
     ];
     let mut output = Vec::new(rt.alloc());
     end_without_fault(rt, words.as_slice(), &mut output) && output.is_empty()
@@ -209,18 +216,18 @@ where
 // opens could not be sent to them.
 #[test]
 fn nodes_and_clients_end_with_0(rt: HostRuntime) -> io::Result<()> {
-    let table = Table::new(&rt, free_port(&rt)?)?;
+    let server = Server::new(&rt)?;
     let mut parts = parts_of(&rt)?;
     let mut printed = Shown::new(rt.alloc());
     thread::for_each_mut(
         &rt,
         parts.as_mut_slice(),
         3,
-        &|_, part| take_part(&rt, &table, &printed, part),
+        &|_, part| take_part(&rt, &server, &printed, part),
     );
     let fault = first_fault(parts.as_slice());
     drop(parts);
-    fs::remove_file(&rt, table.file.as_str())?;
+    fs::remove_file(&rt, server.file.as_str())?;
     assert_eq!(rt; (fault, printed.text()), (None, PRINTED));
     Ok(())
 }

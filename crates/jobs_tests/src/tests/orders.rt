@@ -2,11 +2,11 @@
 
 use super::expels::talk_and_expel;
 use super::hand::write_orders;
-use super::shown::{Shown, ShownOutput};
+use super::shown::Shown;
 use command_line::{Publish, Subscribe};
 use jobs::{JobError, print_fault, publish, serve_table, subscribe};
 use packet::QoS;
-use std::alloc::{AllocError, Global};
+use std::alloc::Global;
 use std::io::{BufReader, PipeReader, PipeWriter};
 use std::net::{Net, TcpListener, TcpStream};
 use std::rt::Files;
@@ -39,62 +39,37 @@ const ANSWERS: &str = "refused 24\n\
 /// with RETAIN 1 (MQTT 3.3.1.3).
 pub(super) const KEPT: &str = "2 1 t/1 x\n";
 
-/// A table of two nodes, of which the first serves on an address, and that address.
-#[derive(Drop)]
-pub(super) struct Served {
-    pub(super) table: String,
-    pub(super) address: String,
-}
+/// A table of two nodes, each on a port of the loopback that is free when it listens. A port that
+/// was chosen before could be taken by another program.
+pub(super) const TABLE: &str = "members = [1, 2]\nprimary = 1\n\
+    [[node]]\nid = 1\nlisten = \"127.0.0.1:0\"\n\
+    [[node]]\nid = 2\nlisten = \"127.0.0.1:0\"\n";
 
-impl Served {
-    /// Returns the table with this port of the loopback for node 1; port 0 is any free one.
-    pub(super) fn new(alloc: Global, port: u16) -> Result<Served, AllocError> {
-        let table = format!(in alloc;
-            "members = [1, 2]\nprimary = 1\n\
-             [[node]]\nid = 1\nlisten = \"127.0.0.1:{port}\"\n\
-             [[node]]\nid = 2\nlisten = \"127.0.0.1:0\"\n"
-        )?;
-        let address = format!(in alloc; "127.0.0.1:{port}")?;
-        Ok(Served { table, address })
-    }
-}
-
-/// Returns a port on which no program listens.
-pub(super) fn free_port<R>(rt: &R) -> io::Result<u16>
-where
-    R: Net<Listener = TcpListener, Stream = TcpStream>,
-{
-    Ok(TcpListener::bind(rt, "127.0.0.1:0")?.local_addr()?.port())
-}
-
-// Serves the nodes of a table, with orders that come by a pipe, and takes down what they answer,
-// and their fault. Says whether there is none.
-fn serve<R>(rt: &R, table: &str, orders: PipeReader, answers: &Shown) -> bool
+// Serves the nodes of the table, with orders that come by a pipe. Takes down what they report and
+// answer, and their fault. Says whether there is none.
+fn serve<R>(rt: &R, orders: PipeReader, written: &Written) -> bool
 where
     R: Threads + Wait + Clock + Sync + AllocGlobal,
     R: Net<Listener = TcpListener, Stream = TcpStream>,
 {
     match BufReader::new(rt.alloc(), orders) {
-        Ok(mut input) => serve_without_fault(rt, table, &mut input, &mut answers.output(rt)),
+        Ok(mut input) => serve_without_fault(rt, &mut input, written),
         Err(_) => false,
     }
 }
 
-fn serve_without_fault<R>(
-    rt: &R,
-    table: &str,
-    input: &mut BufReader<PipeReader>,
-    output: &mut ShownOutput<'_, R>,
-) -> bool
+// Does the same with orders that come by this input.
+fn serve_without_fault<R>(rt: &R, input: &mut BufReader<PipeReader>, written: &Written) -> bool
 where
     R: Threads + Wait + Clock + Sync + AllocGlobal,
     R: Net<Listener = TcpListener, Stream = TcpStream>,
 {
-    let mut faults = Vec::new(rt.alloc());
-    match serve_table(rt, table, input, output, &mut faults) {
+    let mut output = written.answers.output(rt);
+    let mut reports = written.reports.output(rt);
+    match serve_table(rt, TABLE, input, &mut output, &mut reports) {
         Ok(()) => true,
         Err(fault) => {
-            print_fault(output, &fault);
+            print_fault(&mut output, &fault);
             false
         }
     }
@@ -103,6 +78,8 @@ where
 /// What nodes and clients write.
 #[derive(Drop)]
 pub(super) struct Written {
+    // What the nodes report.
+    reports: Shown,
     // What the nodes answer, and then their fault.
     answers: Shown,
     /// What `sub` prints, and then its fault.
@@ -115,13 +92,14 @@ impl Written {
     /// Returns that of nodes and clients that have not come.
     pub(super) fn new(alloc: Global) -> Written {
         Written {
+            reports: Shown::new(alloc),
             answers: Shown::new(alloc),
             heard: Shown::new(alloc),
             told: Shown::new(alloc),
         }
     }
 
-    /// Returns the three texts.
+    /// Returns the answers, and what the clients write.
     pub(super) fn texts(&mut self) -> (&str, &str, &str) {
         (self.answers.text(), self.heard.text(), self.told.text())
     }
@@ -265,29 +243,9 @@ impl Given {
     }
 }
 
-/// Serves nodes on a port that is free, with these orders and clients. Takes down what the nodes
-/// answer, and what the clients write. Returns the first step that fails.
+/// Serves the nodes of the table, with these orders and clients. Takes down what the nodes report
+/// and answer, and what the clients write. Returns the first step that fails.
 pub(super) fn first_fault<R>(rt: &R, given: Given, written: &Written) -> Option<&'static str>
-where
-    R: Files + Threads + Wait + Clock + Sync + AllocGlobal,
-    R: Net<Listener = TcpListener, Stream = TcpStream>,
-{
-    let Ok(port) = free_port(rt) else {
-        return Some("a port is free");
-    };
-    match Served::new(rt.alloc(), port) {
-        Ok(served) => first_fault_with(rt, &served, given, written),
-        Err(_) => Some("there is memory for a table"),
-    }
-}
-
-// Serves the nodes of this table, and gives the orders. Returns the first step that fails.
-fn first_fault_with<R>(
-    rt: &R,
-    served: &Served,
-    given: Given,
-    written: &Written,
-) -> Option<&'static str>
 where
     R: Files + Threads + Wait + Clock + Sync + AllocGlobal,
     R: Net<Listener = TcpListener, Stream = TcpStream>,
@@ -295,16 +253,35 @@ where
     let Ok((input, orders)) = io::pipe(rt) else {
         return Some("there is a pipe");
     };
-    let answers = &written.answers;
     let (is_without_fault, fault) = thread::join(
         rt,
-        || serve(rt, served.table.as_str(), input, answers),
-        || given.order(rt, orders, served.address.as_str(), written),
+        || serve(rt, input, written),
+        || order_once_served(rt, given, orders, written),
     );
     if is_without_fault {
         fault
     } else {
         Some("the nodes are served")
+    }
+}
+
+// Gives the orders once node 1 listens. Returns the first step that fails.
+fn order_once_served<R>(
+    rt: &R,
+    given: Given,
+    orders: PipeWriter,
+    written: &Written,
+) -> Option<&'static str>
+where
+    R: Threads + Wait + Clock + Sync + AllocGlobal,
+    R: Net<Listener = TcpListener, Stream = TcpStream>,
+{
+    match written.reports.await_address(rt) {
+        Some(address) => given.order(rt, orders, address.as_str(), written),
+        None => {
+            drop(orders);
+            Some("node 1 listens")
+        }
     }
 }
 

@@ -1,12 +1,12 @@
 // Scripts, from the input and from a file.
 
-use crate::tests::hand::{End, status_of_words, text_of};
+use crate::tests::hand::{End, free_name, status_of_words, text_of};
 use std::fs;
 use std::net::{Net, TcpListener, TcpStream};
 use std::rt::Files;
 use std::sync::Wait;
 use std::thread::Threads;
-use std::time::{Clock, SystemTime, UNIX_EPOCH};
+use std::time::Clock;
 
 const SCRIPT: &str = "world 2 1,2 1 a\nopen a 1\nup 1 all\ndeliver 7\n";
 
@@ -84,14 +84,6 @@ fn ways_out_are_printed(rt: HostRuntime) {
     }
 }
 
-// Returns a name that no file has yet.
-fn free_name<R: Clock + AllocGlobal>(rt: &R) -> Option<String> {
-    let now = SystemTime::now(rt).ok()?.duration_since(UNIX_EPOCH).ok()?;
-    let seconds = now.as_secs();
-    let nanoseconds = now.subsec_nanos();
-    format!(in rt.alloc(); "/tmp/vbroker_{seconds}_{nanoseconds}.script").ok()
-}
-
 // Plays the script from a file of this name, and returns the exit status. The input is not read.
 fn play_from<R>(rt: &R, name: &str, output: &mut Vec<u8>, faults: &mut Vec<u8>) -> Option<u8>
 where
@@ -111,7 +103,7 @@ where
     R: Files + Threads + Wait + Clock + Sync + AllocGlobal,
     R: Net<Listener = TcpListener, Stream = TcpStream>,
 {
-    match free_name(rt) {
+    match free_name(rt, "script") {
         Some(name) => play_from(rt, name.as_str(), output, faults),
         None => None,
     }

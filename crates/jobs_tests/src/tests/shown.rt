@@ -13,6 +13,9 @@ const LOOKS: u32 = 1_000;
 
 const LOOK_MILLIS: u64 = 10;
 
+// What a server reports first, before the address.
+const LISTENS: &str = "node 1 listens on ";
+
 /// What a job has written up to now.
 #[derive(Drop)]
 pub struct Shown {
@@ -47,6 +50,26 @@ impl Shown {
             thread::sleep(rt, Duration::from_millis(LOOK_MILLIS));
         }
         false
+    }
+
+    /// Waits until a server reports where node 1 listens, for ten seconds at most. Returns the
+    /// address.
+    pub fn await_address<R: Wait + Clock + AllocGlobal>(&self, rt: &R) -> Option<String> {
+        for _ in 0..LOOKS {
+            if let Some(address) = self.address(rt) {
+                return Some(address);
+            }
+            thread::sleep(rt, Duration::from_millis(LOOK_MILLIS));
+        }
+        None
+    }
+
+    // Returns the address at which node 1 listens; none if it was not reported.
+    fn address<R: Wait + AllocGlobal>(&self, rt: &R) -> Option<String> {
+        let bytes = self.bytes.lock(rt);
+        let (line, _) = text_of(bytes.as_slice()).split_once('\n')?;
+        let address = line.strip_prefix(LISTENS)?;
+        String::from_str(rt.alloc(), address).ok()
     }
 
     // Says whether this line is the last that was written.
