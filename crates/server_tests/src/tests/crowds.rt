@@ -112,8 +112,9 @@ where
     hear_end(&mut stream)
 }
 
-/// Has sixty clients say nothing: they keep their connections for four seconds, and lose them
-/// within ten more. Then another is accepted. Returns the first step that fails.
+/// Has sixty clients say nothing: they keep their connections for four seconds. Then one more is
+/// closed, and the sixty lose theirs within ten seconds more. Then another is accepted. Returns the
+/// first step that fails.
 pub(super) fn silent_ones<R>(rt: &R, listener: Option<&Listener>) -> Result<(), Fault>
 where
     R: AllocGlobal + Net<Stream = TcpStream>,
@@ -122,7 +123,9 @@ where
     silent_ones_on(rt, listener, &mut streams)
 }
 
-// Returns the first step that fails with silent clients that have these streams.
+// Returns the first step that fails with silent clients that have these streams. The sixty-first
+// comes after the four seconds. If it came at once, its thread could find room before the threads
+// of the others did, and one of those would be closed.
 fn silent_ones_on<R>(
     rt: &R,
     listener: Option<&Listener>,
@@ -135,11 +138,11 @@ where
         open_sixty(rt, listener, streams),
         "sixty connections are opened",
     )?;
-    named(turn_away(rt, listener), "the sixty-first is closed")?;
     named(
         stay_open(streams.first_mut()),
         "the first is open for four seconds",
     )?;
+    named(turn_away(rt, listener), "the sixty-first is closed")?;
     named(
         end_all(streams.as_mut_slice()),
         "all are ended ten seconds later",

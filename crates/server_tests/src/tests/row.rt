@@ -23,7 +23,7 @@ pub(super) enum Row {
     Sixty,
     /// 200 clients, one after another, are all accepted.
     ComeAndGo,
-    /// Sixty clients that say nothing are ended after ten seconds.
+    /// Sixty clients that say nothing are ended after ten seconds; one more is closed meanwhile.
     SilentOnes,
     /// A client that never reads and falls silent loses its connection.
     Deaf,
