@@ -5,12 +5,16 @@ use super::row::{Row, Table};
 use packet::ClientId;
 use server::{Cluster, Listener};
 use server_clients::{
-    Came, Fault, Heard, Pair, SUBSCRIBE, SUBSCRIBED, deliver, exchange, hear_end, hear_nothing,
-    join, named, publish, unless,
+    Came, Fault, Heard, Pair, SUBSCRIBE, SUBSCRIBED, deliver, exchange, hear_end_within,
+    hear_nothing, join, named, publish, unless,
 };
 use std::net::{Net, TcpStream};
 use std::sync::Wait;
 use std::time::Clock;
+
+// For how long the end of an expelled client's stream is awaited: its keep alive would end it after
+// 90 seconds.
+const END_MILLIS: u64 = 30_000;
 
 const TABLES: &[Table] = &[
     Table {
@@ -88,7 +92,7 @@ where
     named(begin(rt, pair), "the subscriber is sent what is published")?;
     unless(is_ordered(rt, cluster, "h"), "the first order is taken")?;
     named(
-        hear_end(&mut pair.hearer),
+        hear_end_within(&mut pair.hearer, END_MILLIS),
         "the subscriber is closed while it is connected",
     )?;
     named(
@@ -179,7 +183,10 @@ where
     R: AllocGlobal + Wait + Clock,
 {
     unless(is_ordered(rt, cluster, "l"), "the last order is taken")?;
-    named(hear_end(last), "the client of the last order is closed")
+    named(
+        hear_end_within(last, END_MILLIS),
+        "the client of the last order is closed",
+    )
 }
 
 // Has client `q` find its session, and get all three publications.

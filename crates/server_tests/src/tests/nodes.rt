@@ -70,9 +70,9 @@ where
     cluster.assign(rt, Config { members, primary }).is_ok() && is_primary(rt, cluster, primary)
 }
 
-// Says whether a node becomes the active primary within two seconds.
+// Says whether a node becomes the active primary within thirty seconds.
 fn is_primary<R: Wait + Clock>(rt: &R, cluster: &Cluster, number: u8) -> bool {
-    for _ in 0..200 {
+    for _ in 0..3_000 {
         if cluster
             .status(rt, number)
             .is_some_and(|status| status.role.is_active())
