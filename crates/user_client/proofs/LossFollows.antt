@@ -8,9 +8,9 @@ use Rattle.client.specs.client_base.declared.error.ClientError.TheVariants as er
 use Rattle.client.specs.Core.{Core}
 use Rattle.client.specs.Reading.{OnBytes}
 use Rattle.user_client.specs.declared.user_client_error.UserClientError.{UserClientError}
-use Rattle.user_client.specs.declared.user_client_error.UserClientError.TheVariants as faults
+use Rattle.user_client.specs.declared.user_client_error.UserClientError.TheVariants as clients
 use Rattle.user_client.specs.Losing.{IsGivenUp, IsLostBy, LosesSession}
-use Rattle.user_client.specs.Refusals.{IsRefusedFor, fault_of_call}
+use Rattle.user_client.specs.Refusals.{IsRefusedFor, error_of_call}
 use Rattle.user_client.specs.Tracing.{CallerView, Trace}
 use Rattle.user_client.proofs.CallsAreSteps.{parts}
 use Rattle.user_client.proofs.TracesJoin.{traces_join}
@@ -49,27 +49,27 @@ lost_later end (Err e) trace loses = λ lost. loses_later trace (loses lost)
 
 -- the same of an error that is passed on
 pub passed_later : {T : Type 0} {start middle : CallerView} {taken : List Accepted} (end : CallerView) (r : Result T UserClientError)
-    (fault : UserClientError) → IsErrAnd r (λ (it : UserClientError). it ≡ fault)
-    → Trace start taken middle → IsLostBy middle end fault → IfErr r (IsLostBy start end)
-passed_later end (Ok x) fault is trace loses = tt
-passed_later end (Err e) fault is trace loses = λ lost. loses_later trace (loses (sym is ∙ lost))
+    (error : UserClientError) → IsErrAnd r (λ (it : UserClientError). it ≡ error)
+    → Trace start taken middle → IsLostBy middle end error → IfErr r (IsLostBy start end)
+passed_later end (Ok x) error is trace loses = tt
+passed_later end (Err e) error is trace loses = λ lost. loses_later trace (loses (sym is ∙ lost))
 
 -- the same of the end of all connections
 pub gives_up_later : {S T : Type 0} (opens pauses : S → S → Type 0) (tries : ℕ) (first last : S) {start middle : CallerView}
-    {taken : List Accepted} (end : CallerView) (r : Result T UserClientError) (fault : UserClientError)
-    → IsErrAnd r (λ (it : UserClientError). it ≡ fault) → Trace start taken middle → IsLostBy middle end fault
+    {taken : List Accepted} (end : CallerView) (r : Result T UserClientError) (error : UserClientError)
+    → IsErrAnd r (λ (it : UserClientError). it ≡ error) → Trace start taken middle → IsLostBy middle end error
     → IfErr r (IsGivenUp opens pauses tries first last start end)
-gives_up_later opens pauses tries first last end (Ok x) fault is trace loses = tt
-gives_up_later opens pauses tries first last end (Err e) fault is trace loses = λ lost. inr (loses_later trace (loses (sym is ∙ lost)))
+gives_up_later opens pauses tries first last end (Ok x) error is trace loses = tt
+gives_up_later opens pauses tries first last end (Err e) error is trace loses = λ lost. inr (loses_later trace (loses (sym is ∙ lost)))
 
 -- an error that is another one
 pub never_lost : {T : Type 0} (start end : CallerView) (r : Result T UserClientError)
-    → IfErr r (λ (it : UserClientError). it ≢ faults.Lost) → IfErr r (IsLostBy start end)
+    → IfErr r (λ (it : UserClientError). it ≢ clients.Lost) → IfErr r (IsLostBy start end)
 never_lost start end (Ok x) other = tt
 never_lost start end (Err e) other = λ lost. absurd (other lost)
 
 -- a call that is refused is not lost
-call_not_lost : (cause : ClientError) → fault_of_call cause ≢ faults.Lost
+call_not_lost : (cause : ClientError) → error_of_call cause ≢ clients.Lost
 call_not_lost errors.Memory = λ is. absurd cc
 call_not_lost (errors.Malformed kind) = λ is. absurd cc
 call_not_lost errors.Protocol = λ is. absurd cc
@@ -78,10 +78,10 @@ call_not_lost errors.TooLarge = λ is. absurd cc
 call_not_lost errors.WindowFull = λ is. absurd cc
 call_not_lost errors.SessionLost = λ is. absurd cc
 
-pub cause_not_lost : (cause : ClientError) (it : UserClientError) → it ≡ fault_of_call cause → it ≢ faults.Lost
+pub cause_not_lost : (cause : ClientError) (it : UserClientError) → it ≡ error_of_call cause → it ≢ clients.Lost
 cause_not_lost cause it is lost = call_not_lost cause (sym is ∙ lost)
 
-pub refused_not_lost : (cause : Option ClientError) (it : UserClientError) → IsRefusedFor cause it → it ≢ faults.Lost
+pub refused_not_lost : (cause : Option ClientError) (it : UserClientError) → IsRefusedFor cause it → it ≢ clients.Lost
 refused_not_lost cause it (inr memory) = λ lost. absurd cc
 refused_not_lost None it (inl is) = λ lost. absurd (both_ways true (ap is_some (sym is)) refl)
 refused_not_lost (Some cause) it (inl is) = λ lost. call_not_lost cause cc

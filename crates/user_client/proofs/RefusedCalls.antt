@@ -1,4 +1,4 @@
--- RefusedCalls.antt: a call that is refused has changed nothing, and its fault says why.
+-- RefusedCalls.antt: a call that is refused has changed nothing, and its error says why.
 use Rattle.std.proofs.Common.{◌≡◌, Bool, Some, sym, ap, subst, ◌∙◌, inl, inr}
 use Rattle.std.specs.Prelude.{Result, Ok, Err, IfErr, IsErrAnd, OnErr, option_map}
 use Rattle.client.specs.client_base.declared.error.ClientError.{ClientError}
@@ -7,17 +7,17 @@ use Rattle.client.specs.client_base.Answered.{ClientOutcome}
 use Rattle.client.specs.client_base.Steps.{Call, keeper_step}
 use Rattle.client.specs.Core.{Core, AnswersCall}
 use Rattle.user_client.specs.declared.user_client_error.UserClientError.{UserClientError}
-use Rattle.user_client.specs.Refusals.{IsRefusedFor, fault_of_call}
+use Rattle.user_client.specs.Refusals.{IsRefusedFor, error_of_call}
 use Rattle.user_client.specs.Tracing.{CallerView}
 use Rattle.user_client.proofs.CallsAreSteps.{parts}
 
--- the fault of the step's own cause
-caused : (outcome : ClientOutcome) (cause : ClientError) (it : UserClientError) → it ≡ fault_of_call cause
+-- the error for the step's own cause
+caused : (outcome : ClientOutcome) (cause : ClientError) (it : UserClientError) → it ≡ error_of_call cause
     → outcome.refusal ≡ Some cause → IsRefusedFor outcome.refusal it
-caused outcome cause it is refused = inl (ap (option_map fault_of_call) refused ∙ ap Some (sym is))
+caused outcome cause it is refused = inl (ap (option_map error_of_call) refused ∙ ap Some (sym is))
 
--- the fault says why
-refused_for : (outcome : ClientOutcome) (old new : Core) (cause : ClientError) (it : UserClientError) → it ≡ fault_of_call cause
+-- the error says why
+refused_for : (outcome : ClientOutcome) (old new : Core) (cause : ClientError) (it : UserClientError) → it ≡ error_of_call cause
     → AnswersCall outcome old (Err cause) new → IsRefusedFor outcome.refusal it
 refused_for outcome old new errors.Memory it is same = inr is
 refused_for outcome old new (errors.Malformed kind) it is refused = caused outcome (errors.Malformed kind) it is refused.0
@@ -39,7 +39,7 @@ unchanged outcome old new errors.SessionLost refused = refused.1
 
 -- the same of a client that is seen as this one
 pub refused_seen : (call : Call) (core : Core) (was : Bool) {seen : CallerView} (new : Core) (cause : ClientError) (it : UserClientError)
-    → parts core was ≡ seen → it ≡ fault_of_call cause → AnswersCall (keeper_step call core.state) core (Err cause) new
+    → parts core was ≡ seen → it ≡ error_of_call cause → AnswersCall (keeper_step call core.state) core (Err cause) new
     → IsRefusedFor (keeper_step call seen.core.state).refusal it
 refused_seen call core was new cause it seen_so is does =
     subst (λ (s : CallerView). IsRefusedFor (keeper_step call s.core.state).refusal it) seen_so

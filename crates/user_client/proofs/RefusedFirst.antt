@@ -19,8 +19,8 @@ use Rattle.client.specs.client_base.Publishing.{is_over_limit, next_id, publishe
 use Rattle.client.specs.client_base.Steps.{Call, keeper_step, unless_refused}
 use Rattle.client.specs.Core.{AppendsAll, publication_with}
 use Rattle.user_client.specs.declared.user_client_error.UserClientError.{UserClientError}
-use Rattle.user_client.specs.declared.user_client_error.UserClientError.TheVariants as faults
-use Rattle.user_client.specs.Refusals.{IsRefusedFor, RefusesPacket, fault_of_call, first_publish}
+use Rattle.user_client.specs.declared.user_client_error.UserClientError.TheVariants as clients
+use Rattle.user_client.specs.Refusals.{IsRefusedFor, RefusesPacket, error_of_call, first_publish}
 use Rattle.user_client.specs.Publishing.{TakesPublish, unkept}
 use Rattle.user_client.specs.Tracing.{CallerView, IsAsked, new_called}
 
@@ -31,11 +31,11 @@ size_refusal large = if large then Some errors.TooLarge else None
 -- it is too large, or memory ran out
 large_only : (large : Bool) (outcome : ClientOutcome) (state : ClientState) (it : UserClientError) → outcome.refusal ≡ None
     → IsRefusedFor (unless_refused (size_refusal large) outcome state).refusal it
-    → ((large ≡ true) × (it ≡ fault_of_call errors.TooLarge)) ⊎ (it ≡ faults.Memory)
+    → ((large ≡ true) × (it ≡ error_of_call errors.TooLarge)) ⊎ (it ≡ clients.Memory)
 large_only large outcome state it kept (inr memory) = inr memory
 large_only true outcome state it kept (inl is) = inl (refl, sym (ap (λ (o : Option UserClientError). unwrap_or o it) is))
 large_only false outcome state it kept (inl is) =
-    absurd (both_ways true (ap is_some (sym is ∙ ap (option_map fault_of_call) kept)) refl)
+    absurd (both_ways true (ap is_some (sym is ∙ ap (option_map error_of_call) kept)) refl)
 
 not_large : (large : Bool) (outcome : ClientOutcome) (state : ClientState)
     → (unless_refused (size_refusal large) outcome state).refusal ≡ None → large ≡ false

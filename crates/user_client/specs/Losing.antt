@@ -4,7 +4,7 @@ use Rattle.client.specs.client_base.declared.accepted.Accepted.{Accepted}
 use Rattle.client.specs.client_base.declared.error.ClientError.TheVariants as errors
 use Rattle.client.specs.Reading.{OnBytes}
 use Rattle.user_client.specs.declared.user_client_error.UserClientError.{UserClientError}
-use Rattle.user_client.specs.declared.user_client_error.UserClientError.TheVariants as faults
+use Rattle.user_client.specs.declared.user_client_error.UserClientError.TheVariants as clients
 use Rattle.user_client.specs.Tracing.{CallerView, Trace}
 
 -- one more connection is asked for, after a pause if this is not the first
@@ -29,11 +29,11 @@ pub record LosesSession (start end : CallerView) : Type 0 where
 
 -- on one connection a client ends as lost only if the server lost the session
 abbrev pub IsLostBy : CallerView → CallerView → UserClientError → Type 0
-IsLostBy start end fault = fault ≡ faults.Lost → LosesSession start end
+IsLostBy start end error = error ≡ clients.Lost → LosesSession start end
 
 -- over all connections a client ends as lost also once it has asked for each of them
 abbrev pub IsGivenUp :
     {S : Type 0} → (S → S → Type 0) → (S → S → Type 0)
     → ℕ → S → S → CallerView → CallerView → UserClientError → Type 0
-IsGivenUp opens pauses tries first last start end fault =
-    fault ≡ faults.Lost → AsksForConnections opens pauses first tries last ⊎ LosesSession start end
+IsGivenUp opens pauses tries first last start end error =
+    error ≡ clients.Lost → AsksForConnections opens pauses first tries last ⊎ LosesSession start end

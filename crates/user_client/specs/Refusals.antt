@@ -13,26 +13,26 @@ use Rattle.topics.specs.Text.{filter_fault, topic_fault}
 use Rattle.topics.specs.declared.malformed.MalformedKind.{MalformedKind}
 use Rattle.topics.specs.declared.malformed.MalformedKind.TheVariants as kinds
 use Rattle.user_client.specs.declared.user_client_error.UserClientError.{UserClientError}
-use Rattle.user_client.specs.declared.user_client_error.UserClientError.TheVariants as faults
+use Rattle.user_client.specs.declared.user_client_error.UserClientError.TheVariants as clients
 
--- the fault of a malformed text
-abbrev pub text_fault : MalformedKind → UserClientError
-text_fault kinds.Memory = faults.Memory
-text_fault kind = faults.Refused (malformed_number kind)
+-- the error for a malformed text
+abbrev pub error_of_text : MalformedKind → UserClientError
+error_of_text kinds.Memory = clients.Memory
+error_of_text kind = clients.Refused (malformed_number kind)
 
--- the fault of a call that is refused
-abbrev pub fault_of_call : ClientError → UserClientError
-fault_of_call errors.Memory = faults.Memory
-fault_of_call cause = faults.Refused (client_number cause)
+-- the error for a call that is refused
+abbrev pub error_of_call : ClientError → UserClientError
+error_of_call errors.Memory = clients.Memory
+error_of_call cause = clients.Refused (client_number cause)
 
 -- a call is refused for this cause, if there is one, or because memory ran out
 abbrev pub IsRefusedFor : Option ClientError → UserClientError → Type 0
-IsRefusedFor cause it = (option_map fault_of_call cause ≡ Some it) ⊎ (it ≡ faults.Memory)
+IsRefusedFor cause it = (option_map error_of_call cause ≡ Some it) ⊎ (it ≡ clients.Memory)
 
 -- a text is refused by its first fault; without one, only because memory ran out
 abbrev pub IsRefusedBy : Option MalformedKind → UserClientError → Type 0
 IsRefusedBy fault it =
-    (option_map text_fault fault ≡ Some it) ⊎ ((fault ≡ None) × (it ≡ faults.Memory))
+    (option_map error_of_text fault ≡ Some it) ⊎ ((fault ≡ None) × (it ≡ clients.Memory))
 
 -- a client that prints is refused for its identifier, and only then for its filter
 abbrev pub RefusesListener : List ℕ → List ℕ → UserClientError → Type 0
@@ -47,7 +47,7 @@ first_publish id publication = publish_packet publication (new_client_state id 0
 -- a packet is refused if it is over the limit; if it is not, only because memory ran out
 abbrev pub RefusesPacket : Packet → UserClientError → Type 0
 RefusesPacket packet it =
-    ((is_over_limit packet ≡ true) × (it ≡ fault_of_call errors.TooLarge)) ⊎ (it ≡ faults.Memory)
+    ((is_over_limit packet ≡ true) × (it ≡ error_of_call errors.TooLarge)) ⊎ (it ≡ clients.Memory)
 
 -- a client that publishes is refused for its identifier, only then for its topic, and only then for
 -- the size of its packet

@@ -64,7 +64,7 @@ impl Caller {
     /// is that memory ran out.
     pub(crate) fn open(&mut self) -> Result<(), UserClientError>
         ensures trace { OnOk result (Trace self.old [] self.new) }
-        ensures err { IfErr result (λ fault. fault ≡ UserClientError.Memory) }
+        ensures err { IfErr result (λ error. error ≡ UserClientError.Memory) }
     {
         Ok(self.core.open()?)
     }
@@ -94,7 +94,7 @@ impl Caller {
     /// not.
     pub(crate) fn subscribe(&mut self, filter: &Filter, qos: QoS) -> Result<(), UserClientError>
         ensures trace { OnOk result (Trace self.old [] self.new) }
-        ensures lost { IfErr result (λ fault. fault ≢ UserClientError.Lost) }
+        ensures lost { IfErr result (λ error. error ≢ UserClientError.Lost) }
     {
         Ok(self.core.subscribe(filter.clone()?, qos)?)
     }
@@ -111,7 +111,7 @@ impl Caller {
         ensures trace { Trace self.old [] self.new }
         ensures kept { self.new.core.state ≡ self.old.core.state }
         ensures bytes { OnOk result (out.new.items ≡ out.old.items ++ self.old.core.out) }
-        ensures err { IfErr result (λ fault. fault ≡ UserClientError.Memory) }
+        ensures err { IfErr result (λ error. error ≡ UserClientError.Memory) }
     {
         Ok(self.core.outgoing(out)?)
     }
@@ -124,7 +124,7 @@ impl Caller {
         let _ = self.core.disconnect();
     }
 
-    /// Receives what the server sent. It is a fault if a server had a session before the first
+    /// Receives what the server sent. It is an error if a server had a session before the first
     /// accepted connection, or lost it later.
     pub(crate) fn receive(&mut self, piece: &[u8]) -> Result<News, UserClientError>
         ensures trace { OnOk result (Trace self.old [] self.new) }
@@ -142,7 +142,7 @@ impl Caller {
     // Checks that before the first accepted connection the server has no session of the client.
     fn check_first_session(&self) -> Result<(), UserClientError>
         ensures ok { OnOk result (IsFirst self.now self.now.core) }
-        ensures err { IfErr result (λ fault. fault ≡ UserClientError.SessionPresent) }
+        ensures err { IfErr result (λ error. error ≡ UserClientError.SessionPresent) }
     {
         if !self.was_accepted && self.core.is_session_present() {
             return Err(UserClientError::SessionPresent);
@@ -151,13 +151,13 @@ impl Caller {
     }
 }
 
-// Says whether the connection stays open after this answer to a piece. A lost session is a fault,
-// and it is a fault too if memory ran out.
+// Says whether the connection stays open after this answer to a piece. A lost session is an error,
+// and it is an error too if memory ran out.
 fn stays_open(heard: Result<(), ClientError>) -> Result<bool, UserClientError>
     ensures ok { OnOk result (heard ≢ Err errors.SessionLost) }
     ensures open { IfOk result (λ is_open. is_open ≡ is_ok heard) }
-    ensures lost { IfErr result (λ fault.
-        fault ≡ UserClientError.Lost → heard ≡ Err errors.SessionLost) }
+    ensures lost { IfErr result (λ error.
+        error ≡ UserClientError.Lost → heard ≡ Err errors.SessionLost) }
 {
     match heard {
         Ok(()) => Ok(true),

@@ -159,7 +159,7 @@ impl Publisher {
             → IsAcknowledgedBy D.contents stream.new.device self.new) }
         ensures trace { OnOk result (Trace self.old.caller [] self.new.caller) }
         ensures same { self.new.once ≡ self.old.once }
-        ensures lost { IfErr result (λ fault. fault ≢ UserClientError.Lost) }
+        ensures lost { IfErr result (λ error. error ≢ UserClientError.Lost) }
     {
         match &self.once {
             None => Ok(progress_of_kept(news, &self.caller)),
@@ -269,7 +269,7 @@ fn send_once<D: Read + Write>(
     ensures taken { IfOk result (λ progress.
         progress ≡ Progress.Done → TakesPublish D.contents publish.now
         stream.old.device stream.new.device) }
-    ensures lost { IfErr result (λ fault. fault ≢ UserClientError.Lost) }
+    ensures lost { IfErr result (λ error. error ≢ UserClientError.Lost) }
 {
     let topic = publish.topic.clone()?;
     let payload = publish.payload.clone()?;

@@ -160,7 +160,7 @@ impl Subscriber {
     ) -> Result<(), UserClientError>
         ensures printed { OnOk result
             (PrintsAccepted self.old (W.contents output.old) self.new (W.contents output.new)) }
-        ensures lost { IfErr result (λ fault. fault ≢ UserClientError.Lost) }
+        ensures lost { IfErr result (λ error. error ≢ UserClientError.Lost) }
     {
         self.subscribe_if_accepted(news)?;
         self.print_accepted(output)
@@ -170,7 +170,7 @@ impl Subscriber {
     // an earlier subscription may have been lost with its connection.
     fn subscribe_if_accepted(&mut self, news: News) -> Result<(), UserClientError>
         ensures asked { OnOk result (PrintsNothing self.old self.new) }
-        ensures lost { IfErr result (λ fault. fault ≢ UserClientError.Lost) }
+        ensures lost { IfErr result (λ error. error ≢ UserClientError.Lost) }
     {
         if !is_to_subscribe(news, self.left, self.count) {
             return Ok(());
@@ -182,7 +182,7 @@ impl Subscriber {
     fn print_accepted<W: Write>(&mut self, output: &mut W) -> Result<(), UserClientError>
         ensures printed { OnOk result
             (PrintsAccepted self.old (W.contents output.old) self.new (W.contents output.new)) }
-        ensures lost { IfErr result (λ fault. fault ≢ UserClientError.Lost) }
+        ensures lost { IfErr result (λ error. error ≢ UserClientError.Lost) }
     {
         let accepted = self.caller.take_accepted();
         self.left = print_all(self.alloc, accepted.as_slice(), self.left, output)?;
@@ -204,7 +204,7 @@ fn print_all<W: Write>(
 ) -> Result<u32, UserClientError>
     ensures printed { IfOk result (λ rest.
         Shows accepted.now left rest (W.contents output.old) (W.contents output.new)) }
-    ensures lost { IfErr result (λ fault. fault ≢ UserClientError.Lost) }
+    ensures lost { IfErr result (λ error. error ≢ UserClientError.Lost) }
 {
     let mut rest = left;
     for one in accepted {
@@ -222,7 +222,7 @@ fn print_next<W: Write>(
 ) -> Result<u32, UserClientError>
     ensures printed { IfOk result (λ rest.
         Shows (accepted.now ∷ []) left rest (W.contents output.old) (W.contents output.new)) }
-    ensures lost { IfErr result (λ fault. fault ≢ UserClientError.Lost) }
+    ensures lost { IfErr result (λ error. error ≢ UserClientError.Lost) }
 {
     if left == 0 {
         return Ok(0);
@@ -239,7 +239,7 @@ fn print<W: Write>(
 ) -> Result<(), UserClientError>
     ensures printed { OnOk result
         (Appends (W.contents output.old) (W.contents output.new) (printed_line accepted.now)) }
-    ensures lost { IfErr result (λ fault. fault ≢ UserClientError.Lost) }
+    ensures lost { IfErr result (λ error. error ≢ UserClientError.Lost) }
 {
     let mut line = Vec::new(alloc);
     print_line(accepted, &mut line)?;

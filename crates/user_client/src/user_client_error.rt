@@ -23,9 +23,9 @@ pub enum UserClientError {
 }
 
 impl From<MalformedKind> for UserClientError {
-    ghost use Rattle.user_client.specs.Refusals.{text_fault};
+    ghost use Rattle.user_client.specs.Refusals.{error_of_text};
 
-    ghost from_gives = { λ kind fault. fault ≡ text_fault kind };
+    ghost from_gives = { λ kind error. error ≡ error_of_text kind };
 
     fn from(kind: MalformedKind) -> UserClientError {
         match kind {
@@ -36,9 +36,9 @@ impl From<MalformedKind> for UserClientError {
 }
 
 impl From<ClientError> for UserClientError {
-    ghost use Rattle.user_client.specs.Refusals.{fault_of_call};
+    ghost use Rattle.user_client.specs.Refusals.{error_of_call};
 
-    ghost from_gives = { λ error fault. fault ≡ fault_of_call error };
+    ghost from_gives = { λ cause error. error ≡ error_of_call cause };
 
     fn from(error: ClientError) -> UserClientError {
         match error {
@@ -51,7 +51,7 @@ impl From<ClientError> for UserClientError {
 impl From<AllocError> for UserClientError {
     ghost use Rattle.user_client.specs.declared.user_client_error.UserClientError.TheVariants.{Memory};
 
-    ghost from_gives = { λ _ fault. fault ≡ Memory };
+    ghost from_gives = { λ _ error. error ≡ Memory };
 
     fn from(_error: AllocError) -> UserClientError {
         UserClientError::Memory
@@ -61,7 +61,7 @@ impl From<AllocError> for UserClientError {
 impl<T: Drop> From<AllocFailed<T>> for UserClientError {
     ghost use Rattle.user_client.specs.declared.user_client_error.UserClientError.TheVariants.{Memory};
 
-    ghost from_gives = { λ _ fault. fault ≡ Memory };
+    ghost from_gives = { λ _ error. error ≡ Memory };
 
     fn from(_error: AllocFailed<T>) -> UserClientError {
         UserClientError::Memory

@@ -78,7 +78,7 @@ pub(crate) fn send<D: Read + Write>(
     ensures kept { caller.new.core.state ≡ caller.old.core.state }
     ensures written { IfOk result (λ whole. whole ≡ true →
         Appends (D.contents stream.old.device) (D.contents stream.new.device) caller.old.core.out) }
-    ensures err { IfErr result (λ fault. fault ≡ UserClientError.Memory) }
+    ensures err { IfErr result (λ error. error ≡ UserClientError.Memory) }
 {
     let mut out = Vec::new(alloc);
     caller.outgoing(&mut out)?;

@@ -21,10 +21,10 @@ returns-clause-fits c =
 
 pub returns-in_err-publish-clause-err : goal.returns-in_err-publish-clause-err
 returns-in_err-publish-clause-err c =
-    let fault = c.in_err-publish.field-0.0 in
+    let error = c.in_err-publish.field-0.0 in
     let refuses = RefusesPacket
     (first_publish c.args.id (publication_with c.args.retain c.args.qos c.args.topic c.args.payload)) in
-    told c.from_residual.result (λ (it : UserClientError). it ≡ fault) refuses c.from_residual.ensures.1
+    told c.from_residual.result (λ (it : UserClientError). it ≡ error) refuses c.from_residual.ensures.1
     (λ (it : UserClientError) is. subst refuses (sym is)
-    (subst (λ (packet : Packet). RefusesPacket packet fault)
+    (subst (λ (packet : Packet). RefusesPacket packet error)
     (first_unkept c.args.id c.args.retain c.args.qos c.args.topic c.args.payload c.requires) c.in_err-publish.ensures.err))

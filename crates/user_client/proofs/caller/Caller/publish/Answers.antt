@@ -2,7 +2,7 @@ use Rattle.std.proofs.Common.{◌≡◌}
 use Rattle.client.specs.Core.{publication_with}
 use Rattle.client.specs.client_base.Steps.{Call, keeper_step}
 use Rattle.user_client.specs.declared.user_client_error.UserClientError.{UserClientError}
-use Rattle.user_client.specs.Refusals.{IsRefusedFor, fault_of_call}
+use Rattle.user_client.specs.Refusals.{IsRefusedFor, error_of_call}
 use Rattle.user_client.specs.Tracing.{Step}
 use Rattle.user_client.proofs.CallsAreSteps.{asked, parts, step_of}
 use Rattle.user_client.proofs.RefusedCalls.{in_any_case, refused_seen, told, unchanged_seen}
@@ -21,7 +21,7 @@ returns-clause-asked c =
 pub returns-in_err-publish-clause-refused : goal.returns-in_err-publish-clause-refused
 returns-in_err-publish-clause-refused c =
     let call = Call.Publishes (publication_with c.args.retain c.args.qos c.args.topic c.args.payload) in
-    told c.from_residual.result (λ (it : UserClientError). it ≡ fault_of_call c.in_err-publish.field-0.0)
+    told c.from_residual.result (λ (it : UserClientError). it ≡ error_of_call c.in_err-publish.field-0.0)
     (IsRefusedFor (keeper_step call c.args.self.now.core.state).refusal) c.from_residual.ensures.1
     (λ (it : UserClientError) is. refused_seen call c.self.inside.core c.self.inside.was_accepted c.publish.new.self
     c.in_err-publish.field-0.0 it c.self.view_is is c.in_err-publish.ensures)

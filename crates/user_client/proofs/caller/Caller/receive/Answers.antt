@@ -2,7 +2,7 @@ use Rattle.std.proofs.Common.{◌≡◌, Bool, ◌||◌, sym, ap, ◌∙◌}
 use Rattle.client.specs.client_base.State.{is_online}
 use Rattle.user_client.specs.Losing.{IsLostBy}
 use Rattle.user_client.specs.declared.user_client_error.UserClientError.{UserClientError}
-use Rattle.user_client.specs.declared.user_client_error.UserClientError.TheVariants as faults
+use Rattle.user_client.specs.declared.user_client_error.UserClientError.TheVariants as clients
 use Rattle.user_client.proofs.CallsAreSteps.{heard, parts}
 use Rattle.user_client.proofs.LossFollows.{lost_here}
 use Rattle.user_client.proofs.RefusedCalls.{told}
@@ -21,9 +21,9 @@ returns-clause-trace c =
 
 pub returns-in_err-is_open-clause-lost : goal.returns-in_err-is_open-clause-lost
 returns-in_err-is_open-clause-lost c =
-    let fault = c.in_err-is_open.field-0.0 in
-    told c.from_residual.result (λ (it : UserClientError). it ≡ fault)
+    let error = c.in_err-is_open.field-0.0 in
+    told c.from_residual.result (λ (it : UserClientError). it ≡ error)
     (IsLostBy c.args.self.now (parts c.on_bytes.new.self c.self.inside.was_accepted)) c.from_residual.ensures.1
-    (λ (it : UserClientError) is. λ (lost : it ≡ faults.Lost). lost_here c.self.inside.core c.self.inside.was_accepted
+    (λ (it : UserClientError) is. λ (lost : it ≡ clients.Lost). lost_here c.self.inside.core c.self.inside.was_accepted
     c.args.piece.now c.on_bytes.result c.on_bytes.new.self c.self.view_is c.on_bytes.ensures
     (c.in_err-is_open.ensures.lost (sym is ∙ lost)))
