@@ -13,8 +13,8 @@ use Rattle.world.specs.Escaping.{CanEscape, LeadsClientOut}
 use Rattle.world.specs.Happening.{WorldOpens}
 use Rattle.world.specs.World.{WorldState}
 use Rattle.play.specs.declared.error.PlayError.{PlayError}
-use Rattle.play.specs.declared.error.PlayError.TheVariants as faults
-use Rattle.play.specs.Faults.{escape_fault_of}
+use Rattle.play.specs.declared.error.PlayError.TheVariants as errors
+use Rattle.play.specs.Errors.{error_of_escape}
 use Rattle.play.specs.Inside.{AppendsLines}
 use Rattle.play.specs.Ways.{EndsIn, HasNoWay, TellsWay, event_line, event_lines, more_members}
 
@@ -73,21 +73,21 @@ tells_way (Err error) text members client old new last events written ends possi
 
 -- ---- there is none
 
-memory_is_not_idle : faults.Memory ≡ faults.Idle → ⊥
+memory_is_not_idle : errors.Memory ≡ errors.Idle → ⊥
 memory_is_not_idle e = cc
 
-fault_in : {A : Type 0} → Result A PlayError → PlayError
-fault_in (Ok value) = faults.Memory
-fault_in (Err error) = error
+error_in : {A : Type 0} → Result A PlayError → PlayError
+error_in (Ok value) = errors.Memory
+error_in (Err error) = error
 
--- which fault the world's became
-gave_idle : {A : Type 0} (result : Result A PlayError) (fault : PlayError) → IsErrAnd result (λ e. e ≡ fault) → result ≡ Err faults.Idle → fault ≡ faults.Idle
-unfolding fault_in
-gave_idle (Ok value) fault gave is = absurd gave
-gave_idle (Err error) fault gave is = sym gave ∙ ap fault_in is
+-- which error the world's became
+gave_idle : {A : Type 0} (result : Result A PlayError) (given : PlayError) → IsErrAnd result (λ e. e ≡ given) → result ≡ Err errors.Idle → given ≡ errors.Idle
+unfolding error_in
+gave_idle (Ok value) given gave is = absurd gave
+gave_idle (Err error) given gave is = sym gave ∙ ap error_in is
 
 pub no_way : {A B : Type 0} (result : Result A PlayError) (error : EscapeError) (text members client : List ℕ) (last : WorldState) → EndsIn text last
-    → IsErrAnd result (λ fault. fault ≡ escape_fault_of error) → (IsErrOf {T = B} (Err error) escapes.Idle → CanEscape members client last → ⊥)
-    → result ≡ Err faults.Idle → HasNoWay text members client
+    → IsErrAnd result (λ given. given ≡ error_of_escape error) → (IsErrOf {T = B} (Err error) escapes.Idle → CanEscape members client last → ⊥)
+    → result ≡ Err errors.Idle → HasNoWay text members client
 no_way result escapes.Idle text members client last ends gave none is = record { last = last; ends = ends; none = none refl }
-no_way result escapes.Memory text members client last ends gave none is = absurd (memory_is_not_idle (gave_idle result faults.Memory gave is))
+no_way result escapes.Memory text members client last ends gave none is = absurd (memory_is_not_idle (gave_idle result errors.Memory gave is))

@@ -2,6 +2,6 @@ pub mod AcceptedLines
 pub mod Transcripts
 pub mod Ways
 pub mod Events
-pub mod Faults
+pub mod Errors
 pub mod Inside
 pub mod Lines

@@ -35,12 +35,12 @@ impl Error for PlayError {}
 
 impl From<ScriptFault> for PlayError {
     ghost use Rattle.std.specs.Prelude.{◌≡◌};
-    ghost use Rattle.play.specs.Faults.{script_error};
+    ghost use Rattle.play.specs.Errors.{error_of_script};
 
-    ghost from_gives = { λ error fault. fault ≡ script_error error };
+    ghost from_gives = { λ fault error. error ≡ error_of_script fault };
 
-    fn from(error: ScriptFault) -> PlayError {
-        match error {
+    fn from(fault: ScriptFault) -> PlayError {
+        match fault {
             ScriptFault::Line(number) => PlayError::Line(number),
             ScriptFault::Memory => PlayError::Memory,
         }
@@ -51,7 +51,7 @@ impl From<AllocError> for PlayError {
     ghost use Rattle.std.specs.Prelude.{◌≡◌};
     ghost use Rattle.play.specs.declared.error.PlayError.TheVariants.{Memory};
 
-    ghost from_gives = { λ _ fault. fault ≡ Memory };
+    ghost from_gives = { λ _ error. error ≡ Memory };
 
     fn from(_error: AllocError) -> PlayError {
         PlayError::Memory
@@ -62,7 +62,7 @@ impl<T: Drop> From<AllocFailed<T>> for PlayError {
     ghost use Rattle.std.specs.Prelude.{◌≡◌};
     ghost use Rattle.play.specs.declared.error.PlayError.TheVariants.{Memory};
 
-    ghost from_gives = { λ _ fault. fault ≡ Memory };
+    ghost from_gives = { λ _ error. error ≡ Memory };
 
     fn from(_error: AllocFailed<T>) -> PlayError {
         PlayError::Memory
@@ -71,9 +71,9 @@ impl<T: Drop> From<AllocFailed<T>> for PlayError {
 
 impl From<Memory> for PlayError {
     ghost use Rattle.std.specs.Prelude.{◌≡◌};
-    ghost use Rattle.play.specs.declared.error.PlayError.TheVariants as faults;
+    ghost use Rattle.play.specs.declared.error.PlayError.TheVariants as errors;
 
-    ghost from_gives = { λ _ fault. fault ≡ faults.Memory };
+    ghost from_gives = { λ _ error. error ≡ errors.Memory };
 
     fn from(_error: Memory) -> PlayError {
         PlayError::Memory
@@ -82,9 +82,9 @@ impl From<Memory> for PlayError {
 
 impl From<OpeningError> for PlayError {
     ghost use Rattle.std.specs.Prelude.{◌≡◌};
-    ghost use Rattle.play.specs.Faults.{opening_fault_of};
+    ghost use Rattle.play.specs.Errors.{error_of_opening};
 
-    ghost from_gives = { λ error fault. fault ≡ opening_fault_of error };
+    ghost from_gives = { λ cause error. error ≡ error_of_opening cause };
 
     fn from(error: OpeningError) -> PlayError {
         match error {
@@ -97,9 +97,9 @@ impl From<OpeningError> for PlayError {
 
 impl From<EscapeError> for PlayError {
     ghost use Rattle.std.specs.Prelude.{◌≡◌};
-    ghost use Rattle.play.specs.Faults.{escape_fault_of};
+    ghost use Rattle.play.specs.Errors.{error_of_escape};
 
-    ghost from_gives = { λ error fault. fault ≡ escape_fault_of error };
+    ghost from_gives = { λ cause error. error ≡ error_of_escape cause };
 
     fn from(error: EscapeError) -> PlayError {
         match error {

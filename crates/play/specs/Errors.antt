@@ -6,19 +6,19 @@ use Rattle.script.specs.declared.error.ScriptFault.TheVariants as scripts
 use Rattle.world.specs.world_events.declared.escape_error.EscapeError.{EscapeError}
 use Rattle.world.specs.world_events.declared.escape_error.EscapeError.TheVariants as escapes
 use Rattle.play.specs.declared.error.PlayError.{PlayError}
-use Rattle.play.specs.declared.error.PlayError.TheVariants as faults
+use Rattle.play.specs.declared.error.PlayError.TheVariants as errors
 
 -- for a text that is no script
-abbrev pub script_error : ScriptFault → PlayError
-script_error (scripts.Line number) = faults.Line number
-script_error scripts.Memory = faults.Memory
+abbrev pub error_of_script : ScriptFault → PlayError
+error_of_script (scripts.Line number) = errors.Line number
+error_of_script scripts.Memory = errors.Memory
 
 -- for a world that does not open
-abbrev pub opening_fault_of : OpeningError → PlayError
-opening_fault_of openings.BadMembers = faults.Line 1
-opening_fault_of openings.Memory = faults.Memory
+abbrev pub error_of_opening : OpeningError → PlayError
+error_of_opening openings.BadMembers = errors.Line 1
+error_of_opening openings.Memory = errors.Memory
 
 -- for a way out that is not returned
-abbrev pub escape_fault_of : EscapeError → PlayError
-escape_fault_of escapes.Idle = faults.Idle
-escape_fault_of escapes.Memory = faults.Memory
+abbrev pub error_of_escape : EscapeError → PlayError
+error_of_escape escapes.Idle = errors.Idle
+error_of_escape escapes.Memory = errors.Memory
