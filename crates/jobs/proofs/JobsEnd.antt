@@ -1,4 +1,4 @@
--- JobsEnd.antt: how jobs end: what is done by those that end well, and the faults of the others.
+-- JobsEnd.antt: how jobs end: what is done by those that end well, and the errors of the others.
 use Rattle.std.proofs.Common.{◌≡◌, ◌⊎◌, ◌++◌, ◌∷◌, ℕ, Bor, List, [], Option, codes, Some, None, Result, Ok, Err, IfOk, IfErr, IfNone, IsErrAnd, OnOk, sym, subst, arith, inl, inr}
 use Rattle.std.specs.Io.KnownBytes.{Appends}
 use Rattle.command_line.specs.declared.fault.TableFault.{TableFault}
@@ -31,26 +31,26 @@ both (Err e) P Q one two = tt
 
 -- the words were refused
 pub by_words : {T : Type 0} (r : Result T JobError) (Can : Type 0) (Refuses : UserClientError → Type 0) (cause : UserClientError)
-    → IsErrAnd r (λ (fault : JobError). fault ≡ error_of_client cause) → Refuses cause
-    → IfErr r (λ (fault : JobError). (Can → ⊥) → (it : UserClientError) × Refuses it × (fault ≡ error_of_client it))
+    → IsErrAnd r (λ (error : JobError). error ≡ error_of_client cause) → Refuses cause
+    → IfErr r (λ (error : JobError). (Can → ⊥) → (it : UserClientError) × Refuses it × (error ≡ error_of_client it))
 by_words (Ok x) Can Refuses cause is refused = tt
-by_words (Err fault) Can Refuses cause is refused = λ cannot. (cause, refused, is)
+by_words (Err error) Can Refuses cause is refused = λ cannot. (cause, refused, is)
 
 -- nothing was wrong with the words
 pub at_work : {T : Type 0} (r : Result T JobError) (Can : Type 0) (Refuses : JobError → Type 0) → Can
-    → IfErr r (λ (fault : JobError). (Can → ⊥) → Refuses fault)
+    → IfErr r (λ (error : JobError). (Can → ⊥) → Refuses error)
 at_work (Ok x) Can Refuses can = tt
-at_work (Err fault) Can Refuses can = λ cannot. absurd (cannot can)
+at_work (Err error) Can Refuses can = λ cannot. absurd (cannot can)
 
 -- the text is no table
-no_table : (cause : TableFault) (fault : JobError) → fault ≡ error_of_table cause → (fault ≡ errors.Table) ⊎ (fault ≡ errors.Memory)
-no_table tables.Shape fault is = inl is
-no_table tables.Memory fault is = inr is
+no_table : (cause : TableFault) (error : JobError) → error ≡ error_of_table cause → (error ≡ errors.Table) ⊎ (error ≡ errors.Memory)
+no_table tables.Shape error is = inl is
+no_table tables.Memory error is = inr is
 
 pub by_table : {T : Type 0} (r : Result T JobError) (text : List ℕ) (cause : TableFault)
-    → IsErrAnd r (λ (fault : JobError). fault ≡ error_of_table cause) → IfErr r (FailsToServe text)
+    → IsErrAnd r (λ (error : JobError). error ≡ error_of_table cause) → IfErr r (FailsToServe text)
 by_table (Ok x) text cause is = tt
-by_table (Err fault) text cause is = λ cannot. no_table cause fault is
+by_table (Err error) text cause is = λ cannot. no_table cause error is
 
 -- ---- what was done
 
@@ -66,7 +66,7 @@ prints_all id count start end old new is printed all = record {
 pub says_bye : {T E O : Type 0} (r : Result T E) (contents : O → Option (List ℕ)) (before after : O)
     → OnOk r (Appends (contents before) (contents after) (codes "bye" ++ 10 ∷ [])) → OnOk r (SaysBye contents after)
 says_bye (Ok done) contents before after written = (before, written)
-says_bye (Err fault) contents before after written = tt
+says_bye (Err error) contents before after written = tt
 
 -- a way out for the members and the client that the words name
 pub way_of : (r : Result (Unit {0}) JobError) (job : Escape) (text members shown client : List ℕ) (old new : Option (List ℕ))
@@ -78,7 +78,7 @@ way_of (Ok done) job text members shown client old new are same is printed = (
   subst (λ (c : List ℕ). PrintsWay text members c old new) is
       (subst (λ (ms : List ℕ). PrintsWay text ms client old new) same printed),
 )
-way_of (Err fault) job text members shown client old new are same is printed = tt
+way_of (Err error) job text members shown client old new are same is printed = tt
 
 -- the script of a text was played
 pub plays : (r : Result (Unit {0}) JobError) (job : Play) (escape : Option Escape) (text shown : List ℕ) (input old new : Option (List ℕ))
@@ -90,7 +90,7 @@ plays (Ok done) job escape text shown input old new asked is same printed = (
   subst (λ (e : Option Escape). PrintsPlayed e text old new) (sym asked)
       (subst (λ (t : List ℕ). PrintsPlayed escape t old new) same printed),
 )
-plays (Err fault) job escape text shown input old new asked is same printed = tt
+plays (Err error) job escape text shown input old new asked is same printed = tt
 
 -- a file is named, or none is
 pub of_file : {T E : Type 0} (r : Result T E) (script : Option (Bor (List ℕ))) (file : Bor (List ℕ)) (P : T → Type 0)
@@ -113,12 +113,12 @@ done_in r P job arm is done = subst (λ (j : Job). OnOk r (P j)) (sym is) done
 pub fails_in : {T : Type 0} (r : Result T JobError) (job arm : Job) → job ≡ arm → IfErr r (FailsAt arm) → IfErr r (FailsAt job)
 fails_in r job arm is fails = subst (λ (j : Job). IfErr r (FailsAt j)) (sym is) fails
 
-pub fails_somehow : {T E : Type 0} (r : Result T E) → IfErr r (λ (fault : E). Unit {0})
+pub fails_somehow : {T E : Type 0} (r : Result T E) → IfErr r (λ (error : E). Unit {0})
 fails_somehow (Ok x) = tt
 fails_somehow (Err e) = tt
 
--- no fault ends with status 0
-pub not_0 : (fault : JobError) → exit_status fault ≡ 0 → ⊥
+-- no error ends with status 0
+pub not_0 : (error : JobError) → exit_status error ≡ 0 → ⊥
 not_0 errors.Memory is = absurd (omega (arith, is))
 not_0 errors.Input is = absurd (omega (arith, is))
 not_0 errors.Output is = absurd (omega (arith, is))

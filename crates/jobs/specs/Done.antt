@@ -1,4 +1,4 @@
--- What a job has done that ended without a fault, as far as it can be seen at its input and output.
+-- What a job that ended without an error has done, as far as its input and output show it.
 use Rattle.std.specs.Prelude.{◌≡◌, ◌∷◌, ◌++◌, ℕ, List, [], Option, codes}
 use Rattle.std.specs.Io.KnownBytes.{Appends}
 use Rattle.command_line.specs.declared.job.Job.{Job}

@@ -1,4 +1,4 @@
--- The exit status of a program that ends with a fault, and how the faults of its parts become the
+-- The exit status of a program that ends with an error, and how the errors of its parts become the
 -- program's.
 use Rattle.std.specs.Prelude.{ℕ}
 use Rattle.clap.specs.Values.{kind_of}

@@ -19,9 +19,9 @@ use Rattle.jobs.specs.declared.job_error.JobError.TheVariants as errors
 abbrev pub IsTable : List ℕ → Type 0
 IsTable text = (table : NodeTable) × IsTableText text table
 
--- if the text is no table, the fault says so, or memory ran out
+-- if the text is no table, the error says so, or memory ran out
 abbrev pub FailsToServe : List ℕ → JobError → Type 0
-FailsToServe text fault = (IsTable text → ⊥) → (fault ≡ errors.Table) ⊎ (fault ≡ errors.Memory)
+FailsToServe text error = (IsTable text → ⊥) → (error ≡ errors.Table) ⊎ (error ≡ errors.Memory)
 
 -- the publication that the words of `pub` ask for
 abbrev pub asked_publication : Publish → Publication
@@ -36,36 +36,36 @@ asked_publication job = record {
 abbrev pub CanPublish : Publish → Type 0
 CanPublish job = IsPublishable job.id.now (asked_publication job)
 
--- the fault is that of the first that is wrong, or memory ran out
+-- the error is that of the first that is wrong, or memory ran out
 abbrev pub RefusesToPublish : Publish → JobError → Type 0
-RefusesToPublish job fault = (cause : UserClientError)
-    × RefusesPublisher job.id.now (asked_publication job) cause × (fault ≡ error_of_client cause)
+RefusesToPublish job error = (cause : UserClientError)
+    × RefusesPublisher job.id.now (asked_publication job) cause × (error ≡ error_of_client cause)
 
--- `pub` may fail with this fault: if its words are refused, it is theirs
+-- `pub` may fail with this error: if its words are refused, it is theirs
 abbrev pub FailsToPublish : Publish → JobError → Type 0
-FailsToPublish job fault = (CanPublish job → ⊥) → RefusesToPublish job fault
+FailsToPublish job error = (CanPublish job → ⊥) → RefusesToPublish job error
 
 -- nothing is wrong with the identifier and the filter of `sub`
 abbrev pub CanSubscribe : Subscribe → Type 0
 CanSubscribe job = (client_fault job.id.now ≡ None) × (filter_fault job.filter.now ≡ None)
 
--- the fault is that of the first that is wrong, or memory ran out
+-- the error is that of the first that is wrong, or memory ran out
 abbrev pub RefusesToSubscribe : Subscribe → JobError → Type 0
-RefusesToSubscribe job fault = (cause : UserClientError)
-    × RefusesListener job.id.now job.filter.now cause × (fault ≡ error_of_client cause)
+RefusesToSubscribe job error = (cause : UserClientError)
+    × RefusesListener job.id.now job.filter.now cause × (error ≡ error_of_client cause)
 
--- `sub` may fail with this fault: if its words are refused, it is theirs
+-- `sub` may fail with this error: if its words are refused, it is theirs
 abbrev pub FailsToSubscribe : Subscribe → JobError → Type 0
-FailsToSubscribe job fault = (CanSubscribe job → ⊥) → RefusesToSubscribe job fault
+FailsToSubscribe job error = (CanSubscribe job → ⊥) → RefusesToSubscribe job error
 
--- a job may fail with this fault; `serve` and `play` are told files, which may have any text
+-- a job may fail with this error; `serve` and `play` are told files, which may have any text
 abbrev pub FailsAt : Job → JobError → Type 0
-FailsAt (jobs.Serve job) fault = Unit {0}
-FailsAt (jobs.Publish job) fault = FailsToPublish job fault
-FailsAt (jobs.Subscribe job) fault = FailsToSubscribe job fault
-FailsAt (jobs.Play job) fault = Unit {0}
+FailsAt (jobs.Serve job) error = Unit {0}
+FailsAt (jobs.Publish job) error = FailsToPublish job error
+FailsAt (jobs.Subscribe job) error = FailsToSubscribe job error
+FailsAt (jobs.Play job) error = Unit {0}
 
--- the exit status is that of a fault with which the job may fail
-abbrev pub EndsByFault : Job → ℕ → Type 0
-EndsByFault job status =
-    (fault : JobError) × FailsAt job fault × (status ≡ exit_status fault)
+-- the exit status is that of an error with which the job may fail
+abbrev pub EndsByError : Job → ℕ → Type 0
+EndsByError job status =
+    (error : JobError) × FailsAt job error × (status ≡ exit_status error)

@@ -67,7 +67,7 @@ pub enum JobError {
 }
 
 impl JobError {
-    /// Returns the exit status: 1 for a fault of file, network, memory, clock or threads, and for
+    /// Returns the exit status: 1 for an error of file, network, memory, clock or threads, and for
     /// `session present` and `lost`; 2 for a command line that is refused; 3 for a refused table,
     /// script or argument, and if there is no way out.
     pub fn status(&self) -> u8
@@ -124,7 +124,7 @@ impl From<Memory> for JobError {
 impl From<ServeError> for JobError {
     ghost use Rattle.jobs.specs.Errors.{error_of_serving};
 
-    ghost from_gives = { λ error fault. fault ≡ error_of_serving error };
+    ghost from_gives = { λ cause error. error ≡ error_of_serving cause };
 
     fn from(error: ServeError) -> JobError {
         match error {
@@ -139,7 +139,7 @@ impl From<ServeError> for JobError {
 impl From<TableFault> for JobError {
     ghost use Rattle.jobs.specs.Errors.{error_of_table};
 
-    ghost from_gives = { λ error fault. fault ≡ error_of_table error };
+    ghost from_gives = { λ fault error. error ≡ error_of_table fault };
 
     fn from(fault: TableFault) -> JobError {
         match fault {
@@ -152,10 +152,10 @@ impl From<TableFault> for JobError {
 impl From<UserClientError> for JobError {
     ghost use Rattle.jobs.specs.Errors.{error_of_client};
 
-    ghost from_gives = { λ error fault. fault ≡ error_of_client error };
+    ghost from_gives = { λ cause error. error ≡ error_of_client cause };
 
-    fn from(fault: UserClientError) -> JobError {
-        match fault {
+    fn from(error: UserClientError) -> JobError {
+        match error {
             UserClientError::Refused(number) => JobError::Refused(number),
             UserClientError::SessionPresent => JobError::SessionPresent,
             UserClientError::Lost => JobError::Lost,
@@ -168,7 +168,7 @@ impl From<UserClientError> for JobError {
 impl From<PlayError> for JobError {
     ghost use Rattle.jobs.specs.Errors.{error_of_play};
 
-    ghost from_gives = { λ error fault. fault ≡ error_of_play error };
+    ghost from_gives = { λ cause error. error ≡ error_of_play cause };
 
     fn from(error: PlayError) -> JobError {
         match error {

@@ -33,7 +33,7 @@ enum Order {
     Expel(ClientId),
 }
 
-/// Obeys the lines of the input to its end or to `quit`, and answers each. The only fault is an
+/// Obeys the lines of the input to its end or to `quit`, and answers each. The only error is an
 /// input that cannot be read.
 pub(crate) fn obey<R, I, O>(
     rt: &R,

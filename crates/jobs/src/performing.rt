@@ -2,7 +2,7 @@
 
 ghost use Rattle.std.specs.Prelude.{◌≡◌, ◌≢◌, IfErr, OnOk};
 ghost use Rattle.jobs.specs.Done.{IsJobDone};
-ghost use Rattle.jobs.specs.Failing.{EndsByFault, FailsAt};
+ghost use Rattle.jobs.specs.Failing.{EndsByError, FailsAt};
 ghost use Rattle.jobs.specs.Errors.{exit_status};
 
 use crate::job_error::JobError;
@@ -15,7 +15,7 @@ use std::sync::Wait;
 use std::thread::Threads;
 use std::time::Clock;
 
-/// Does a job over one reader and two writers, and returns the exit status. A fault is printed in
+/// Does a job over one reader and two writers, and returns the exit status. An error is printed in
 /// one line, which no clause says.
 pub fn perform<R, I, O, E>(
     rt: &R,
@@ -32,11 +32,11 @@ where
     E: Write + Drop,
     ensures done { result ≡ 0
         → IsJobDone O.contents job.now (I.remaining input.old) output.old output.new }
-    ensures failed { result ≢ 0 → EndsByFault job.now result }
+    ensures failed { result ≢ 0 → EndsByError job.now result }
 {
     match do_job(rt, job, input, output, faults) {
         Ok(()) => 0,
-        Err(fault) => print_fault(faults, &fault),
+        Err(error) => print_fault(faults, &error),
     }
 }
 
@@ -66,11 +66,11 @@ where
     }
 }
 
-/// Prints a fault in one line, and returns its exit status. No clause says what is printed.
-pub fn print_fault<E: Write>(faults: &mut E, fault: &JobError) -> u8
-    ensures { result ≡ exit_status fault.now }
+/// Prints an error in one line, and returns its exit status. No clause says what is printed.
+pub fn print_fault<E: Write>(faults: &mut E, error: &JobError) -> u8
+    ensures { result ≡ exit_status error.now }
 {
     // There is nowhere else to print it.
-    let _ = writeln!(faults, "vbroker: {fault}");
-    fault.status()
+    let _ = writeln!(faults, "vbroker: {error}");
+    error.status()
 }

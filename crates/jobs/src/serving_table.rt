@@ -63,7 +63,7 @@ fn find_files<R: Files + AllocGlobal>(rt: &R, count: usize) -> Result<(), JobErr
 
 /// Serves clients as a table of nodes says, and obeys the lines of the input, until its end or the
 /// line `quit`. Prints on `faults`, which is standard error, where each node listens, and which
-/// listeners other machines may reach. An input that cannot be read ends it with that fault. No
+/// listeners other machines may reach. An input that cannot be read ends it with that error. No
 /// clause says any of this: the clauses are about texts that are refused, and about `bye` at the
 /// end.
 pub fn serve_table<R, I, O, E>(
@@ -138,7 +138,7 @@ where
     Ok(listeners)
 }
 
-// Opens the listener of a node; a fault names its address.
+// Opens the listener of a node; an error names its address.
 fn listen<R>(rt: &R, node: &ListeningNode) -> Result<TcpListener, JobError>
 where
     R: AllocGlobal + Net<Listener = TcpListener, Stream = TcpStream>,

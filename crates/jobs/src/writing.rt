@@ -10,7 +10,7 @@ use std::io::Write;
 pub(crate) fn write<O: Write>(bytes: &[u8], output: &mut O) -> Result<(), JobError>
     ensures whole { OnOk result
         (Appends (O.contents output.old) (O.contents output.new) bytes.now) }
-    ensures fault { OnErr result (IsErrOf result JobError.Output) }
+    ensures err { OnErr result (IsErrOf result JobError.Output) }
 {
     output.write_all(bytes).ok().ok_or(JobError::Output)?;
     output.flush().ok().ok_or(JobError::Output)

@@ -33,7 +33,7 @@ where
     let mut faults = StandardError::new(rt);
     let words = match words(rt) {
         Ok(words) => words,
-        Err(fault) => return print_fault(&mut faults, &fault),
+        Err(error) => return print_fault(&mut faults, &error),
     };
     match line(rt.alloc(), words.as_slice()) {
         Ok(job) => {
@@ -49,12 +49,12 @@ where
 fn words<R: Env + AllocGlobal>(rt: &R) -> Result<Vec<String>, JobError> {
     match env::args(rt) {
         Ok(words) => Ok(words.collect(rt.alloc())?),
-        Err(error) => Err(fault_of(error.kind())),
+        Err(error) => Err(error_of(error.kind())),
     }
 }
 
 // Returns why there are no words: memory ran out, or one of them is not UTF-8.
-fn fault_of(kind: ErrorKind) -> JobError
+fn error_of(kind: ErrorKind) -> JobError
     ensures memory { kind ≡ ErrorKind.OutOfMemory → result ≡ JobError.Memory }
     ensures words { kind ≢ ErrorKind.OutOfMemory → result ≡ JobError.Words }
 {

@@ -164,15 +164,15 @@ fn tables_are_refused_with_their_text(rt: HostRuntime) {
     }
 }
 
-// Returns the exit status for a fault, and its text.
-fn told(fault: JobError, faults: &mut Vec<u8>) -> (u8, &str) {
+// Returns the exit status for an error, and its text.
+fn told(error: JobError, faults: &mut Vec<u8>) -> (u8, &str) {
     faults.clear();
-    let status = print_fault(faults, &fault);
+    let status = print_fault(faults, &error);
     (status, text_of(faults.as_slice()))
 }
 
 #[test]
-fn faults_have_their_texts(rt: HostRuntime) {
+fn errors_have_their_texts(rt: HostRuntime) {
     let faults = &mut Vec::new(rt.alloc());
     let text = "vbroker: out of memory\n";
     assert_eq!(rt; told(JobError::Memory, faults), (1, text));

@@ -52,7 +52,7 @@ where
     }
 }
 
-/// Serves the nodes of a table with this input, and returns the exit status. A fault is printed.
+/// Serves the nodes of a table with this input, and returns the exit status. An error is printed.
 pub fn serve<R, I>(
     rt: &R,
     table: &str,
@@ -67,6 +67,6 @@ where
 {
     match serve_table(rt, table, input, output, faults) {
         Ok(()) => 0,
-        Err(fault) => print_fault(faults, &fault),
+        Err(error) => print_fault(faults, &error),
     }
 }

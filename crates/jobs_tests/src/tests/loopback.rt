@@ -148,7 +148,7 @@ where
         "vbroker", "sub", "--id", "meter", "--filter", "t/#", "--qos", "2", "--count", "2",
         "--tries", "50", address,
     ];
-    end_without_fault(rt, words.as_slice(), &mut printed.output(rt))
+    end_without_error(rt, words.as_slice(), &mut printed.output(rt))
 }
 
 // Says whether `pub` publishes once the subscriber has its subscription, and the orders are given
@@ -196,11 +196,11 @@ where
         address,
     ];
     let mut output = Vec::new(rt.alloc());
-    end_without_fault(rt, words.as_slice(), &mut output) && output.is_empty()
+    end_without_error(rt, words.as_slice(), &mut output) && output.is_empty()
 }
 
-// Says whether a command line ends with status 0, and reports no fault.
-fn end_without_fault<R, O>(rt: &R, words: &[&str], output: &mut O) -> bool
+// Says whether a command line ends with status 0, and reports no error.
+fn end_without_error<R, O>(rt: &R, words: &[&str], output: &mut O) -> bool
 where
     R: Files + Threads + Wait + Clock + Sync + AllocGlobal,
     R: Net<Listener = TcpListener, Stream = TcpStream>,

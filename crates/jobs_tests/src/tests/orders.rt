@@ -46,20 +46,20 @@ pub(super) const TABLE: &str = "members = [1, 2]\nprimary = 1\n\
     [[node]]\nid = 2\nlisten = \"127.0.0.1:0\"\n";
 
 // Serves the nodes of the table, with orders that come by a pipe. Takes down what they report and
-// answer, and their fault. Says whether there is none.
+// answer, and their error. Says whether there is none.
 fn serve<R>(rt: &R, orders: PipeReader, written: &Written) -> bool
 where
     R: Threads + Wait + Clock + Sync + AllocGlobal,
     R: Net<Listener = TcpListener, Stream = TcpStream>,
 {
     match BufReader::new(rt.alloc(), orders) {
-        Ok(mut input) => serve_without_fault(rt, &mut input, written),
+        Ok(mut input) => serve_without_error(rt, &mut input, written),
         Err(_) => false,
     }
 }
 
 // Does the same with orders that come by this input.
-fn serve_without_fault<R>(rt: &R, input: &mut BufReader<PipeReader>, written: &Written) -> bool
+fn serve_without_error<R>(rt: &R, input: &mut BufReader<PipeReader>, written: &Written) -> bool
 where
     R: Threads + Wait + Clock + Sync + AllocGlobal,
     R: Net<Listener = TcpListener, Stream = TcpStream>,
@@ -68,8 +68,8 @@ where
     let mut reports = written.reports.output(rt);
     match serve_table(rt, TABLE, input, &mut output, &mut reports) {
         Ok(()) => true,
-        Err(fault) => {
-            print_fault(&mut output, &fault);
+        Err(error) => {
+            print_fault(&mut output, &error);
             false
         }
     }
@@ -80,11 +80,11 @@ where
 pub(super) struct Written {
     // What the nodes report.
     reports: Shown,
-    // What the nodes answer, and then their fault.
+    // What the nodes answer, and then their error.
     answers: Shown,
-    /// What `sub` prints, and then its fault.
+    /// What `sub` prints, and then its error.
     pub(super) heard: Shown,
-    /// The fault of `pub`.
+    /// The error of `pub`.
     pub(super) told: Shown,
 }
 
@@ -105,7 +105,7 @@ impl Written {
     }
 }
 
-/// Has `sub` wait for this many publications, and takes down what it prints and its fault.
+/// Has `sub` wait for this many publications, and takes down what it prints and its error.
 pub(super) fn hear<R>(rt: &R, address: &str, count: u32, heard: &Shown)
 where
     R: Wait + Clock + AllocGlobal + Net<Stream = TcpStream>,
@@ -124,12 +124,12 @@ where
         tries: 10,
         addresses,
     };
-    if let Err(fault) = subscribe(rt, &job, &mut output) {
-        print_fault(&mut output, &fault);
+    if let Err(error) = subscribe(rt, &job, &mut output) {
+        print_fault(&mut output, &error);
     }
 }
 
-/// Has `pub` publish what the server is to keep, and takes down its fault. Says whether there is
+/// Has `pub` publish what the server is to keep, and takes down its error. Says whether there is
 /// none.
 pub(super) fn keep_or_print<R>(rt: &R, address: &str, told: &Shown) -> bool
 where
@@ -137,8 +137,8 @@ where
 {
     match keep(rt, address) {
         Ok(()) => true,
-        Err(fault) => {
-            print_fault(&mut told.output(rt), &fault);
+        Err(error) => {
+            print_fault(&mut told.output(rt), &error);
             false
         }
     }
@@ -253,12 +253,12 @@ where
     let Ok((input, orders)) = io::pipe(rt) else {
         return Some("there is a pipe");
     };
-    let (is_without_fault, fault) = thread::join(
+    let (is_without_error, fault) = thread::join(
         rt,
         || serve(rt, input, written),
         || order_once_served(rt, given, orders, written),
     );
-    if is_without_fault {
+    if is_without_error {
         fault
     } else {
         Some("the nodes are served")

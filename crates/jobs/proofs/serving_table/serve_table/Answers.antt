@@ -10,7 +10,7 @@ returns-clause-ok g c = on_ok c.serve_nodes.result (c.in_ok-table.field-0, c.in_
 
 pub returns-clause-refused : goal.returns-clause-refused
 returns-clause-refused g c =
-    at_work c.serve_nodes.result (IsTable c.args.text.now) (λ (fault : JobError). (fault ≡ errors.Table) ⊎ (fault ≡ errors.Memory))
+    at_work c.serve_nodes.result (IsTable c.args.text.now) (λ (error : JobError). (error ≡ errors.Table) ⊎ (error ≡ errors.Memory))
     (c.in_ok-table.field-0, c.in_ok-table.ensures.value)
 
 pub returns-clause-untouched : goal.returns-clause-untouched
