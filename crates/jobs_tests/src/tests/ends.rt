@@ -69,41 +69,50 @@ fn jobs_end_with_their_status_and_text(rt: HostRuntime) {
     }
 }
 
-// Command lines that give no job, and their exit status; whether standard error says why, or
-// standard output if that was asked for. The other one stays empty.
-const REFUSED_LINES: &[(&str, u8, bool)] = &[
-    ("vbroker", 2, true),
-    ("vbroker --help", 2, false),
-    ("vbroker pub --help", 2, false),
-    ("vbroker --version", 0, false),
-    ("vbroker two", 2, true),
-    ("vbroker serve", 2, true),
-    ("vbroker serve --port 1", 2, true),
+// What answers a command line that gives no job. The other one stays empty.
+#[derive(Clone, Copy)]
+enum Answered {
+    // Standard error says why.
+    OnError,
+    // Standard output has what was asked for.
+    OnOutput,
+}
+
+// Command lines that give no job, their exit status, and where they are answered.
+const REFUSED_LINES: &[(&str, u8, Answered)] = &[
+    ("vbroker", 2, Answered::OnError),
+    ("vbroker --help", 2, Answered::OnOutput),
+    ("vbroker pub --help", 2, Answered::OnOutput),
+    ("vbroker --version", 0, Answered::OnOutput),
+    ("vbroker two", 2, Answered::OnError),
+    ("vbroker serve", 2, Answered::OnError),
+    ("vbroker serve --port 1", 2, Answered::OnError),
     (
         "vbroker pub --id a --topic t --qos 3 --message x h:1",
         2,
-        true,
+        Answered::OnError,
     ),
     (
         "vbroker sub --id a --filter t --qos 1 --count 0 h:1",
         2,
-        true,
+        Answered::OnError,
     ),
     (
         "vbroker sub --id a --filter t --qos 1 --count 1 --tries 1001 h:1",
         2,
-        true,
+        Answered::OnError,
     ),
 ];
 
 #[test]
 fn lines_are_refused_with_a_status(rt: HostRuntime) {
-    for (words, status, is_fault) in REFUSED_LINES {
+    for (words, status, answered) in REFUSED_LINES {
         let mut output = Vec::new(rt.alloc());
         let mut faults = Vec::new(rt.alloc());
         let ended = status_of_line(&rt, words, &mut output, &mut faults);
         let came = (ended, output.is_empty(), faults.is_empty());
-        assert_eq!(rt; came, (Some(*status), *is_fault, !*is_fault), "{words}");
+        let is_fault = matches!(answered, Answered::OnError);
+        assert_eq!(rt; came, (Some(*status), is_fault, !is_fault), "{words}");
     }
 }
 

@@ -15,8 +15,10 @@ enum Act {
     Look,
     // It is the primary of the next ballot.
     Assign(u8),
-    // Its thread is about to sleep, and finds work or not.
-    Doze(u8, bool),
+    // Its thread is about to sleep, and finds nothing to do.
+    DozeIdle(u8),
+    // Its thread is about to sleep, and finds work.
+    Doze(u8),
     // It is woken.
     Wake(u8),
     // All are woken for which something urgent waits.
@@ -52,15 +54,15 @@ const ASLEEP: Shown = Shown {
 // What a row shows; what is done; and what nodes 1 and 2 show then.
 const ROWS: &[(&str, Act, (Shown, Shown))] = &[
     ("nothing waits", Act::Look, (IDLE, IDLE)),
-    ("node 1 finds nothing", Act::Doze(1, false), (IDLE, IDLE)),
+    ("node 1 finds nothing", Act::DozeIdle(1), (IDLE, IDLE)),
     ("a message wakes node 1", Act::Assign(1), (AWAKE, IDLE)),
-    ("node 1 finds it", Act::Doze(1, true), (ASLEEP, IDLE)),
+    ("node 1 finds it", Act::Doze(1), (ASLEEP, IDLE)),
     ("node 2 has one", Act::Assign(2), (ASLEEP, AWAKE)),
-    ("node 2 finds it", Act::Doze(2, true), (ASLEEP, ASLEEP)),
+    ("node 2 finds it", Act::Doze(2), (ASLEEP, ASLEEP)),
     ("node 2 alone is woken", Act::Wake(2), (ASLEEP, AWAKE)),
-    ("node 2 dozes again", Act::Doze(2, true), (ASLEEP, ASLEEP)),
+    ("node 2 dozes again", Act::Doze(2), (ASLEEP, ASLEEP)),
     ("both are woken", Act::WakeUrgent, (AWAKE, AWAKE)),
-    ("node 1 dozes again", Act::Doze(1, true), (ASLEEP, AWAKE)),
+    ("node 1 dozes again", Act::Doze(1), (ASLEEP, AWAKE)),
     ("its messages are taken", Act::Take(1), (IDLE, AWAKE)),
 ];
 
@@ -95,17 +97,20 @@ fn do_act<R: Wait>(rt: &R, alloc: Global, cluster: &Cluster, act: Act) -> bool {
             cluster.wake_urgent(rt);
             true
         }
-        Act::Doze(node, _) | Act::Wake(node) | Act::Take(node) => match cluster.node(node) {
-            Some(peer) => do_act_at(rt, alloc, peer, act),
-            None => false,
-        },
+        Act::DozeIdle(node) | Act::Doze(node) | Act::Wake(node) | Act::Take(node) => {
+            match cluster.node(node) {
+                Some(peer) => do_act_at(rt, alloc, peer, act),
+                None => false,
+            }
+        }
     }
 }
 
 // Does the act of a row at this node. Returns whether it has the result of the row.
 fn do_act_at<R: Wait>(rt: &R, alloc: Global, peer: &Peer, act: Act) -> bool {
     match act {
-        Act::Doze(_, finds) => peer.doze(rt) == finds,
+        Act::DozeIdle(_) => !peer.doze(rt),
+        Act::Doze(_) => peer.doze(rt),
         Act::Wake(_) => {
             peer.wake(rt);
             true
