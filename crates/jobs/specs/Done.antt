@@ -13,7 +13,7 @@ SaysBye {O} contents output =
     (before : O) × Appends (contents before) (contents output) (codes "bye" ++ 10 ∷ [])
 
 -- a new client of this identifier accepted publications, and a line was printed for each of the
--- first, in order, until there were as many as this count
+-- first, in order, as many as this count
 pub record PrintsAll (id : List ℕ) (count : ℕ) (old new : Option (List ℕ)) : Type 0 where
   pub end : SubscriberView
   pub printed : PrintsAccepted (new_listening id count) old end new

@@ -17,8 +17,8 @@ use Rattle.user_client.specs.declared.user_client_error.UserClientError.TheVaria
 use Rattle.jobs.specs.declared.job_error.JobError.{JobError}
 use Rattle.jobs.specs.declared.job_error.JobError.TheVariants as errors
 
--- 1 for file, network, memory, clock and threads, a session that was there and one that was lost; 2
--- for the command line; 3 for a table, a script or another argument, and no way out
+-- 1 for file, network, memory, clock and threads, a session that was there and one that was lost.
+-- 2 for the command line. 3 for a table, a script or another argument, and no way out
 abbrev pub exit_status : JobError → ℕ
 exit_status errors.Memory = 1
 exit_status errors.Input = 1

@@ -67,9 +67,9 @@ pub enum JobError {
 }
 
 impl JobError {
-    /// Returns the exit status: 1 for an error of file, network, memory, clock or threads, and for
-    /// `session present` and `lost`; 2 for a command line that is refused; 3 for a refused table,
-    /// script or argument, and if there is no way out.
+    /// Returns the exit status. It is 1 for an error of file, network, memory, clock or threads,
+    /// and for `session present` and `lost`. It is 2 for a command line that is refused. It is 3
+    /// for a refused table, script or argument, and if there is no way out.
     pub fn status(&self) -> u8
         ensures { result ≡ exit_status self.now }
     {

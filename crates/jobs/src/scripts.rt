@@ -19,8 +19,8 @@ use std::alloc::Global;
 use std::io::{BufRead, Write};
 use std::rt::Files;
 
-/// Plays the script of a file, or of the input if no file is named, and writes its transcript, or a
-/// way out of the world in which it ends.
+/// Plays the script of a file, or of the input if no file is named. Writes its transcript, or a way
+/// out of the world in which it ends.
 pub(crate) fn run<R, I, O>(
     rt: &R,
     job: &Play<'_>,

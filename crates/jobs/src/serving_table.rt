@@ -19,8 +19,8 @@ use std::sync::Wait;
 use std::thread::Threads;
 use std::time::Clock;
 
-/// How many files a node may have open at once: its listener, its connections, one that is refused,
-/// and one by which its listener is closed. None of them is open yet when they are tried.
+/// How many files a node may have open at once: its listener, its connections, a refused one, and
+/// one by which its listener is closed. None of them is open yet when they are tried.
 const FILES: usize = MAX_CONNECTIONS as usize + 3;
 
 /// Serves clients as a file's table of nodes says, if as many files can be open at once as its

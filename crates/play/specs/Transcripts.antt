@@ -39,8 +39,8 @@ IsEventLine index (Ok done) new line =
     × (line ≡ done_line index (length new.nodes.sent) agreed)
 
 -- One line of a script: the line of its event, and a line for each publication that a client newly
--- accepted. Even if memory ran out in it, the nodes did what they may do, and agree as before, and
--- each client stays exact, by what it was asked to publish.
+-- accepted. Even if memory ran out in it, the nodes did what they may do, and agree as before.
+-- Each client stays exact, by what it was asked to publish.
 pub record ScriptStep (clients : List (List ℕ)) (index : ℕ) (script_line : ScriptLine)
     (old new : WorldState) (lines : List ℕ) : Type 0 where
   pub result : Result (Unit {0}) Idle

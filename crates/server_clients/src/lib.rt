@@ -1,5 +1,5 @@
 //! Clients over real sockets, for tests of a server: the bytes that they send, those that MQTT
-//! 3.1.1 answers, and what a subscriber accepted; and the listeners to which they connect. A step
+//! 3.1.1 answers, and what a subscriber accepted. Also the listeners to which they connect. A step
 //! of a test that fails shows what came.
 #![tactic(auto)]
 

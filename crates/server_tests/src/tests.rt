@@ -1,5 +1,5 @@
-// What no clause says: bytes come and are sent over a socket, by one node and by several, and a
-// client finds its session at another node.
+// What no clause says: bytes come and are sent over a socket, by one node and by several. A client
+// finds its session at another node.
 
 mod answers;
 mod crowds;

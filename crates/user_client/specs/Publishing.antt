@@ -42,8 +42,8 @@ HasPublication qualities.AtLeastOnce id publication it =
 HasPublication qualities.ExactlyOnce id publication it =
     (it.caller.core.state ≡ client_keeping id publication) × (it.once ≡ None)
 
--- between these two states of a stream it took this PUBLISH at QoS 0 as a whole, after the bytes
--- that its client wrote before it
+-- between these two states of a stream it took this PUBLISH at QoS 0 as a whole, after what its
+-- client wrote before
 pub record TakesPublish {D : Type 0} (contents : D → Option (List ℕ)) (publish : Publish)
     (old new : D) : Type 0 where
   pub before : List ℕ

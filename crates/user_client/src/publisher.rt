@@ -84,9 +84,9 @@ impl Publisher {
     }
 
     /// Publishes over the connections of these servers, at most `tries` of them. It tries at QoS 1
-    /// and 2 until the handshake has ended, at QoS 0 until a connection has taken the bytes; no
-    /// clause says which. The fate of the DISCONNECT does not matter. No clause counts the
-    /// connections of a run that succeeds.
+    /// and 2 until the handshake has ended, at QoS 0 until a connection has taken the bytes. No
+    /// clause says which one took them. The fate of the DISCONNECT does not matter. No clause
+    /// counts the connections of a run that succeeds.
     pub fn run<S: Servers>(&mut self, servers: &mut S, tries: u32) -> Result<(), UserClientError>
         ensures acknowledged { OnOk result (IsAcknowledged S.Stream.contents self.new) }
         ensures trace { OnOk result (Trace self.old.caller [] self.new.caller) }

@@ -1,4 +1,4 @@
-//! The broker as a program: it serves MQTT clients over TCP, publishes or prints as a client
+//! The broker as a program. It serves MQTT clients over TCP, publishes or prints as a client
 //! itself, and plays scripts of nodes and clients in memory.
 #![tactic(auto)]
 

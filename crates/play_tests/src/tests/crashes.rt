@@ -107,8 +107,9 @@ pub fn transcript_with(
     Ok(transcript)
 }
 
-// Returns what came, if a script with a line put in at this byte is not played to its end, the
-// agreed list becomes shorter, or its transcript has a publication that its own one has not.
+// Returns what came, if a script with a line put in at this byte is not played to its end. Returns
+// it also if the agreed list becomes shorter, or the transcript has a publication that the script's
+// own one has not.
 fn came_instead(alloc: Global, row: &[&str; 2], at: usize, line: &str) -> Option<Came> {
     let played = transcript_with(alloc, row[0], at, line.as_bytes());
     match &played {
@@ -146,8 +147,8 @@ fn first_fault(alloc: Global, row: &[&str; 2]) -> Option<Fault> {
     None
 }
 
-// Whichever node crashes after whichever event, the agreed list never becomes shorter, and no
-// client accepts a publication that it does not accept in the script's own run.
+// Whichever node crashes after whichever event, the agreed list never becomes shorter. No client
+// accepts a publication that it does not accept in the script's own run.
 #[test]
 fn a_crash_anywhere_takes_nothing_back(rt: HostRuntime) {
     for row in &SCRIPTS {

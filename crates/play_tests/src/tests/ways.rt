@@ -41,8 +41,8 @@ const BOTH: &str = "assign 1,2 1\n\
     deliver 15\n\
     down 2 4\n";
 
-// A script and its transcript, members and client of a way out, and the end of both: how long the
-// agreed list is, and the active ballot.
+// A script and its transcript, members and client of a way out. Then the end of both: the length
+// of the agreed list, and the active ballot.
 const WAYS: &[(&[&str; 2], &[u8], &str, u64, u64)] = &[
     (&ANSWER_WAITS_FOR_THE_BACKUP, &[2], "a", 3, 2),
     (&ANSWER_WAITS_FOR_THE_BACKUP, &[1, 2], "a", 3, 2),

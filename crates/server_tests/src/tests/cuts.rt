@@ -8,7 +8,7 @@ use std::thread;
 use std::thread::Threads;
 use std::time::{Clock, Duration};
 
-// What a client sends to the first of some members, the primary, how long they serve then, and
+// What a client sends to the primary, the first of some members. Then how long they serve, and
 // which of them have cut their logs at the end.
 struct Row {
     name: &'static str,
@@ -130,7 +130,7 @@ where
     named(taken, "the publications are sent and taken")
 }
 
-// Says whether the logs of these nodes were cut, and of no others: a log that was cut begins at a
+// Says whether the logs of these nodes were cut, and no others. A log that was cut begins at a
 // higher place than the first.
 fn are_cut_where_wanted(reports: &[NodeReport], are_cut: &[bool]) -> bool {
     reports.len() == are_cut.len()

@@ -128,8 +128,8 @@ where
     unless(cluster.crash(rt, 1) == Ok(true), "node 1 crashes")
 }
 
-// Begins three handshakes. Of `x` the publisher's is done and the subscriber's lacks the PUBCOMP;
-// of `y` the publisher has the PUBREC and the subscriber the PUBLISH; of `z` it is not known
+// Begins three handshakes. Of `x` the publisher's is done and the subscriber's lacks the PUBCOMP.
+// Of `y` the publisher has the PUBREC and the subscriber the PUBLISH. Of `z` it is not known
 // whether the PUBLISH came.
 fn begin_three(pair: &mut Pair, heard: &mut Heard) -> Result<(), Came> {
     pair.subscribe()?;
