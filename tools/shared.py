@@ -1,5 +1,5 @@
-"""What several tools need: lines of a file, how a function begins, where the way of an import
-leads, the toolchain as a module."""
+"""What several tools need: lines of a file, where its functions begin and end, which crates there
+are, where the way of an import leads, the toolchain as a module."""
 import functools
 import importlib.machinery
 import importlib.util
@@ -30,6 +30,47 @@ def lines_of(file):
     """Returns the lines of a file."""
     with open(file, encoding="utf-8") as it:
         return it.read().split("\n")[:-1]
+
+
+def ends_head(head, indent):
+    """Says whether the last of some lines ends the head of a function, its contract with it: `};`
+    does if it closes no part of a clause."""
+    line, text = head[-1], "".join(head)
+    if line.endswith("};") and text.count("{") == text.count("}"):
+        return True
+    stands_out = len(head) == 1 or line[:len(indent) + 1].strip()
+    return bool(line.endswith(("{", "}", ";")) and stands_out)
+
+
+def functions(lines):
+    """Yields each function of code: its name, and the indexes of its first line, of the last line
+    of its head, and of its last line. The last two are the same if its body is one line or none."""
+    at = 0
+    while at < len(lines):
+        found = FUNCTION.match(lines[at])
+        if not found:
+            at += 1
+            continue
+        indent, start = found.group(1), at
+        while not ends_head(lines[start:at + 1], indent):
+            at += 1
+        head = at
+        if lines[at].endswith("{"):
+            while lines[at] != indent + "}":
+                at += 1
+        yield found.group(3), start, head, at
+        at += 1
+
+
+def crates_of_product():
+    """Returns the crates of crates.txt that stand below the heading of a group, in order."""
+    found, is_product = [], False
+    for line in lines_of("crates.txt"):
+        heading = re.match(r"# (\d+ )?\w+:", line)
+        is_product = bool(heading[1]) if heading else is_product
+        crate = re.match(r"\w+", line)
+        found += [crate[0]] if crate and is_product else []
+    return found
 
 
 @functools.cache

@@ -15,6 +15,8 @@ sys.path.insert(0, str(TOOLS))
 # Without the settings of whoever runs the tests, and without a repository that a hook names.
 SETTINGS = {it: os.environ[it] for it in os.environ if not it.startswith("GIT_")}
 SETTINGS |= {"GIT_CONFIG_GLOBAL": os.devnull, "GIT_CONFIG_NOSYSTEM": "1"}
+# A tool with other tables runs as a text, and finds its modules there.
+SETTINGS |= {"PYTHONPATH": str(TOOLS)}
 GIT = ["git", "-c", "user.name=a test", "-c", "user.email=test@example.org"]
 
 LOW, WORDS = "crates/low/src/lib.rt", "crates/low/specs/Words.antt"

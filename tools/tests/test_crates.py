@@ -43,6 +43,11 @@ class Sizes(ToolTest):
         subject = f"commit {self.commit('a' * 66)}: a subject of 66 characters"
         self.shows(*(found.format(file) for file, _, _, found in LIMITS), subject)
 
+    def test_reads_on_where_a_part_of_a_clause_ends_as_a_clause_does(self):
+        head = "fn call()\n    ensures { a {\n        b = { c };\n        d = e;\n    } }\n"
+        self.put({LOW: head + "{\n" + "    g();\n" * 26 + "}\n"})
+        self.shows(f"{LOW}: call: a body of 26 lines")
+
     def test_reads_no_commits_with_files(self):
         self.commit("a" * 66, "--amend")
         self.words = ["sizes", "--files"]

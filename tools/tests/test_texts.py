@@ -8,6 +8,27 @@ OUR_CODE, THEIR_CODE = "crates/low/src/twins.rt", "crates/high/src/twins.rt"
 PAIR = "pub Pair : Type 0\nPair = ℕ × {}\n"
 DOUBLE = "pub {0} : ℕ → ℕ\n{0} {1} =\n    added {1} {1}\n"
 CODE = "const MOST: usize = 7;\nfn keep()\n    ensures {{ {} }}\n{{\n    rest();\n}}\n"
+OUR_WORDS, THEIR_WORDS = "crates/low/src/words.rt", "crates/high/src/words.rt"
+# Bodies that are the same but for names, and two that are the same but for the last line.
+SPELL = """fn {0}({1}: &Word)
+    ensures a {{ result ≡ {1} }}
+{{
+    let pieces = {1}.first();
+    for piece in pieces.split(0) {{
+        let spelled = piece.spell({1}.form, pieces)
+        self.add(Spelled {{ word: spelled }});
+    }}
+}}
+"""
+SORT = """fn sort({0}: &Word) {{
+    let sorted = {0}.sorted(0, 1);
+    let first = sorted.first();
+    let rest = sorted.after(first);
+    let count = rest.len() + {0}.len();
+    keep(first, rest, count, {0});
+    {1}(count)
+}}
+"""
 SCRIPTS = "crates/example_scripts/src/scripts.rt"
 SCRIPT, TRANSCRIPT = "examples/greeting.script", "examples/greeting.transcript"
 COPY = "crates/high/stdout"
@@ -17,29 +38,47 @@ OPTIONS = "crates/command_line/src/arguments.rt"
 
 
 class Twins(ToolTest):
-    words, count = ["twins"], "4 pairs, {} differ"
+    words, count = ["twins"], "6 pairs, {} differ"
     tables = {
         "SPECS": {("low", "high"): "Pair"}, "EQUATIONS": {("low", "high"): "twice=double"},
         "CONSTANTS": {("low", "high"): "MOST"}, "BODIES": {("low", "high"): "keep"},
+        "EQUAL": {("low/words", "high/words"): ("spell=write", "two types")},
+        "PARTS": {("low/words", "high/words"): ("sort", "two types")},
     }
-    files = {
+    files = RIGHT | {
         OURS: PAIR.format("ℕ") + DOUBLE.format("twice", "number"),
         THEIRS: "-- a comment\n" + PAIR.format("\n  ℕ") + DOUBLE.format("double", "n"),
         OUR_CODE: CODE.format("true"),
         THEIR_CODE: "// a comment\npub(crate) " + CODE.format("result ≡ 1"),
+        OUR_WORDS: SPELL.format("spell", "word") + SORT.format("word", "short"),
+        THEIR_WORDS: SPELL.format("write", "w").replace("pieces)", "pieces,\n    )")
+            + SORT.format("text", "long"),
     }
 
     def test_names_each_text_that_differs(self):
         self.shows_edits(
             (THEIRS, "× \n  ℕ", "×\n  Pair", f"{THEIRS}:3: Pair differs from {OURS}:1"),
-            (THEIRS, "added n", "taken n", f"{THEIRS}:6: twice differs from {OURS}:4"),
+            (THEIRS, "added n", "taken n", f"{THEIRS}:7: twice differs from {OURS}:4"),
             (THEIR_CODE, "= 7", "= 8", f"{THEIR_CODE}:2: MOST differs from {OUR_CODE}:1"),
-            (THEIR_CODE, "rest()", "all()", f"{THEIR_CODE}:6: keep differs from {OUR_CODE}:4"),
+            (THEIR_CODE, "rest()", "all()", f"{THEIR_CODE}:6: keep differs from {OUR_CODE}:5"),
+            (THEIR_WORDS, "w.first", "w.last",
+                f"{THEIR_WORDS}:4: spell differs from {OUR_WORDS}:4"),
+            (THEIR_WORDS, "text.sorted", "text.listed",
+                f"{THEIR_WORDS}:12: sort has no lines in common with {OUR_WORDS}:11"),
         )
 
     def test_names_a_text_that_is_missing_and_one_that_comes_twice(self):
         self.put({"crates/low/specs/Two.antt": PAIR.format("ℕ"), THEIR_CODE: CODE.split("fn")[0]})
         self.shows("low: Pair stands 2 times", "high: keep stands 0 times")
+
+    def test_names_bodies_that_are_the_same_but_for_names_and_that_no_table_has(self):
+        other, tests = "crates/high/src/other.rt", "crates/low_tests/src/lib.rt"
+        text = SPELL.format("put", "it") + SORT.format("all", "other").replace("fn sort", "fn list")
+        self.put({other: text, tests: SPELL.format("test", "it"),
+            "crates.txt": RIGHT["crates.txt"] + "# tests: of words\nlow_tests: low  # tests\n"})
+        self.shows(
+            f"{OUR_WORDS}: spell has the same body as put of {other}, and is in no table",
+            f"{OUR_WORDS}: sort has lines in common with list of {other}, and is in no table")
 
 
 class Scripts(ToolTest):
