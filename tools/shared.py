@@ -11,6 +11,9 @@ import sys
 # The indent of a function, its `pub` if it has one, its name.
 FUNCTION = re.compile(r"( *)(pub(?:\([^)]*\))? )?(?:const )?(?:unsafe )?fn (\w+)")
 
+# How the part of a file begins that has the members of types.
+HEADER = re.compile(r"(?:pub(?:\(\w+\))? )?(impl|trait|enum|struct)\b(.*)")
+
 # What comes before and after the name in a definition of specs or proofs, and in one of code.
 DEFINITION = {
     ".antt": (
@@ -62,6 +65,14 @@ def functions(lines):
         at += 1
 
 
+def types_of(line):
+    """Returns the types of which the members follow after a line of code, none for most lines."""
+    header = HEADER.match(line)
+    words = re.sub(r"<[^<>]*(?:<[^<>]*>[^<>]*)*>", "", header[2]) if header else ""
+    return re.findall(r"\b[A-Z]\w*", words.partition(" where")[0].split(":")[0])
+
+
+@functools.cache
 def crates_of_product():
     """Returns the crates of crates.txt that stand below the heading of a group, in order."""
     found, is_product = [], False

@@ -33,6 +33,7 @@ SCRIPTS = "crates/example_scripts/src/scripts.rt"
 SCRIPT, TRANSCRIPT = "examples/greeting.script", "examples/greeting.transcript"
 COPY = "crates/high/stdout"
 CONTRACTS, REFUSALS = "docs/CONTRACTS.md", "docs/REFUSALS.md"
+ARCHITECTURE = "docs/ARCHITECTURE.md"
 REFUSING, HELP = "crates/low/src/refusal.rt", "crates/command_line/src/commands.rt"
 OPTIONS = "crates/command_line/src/arguments.rt"
 
@@ -138,6 +139,43 @@ class Named(ToolTest):
             "`docs/manual` `docs/` `crates/low/out/low` `examples/NAME.script` "
             "`docs/planted/CRATE/NAME.edit` `XView`\n"})
         self.shows()
+
+
+class Ways(ToolTest):
+    """What tools/named says of arrows."""
+    words, subject = ["named"], "words"
+    rows = ("| Function | Crate | Does |\n|---|---|---|\n"
+        "| `say` → `is_long` of low → `Word::letters`; `say` or `spell` → `put` | {} | says |\n")
+    files = RIGHT | {
+        "crates.txt": RIGHT["crates.txt"] + "# tests: of words\nlow_tests: low  # tests\n",
+        HIGH: RIGHT[HIGH] + "fn say()\n    ensures { true }\n{\n    is_long(word);\n    put();\n}\n"
+            "fn spell() {\n    self.put::<u8>();\n}\nfn put()\n{}\n",
+        ARCHITECTURE: rows.format("high, `lib.rt`; low"),
+    }
+
+    def test_names_each_arrow_to_a_call_that_is_not_made(self):
+        says = "{} calls no {}, or is not in a file of its row".format
+        self.shows_edits(
+            (HIGH, "is_long(word)", "is_short(word)", f"{ARCHITECTURE}: {says('say', 'is_long')}"),
+            (LOW, "word.letters()", "word.len()",
+                f"{ARCHITECTURE}: {says('is_long', 'Word::letters')}"),
+            (HIGH, "self.put::", "self.get::", f"{ARCHITECTURE}: {says('spell', 'put')}"),
+        )
+
+    def test_names_a_call_that_is_in_no_crate_of_its_row(self):
+        self.put({ARCHITECTURE: self.rows.format("high").replace("Word::letters", "put")
+            .replace("`spell`", "`test`"), "crates/low_tests/src/lib.rt": "fn test()\n{}\n"})
+        self.shows(f"{ARCHITECTURE}: is_long calls no put, or is not in a file of its row",
+            f"{ARCHITECTURE}: test is in no crate of its row",
+            f"{ARCHITECTURE}: test calls no put, or is not in a file of its row")
+
+    def test_names_a_file_that_is_not_there_or_has_not_the_call(self):
+        self.put({ARCHITECTURE: self.rows.format("high, `lib.rt`, `gone.rt`; low"),
+            "crates/high/src/other.rt": "fn other()\n{}\n"})
+        self.shows(f"{ARCHITECTURE}: there is no crates/high/src/gone.rt")
+        self.put({ARCHITECTURE: self.rows.format("high, `other.rt`; low")})
+        self.shows(*(f"{ARCHITECTURE}: {one} calls no {other}, or is not in a file of its row"
+            for one, other in (("say", "is_long"), ("say", "put"), ("spell", "put"))))
 
 
 class Numbers(ToolTest):
