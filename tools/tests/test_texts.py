@@ -179,27 +179,33 @@ class Ways(ToolTest):
 
 
 class Numbers(ToolTest):
-    words, count = ["numbers"], "2 refusals, 1 limits, {} differ"
+    words, count = ["numbers"], "2 refusals, 2 limits, {} differ"
     tables = {
-        "LIMITS": [("low", "MAX_LETTERS", 7, {MANUAL: "at most 7 letters"})],
-        "RANGES": {"tries": "`--tries` is {:,} to {:,}."},
+        "LIMITS": [("low", "MAX_LETTERS", 7, {MANUAL: "at most 7 letters"}),
+            ("low", "MAX_LETTERS * 2 + 1", 15, {MANUAL: "15 in two"})],
+        "RANGES": {"tries": {MANUAL: "`--tries` is {:,} to {:,}."}},
+        "COMMENTS": {"7 letters": "low MAX_LETTERS", "fifteen letters": "2 * MAX_LETTERS + 1",
+            "1,024 bytes": "high MAX_BYTES", "1 KiB": "high MAX_BYTES", "2^10": "high MAX_BYTES"},
+        "OTHER_NUMBERS": {"2^64": "the end"},
     }
     files = RIGHT | {
         REFUSALS: "| 1 | TooLong | a word |\n| 2 | TooDeep | a sentence |\n",
         REFUSING: "    pub fn number(&self) -> u8\n    {\n        match self {\n            "
             "Refusal::TooLong => 1,\n            Refusal::TooDeep(_) => 2,\n        }\n    }\n",
         OPTIONS: "\npub(crate) fn tries<'a>() {\n    signed(1, 1000).help(\"1 to 1000\")\n}\n",
-        MANUAL: "A word has at most\n7 letters. `--tries` is 1 to 1,000.\n\n"
+        MANUAL: "A word has at most\n7 letters, 15 in two. `--tries` is 1 to 1,000.\n\n"
             "| Exit status | Means |\n|---|---|\n"
             "| 0 | done |\n| 1 | a fault of file or memory |\n\n",
         HELP: 'const HELP: &str = "Exit status: 0 done;\n1 a fault of file or memory.\n";\n',
+        HIGH: "//! Words of 7 letters, at QoS 1 or 2, by MQTT 3.1.1.\n"
+            "const MAX_BYTES: u64 = low::MAX_LETTERS as u64 + 0x3f9;\n"
+            "// Two have fifteen\n// letters, less than 2^64, and 1,024 bytes: 1 KiB, or 2^10.\n",
     }
 
     def test_names_each_number_that_differs(self):
         self.shows_edits(
             (REFUSING, "=> 2", "=> 3", f"{REFUSING}: TooDeep is 3, and 2 in {REFUSALS}",
                 f"{REFUSALS}: no enum returns 2, TooDeep"),
-            (LOW, "= 7", "= 1 << 3", f"low: MAX_LETTERS is 8, and 7 here and in {MANUAL}"),
             (MANUAL, "7 letters", "8 letters",
                 f"{MANUAL}: no words 'at most 7 letters', by which it tells low MAX_LETTERS"),
             (OPTIONS, "1000).", "2000).", f"{OPTIONS}: the help of --tries does not say 1 to 2000",
@@ -207,3 +213,23 @@ class Numbers(ToolTest):
             (HELP, "file", "clock",
                 f"{HELP}: 1 is ['memory', 'clock'], and ['file', 'memory'] in {MANUAL}"),
         )
+
+    def test_names_what_differs_from_a_constant_that_changed(self):
+        self.shows_edits((LOW, "= 7", "= 1 << 3",
+            f"low: MAX_LETTERS is 8, and 7 here and in {MANUAL}",
+            f"low: MAX_LETTERS * 2 + 1 is 17, and 15 here and in {MANUAL}",
+            f"{HIGH}: 7 letters, and low MAX_LETTERS is 8",
+            f"{HIGH}: fifteen letters, and 2 * MAX_LETTERS + 1 is 17",
+            f"{HIGH}: 1,024 bytes, and high MAX_BYTES is 1025",
+            f"{HIGH}: 1 KiB, and high MAX_BYTES is 1025",
+            f"{HIGH}: 2^10, and high MAX_BYTES is 1025"))
+
+    def test_names_each_number_of_a_comment_that_no_table_has(self):
+        says = "{}: no table says what {!r} is the value of".format
+        self.put({"crates/low/src/more.rt": "/// 16,384 words, 64 entries\n/// or thirty-two, to "
+            "2^40, in 4096,\n/// from U+0000 on, in 3.1.3.1 and form 2, of 1 and n\n",
+            HIGH: self.files[HIGH].replace("1 KiB", "8 KiB")})
+        more = ("16,384 words, 64 entries", "64 entries or thirty-two", "thirty-two, to 2^40, in ",
+            "2^40, in 4096, from U+00", "4096, from U+0000 on, in")
+        self.shows(*(says("crates/low/src/more.rt", it) for it in more),
+            says(HIGH, "8 KiB, or 2^10."), "no comment has '1 KiB'")
